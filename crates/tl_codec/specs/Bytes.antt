@@ -1,0 +1,6 @@
+-- A text is a list of numbers below 256.
+use Rattle.std.specs.Prelude.{ℕ, ◌<◌, List, slice_index}
+
+-- each member is a byte (past the end a list has 0)
+abbrev pub IsBytes : List ℕ → Type 0
+IsBytes bytes = (i : ℕ) → slice_index bytes i < 256

@@ -1,0 +1,25 @@
+//! Want of memory, the one failure that every layer shares.
+
+ghost use Rattle.std.specs.Prelude.{⊤};
+
+use std::alloc::{AllocError, AllocFailed};
+
+/// Memory ran out. Its cause is never said, and what the failed call was given is as it was.
+#[derive(Clone, Copy, Debug, PartialEq, Eq)]
+pub struct Memory;
+
+impl From<AllocError> for Memory {
+    ghost from_gives = { λ _ _. ⊤ };
+
+    fn from(_e: AllocError) -> Memory {
+        Memory
+    }
+}
+
+impl<T: Drop> From<AllocFailed<T>> for Memory {
+    ghost from_gives = { λ _ _. ⊤ };
+
+    fn from(_e: AllocFailed<T>) -> Memory {
+        Memory
+    }
+}

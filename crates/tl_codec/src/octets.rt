@@ -1,0 +1,64 @@
+//! Bytes that own their memory.
+
+ghost use Rattle.std.specs.Prelude.{◌≡◌, ◌<◌, ◌^◌, ◌++◌, [], length, IfOk, OnOk, OnErr};
+ghost use Rattle.tl_codec.specs.Bytes.{IsBytes};
+
+use crate::memory::Memory;
+use std::alloc::Global;
+use std::marker::Model;
+
+/// A list of bytes: a body, a packet, a string. Contracts see it as the list itself.
+#[derive(Debug, Drop)]
+pub struct Octets {
+    bytes: Vec<u8>,
+}
+
+impl Model for Octets {
+    ghost use Rattle.std.specs.Prelude.{ℕ, List};
+
+    ghost Value = { List ℕ };
+
+    ghost use Rattle.tl_codec.specs.Bytes.{IsBytes};
+
+    ghost view = { λ octets. octets.bytes.items };
+
+    ghost invariant = { λ octets. IsBytes octets.bytes.items };
+}
+
+impl Octets {
+    /// No byte yet. Takes no memory.
+    pub fn new(alloc: Global) -> Octets
+        ensures { result ≡ [] }
+    {
+        Octets {
+            bytes: Vec::new(alloc),
+        }
+    }
+
+    /// A copy of the bytes. Fails for want of memory alone.
+    pub fn copy(alloc: Global, bytes: &[u8]) -> Result<Octets, Memory>
+        ensures { IfOk result (λ octets. octets ≡ bytes.now) }
+    {
+        Ok(Octets {
+            bytes: Vec::from_slice(alloc, bytes)?,
+        })
+    }
+
+    /// Puts the bytes at the end. Fails for want of memory alone, and then leaves the list as it was.
+    pub fn push_all(&mut self, _alloc: Global, bytes: &[u8]) -> Result<(), Memory>
+        ensures appended { OnOk result (self.new ≡ self.old ++ bytes.now) }
+        ensures unchanged_on_memory { OnErr result (self.new ≡ self.old) }
+    {
+        self.bytes.extend_from_slice(bytes)?;
+        Ok(())
+    }
+
+    /// The bytes in order. Takes no memory.
+    pub fn as_slice(&self) -> &[u8]
+        ensures value { result.now ≡ self.now }
+        ensures bytes { IsBytes self.now }
+        ensures length { length self.now < 2 ^ 63 }
+    {
+        self.bytes.as_slice()
+    }
+}
