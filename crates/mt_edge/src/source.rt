@@ -1,0 +1,34 @@
+//! What a program reads from.
+
+ghost use Rattle.std.specs.Prelude.{◌≡◌, ◌<◌, ◌≤◌, ℕ, List, Option, length, IfSome, IsSomeAnd};
+ghost use Rattle.mt_edge.specs.Faults.{Rose};
+ghost use Rattle.mt_edge.specs.Got.{IsWithin, HandsOver};
+
+/// The answer of a read.
+#[derive(Clone, Copy, Debug, PartialEq, Eq)]
+pub enum Got {
+    /// So many bytes stand at the front of the buffer: from 1 to its length.
+    Bytes(usize),
+    /// Nothing is left.
+    End,
+    /// The read failed. What is left stays as it was.
+    Failed,
+}
+
+/// A place that bytes come from, in order.
+pub trait Source {
+    /// The bytes left, where the source tells them.
+    ghost left: { Self → Option (List ℕ) };
+
+    /// How many reads have failed. It stays at 2^64 - 1 once it is there.
+    ghost faults: { Self → ℕ };
+
+    /// Reads into a buffer that isn't empty.
+    fn read(&mut self, into: &mut [u8]) -> Got
+        requires { 0 < length into.old }
+        ensures within { IsWithin result (length into.new) }
+        // Where the bytes left are told, the read hands over the next of them, and answers `End` only after the last.
+        ensures told { IfSome (left self.old) (λ before. IsSomeAnd (left self.new) (λ after. HandsOver result into.new before after)) }
+        ensures never_falls { faults self.old ≤ faults self.new }
+        ensures failed { result ≡ Got.Failed → Rose (faults self.old) (faults self.new) };
+}

@@ -1,0 +1,84 @@
+//! Whole texts, through a source or a sink.
+
+ghost use Rattle.std.specs.Prelude.{◌≡◌, ◌<◌, ◌≤◌, ◌^◌, ◌++◌, [], List, ℕ, length, IfOk, IfSome, IsSomeAnd, OnOk, Ok, Err, Some, ⊤};
+ghost use Rattle.mt_edge.specs.Faults.{Rose};
+ghost use Rattle.mt_edge.specs.declared.whole.ReadFault.TheVariants.{Memory as OutOfMemory};
+
+use crate::sink::{Put, Sink};
+use crate::source::{Got, Source};
+use std::alloc::Global;
+use tl_codec::{Memory, Octets};
+
+/// Room for one read, in bytes.
+const PIECE_BYTES: usize = 4096;
+
+/// Why a source wasn't read to its end.
+#[derive(Clone, Copy, Debug, PartialEq, Eq)]
+pub enum ReadFault {
+    /// A read failed.
+    Failed,
+    /// More bytes came than were allowed.
+    TooLong,
+    /// Memory ran out.
+    Memory,
+}
+
+impl From<Memory> for ReadFault {
+    ghost from_gives = { λ _ fault. fault ≡ OutOfMemory };
+
+    fn from(_memory: Memory) -> ReadFault {
+        ReadFault::Memory
+    }
+}
+
+/// A write failed.
+#[derive(Clone, Copy, Debug, PartialEq, Eq)]
+pub struct WriteFault;
+
+/// Reads a source to its end, where it has at most so many bytes.
+pub fn read_all<S: Source>(
+    alloc: Global,
+    source: &mut S,
+    most_bytes: usize,
+) -> Result<Octets, ReadFault>
+    requires { most_bytes < 2 ^ 32 }
+    ensures short { IfOk result (λ text. length text ≤ most_bytes) }
+    ensures whole { IfOk result (λ text. IfSome (S.left source.old) (λ left. text ≡ left)) }
+    ensures to_the_end { IfOk result (λ _. IfSome (S.left source.old) (λ _. S.left source.new ≡ Some [])) }
+    ensures too_long { result ≡ Err ReadFault.TooLong → IfSome (S.left source.old) (λ left. most_bytes < length left) }
+    ensures failed { result ≡ Err ReadFault.Failed → Rose (S.faults source.old) (S.faults source.new) }
+    ensures never_falls { S.faults source.old ≤ S.faults source.new }
+{
+    let mut text = Octets::new(alloc);
+    let mut piece = [0u8; PIECE_BYTES];
+    let mut room = most_bytes;
+    loop {
+        match source.read(&mut piece) {
+            Got::Bytes(count) if count <= room => {
+                text.push_all(alloc, &piece[..count])?;
+                room -= count;
+            }
+            Got::Bytes(_) => return Err(ReadFault::TooLong),
+            Got::End => return Ok(text),
+            Got::Failed => return Err(ReadFault::Failed),
+        }
+    }
+}
+
+/// Writes a whole text. Where a write fails, what is written is a front of the text.
+pub fn write_all<O: Sink>(sink: &mut O, text: &[u8]) -> Result<(), WriteFault>
+    ensures whole { OnOk result (IfSome (O.written sink.old) (λ before. O.written sink.new ≡ Some (before ++ text.now))) }
+    ensures front { IfSome (O.written sink.old) (λ before. IsSomeAnd (O.written sink.new) (λ after.
+        (front : List ℕ) × (rest : List ℕ) × (text.now ≡ front ++ rest) × (after ≡ before ++ front))) }
+    ensures failed { result ≡ Err (record {}) → Rose (O.faults sink.old) (O.faults sink.new) }
+    ensures never_falls { O.faults sink.old ≤ O.faults sink.new }
+{
+    let mut rest = text;
+    while !rest.is_empty() {
+        match sink.write(rest) {
+            Put::Took(count) => rest = &rest[count..],
+            Put::Failed => return Err(WriteFault),
+        }
+    }
+    Ok(())
+}
