@@ -1,0 +1,5 @@
+pub mod CallLemmas
+pub mod ClientLemmas
+pub mod NumberLemmas
+pub mod RegistersLemmas
+pub mod ScheduleLemmas

@@ -1,0 +1,95 @@
+//! The report of a world: a line for each call, and then a line for each entry.
+
+ghost use Rattle.std.specs.Prelude.{◌≡◌, ◌++◌, OnOk, OnErr, decimal};
+ghost use Rattle.world_core.specs.Report.{report, call_line, call_lines, entry_line, reply_text, state_text};
+ghost use Rattle.std.specs.List.{flat_map};
+
+use crate::client::{Call, CallState};
+use crate::server::Entry;
+use crate::service::Reply;
+use crate::world::World;
+use itoa::Buffer;
+use std::alloc::Global;
+use tl_codec::{Memory, Octets};
+
+impl World {
+    /// Puts the world's report behind a text. Fails for want of memory alone, and then leaves the text as it was.
+    pub fn report(&self, alloc: Global, into: &mut Octets) -> Result<(), Memory>
+        ensures reported { OnOk result (into.new ≡ into.old ++ report self.now) }
+        ensures unchanged { OnErr result (into.new ≡ into.old) }
+    {
+        let mut text = Octets::new(alloc);
+        push_calls(&mut text, alloc, self.calls())?;
+        push_entries(&mut text, alloc, self.entries())?;
+        into.push_all(alloc, text.as_slice())
+    }
+}
+
+fn push_calls(text: &mut Octets, alloc: Global, calls: &[Call]) -> Result<(), Memory>
+    ensures { OnOk result (text.new ≡ text.old ++ call_lines 1 calls.now) }
+{
+    let mut number = 1u64;
+    for call in calls {
+        push_call(text, alloc, number, call)?;
+        number += 1;
+    }
+    Ok(())
+}
+
+fn push_call(text: &mut Octets, alloc: Global, number: u64, call: &Call) -> Result<(), Memory>
+    ensures { OnOk result (text.new ≡ text.old ++ call_line number call.now) }
+{
+    text.push_all(alloc, b"call 1 ")?;
+    push_number(text, alloc, number)?;
+    text.push_all(alloc, b" ")?;
+    push_state(text, alloc, call.state)?;
+    text.push_all(alloc, b"\n")
+}
+
+fn push_state(text: &mut Octets, alloc: Global, state: CallState) -> Result<(), Memory>
+    ensures { OnOk result (text.new ≡ text.old ++ state_text state) }
+{
+    match state {
+        CallState::Queued => text.push_all(alloc, b"queued"),
+        CallState::Sent => text.push_all(alloc, b"sent"),
+        CallState::Done(reply) => {
+            text.push_all(alloc, b"done ")?;
+            push_reply(text, alloc, reply)
+        }
+    }
+}
+
+fn push_entries(text: &mut Octets, alloc: Global, entries: &[Entry]) -> Result<(), Memory>
+    ensures { OnOk result (text.new ≡ text.old ++ flat_map entry_line entries.now) }
+{
+    for entry in entries {
+        push_entry(text, alloc, entry)?;
+    }
+    Ok(())
+}
+
+fn push_entry(text: &mut Octets, alloc: Global, entry: &Entry) -> Result<(), Memory>
+    ensures { OnOk result (text.new ≡ text.old ++ entry_line entry.now) }
+{
+    text.push_all(alloc, b"run 1 1 ")?;
+    push_number(text, alloc, entry.number)?;
+    text.push_all(alloc, b" ")?;
+    push_reply(text, alloc, entry.reply)?;
+    text.push_all(alloc, b"\n")
+}
+
+fn push_reply(text: &mut Octets, alloc: Global, reply: Reply) -> Result<(), Memory>
+    ensures { OnOk result (text.new ≡ text.old ++ reply_text reply) }
+{
+    match reply {
+        Reply::Value(value) => push_number(text, alloc, value),
+        Reply::TooLarge => text.push_all(alloc, b"error 400 TOO_LARGE"),
+    }
+}
+
+fn push_number(text: &mut Octets, alloc: Global, number: u64) -> Result<(), Memory>
+    ensures { OnOk result (text.new ≡ text.old ++ decimal number) }
+{
+    let mut buffer = Buffer::new();
+    text.push_all(alloc, buffer.format(number).as_bytes())
+}

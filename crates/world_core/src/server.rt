@@ -1,0 +1,129 @@
+//! The server's session: jobs that wait, and entries of what was run.
+
+ghost use Rattle.std.specs.Prelude.{◌≡◌, ◌<◌, length, IfOk, OnOk, OnErr};
+
+use crate::service::{AddRequest, Registers, Reply};
+use std::alloc::Global;
+use std::collections::{HashMap, VecDeque};
+use std::marker::Model;
+use tl_codec::Memory;
+
+/// A request that was accepted and hasn't run.
+#[derive(Debug, Drop)]
+pub struct Job {
+    pub number: u64,
+    pub request: AddRequest,
+}
+
+/// A request that ran, with its reply.
+#[derive(Debug, Drop)]
+pub struct Entry {
+    pub number: u64,
+    pub request: AddRequest,
+    pub reply: Reply,
+}
+
+/// How far the request of an accepted number is.
+#[derive(Clone, Copy, Debug)]
+pub(crate) enum Progress {
+    Waiting,
+    Answered(Reply),
+}
+
+/// A server session. Contracts see its jobs in order of acceptance, and its entries in the order in which they ran.
+#[derive(Drop)]
+pub struct Server {
+    jobs: VecDeque<Job>,
+    entries: Vec<Entry>,
+    progress: HashMap<u64, Progress>,
+    registers: Registers,
+}
+
+impl Model for Server {
+    ghost use Rattle.world_core.specs.Server.{Session};
+
+    ghost Value = { Session };
+
+    ghost use Rattle.world_core.specs.Server.{Stands};
+
+    ghost view = { λ server. record { jobs = server.jobs.items; entries = server.entries.items } };
+
+    ghost invariant = { λ server. Stands server.progress server.registers server.jobs.items server.entries.items };
+}
+
+impl Server {
+    ghost use Rattle.std.specs.Prelude.{option_map, Some};
+    ghost use Rattle.world_core.specs.Server.{none_yet, reply_under, received, worked, entry_at};
+
+    /// A session with no job and no entry.
+    pub fn new(alloc: Global) -> Server
+        ensures { result ≡ none_yet }
+    {
+        Server {
+            jobs: VecDeque::new(alloc),
+            entries: Vec::new(alloc),
+            progress: HashMap::new(alloc),
+            registers: Registers::new(alloc),
+        }
+    }
+
+    /// How many jobs wait.
+    pub fn waiting(&self) -> usize
+        ensures { result ≡ length self.now.jobs }
+    {
+        self.jobs.len()
+    }
+
+    /// What ran, in order.
+    pub fn entries(&self) -> &[Entry]
+        ensures { result.now ≡ self.now.entries }
+    {
+        self.entries.as_slice()
+    }
+
+    /// Takes a client's packet. Where its number is new it makes a job; where it was answered, the reply is given again.
+    /// Fails for want of memory alone, and then changes nothing.
+    pub fn receive(
+        &mut self,
+        alloc: Global,
+        number: u64,
+        body: &AddRequest,
+    ) -> Result<Option<Reply>, Memory>
+        ensures again { IfOk result (λ reply. reply ≡ reply_under number self.old.entries) }
+        ensures received { OnOk result (self.new ≡ received number body.now self.old) }
+        ensures unchanged { OnErr result (self.new ≡ self.old) }
+    {
+        match self.progress.get(&number).copied() {
+            Some(Progress::Answered(reply)) => return Ok(Some(reply)),
+            Some(Progress::Waiting) => return Ok(None),
+            None => {}
+        }
+        let request = body.copy(alloc)?;
+        self.jobs.reserve(1)?;
+        self.progress.insert(number, Progress::Waiting)?;
+        self.jobs.push_back_reserved(Job { number, request });
+        Ok(None)
+    }
+
+    /// Runs the job at a place, from 0, and answers its number and reply. Fails for want of memory alone, and then
+    /// changes nothing.
+    pub fn work(&mut self, alloc: Global, place: usize) -> Result<(u64, Reply), Memory>
+        requires { place < length self.old.jobs }
+        ensures worked { OnOk result (self.new ≡ worked place self.old) }
+        ensures reply { IfOk result (λ made. option_map (λ entry. (entry.number, entry.reply)) (entry_at place self.old) ≡ Some made) }
+        ensures unchanged { OnErr result (self.new ≡ self.old) }
+    {
+        self.entries.reserve(1)?;
+        let reply = self.registers.run(alloc, &self.jobs[place].request)?;
+        let Job { number, request } = self.jobs.remove(place).unwrap();
+        if let Some(progress) = self.progress.get_mut(&number) {
+            *progress = Progress::Answered(reply);
+        }
+        self.entries.push_reserved(Entry {
+            number,
+            request,
+            reply,
+        });
+        Ok((number, reply))
+    }
+}
