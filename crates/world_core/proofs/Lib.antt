@@ -3,3 +3,5 @@ pub mod ClientLemmas
 pub mod NumberLemmas
 pub mod RegistersLemmas
 pub mod ScheduleLemmas
+pub mod ServerLemmas
+pub mod WorldLemmas

@@ -1,6 +1,7 @@
 //! The server's session: jobs that wait, and entries of what was run.
 
-ghost use Rattle.std.specs.Prelude.{◌≡◌, ◌<◌, length, IfOk, OnOk, OnErr};
+ghost use Rattle.std.specs.Prelude.{◌≡◌, ◌==◌, ◌<◌, ℕ, length, IfOk, OnOk, OnErr, IsSome, nat_eq, if◌then◌else◌};
+ghost use Rattle.std.specs.HashMap.{get};
 
 use crate::service::{AddRequest, Registers, Reply};
 use std::alloc::Global;
@@ -116,14 +117,23 @@ impl Server {
         self.entries.reserve(1)?;
         let reply = self.registers.run(alloc, &self.jobs[place].request)?;
         let Job { number, request } = self.jobs.remove(place).unwrap();
-        if let Some(progress) = self.progress.get_mut(&number) {
-            *progress = Progress::Answered(reply);
-        }
+        answer(&mut self.progress, number, reply);
         self.entries.push_reserved(Entry {
             number,
             request,
             reply,
         });
         Ok((number, reply))
+    }
+}
+
+/// The request of an accepted number is answered now.
+fn answer(progress: &mut HashMap<u64, Progress>, number: u64, reply: Reply)
+    requires { IsSome (get nat_eq progress.old number) }
+    ensures { (other : ℕ) → get nat_eq progress.new other
+        ≡ (if number == other then Some (Progress.Answered reply) else get nat_eq progress.old other) }
+{
+    if let Some(progress) = progress.get_mut(&number) {
+        *progress = Progress::Answered(reply);
     }
 }

@@ -184,11 +184,12 @@ impl World {
             Some(place) if place < self.bag.len() as u64 => place as usize,
             _ => return Err(StepFault::NoPacket { k: packet }),
         };
+        self.bag.reserve(1)?;
         match &self.bag[place] {
             Packet::Up { number, body } => {
                 let number = *number;
                 if let Some(reply) = self.server.receive(alloc, number, body)? {
-                    self.bag.push(Packet::Down { number, reply })?;
+                    self.bag.push_reserved(Packet::Down { number, reply });
                 }
             }
             Packet::Down { number, reply } => {
