@@ -7,6 +7,10 @@ use Rattle.world_core.specs.declared.client.Call.{Call}
 use Rattle.world_core.specs.declared.client.CallState.{CallState}
 use Rattle.world_core.specs.declared.client.CallState.TheVariants.{Queued, Sent, Done}
 use Rattle.world_core.specs.declared.server.Entry.{Entry}
+use Rattle.world_core.specs.declared.client.SubmitFault.TheVariants as submit
+use Rattle.world_core.specs.declared.client.SubmitFault.TheVariants.{TooMany}
+use Rattle.world_core.specs.declared.world.StepFault.{StepFault}
+use Rattle.world_core.specs.declared.world.StepFault.TheVariants.{NoClient, NoPacket, NoJob, Submit, Memory}
 use Rattle.world_core.specs.World.{World}
 
 -- a reply: its value, or its error
@@ -35,3 +39,21 @@ entry_line entry = codes "run 1 1 " ++ decimal entry.number ++ codes " " ++ repl
 -- a line for each call, and then a line for each entry
 abbrev pub report : World → List ℕ
 report w = call_lines 1 (unwrap_or w.client []) ++ flat_map entry_line w.server.entries
+
+-- the cause of a refusal, as it is told
+abbrev pub cause_text : StepFault → List ℕ
+cause_text (NoPacket k) = codes "no packet"
+cause_text NoClient = codes "no client"
+cause_text (NoJob k) = codes "no job"
+cause_text (Submit TooMany) = codes "too many calls"
+cause_text (Submit submit.Memory) = []
+cause_text Memory = []
+
+-- want of memory has no cause to tell
+abbrev pub IsMemory : StepFault → Type 0
+IsMemory (NoPacket k) = ⊥
+IsMemory NoClient = ⊥
+IsMemory (NoJob k) = ⊥
+IsMemory (Submit TooMany) = ⊥
+IsMemory (Submit submit.Memory) = Unit {0}
+IsMemory Memory = Unit {0}

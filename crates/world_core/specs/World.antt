@@ -1,5 +1,5 @@
 -- The world of a schedule.
-use Rattle.std.specs.Prelude.{◌≡◌, ℕ, zero, suc, ◌-◌, List, [], ◌∷◌, ◌++◌, Bool, ◌==◌, ◌&&◌, nat_lt, Option, Some, None, is_some, option_map, option_to_list, unwrap_or, length, slice_get, Result, Ok, Err, if◌then◌else◌}
+use Rattle.std.specs.Prelude.{◌≡◌, ℕ, zero, suc, ◌-◌, List, [], ◌∷◌, ◌++◌, Bool, ◌==◌, ◌&&◌, nat_lt, Option, Some, None, is_some, option_map, option_to_list, unwrap_or, length, map, slice_get, Result, Ok, Err, if◌then◌else◌}
 use Rattle.world_core.specs.declared.service.AddRequest.{AddRequest}
 use Rattle.world_core.specs.declared.service.Reply.{Reply}
 use Rattle.world_core.specs.declared.packet.Packet.{Packet}
@@ -105,6 +105,19 @@ run_from w (event ∷ events) = run_from (step w event) events
 
 abbrev pub run : List Event → World
 run events = run_from start events
+
+-- the events of a schedule, without their lines
+abbrev pub events_of : List Placed → List Event
+events_of placed = map (λ p. p.event) placed
+
+abbrev pub first_of : ℕ → Option StepFault → Option (ℕ × StepFault) → Option (ℕ × StepFault)
+first_of line None later = later
+first_of line (Some fault) later = Some (line, fault)
+
+-- the first event that is refused, by the number of its line, with its refusal
+abbrev pub first_refusal : World → List Placed → Option (ℕ × StepFault)
+first_refusal w [] = None
+first_refusal w (p ∷ placed) = first_of p.line (refusal w p.event) (first_refusal (step w p.event) placed)
 
 -- what a step of an event does, with its answer
 abbrev pub Steps : {X : Type 0} → World → Event → World → Result X StepFault → Type 0

@@ -1,13 +1,13 @@
 //! The report of a world: a line for each call, and then a line for each entry.
 
-ghost use Rattle.std.specs.Prelude.{◌≡◌, ◌++◌, OnOk, OnErr, decimal};
-ghost use Rattle.world_core.specs.Report.{report, call_line, call_lines, entry_line, reply_text, state_text};
+ghost use Rattle.std.specs.Prelude.{◌≡◌, ◌++◌, OnOk, OnErr, MatchOption, decimal};
+ghost use Rattle.world_core.specs.Report.{report, call_line, call_lines, entry_line, reply_text, state_text, cause_text, IsMemory};
 ghost use Rattle.std.specs.List.{flat_map};
 
-use crate::client::{Call, CallState};
+use crate::client::{Call, CallState, SubmitFault};
 use crate::server::Entry;
 use crate::service::Reply;
-use crate::world::World;
+use crate::world::{StepFault, World};
 use itoa::Buffer;
 use std::alloc::Global;
 use tl_codec::{Memory, Octets};
@@ -22,6 +22,21 @@ impl World {
         push_calls(&mut text, alloc, self.calls())?;
         push_entries(&mut text, alloc, self.entries())?;
         into.push_all(alloc, text.as_slice())
+    }
+}
+
+impl StepFault {
+    /// The cause of the refusal, as it is told; want of memory has none.
+    pub fn cause(&self) -> Option<&'static str>
+        ensures { MatchOption result (IsMemory self.now) (λ text. text.now ≡ cause_text self.now) }
+    {
+        match self {
+            StepFault::NoPacket { .. } => Some("no packet"),
+            StepFault::NoClient => Some("no client"),
+            StepFault::NoJob { .. } => Some("no job"),
+            StepFault::Submit(SubmitFault::TooMany) => Some("too many calls"),
+            StepFault::Submit(SubmitFault::Memory) | StepFault::Memory => None,
+        }
     }
 }
 
