@@ -5,3 +5,4 @@ pub mod RegistersLemmas
 pub mod ScheduleLemmas
 pub mod ServerLemmas
 pub mod WorldLemmas
+pub mod Readings
