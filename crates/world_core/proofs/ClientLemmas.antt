@@ -83,7 +83,7 @@ done-other number reply call own e apart = cond-false _ _ _ (ap (has_number numb
 done-waiting : (number : ℕ) (reply : Reply) (call : Call) → call.number ≡ None → done_by number reply call ≡ call
 done-waiting number reply call e = cond-false _ _ _ (ap (has_number number) e)
 
-waiting-delivered : (number : ℕ) (reply : Reply) (calls : List Call) → AllByRecursion IsWaiting calls → map (done_by number reply) calls ≡ calls
+pub waiting-delivered : (number : ℕ) (reply : Reply) (calls : List Call) → AllByRecursion IsWaiting calls → map (done_by number reply) calls ≡ calls
 waiting-delivered number reply [] h = refl
 waiting-delivered number reply (call ∷ calls) h =
     ap (λ first. first ∷ map (done_by number reply) calls) (done-waiting number reply call h.0.1) ∙ ap (λ rest. call ∷ rest) (waiting-delivered number reply calls h.1)
@@ -110,7 +110,7 @@ delivered-at place (suc sent) (suc k) number reply (call ∷ calls) d h less e =
     ap (λ call'. call' ∷ map (done_by number reply) calls) (done-other number reply call _ h.0.1 first)
     ∙ ap (λ rest. call ∷ rest) (delivered-at (place + 1) sent k number reply calls d h.1 (omega arith) (omega (arith, e)))
 
-sent-answered : (place : ℕ) (reply : Reply) (call : Call) → WasSent place call → WasSent place (answered reply call)
+pub sent-answered : (place : ℕ) (reply : Reply) (call : Call) → WasSent place call → WasSent place (answered reply call)
 sent-answered place reply call h = cond_both (is_sent call.state) _ call (WasSent place) (λ _. (refl, h.1)) (λ _. h)
 
 done-own : (number : ℕ) (reply : Reply) (call : Call) → call.number ≡ Some number → done_by number reply call ≡ answered reply call

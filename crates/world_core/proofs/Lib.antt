@@ -1,6 +1,8 @@
+pub mod AskedLemmas
 pub mod CallLemmas
 pub mod ClientLemmas
 pub mod NumberLemmas
+pub mod OnceLemmas
 pub mod RegistersLemmas
 pub mod ScheduleLemmas
 pub mod ServerLemmas

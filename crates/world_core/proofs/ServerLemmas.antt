@@ -23,10 +23,10 @@ use Rattle.world_core.specs.declared.server.Progress.TheVariants.{Waiting, Answe
 entries_under-cons : (number : ℕ) (entry : Entry) (entries : List Entry) → entries_under number (entry ∷ entries) ≡ cond (entry.number == number) 1 0 + entries_under number entries
 entries_under-cons number entry entries = sum_by-cons (λ (e : Entry). cond (e.number == number) 1 0) entry entries
 
-entries_under-here : (number : ℕ) (entry : Entry) (entries : List Entry) → (entry.number == number) ≡ true → entries_under number (entry ∷ entries) ≡ 1 + entries_under number entries
+pub entries_under-here : (number : ℕ) (entry : Entry) (entries : List Entry) → (entry.number == number) ≡ true → entries_under number (entry ∷ entries) ≡ 1 + entries_under number entries
 entries_under-here number entry entries here = entries_under-cons number entry entries ∙ ap (λ n. n + entries_under number entries) (cond-true {A = ℕ} (entry.number == number) 1 0 here)
 
-entries_under-there : (number : ℕ) (entry : Entry) (entries : List Entry) → (entry.number == number) ≡ false → entries_under number (entry ∷ entries) ≡ entries_under number entries
+pub entries_under-there : (number : ℕ) (entry : Entry) (entries : List Entry) → (entry.number == number) ≡ false → entries_under number (entry ∷ entries) ≡ entries_under number entries
 entries_under-there number entry entries there = entries_under-cons number entry entries ∙ (ap (λ n. n + entries_under number entries) (cond-false {A = ℕ} (entry.number == number) 1 0 there) ∙ zero-add _)
 
 -- a number that no entry has finds no reply

@@ -5,3 +5,4 @@ pub mod Server
 pub mod Schedule
 pub mod World
 pub mod Report
+pub mod Once

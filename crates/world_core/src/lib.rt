@@ -5,6 +5,7 @@
 #![tactic(auto)]
 
 mod client;
+pub mod laws;
 mod packet;
 mod report;
 mod schedule;
