@@ -20,3 +20,4 @@ pub mod OnceKept
 pub mod SafeKept
 mod Runs
 mod Stays
+mod OddRuns

@@ -73,14 +73,36 @@ state_fits : (now : ℕ) (w : World) (call : ℕ) (state : State)
 state_fits now w call state k is =
     subst (Fits (w.clients (w.calls call).client) w.servers w.ups w.entries (w.calls call).names) is (k.fits call)
 
+-- two things of a list that are so are one, if at most one is
+same_if_so : {A : Type 0} (IsSo : A → Type 0) (list : List A)
+    → AtMostOne IsSo list → (one other : A) → Among one list → Among other list → IsSo one → IsSo other → one ≡ other
+same_if_so IsSo [] most one other at_one at_other so_one so_other = absurd at_one
+same_if_so IsSo (x ∷ list) most one other at_one at_other so_one so_other =
+    elim at_one [
+      | inl here ↦
+          elim at_other [
+            | inl there ↦ here ∙ sym there
+            | inr later ↦ absurd (most.0 (subst IsSo here so_one) other later so_other)
+          ]
+      | inr first ↦
+          elim at_other [
+            | inl there ↦ absurd (most.0 (subst IsSo there so_other) one first so_one)
+            | inr later ↦ same_if_so IsSo list most.1 one other first later so_one so_other
+          ]
+    ]
+
+-- over all names of a call there is at most one entry
+at_most_one_of : (now : ℕ) (w : World) (call : ℕ) → Kept now w → AtMostOne (IsOfCall w call) w.entries
+at_most_one_of now w call k =
+    at_most_one (IsOfCall w call) (λ (one other : Entry). (other.server ≡ one.server) × (other.number ≡ one.number)) w.entries
+    (λ one other at_one at_other. same_place now w call one other k at_one at_other)
+    (λ one. (refl, refl))
+    (λ one. k.entry_once one.server one.number)
+
 pub once_if_kept : (now : ℕ) (w : World) → Kept now w → Once w
 once_if_kept now w k =
     record {
-      once = λ call.
-          at_most_one (IsOfCall w call) (λ (one other : Entry). (other.server ≡ one.server) × (other.number ≡ one.number)) w.entries
-          (λ one other at_one at_other. same_place now w call one other k at_one at_other)
-          (λ one. (refl, refl))
-          (λ one. k.entry_once one.server one.number);
+      once = λ call. at_most_one_of now w call k;
       as_sent = λ entry among.
           let judged : Judged = record { number = entry.number; outcome = AcceptedCall entry.request } in
           let back = k.judged_backed entry.server judged (k.entry_judged entry among) in
@@ -93,7 +115,14 @@ once_if_kept now w k =
             λ other other_of.
                 k.names_of_one other named.0 other_of.0 named.1 other_of.1 named.2 (sym other_of.2.0 ∙ of.0, sym other_of.2.1 ∙ of.1),
           );
-      done = λ call reply is. state_fits now w call (Done reply) k is;
+      done = λ call reply is.
+          let of = state_fits now w call (Done reply) k is in (
+            of.0,
+            of.1,
+            of.2,
+            of.3,
+            λ other among of_call. same_if_so (IsOfCall w call) w.entries (at_most_one_of now w call k) other of.0 among of.1 of_call of.2,
+          );
       replaced = λ call name entry old among of. entry_not_dead now w name entry k (k.replaced call name old) among of;
       queued = λ call is. no_entry now w call k (state_fits now w call Queued k is);
       held = λ call is. no_entry now w call k (state_fits now w call Held k is);

@@ -8,3 +8,4 @@ pub mod Reached
 pub mod Once
 pub mod Safe
 pub mod Witness
+pub mod Needed

@@ -62,10 +62,14 @@ pub record Once (w : World) : Type 0 where
       × (entry.request ≡ (w.calls call).body)
       × Owns (w.clients (w.calls call).client) (w.servers entry.server).session
       × ((other : ℕ) → IsOfCall w other entry → other ≡ call)
-  -- a done call has an entry, which is its one entry, with its reply
+  -- a done call has exactly one entry, with its reply
   pub done : (call : ℕ) (reply : Text)
       → (w.calls call).state ≡ Done reply
-      → (entry : Entry) × Among entry w.entries × IsOfCall w call entry × (entry.reply ≡ reply)
+      → (entry : Entry)
+      × Among entry w.entries
+      × IsOfCall w call entry
+      × (entry.reply ≡ reply)
+      × ((other : Entry) → Among other w.entries → IsOfCall w call other → other ≡ entry)
   -- a replaced name has no entry
   pub replaced : (call : ℕ) (name : Name) (entry : Entry)
       → Among name (older_names (w.calls call).names) → Among entry w.entries → IsOfName w name entry → ⊥

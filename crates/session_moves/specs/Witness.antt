@@ -43,19 +43,17 @@ resending =
 abbrev pub resent : List Move
 resent = opened resending
 
--- the call runs and is answered, its server session is lost before the answer is heard, and the client hears of another one
-abbrev pub losing : List Move
-losing =
-    Send 0 (First 0 4 ∷ [])
-    ∷ Judge 11 (asked 21 4) (AcceptedCall question)
-    ∷ Answer 11 4 question reply
-    ∷ Lose 11
-    ∷ Make 12 1
-    ∷ Draw 12 22
-    ∷ told 12 (NewSession 12 22 ∷ []) [] []
+-- the call is sent under number 4, and runs
+abbrev pub ran : List Move → List Move
+ran rest = Send 0 (First 0 4 ∷ []) ∷ Judge 11 (asked 21 4) (AcceptedCall question) ∷ Answer 11 4 question reply ∷ rest
 
+-- the server session is lost, and another one is made under its session number
+abbrev pub replaced : List Move → List Move
+replaced rest = Lose 11 ∷ Make 12 1 ∷ rest
+
+-- the call runs, its server session is lost before the answer is heard, and the client hears of another one
 abbrev pub lost : List Move
-lost = opened losing
+lost = opened (ran (replaced (Draw 12 22 ∷ told 12 (NewSession 12 22 ∷ []) [] [])))
 
 -- what the server session decided on the call's first message
 abbrev pub refusal : Judged
