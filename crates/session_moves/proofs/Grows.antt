@@ -51,6 +51,9 @@ made_if_salted {w = w} k unique salt h none = empty salt (w.servers unique).salt
 pub made_if_lost : (server : ServerSession) (at : ℕ) → server.status ≡ Lost at → server.status ≢ Unmade
 made_if_lost server at lost unmade = cc
 
+pub lost_at : (one other : ℕ) → Lost one ≡ Lost other → one ≡ other
+lost_at one other h = cc
+
 pub made_if_standing : (server : ServerSession) → server.status ≡ Standing → server.status ≢ Unmade
 made_if_standing server standing unmade = cc
 

@@ -8,7 +8,7 @@ use Rattle.session_moves.specs.After.{end_client, after_settled, state_noticed, 
 use Rattle.session_moves.specs.Lawful.{IsMadeClient, BeginsNew, MaySay}
 use Rattle.session_moves.proofs.Kept.{Kept}
 use Rattle.session_moves.proofs.Basics.{chosen}
-use Rattle.std.proofs.lemmas.Bool.{cond_both, or_parts, eqb-false, ltb-true}
+use Rattle.std.proofs.lemmas.Bool.{both_ways, cond_both, or_parts, eqb-false, ltb-true}
 use Rattle.session_moves.proofs.OwnKept.{kept_after_end}
 use Rattle.session_moves.proofs.Taker.{accepted_knows}
 use Rattle.session_moves.proofs.Heard.{Takes, among_if, resulted, noticed, salt_taken}
@@ -40,9 +40,6 @@ not_among n (m ∷ list) h among =
       | inl same ↦ eqb-false n m parts.0 same
       | inr later ↦ not_among n list parts.1 later
     ]
-
-pub not_both_ways : (b : Bool) → b ≡ true → b ≡ false → ⊥
-not_both_ways b so not_so = cc
 
 -- a client under whose session number a packet was made was made itself
 client_made : (now : ℕ) (w : World) (client unique : ℕ) → Takes now w client unique → IsMadeClient w client
@@ -122,7 +119,7 @@ heard now w client unique item takes t says known =
     λ open_still.
     item_heard now w client unique item takes t says (
     elim known [
-      | inl is ↦ elim is [ inl among ↦ inl among | inr ended ↦ absurd (not_both_ways (w.clients client).ended ended open_still) ]
+      | inl is ↦ elim is [ inl among ↦ inl among | inr ended ↦ absurd (both_ways (w.clients client).ended open_still ended) ]
       | inr new ↦ inr new
     ]
     )

@@ -2,6 +2,7 @@ pub mod Kept
 pub mod Basics
 pub mod Grows
 pub mod Clients
+pub mod NewSession
 pub mod OwnKept
 pub mod MakeKept
 pub mod DrawKept

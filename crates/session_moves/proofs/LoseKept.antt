@@ -1,5 +1,5 @@
 -- A loss keeps all: what the server session might have accepted is never accepted.
-use Rattle.std.proofs.Common.{◌≡◌, ◌≢◌, ℕ, suc, ◌<◌, inl, inr, refl, ap, ◌∙◌, arith}
+use Rattle.std.proofs.Common.{◌≡◌, ◌≢◌, ℕ, suc, ◌<◌, inl, inr, sym, refl, ap, ◌∙◌, arith}
 use Rattle.std.proofs.lemmas.Bool.{cases_eq}
 use Rattle.session_moves.specs.Table.{Name, Status}
 use Rattle.session_moves.specs.Table.Status.{Unmade, Standing, Lost}
@@ -9,10 +9,7 @@ use Rattle.session_moves.specs.After.{effect}
 use Rattle.session_moves.specs.Lawful.{IsLawful}
 use Rattle.session_moves.proofs.Kept.{Kept, Dead}
 use Rattle.session_moves.proofs.Basics.{choice, choice_of, chosen, unchosen}
-use Rattle.session_moves.proofs.Grows.{Grows, backed_grows, fits_grows, says_grows, made_if_judged, made_if_standing}
-
-lost_at : (time at : ℕ) → Lost time ≡ Lost at → at ≡ time
-lost_at time at h = cc
+use Rattle.session_moves.proofs.Grows.{Grows, backed_grows, fits_grows, says_grows, made_if_judged, made_if_standing, lost_at}
 
 grows : (w : World) (unique : ℕ) → IsLawful w (Lose unique) → Grows w.servers (effect w (Lose unique)).servers
 grows w unique lawful =
@@ -80,7 +77,7 @@ kept_after_lose w unique k lawful =
       lost_before = λ other at lost.
           elim (choice_of (λ (s : Status). s ≡ Lost at) other unique (Lost w.time) (w.servers other).status lost) [
             | inl new ↦
-                let is : at ≡ w.time = lost_at w.time at new.1 in
+                let is : at ≡ w.time = sym (lost_at w.time at new.1) in
                 let standing : (w.servers other).status ≡ Standing = ap (λ u. (w.servers u).status) new.0 ∙ lawful in
                 let before : (w.servers other).made < w.time = k.made_before other (made_if_standing (w.servers other) standing) in
                 (omega arith, omega arith)

@@ -1,6 +1,6 @@
 -- What a client does by itself keeps all: its session number is new, and what it gives up is dead or unknown.
-use Rattle.std.proofs.Common.{◌≡◌, ℕ, ◌≤◌, Bool, true, false, List, [], ◌∷◌, length, ◌⊎◌, inl, inr, sym, refl, ap, ◌∙◌, subst, subst₂, arith, ne_eqb, eq-eqb, zero-le}
-use Rattle.std.proofs.lemmas.Bool.{cases_eq}
+use Rattle.std.proofs.Common.{◌≡◌, ℕ, ◌≤◌, ◌==◌, if◌then◌else◌, true, false, List, [], ◌∷◌, inl, inr, sym, refl, ap, ◌∙◌, subst, subst₂, arith, ne_eqb, eq-eqb}
+use Rattle.std.proofs.lemmas.Bool.{cases_eq, both_ways}
 use Rattle.session_moves.specs.Among.{Among}
 use Rattle.session_moves.specs.Table.{Text, State, Name, Call, Client, Message, ServerSession, Entry}
 use Rattle.session_moves.specs.Table.Cause.{Session, Renewed, Ended, Forgotten}
@@ -8,12 +8,13 @@ use Rattle.session_moves.specs.Table.State.{Queued, Sent, Held, Done, Refused, U
 use Rattle.session_moves.specs.World.{World, Owns}
 use Rattle.session_moves.specs.Move.{OwnAct}
 use Rattle.session_moves.specs.Move.OwnAct.{NewClient, Renew, Submit, GiveUp, End}
-use Rattle.session_moves.specs.After.{after_own, end_client, state_renewed, state_ended, LEARNT_MAX}
+use Rattle.session_moves.specs.After.{after_own, end_client, state_renewed, state_ended}
 use Rattle.session_moves.specs.Lawful.{IsMadeClient, IsOwnLawful}
 use Rattle.session_moves.specs.Once.{older_names}
-use Rattle.session_moves.proofs.Kept.{Kept, SaltAmong, AllDead, Fits, AreApart}
-use Rattle.session_moves.proofs.Basics.{choice, chosen, unchosen, empty}
+use Rattle.session_moves.proofs.Kept.{Kept, AllDead, Fits, AreApart}
+use Rattle.session_moves.proofs.Basics.{choice, choice_of, chosen, unchosen, empty}
 use Rattle.session_moves.proofs.Grows.{on_last}
+use Rattle.session_moves.proofs.NewSession.{TakesSession, messages_owned, messages_known, clients_salted, clients_learnt, clients_bounded, owners_apart, clients_made}
 use Rattle.session_moves.proofs.Clients.{cause_of_client, on_last_among, says_stays}
 
 -- A client is made
@@ -46,23 +47,32 @@ nameless client later servers ups entries names none ended (Unknown Renewed) h =
 nameless client later servers ups entries names none ended (Unknown Ended) h = ended h
 nameless client later servers ups entries names none ended (Unknown Forgotten) h = h
 
+new_client_takes : (now : ℕ) (w : World) (client session : ℕ)
+    → Kept now w
+    → IsOwnLawful w (NewClient client session)
+    → TakesSession w (after_own w (NewClient client session)).clients client session
+new_client_takes now w client session k lawful =
+    let new : Client = record { present = session; former = []; salt = 0; learnt = []; ended = false } in
+    let here : (if client == client then new else w.clients client) ≡ new = chosen client client new (w.clients client) refl in
+    record {
+      others = λ other differs. unchosen other client new (w.clients other) differs;
+      present = ap (λ (c : Client). c.present) here;
+      learnt = ap (λ (c : Client). c.learnt) here;
+      salt = ap (λ (c : Client). c.salt) here;
+      owned = λ other some owns.
+          subst (λ (c : Client). Owns c some) (sym (unchosen other client new (w.clients other) (owner_differs now w client other some k lawful.0 owns))) owns;
+      owned_before = λ other some owns.
+          elim (choice_of (λ (c : Client). Owns c some) other client new (w.clients other) owns) [
+            | inl is ↦ inl (is.0, elim is.1.1 [ inl present ↦ present | inr none ↦ absurd none ])
+            | inr old ↦ inr old.1
+          ];
+    }
+
 new_client : (now : ℕ) (w : World) (client session : ℕ)
     → Kept now w → IsOwnLawful w (NewClient client session) → Kept now (after_own w (NewClient client session))
 new_client now w client session k lawful =
     let later : World = after_own w (NewClient client session) in
-    let there : (other : ℕ) → (other ≡ client → ⊥) → later.clients other ≡ w.clients other = λ other differs. rw (ne_eqb other client differs) refl in
-    let here : (other : ℕ) → other ≡ client → later.clients other ≡ record { present = session; former = []; salt = 0; learnt = []; ended = false } =
-    λ other same. rw (eq-eqb other client same) refl in
-    let owned : (other some : ℕ) → Owns (w.clients other) some → Owns (later.clients other) some =
-    λ other some owns. subst (λ (c : Client). Owns c some) (sym (there other (owner_differs now w client other some k lawful.0 owns))) owns in
-    let before : (other some : ℕ) → Owns (later.clients other) some → ((other ≡ client) × (some ≡ session)) ⊎ Owns (w.clients other) some =
-    λ other some owns.
-    elim (cases_eq other client) [
-      | inl same ↦
-          let o : Owns (record { present = session; former = []; salt = 0; learnt = []; ended = false }) some = subst (λ (c : Client). Owns c some) (here other same) owns in
-          inl (same, elim o.1 [ inl is ↦ is | inr none ↦ absurd none ])
-      | inr differs ↦ inr (subst (λ (c : Client). Owns c some) (there other differs) owns)
-    ] in
+    let t = new_client_takes now w client session k lawful in
     record {
       made_before = k.made_before;
       session_nonzero = k.session_nonzero;
@@ -77,64 +87,17 @@ new_client now w client session k lawful =
       entry_judged = k.entry_judged;
       entry_once = k.entry_once;
       message_salted = k.message_salted;
-      message_owned = λ message among.
-          let old = k.message_owned message among in
-          (old.0, owned old.0 message.session old.1);
-      message_known = λ message other unique among present known.
-          elim (cases_eq other client) [
-            | inl same ↦
-                let is : message.session ≡ session = present ∙ ap (λ (c : Client). c.present) (here other same) in
-                let old = k.message_owned message among in
-                absurd (lawful.1.1 old.0 (subst (λ s. Owns (w.clients old.0) s) is old.1))
-            | inr differs ↦
-                subst (λ (c : Client). Among unique c.learnt) (sym (there other differs)) (
-                k.message_known message other unique among (present ∙ ap (λ (c : Client). c.present) (there other differs)) known
-                )
-          ];
+      message_owned = messages_owned k t;
+      message_known = messages_known k t lawful.1;
       message_named = k.message_named;
-      client_salted = λ other.
-          elim (cases_eq other client) [
-            | inl same ↦ inl (ap (λ (c : Client). c.learnt) (here other same), ap (λ (c : Client). c.salt) (here other same))
-            | inr differs ↦
-                subst (λ (c : Client). ((c.learnt ≡ []) × (c.salt ≡ 0)) ⊎ SaltAmong w.servers c.learnt c.salt) (sym (there other differs)) (k.client_salted other)
-          ];
-      client_learnt = λ other unique among.
-          elim (cases_eq other client) [
-            | inl same ↦ absurd (empty unique (later.clients other).learnt (ap (λ (c : Client). c.learnt) (here other same)) among)
-            | inr differs ↦
-                let is = there other differs in
-                let old = k.client_learnt other unique (subst (λ (c : Client). Among unique c.learnt) is among) in
-                (old.0 ∙ sym (ap (λ (c : Client). c.present) is), old.1)
-          ];
-      learnt_bounded = λ other.
-          elim (cases_eq other client) [
-            | inl same ↦ subst (λ (c : Client). length c.learnt ≤ LEARNT_MAX) (sym (here other same)) zero-le
-            | inr differs ↦ subst (λ (c : Client). length c.learnt ≤ LEARNT_MAX) (sym (there other differs)) (k.learnt_bounded other)
-          ];
-      owned_once = λ one other some of_one of_other.
-          elim (before one some of_one) [
-            | inl new ↦
-                elim (before other some of_other) [
-                  | inl too ↦ new.0 ∙ sym too.0
-                  | inr old ↦ absurd (lawful.1.1 other (subst (λ s. Owns (w.clients other) s) new.1 old))
-                ]
-            | inr old ↦
-                elim (before other some of_other) [
-                  | inl new ↦ absurd (lawful.1.1 one (subst (λ s. Owns (w.clients one) s) new.1 old))
-                  | inr too ↦ k.owned_once one other some old too
-                ]
-          ];
-      no_client = λ other none.
-          elim (cases_eq other client) [
-            | inl same ↦ absurd (lawful.1.0 (sym (ap (λ (c : Client). c.present) (here other same)) ∙ none))
-            | inr differs ↦
-                let is = there other differs in
-                let old = k.no_client other (sym (ap (λ (c : Client). c.present) is) ∙ none) in
-                (ap (λ (c : Client). c.former) is ∙ old.0, ap (λ (c : Client). c.ended) is ∙ old.1)
-          ];
+      client_salted = clients_salted k t;
+      client_learnt = clients_learnt k t;
+      learnt_bounded = clients_bounded k t;
+      owned_once = owners_apart k t lawful.1;
+      no_client = clients_made k t lawful.1;
       unsubmitted = k.unsubmitted;
       name_sent = k.name_sent;
-      name_owned = λ call name among. owned (w.calls call).client name.session (k.name_owned call name among);
+      name_owned = λ call name among. t.owned (w.calls call).client name.session (k.name_owned call name among);
       name_first = k.name_first;
       name_known = k.name_known;
       name_messages = k.name_messages;
@@ -146,23 +109,22 @@ new_client now w client session k lawful =
       fits = λ call.
           elim (cases_eq (w.calls call).client client) [
             | inr differs ↦
-                subst (λ (c : Client). Fits c w.servers w.ups w.entries (w.calls call).names (w.calls call).state) (sym (there (w.calls call).client differs)) (k.fits call)
+                subst (λ (c : Client). Fits c w.servers w.ups w.entries (w.calls call).names (w.calls call).state) (sym (t.others (w.calls call).client differs)) (
+                k.fits call
+                )
             | inl same ↦
                 nameless (w.clients (w.calls call).client) (later.clients (w.calls call).client) w.servers w.ups w.entries (w.calls call).names (
                 λ name among. owner_differs now w client (w.calls call).client name.session k lawful.0 (k.name_owned call name among) same
                 ) (
                 λ ended.
                 let not_ended = (k.no_client (w.calls call).client (ap (λ c. (w.clients c).present) same ∙ lawful.0)).1 in
-                absurd (true_false ((w.clients (w.calls call).client).ended) ended not_ended)
+                absurd (both_ways (w.clients (w.calls call).client).ended not_ended ended)
                 ) (w.calls call).state (k.fits call)
           ];
       packet_says = says_stays k later refl (λ some number name. name) refl refl;
       packet_made = k.packet_made;
       packet_begins = k.packet_begins;
     }
-  where
-    true_false : (b : Bool) → b ≡ true → b ≡ false → ⊥
-    true_false b so not_so = cc
 
 -- A client renews
 
@@ -178,34 +140,39 @@ renewed client session servers ups entries names (Unknown cause) h =
     cause_of_client client (record client { present = session; former = client.present ∷ client.former; salt = 0; learnt = [] }) servers names
     (λ some among. inr among) (λ ended. ended) cause h
 
+-- the client after it renewed
+client_renewed : Client → ℕ → Client
+client_renewed client session = record client { present = session; former = client.present ∷ client.former; salt = 0; learnt = [] }
+
+renew_takes : (w : World) (client session : ℕ) → TakesSession w (after_own w (Renew client session)).clients client session
+unfolding client_renewed
+renew_takes w client session =
+    let here = chosen client client (client_renewed (w.clients client) session) (w.clients client) refl in
+    record {
+      others = λ other differs. unchosen other client (client_renewed (w.clients other) session) (w.clients other) differs;
+      present = ap (λ (c : Client). c.present) here;
+      learnt = ap (λ (c : Client). c.learnt) here;
+      salt = ap (λ (c : Client). c.salt) here;
+      owned = λ other some owns.
+          choice (λ (c : Client). Owns c some) other client (client_renewed (w.clients other) session) (w.clients other)
+          (λ same. (owns.0, elim owns.1 [ inl present ↦ inr (inl present) | inr former ↦ inr (inr former) ])) (λ differs. owns);
+      owned_before = λ other some owns.
+          elim (choice_of (λ (c : Client). Owns c some) other client (client_renewed (w.clients other) session) (w.clients other) owns) [
+            | inl new ↦
+                elim new.1.1 [
+                  | inl present ↦ inl (new.0, present)
+                  | inr old ↦ elim old [ inl before ↦ inr (new.1.0, inl before) | inr former ↦ inr (new.1.0, inr former) ]
+                ]
+            | inr old ↦ inr old.1
+          ];
+    }
+
 renew : (now : ℕ) (w : World) (client session : ℕ)
     → Kept now w → IsOwnLawful w (Renew client session) → Kept now (after_own w (Renew client session))
+unfolding client_renewed
 renew now w client session k lawful =
     let later : World = after_own w (Renew client session) in
-    let new : ℕ → Client = λ other. record (w.clients other) { present = session; former = (w.clients other).present ∷ (w.clients other).former; salt = 0; learnt = [] } in
-    let there : (other : ℕ) → (other ≡ client → ⊥) → later.clients other ≡ w.clients other = λ other differs. rw (ne_eqb other client differs) refl in
-    let here : (other : ℕ) → other ≡ client → later.clients other ≡ new other = λ other same. rw (eq-eqb other client same) refl in
-    let owned : (other some : ℕ) → Owns (w.clients other) some → Owns (later.clients other) some =
-    λ other some owns.
-    elim (cases_eq other client) [
-      | inl same ↦
-          subst (λ (c : Client). Owns c some) (sym (here other same)) (
-            owns.0,
-            elim owns.1 [ inl present ↦ inr (inl present) | inr former ↦ inr (inr former) ],
-          )
-      | inr differs ↦ subst (λ (c : Client). Owns c some) (sym (there other differs)) owns
-    ] in
-    let before : (other some : ℕ) → Owns (later.clients other) some → ((other ≡ client) × (some ≡ session)) ⊎ Owns (w.clients other) some =
-    λ other some owns.
-    elim (cases_eq other client) [
-      | inl same ↦
-          let o : Owns (new other) some = subst (λ (c : Client). Owns c some) (here other same) owns in
-          elim o.1 [
-            | inl is ↦ inl (same, is)
-            | inr old ↦ elim old [ inl present ↦ inr (o.0, inl present) | inr former ↦ inr (o.0, inr former) ]
-          ]
-      | inr differs ↦ inr (subst (λ (c : Client). Owns c some) (there other differs) owns)
-    ] in
+    let t = renew_takes w client session in
     record {
       made_before = k.made_before;
       session_nonzero = k.session_nonzero;
@@ -220,61 +187,14 @@ renew now w client session k lawful =
       entry_judged = k.entry_judged;
       entry_once = k.entry_once;
       message_salted = k.message_salted;
-      message_owned = λ message among.
-          let old = k.message_owned message among in
-          (old.0, owned old.0 message.session old.1);
-      message_known = λ message other unique among present known.
-          elim (cases_eq other client) [
-            | inl same ↦
-                let is : message.session ≡ session = present ∙ ap (λ (c : Client). c.present) (here other same) in
-                let old = k.message_owned message among in
-                absurd (lawful.1.1 old.0 (subst (λ s. Owns (w.clients old.0) s) is old.1))
-            | inr differs ↦
-                subst (λ (c : Client). Among unique c.learnt) (sym (there other differs)) (
-                k.message_known message other unique among (present ∙ ap (λ (c : Client). c.present) (there other differs)) known
-                )
-          ];
+      message_owned = messages_owned k t;
+      message_known = messages_known k t lawful.1;
       message_named = k.message_named;
-      client_salted = λ other.
-          elim (cases_eq other client) [
-            | inl same ↦ inl (ap (λ (c : Client). c.learnt) (here other same), ap (λ (c : Client). c.salt) (here other same))
-            | inr differs ↦
-                subst (λ (c : Client). ((c.learnt ≡ []) × (c.salt ≡ 0)) ⊎ SaltAmong w.servers c.learnt c.salt) (sym (there other differs)) (k.client_salted other)
-          ];
-      client_learnt = λ other unique among.
-          elim (cases_eq other client) [
-            | inl same ↦ absurd (empty unique (later.clients other).learnt (ap (λ (c : Client). c.learnt) (here other same)) among)
-            | inr differs ↦
-                let is = there other differs in
-                let old = k.client_learnt other unique (subst (λ (c : Client). Among unique c.learnt) is among) in
-                (old.0 ∙ sym (ap (λ (c : Client). c.present) is), old.1)
-          ];
-      learnt_bounded = λ other.
-          elim (cases_eq other client) [
-            | inl same ↦ subst (λ (c : Client). length c.learnt ≤ LEARNT_MAX) (sym (here other same)) zero-le
-            | inr differs ↦ subst (λ (c : Client). length c.learnt ≤ LEARNT_MAX) (sym (there other differs)) (k.learnt_bounded other)
-          ];
-      owned_once = λ one other some of_one of_other.
-          elim (before one some of_one) [
-            | inl new ↦
-                elim (before other some of_other) [
-                  | inl too ↦ new.0 ∙ sym too.0
-                  | inr old ↦ absurd (lawful.1.1 other (subst (λ s. Owns (w.clients other) s) new.1 old))
-                ]
-            | inr old ↦
-                elim (before other some of_other) [
-                  | inl new ↦ absurd (lawful.1.1 one (subst (λ s. Owns (w.clients one) s) new.1 old))
-                  | inr too ↦ k.owned_once one other some old too
-                ]
-          ];
-      no_client = λ other none.
-          elim (cases_eq other client) [
-            | inl same ↦ absurd (lawful.1.0 (sym (ap (λ (c : Client). c.present) (here other same)) ∙ none))
-            | inr differs ↦
-                let is = there other differs in
-                let old = k.no_client other (sym (ap (λ (c : Client). c.present) is) ∙ none) in
-                (ap (λ (c : Client). c.former) is ∙ old.0, ap (λ (c : Client). c.ended) is ∙ old.1)
-          ];
+      client_salted = clients_salted k t;
+      client_learnt = clients_learnt k t;
+      learnt_bounded = clients_bounded k t;
+      owned_once = owners_apart k t lawful.1;
+      no_client = clients_made k t lawful.1;
       unsubmitted = λ call not_yet.
           let old = k.unsubmitted call not_yet in (
             old.0,
@@ -282,7 +202,7 @@ renew now w client session k lawful =
                 (λ same. ap state_renewed old.1) (λ differs. old.1),
           );
       name_sent = k.name_sent;
-      name_owned = λ call name among. owned (w.calls call).client name.session (k.name_owned call name among);
+      name_owned = λ call name among. t.owned (w.calls call).client name.session (k.name_owned call name among);
       name_first = k.name_first;
       name_known = k.name_known;
       name_messages = k.name_messages;
@@ -295,12 +215,12 @@ renew now w client session k lawful =
           elim (cases_eq (w.calls call).client client) [
             | inr differs ↦
                 subst₂ (λ (c : Client) (s : State). Fits c w.servers w.ups w.entries (w.calls call).names s)
-                (sym (there (w.calls call).client differs))
+                (sym (t.others (w.calls call).client differs))
                 (sym (unchosen (w.calls call).client client (state_renewed (w.calls call).state) (w.calls call).state differs))
                 (k.fits call)
             | inl same ↦
                 subst₂ (λ (c : Client) (s : State). Fits c w.servers w.ups w.entries (w.calls call).names s)
-                (sym (here (w.calls call).client same))
+                (sym (chosen (w.calls call).client client (client_renewed (w.clients (w.calls call).client) session) (w.clients (w.calls call).client) same))
                 (sym (chosen (w.calls call).client client (state_renewed (w.calls call).state) (w.calls call).state same))
                 (renewed (w.clients (w.calls call).client) session w.servers w.ups w.entries (w.calls call).names (w.calls call).state (k.fits call))
           ];

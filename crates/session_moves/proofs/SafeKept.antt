@@ -1,5 +1,6 @@
 -- What is kept says what salts, numbers and server sessions have to do with one another.
 use Rattle.std.proofs.Common.{◌≡◌, ℕ, false, List, [], ◌∷◌, ◌⊎◌, inl, inr, sym, refl, ap, ◌∙◌, subst}
+use Rattle.std.proofs.lemmas.Bool.{both_ways}
 use Rattle.session_moves.specs.Among.{Among}
 use Rattle.session_moves.specs.Table.{Name, Item, ServerSession, Packet}
 use Rattle.session_moves.specs.Table.State.{Sent}
@@ -16,7 +17,7 @@ use Rattle.session_moves.specs.Safe.{Salts, Numbers, OneTaker, IsNoticeOn}
 use Rattle.session_moves.proofs.Taker.{one_taker, accepted_stood, accepted_knows, salt_made_before}
 use Rattle.session_moves.proofs.Heard.{made_before_living, lives}
 use Rattle.session_moves.proofs.Learnt.{unsalted_if_none}
-use Rattle.session_moves.proofs.HearKept.{Hears, front_heard, not_both_ways}
+use Rattle.session_moves.proofs.HearKept.{Hears, front_heard}
 
 pub salts_if_kept : (now : ℕ) (w : World) → Kept now w → Salts w
 salts_if_kept now w k =
@@ -124,7 +125,7 @@ noticed_by_taker now w mid client call packet item name older made session among
     let of : (mid.servers unique).session ≡ name.session =
     ap (λ (s : ℕ → ServerSession). (s unique).session) h.servers ∙ session ∙ sym h.present ∙ sym live.0 in
     let learnt : Among unique (mid.clients client).learnt =
-    elim h.known [ inl is ↦ is | inr ended ↦ absurd (not_both_ways (mid.clients client).ended ended open_still) ] in
+    elim h.known [ inl is ↦ is | inr ended ↦ absurd (both_ways (mid.clients client).ended open_still ended) ] in
     let stood : StoodAt (mid.servers unique) name.first = (
       made_before_living now mid client call unique k mine sent name older names learnt,
       stands_if_noticed now mid call unique name item k here of (k.packet_says packet item (subst (Among packet) (sym h.downs) made) among) is,

@@ -7,15 +7,12 @@ use Rattle.session_moves.specs.Table.Status.{Unmade, Standing, Lost}
 use Rattle.session_moves.specs.Table.Outcome.{AcceptedCall, AcceptedOther, Noticed}
 use Rattle.session_moves.specs.World.{World, LostBefore, IsUnder, StandsAfter, IsAccepted}
 use Rattle.session_moves.proofs.Kept.{Kept, Backs, Dead}
-use Rattle.session_moves.proofs.Grows.{made_if_standing, made_if_lost}
+use Rattle.session_moves.proofs.Grows.{made_if_standing, made_if_lost, lost_at}
 use Rattle.session_moves.specs.World.{StoodAt}
 
 made_if_stands : (server : ServerSession) (time : ℕ) → StandsAfter server time → server.status ≢ Unmade
 made_if_stands server time (inl standing) = made_if_standing server standing
 made_if_stands server time (inr lost) = made_if_lost server lost.0 lost.1
-
-lost_at : (one other : ℕ) → Lost one ≡ Lost other → one ≡ other
-lost_at one other h = cc
 
 -- one that was lost before the other was made didn't stand when the other did
 not_both : (one other : ServerSession) (time : ℕ) → LostBefore one other.made → StandsAfter one time → other.made < time → ⊥

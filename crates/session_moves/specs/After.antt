@@ -131,7 +131,8 @@ after_settled w client number state =
           ) w.calls;
     }
 
--- what a notice makes of a call: too low a number or a wrong salt queues it, too high a number holds it
+-- what a notice makes of a call (Notice of Ignored Error Message): 16, too low a number, and 48, a wrong salt, queue it; 17, too high a number,
+-- holds it until its client renews; 20, too old a number, may be one that ran; any other is final
 abbrev pub state_noticed : ℕ → State
 state_noticed code =
     if code == 16

@@ -1,4 +1,5 @@
--- What the two ends of all sessions keep, and what they made: the parts of a world.
+-- What the two ends of all sessions keep, and what they made: the parts of a world. Sessions, salts and message identifiers are those of
+-- "Mobile Protocol: Detailed Description" (Terminology), items those of "Service Messages" and "Service Messages about Messages"
 use Rattle.std.specs.Prelude.{ℕ, Bool, List, Option}
 
 -- the bytes of a call, or of its result
@@ -77,7 +78,8 @@ pub record Message : Type 0 where
   pub call : Option Text
   pub known : List ℕ
 
--- the items of a packet down that matter here: `new_session_created`, `rpc_result`, `bad_msg_notification` and `bad_server_salt`
+-- The items of a packet down that matter here: `new_session_created` (Service Messages, New Session Creation Notification), `rpc_result`
+-- (Response to an RPC query), `bad_msg_notification` and `bad_server_salt` (Service Messages about Messages, Notice of Ignored Error Message)
 pub data Item : Type 0 where
   NewSession : (unique salt : ℕ) → Item
   Result : (number : ℕ) (reply : Text) → Item
