@@ -13,7 +13,7 @@ use Rattle.session_moves.specs.After.{after}
 use Rattle.session_moves.specs.Lawful.{MaySay}
 use Rattle.session_moves.specs.Reached.{after_all}
 use Rattle.session_moves.specs.Witness.{question, reply, told, asked}
-use Rattle.session_moves.specs.Needed.{OddRun, Breaks, foreign_salt, drawn_again, salt_of_zero, silent, judged_again, answered_again, other_request, given_again, not_queued, invented_result, invented_notice, two_at_once}
+use Rattle.session_moves.specs.Needed.{RunsTwice, OddRun, Breaks, foreign_salt, drawn_again, salt_of_zero, silent, judged_again, answered_again, other_request, given_again, not_queued, invented_result, invented_notice, two_at_once}
 use Rattle.session_moves.proofs.Basics.{choice_of}
 use Rattle.session_moves.proofs.Runs.{only, either, opened_lawful, ran_lawful, replaced_lawful, second_salt}
 
@@ -224,4 +224,21 @@ two_at_once_breaks = (
   λ once.
       let twice : Name = record { session = 1; number = 4; first = 10; known = 12 ∷ 11 ∷ [] } in
       (once.once 0).0 (twice, inl refl, (refl, refl)) _ (inl refl) (twice, inl refl, (refl, refl)),
+)
+
+pub runs_twice : RunsTwice
+runs_twice = (
+  (
+    ((λ h. omega arith), ((refl, refl, only (λ (m : Message). m.session ≡ 1 → m.number < 8) _ (λ h. omega arith)), tt)),
+    (
+      (refl, inl refl, refl, (λ judged none. absurd none), (λ none. none), (refl, inl refl)),
+      ((refl, inl refl, only (λ (e : Entry). e.server ≡ 12 → e.number ≢ 8) _ (λ h number. omega arith)), tt),
+    ),
+  ),
+  λ once.
+      once.0 (record { session = 1; number = 8; first = 14; known = 12 ∷ 11 ∷ [] }, inl refl, (refl, refl)) _ (inl refl) (
+        name,
+        inr (inl refl),
+        (refl, refl),
+      ),
 )

@@ -1,17 +1,19 @@
 -- Runs of which one move isn't lawful, and which break the law.
-use Rattle.std.specs.Prelude.{ℕ, true, false, List, [], ◌∷◌, Some, None}
+use Rattle.std.specs.Prelude.{ℕ, ◌==◌, if◌then◌else◌, true, false, List, [], ◌∷◌, Some, None}
+use Rattle.session_moves.specs.Among.{AtMostOne}
 use Rattle.session_moves.specs.Table.{Message}
+use Rattle.session_moves.specs.Table.State.{Queued}
 use Rattle.session_moves.specs.Table.Item.{NewSession, Result, Notice, WrongSalt}
 use Rattle.session_moves.specs.Table.Outcome.{AcceptedCall, Noticed}
-use Rattle.session_moves.specs.World.{start}
+use Rattle.session_moves.specs.World.{World, start}
 use Rattle.session_moves.specs.Move.{Move}
 use Rattle.session_moves.specs.Move.OwnAct.{NewClient, Submit}
 use Rattle.session_moves.specs.Move.Part.{First, Again, Other}
 use Rattle.session_moves.specs.Move.Move.{Own, Send, Make, Draw, Judge, Answer, Speak, Hear}
 use Rattle.session_moves.specs.After.{after}
 use Rattle.session_moves.specs.Reached.{AreLawful, after_all}
-use Rattle.session_moves.specs.Once.{Once}
-use Rattle.session_moves.specs.Witness.{question, reply, told, opened, asked, ran, replaced}
+use Rattle.session_moves.specs.Once.{Once, IsOfCall}
+use Rattle.session_moves.specs.Witness.{question, reply, told, opened, asked, ran, replaced, lost}
 
 -- lawful moves, one move that lacks one condition, and lawful moves after it
 pub record OddRun : Type 0 where
@@ -148,3 +150,21 @@ two_at_once =
           )
           );
     }
+
+-- the world in which a client, told of a second server session, queues its call again in place of calling it unknown
+abbrev pub requeued : World
+requeued =
+    let w : World = after_all start lost in
+    record w { calls = λ call. record (w.calls call) { state = if call == 0 then Queued else (w.calls call).state } }
+
+-- the call gets a new number, and runs at the second server session
+abbrev pub rerun : List Move
+rerun =
+    Send 0 (First 0 8 ∷ [])
+    ∷ Judge 12 (record { session = 1; salt = 22; number = 8; call = Some question; known = 12 ∷ 11 ∷ [] }) (AcceptedCall question)
+    ∷ Answer 12 8 question reply
+    ∷ []
+
+-- all of that is lawful but for the queueing, and the call runs twice
+abbrev pub RunsTwice : Type 0
+RunsTwice = AreLawful requeued rerun × (AtMostOne (IsOfCall (after_all requeued rerun) 0) (after_all requeued rerun).entries → ⊥)

@@ -17,7 +17,7 @@ ghost use Rattle.session_moves.specs.Move.{Move};
 ghost use Rattle.session_moves.specs.Reached.{Reached, AreLawful, after_all};
 ghost use Rattle.session_moves.specs.Once.{Once, IsDecided};
 ghost use Rattle.session_moves.specs.Safe.{Salts, Numbers, OneTaker};
-ghost use Rattle.session_moves.specs.Needed.{Breaks, foreign_salt, drawn_again, salt_of_zero, silent, judged_again, answered_again, other_request, given_again, not_queued, invented_result, invented_notice, two_at_once};
+ghost use Rattle.session_moves.specs.Needed.{Breaks, RunsTwice, foreign_salt, drawn_again, salt_of_zero, silent, judged_again, answered_again, other_request, given_again, not_queued, invented_result, invented_notice, two_at_once};
 ghost use Rattle.session_moves.specs.Witness.{reply, refusal, lost_entry, resent, lost};
 
 /// Whatever lawful moves clients and servers make, each call is executed at most once and reported as it was, and
@@ -59,7 +59,7 @@ pub fn calls_can_be_unknown()
 {}
 
 /// Where a lawful move asks for something, the law needs it: each of these runs has one move that lacks one condition,
-/// and each ends in a world where `Once` doesn't hold.
+/// and each ends in a world where `Once` doesn't hold. Nor may a client queue a call again whose server session was lost.
 pub fn conditions_are_needed()
     ensures foreign_salt { Breaks foreign_salt }
     ensures drawn_again { Breaks drawn_again }
@@ -73,4 +73,5 @@ pub fn conditions_are_needed()
     ensures invented_result { Breaks invented_result }
     ensures invented_notice { Breaks invented_notice }
     ensures two_at_once { Breaks two_at_once }
+    ensures queued_again { RunsTwice }
 {}
