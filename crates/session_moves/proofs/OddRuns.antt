@@ -2,7 +2,7 @@
 use Rattle.std.proofs.Common.{◌≡◌, ◌≢◌, ◌<◌, List, [], ◌∷◌, take, inl, inr, sym, refl, ap, ◌∙◌, arith}
 use Rattle.session_moves.specs.Among.{Among}
 use Rattle.session_moves.specs.Table.{Message, Name, Judged, Entry}
-use Rattle.session_moves.specs.Table.Item.{NewSession, WrongSalt}
+use Rattle.session_moves.specs.Table.Item.{NewSession, Notice, WrongSalt}
 use Rattle.session_moves.specs.World.{World, start}
 use Rattle.session_moves.specs.Table.Outcome.{AcceptedCall, Noticed}
 use Rattle.session_moves.specs.Move.{Move}
@@ -13,7 +13,7 @@ use Rattle.session_moves.specs.After.{after}
 use Rattle.session_moves.specs.Lawful.{MaySay}
 use Rattle.session_moves.specs.Reached.{after_all}
 use Rattle.session_moves.specs.Witness.{question, reply, told, asked}
-use Rattle.session_moves.specs.Needed.{RunsTwice, OddRun, Breaks, foreign_salt, drawn_again, salt_of_zero, silent, judged_again, answered_again, other_request, given_again, not_queued, invented_result, invented_notice, two_at_once}
+use Rattle.session_moves.specs.Needed.{RunsTwice, outcome_of_twenty, early_result, OddRun, Breaks, foreign_salt, drawn_again, salt_of_zero, silent, judged_again, answered_again, other_request, given_again, not_queued, invented_result, invented_notice, two_at_once}
 use Rattle.session_moves.proofs.Basics.{choice_of}
 use Rattle.session_moves.proofs.Runs.{only, either, opened_lawful, ran_lawful, replaced_lawful, second_salt}
 
@@ -241,4 +241,25 @@ runs_twice = (
         inr (inl refl),
         (refl, refl),
       ),
+)
+
+pub outcome_of_twenty_breaks : Breaks outcome_of_twenty
+outcome_of_twenty_breaks = (
+  opened_lawful (Send 0 (First 0 4 ∷ []) ∷ []) (((λ h. omega arith), ((refl, refl, λ message none. absurd none), tt)), tt),
+  (
+    (
+      refl,
+      either (MaySay (odd_world outcome_of_twenty []) 11) (NewSession 11 21) (Notice 4 20) (refl, inl refl) (inl (inl refl)),
+      inr tt,
+    ),
+    ((inl refl, refl), tt),
+  ),
+  λ once. (once.forgotten 0 refl).2,
+)
+
+pub early_result_breaks : Breaks early_result
+early_result_breaks = (
+  opened_lawful [] tt,
+  (((λ h. omega arith), ((refl, refl, λ message none. absurd none), tt)), ((inl refl, refl), tt)),
+  λ once. (once.done 0 reply refl).1,
 )

@@ -125,6 +125,24 @@ invented_notice =
       rest = Hear 0 (record { server = 11; items = Notice 4 48 ∷ [] }) [] ∷ [];
     }
 
+-- notice 20 as an outcome: a call counts as forgotten, and nothing was
+abbrev pub outcome_of_twenty : OddRun
+outcome_of_twenty =
+    record {
+      before = opened (Send 0 (First 0 4 ∷ []) ∷ []);
+      odd = Judge 11 (asked 21 4) (Noticed 20);
+      rest = told 11 (NewSession 11 21 ∷ Notice 4 20 ∷ []) [] [];
+    }
+
+-- a result for a number that wasn't given yet: the call that gets it is done, and never ran
+abbrev pub early_result : OddRun
+early_result =
+    record {
+      before = opened [];
+      odd = Speak 11 (NewSession 11 21 ∷ Result 4 reply ∷ []);
+      rest = Send 0 (First 0 4 ∷ []) ∷ Hear 0 (record { server = 11; items = NewSession 11 21 ∷ Result 4 reply ∷ [] }) [] ∷ [];
+    }
+
 -- a message that the client sends when it knows both server sessions of the run below
 abbrev pub known_to_both : ℕ → Message
 known_to_both salt = record { session = 1; salt = salt; number = 4; call = Some question; known = 12 ∷ 11 ∷ [] }

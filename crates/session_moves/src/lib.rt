@@ -3,8 +3,8 @@
 //! A client and a server that keep MTProto sessions act by ten moves: a client acts by itself, sends and hears; a
 //! server session is made, draws a salt, judges a message, forgets a number, answers a call, speaks and is lost. In
 //! every list of these moves, packets lost, repeated and put out of order as they may be, each call is executed at
-//! most once and reported as it was (MTProto: "Security Guidelines", "Service Messages about Messages"). No function
-//! here does anything when it runs: each is a law, and its contract says it.
+//! most once and reported as it was (MTProto: "Service Messages", "Service Messages about Messages"). No function here
+//! does anything when it runs: each is a law, and its contract says it.
 #![tactic(auto)]
 
 ghost use Rattle.std.specs.Prelude.{◌≡◌, ℕ, ◌<◌, List, [], ◌∷◌, map};
@@ -17,7 +17,7 @@ ghost use Rattle.session_moves.specs.Move.{Move};
 ghost use Rattle.session_moves.specs.Reached.{Reached, AreLawful, after_all};
 ghost use Rattle.session_moves.specs.Once.{Once, IsDecided};
 ghost use Rattle.session_moves.specs.Safe.{Salts, Numbers, OneTaker};
-ghost use Rattle.session_moves.specs.Needed.{Breaks, RunsTwice, foreign_salt, drawn_again, salt_of_zero, silent, judged_again, answered_again, other_request, given_again, not_queued, invented_result, invented_notice, two_at_once};
+ghost use Rattle.session_moves.specs.Needed.{Breaks, RunsTwice, foreign_salt, drawn_again, salt_of_zero, silent, judged_again, answered_again, other_request, given_again, not_queued, invented_result, invented_notice, two_at_once, outcome_of_twenty, early_result};
 ghost use Rattle.session_moves.specs.Witness.{reply, refusal, lost_entry, resent, lost};
 
 /// Whatever lawful moves clients and servers make, each call is executed at most once and reported as it was, and
@@ -58,8 +58,8 @@ pub fn calls_can_be_unknown()
     ensures unknown { ((after_all start lost).calls 0).state ≡ Unknown Session }
 {}
 
-/// Where a lawful move asks for something, the law needs it: each of these runs has one move that lacks one condition,
-/// and each ends in a world where `Once` doesn't hold. Nor may a client queue a call again whose server session was lost.
+/// Runs of which one move lacks one condition of a lawful move. Each ends in a world where `Once` doesn't hold, so the law
+/// needs that condition. Nor may a client queue a call again whose server session was lost.
 pub fn conditions_are_needed()
     ensures foreign_salt { Breaks foreign_salt }
     ensures drawn_again { Breaks drawn_again }
@@ -73,5 +73,7 @@ pub fn conditions_are_needed()
     ensures invented_result { Breaks invented_result }
     ensures invented_notice { Breaks invented_notice }
     ensures two_at_once { Breaks two_at_once }
+    ensures outcome_of_twenty { Breaks outcome_of_twenty }
+    ensures early_result { Breaks early_result }
     ensures queued_again { RunsTwice }
 {}

@@ -1,4 +1,4 @@
-use Rattle.session_moves.proofs.OddRuns.{runs_twice, foreign_salt_breaks, drawn_again_breaks, salt_of_zero_breaks, silent_breaks, judged_again_breaks, answered_again_breaks, other_request_breaks, given_again_breaks, not_queued_breaks, invented_result_breaks, invented_notice_breaks, two_at_once_breaks}
+use Rattle.session_moves.proofs.OddRuns.{outcome_of_twenty_breaks, early_result_breaks, runs_twice, foreign_salt_breaks, drawn_again_breaks, salt_of_zero_breaks, silent_breaks, judged_again_breaks, answered_again_breaks, other_request_breaks, given_again_breaks, not_queued_breaks, invented_result_breaks, invented_notice_breaks, two_at_once_breaks}
 use Rattle.session_moves.proofs.conditions_are_needed.Goals as goal
 
 pub returns-clause-foreign_salt : goal.returns-clause-foreign_salt
@@ -39,3 +39,9 @@ returns-clause-two_at_once c = two_at_once_breaks
 
 pub returns-clause-queued_again : goal.returns-clause-queued_again
 returns-clause-queued_again c = runs_twice
+
+pub returns-clause-outcome_of_twenty : goal.returns-clause-outcome_of_twenty
+returns-clause-outcome_of_twenty c = outcome_of_twenty_breaks
+
+pub returns-clause-early_result : goal.returns-clause-early_result
+returns-clause-early_result c = early_result_breaks
