@@ -5,3 +5,6 @@ mod app;
 mod sim;
 
 pub use app::run;
+
+#[cfg(test)]
+mod tests;
