@@ -4,6 +4,7 @@
 //! a reader or a writer of std. The adapters are the trusted edge: they tell nothing of what they carry.
 #![tactic(auto)]
 
+mod faults;
 mod mem;
 mod sink;
 mod source;
@@ -15,3 +16,6 @@ pub use sink::{Put, Sink};
 pub use source::{Got, Source};
 pub use standard::{ReadSource, WriteSink};
 pub use whole::{ReadFault, WriteFault, read_all, write_all};
+
+#[cfg(test)]
+mod tests;

@@ -3,6 +3,7 @@
 ghost use Rattle.std.specs.Prelude.{◌≡◌, ◌<◌, ◌≤◌, [], Some, length, vec_len, drop, IfOk};
 ghost use Rattle.tl_codec.specs.Bytes.{IsBytes};
 
+use crate::faults::raised;
 use crate::sink::{Put, Sink};
 use crate::source::{Got, Source};
 use std::alloc::Global;
@@ -59,7 +60,7 @@ impl Source for MemSource {
     fn read(&mut self, into: &mut [u8]) -> Got {
         self.calls = self.calls.saturating_add(1);
         if self.failing.contains(&self.calls) {
-            self.faults = self.faults.saturating_add(1);
+            self.faults = raised(self.faults);
             return Got::Failed;
         }
         let left = &self.contents.as_slice()[self.place..];
@@ -134,13 +135,13 @@ impl Sink for MemSink {
         self.calls = self.calls.saturating_add(1);
         let count = piece.len().min(self.piece_bytes);
         if self.failing.contains(&self.calls) || self.room - self.written.len() < count {
-            self.faults = self.faults.saturating_add(1);
+            self.faults = raised(self.faults);
             return Put::Failed;
         }
         match self.written.extend_from_slice(&piece[..count]) {
             Ok(()) => Put::Took(count),
             Err(_) => {
-                self.faults = self.faults.saturating_add(1);
+                self.faults = raised(self.faults);
                 Put::Failed
             }
         }

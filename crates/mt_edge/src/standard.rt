@@ -2,6 +2,7 @@
 
 ghost use Rattle.std.specs.Prelude.{None};
 
+use crate::faults::raised;
 use crate::sink::{Put, Sink};
 use crate::source::{Got, Source};
 use std::io::{Read, Write};
@@ -30,7 +31,7 @@ impl<R: Read + Drop> Source for ReadSource<R> {
             Ok(0) => Got::End,
             Ok(count) => Got::Bytes(count),
             Err(_) => {
-                self.faults = self.faults.saturating_add(1);
+                self.faults = raised(self.faults);
                 Got::Failed
             }
         }
@@ -60,7 +61,7 @@ impl<W: Write + Drop> Sink for WriteSink<W> {
         match self.writer.write(piece) {
             Ok(count) if count > 0 && self.writer.flush().is_ok() => Put::Took(count),
             _ => {
-                self.faults = self.faults.saturating_add(1);
+                self.faults = raised(self.faults);
                 Put::Failed
             }
         }
