@@ -1,13 +1,10 @@
-// A library with one function.
+//! The program `mtp`, apart from the real outside: its words, its input, its output and its status.
 #![tactic(auto)]
 
-ghost use Rattle.std.specs.Prelude.{◌≡◌};
-ghost use Rattle.mtp_app.specs.Echo.{echo_of};
+mod app;
+mod sim;
 
-// The `ensures` clause is the contract: what `echo` returns is `echo_of` of its argument, a definition
-// in `specs/Echo.antt`, which a caller's clause can cite too.
-pub fn echo(x: usize) -> usize
-    ensures { result ≡ echo_of x }
-{
-    x
-}
+pub use app::run;
+
+#[cfg(test)]
+mod tests;

@@ -22,11 +22,11 @@ pub no_blank_inside : (text a x : List ℕ) → HasNoBlank text → text ≡ a +
 no_blank_inside text [] x h e = All-head (λ b. b ≢ 32) 32 x (subst HasNoBlank e h) refl
 no_blank_inside text (c ∷ a) x h e = no_blank_inside (a ++ 32 ∷ x) a x (All-tail (λ b. b ≢ 32) c (a ++ 32 ∷ x) (subst HasNoBlank e h)) refl
 
-no_blank-name : (name : List ℕ) → IsName name → HasNoBlank name
+pub no_blank-name : (name : List ℕ) → IsName name → HasNoBlank name
 no_blank-name name h = All-weaker IsNameByte (λ b. b ≢ 32) (λ b is e. elim is [ inl r ↦ omega (arith, r.0, e) | inr r ↦ omega (arith, r.0, e) ]) name h.bytes
 
 -- a call's client, and what stands behind it
-parts : (client amount name : List ℕ) → client ++ codes " add " ++ name ++ 32 ∷ amount ≡ client ++ 32 ∷ (codes "add " ++ (name ++ 32 ∷ amount))
+pub parts : (client amount name : List ℕ) → client ++ codes " add " ++ name ++ 32 ∷ amount ≡ client ++ 32 ∷ (codes "add " ++ (name ++ 32 ∷ amount))
 parts client amount name = simp append_assoc
 
 module _ (rest : List ℕ) (client amount : ℕ) (name : List ℕ) (call : IsCallOf rest client name amount) where

@@ -7,3 +7,4 @@ pub mod RegistersLemmas
 pub mod ScheduleLemmas
 pub mod ServerLemmas
 pub mod WorldLemmas
+pub mod Readings

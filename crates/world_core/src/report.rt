@@ -1,6 +1,6 @@
 //! The report of a world: a line for each call, and then a line for each entry.
 
-ghost use Rattle.std.specs.Prelude.{◌≡◌, ◌++◌, OnOk, OnErr, MatchOption, decimal};
+ghost use Rattle.std.specs.Prelude.{◌≡◌, ◌++◌, OnOk, OnErr, IfSome, IfNone, decimal};
 ghost use Rattle.world_core.specs.Report.{report, call_line, call_lines, entry_line, reply_text, state_text, cause_text, IsMemory};
 ghost use Rattle.std.specs.List.{flat_map};
 
@@ -28,7 +28,9 @@ impl World {
 impl StepFault {
     /// The cause of the refusal, as it is told; want of memory has none.
     pub fn cause(&self) -> Option<&'static str>
-        ensures { MatchOption result (IsMemory self.now) (λ text. text.now ≡ cause_text self.now) }
+        ensures text { IfSome result (λ text. text.now ≡ cause_text self.now) }
+        ensures none { IfNone result (IsMemory self.now) }
+        ensures some { IfSome result (λ _. IsMemory self.now → ⊥) }
     {
         match self {
             StepFault::NoPacket { .. } => Some("no packet"),

@@ -1,0 +1,24 @@
+pub mod Kept
+pub mod Basics
+pub mod Grows
+pub mod Clients
+pub mod NewSession
+pub mod OwnKept
+pub mod MakeKept
+pub mod DrawKept
+pub mod JudgeKept
+pub mod ForgetKept
+pub mod AnswerKept
+pub mod SpeakKept
+pub mod LoseKept
+pub mod SendKept
+pub mod Taker
+pub mod Heard
+pub mod Learnt
+pub mod HearKept
+pub mod AfterAll
+pub mod OnceKept
+pub mod SafeKept
+mod Runs
+mod Stays
+mod OddRuns

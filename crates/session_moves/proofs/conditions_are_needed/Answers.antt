@@ -1,0 +1,47 @@
+use Rattle.session_moves.proofs.OddRuns.{outcome_of_twenty_breaks, early_result_breaks, runs_twice, foreign_salt_breaks, drawn_again_breaks, salt_of_zero_breaks, silent_breaks, judged_again_breaks, answered_again_breaks, other_request_breaks, given_again_breaks, not_queued_breaks, invented_result_breaks, invented_notice_breaks, two_at_once_breaks}
+use Rattle.session_moves.proofs.conditions_are_needed.Goals as goal
+
+pub returns-clause-foreign_salt : goal.returns-clause-foreign_salt
+returns-clause-foreign_salt c = foreign_salt_breaks
+
+pub returns-clause-drawn_again : goal.returns-clause-drawn_again
+returns-clause-drawn_again c = drawn_again_breaks
+
+pub returns-clause-salt_of_zero : goal.returns-clause-salt_of_zero
+returns-clause-salt_of_zero c = salt_of_zero_breaks
+
+pub returns-clause-silent : goal.returns-clause-silent
+returns-clause-silent c = silent_breaks
+
+pub returns-clause-judged_again : goal.returns-clause-judged_again
+returns-clause-judged_again c = judged_again_breaks
+
+pub returns-clause-answered_again : goal.returns-clause-answered_again
+returns-clause-answered_again c = answered_again_breaks
+
+pub returns-clause-other_request : goal.returns-clause-other_request
+returns-clause-other_request c = other_request_breaks
+
+pub returns-clause-given_again : goal.returns-clause-given_again
+returns-clause-given_again c = given_again_breaks
+
+pub returns-clause-not_queued : goal.returns-clause-not_queued
+returns-clause-not_queued c = not_queued_breaks
+
+pub returns-clause-invented_result : goal.returns-clause-invented_result
+returns-clause-invented_result c = invented_result_breaks
+
+pub returns-clause-invented_notice : goal.returns-clause-invented_notice
+returns-clause-invented_notice c = invented_notice_breaks
+
+pub returns-clause-two_at_once : goal.returns-clause-two_at_once
+returns-clause-two_at_once c = two_at_once_breaks
+
+pub returns-clause-queued_again : goal.returns-clause-queued_again
+returns-clause-queued_again c = runs_twice
+
+pub returns-clause-outcome_of_twenty : goal.returns-clause-outcome_of_twenty
+returns-clause-outcome_of_twenty c = outcome_of_twenty_breaks
+
+pub returns-clause-early_result : goal.returns-clause-early_result
+returns-clause-early_result c = early_result_breaks
