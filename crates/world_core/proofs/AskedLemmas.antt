@@ -2,6 +2,7 @@
 use Rattle.std.proofs.Common.{◌≡◌, ◌∙◌, ℕ, zero, suc, ◌+◌, ◌*◌, ◌<◌, ◌≤◌, List, [], ◌∷◌, ◌++◌, length, get_or, set, map, filter, Option, Some, None, Bool, true, false, ◌==◌, ◌||◌, ◌⊎◌, inl, inr, ⊎_elim, ap, sym, refl, subst, arith, Contains, option_to_list}
 use Rattle.std.proofs.lemmas.Bool.{cond-true, cond-false, cond_both, cases_Bool, eq-eqb}
 use Rattle.std.proofs.lemmas.List.{nil_from_length}
+use Rattle.std.proofs.lemmas.Option.{same_Some}
 use Rattle.std.proofs.lemmas.List.Sums.{length-filter}
 use Rattle.std.specs.List.{AllByRecursion, list_any}
 use Rattle.std.proofs.lemmas.List.Elements.{filter_agree}
@@ -12,7 +13,7 @@ use Rattle.world_core.specs.declared.client.CallState.TheVariants.{Queued}
 use Rattle.world_core.specs.declared.server.Entry.{Entry}
 use Rattle.world_core.specs.Client.{is_queued, is_sent, has_number, answered, done_by, WasSent, IsWaiting, AreSentInOrder}
 use Rattle.world_core.specs.Server.{entries_under, reply_under}
-use Rattle.world_core.specs.Once.{is_name_of, entries_over, RanOnce}
+use Rattle.world_core.specs.Once.{is_name_of, entries_over, RanOnce, NamesAreApart}
 use Rattle.world_core.proofs.ClientLemmas.{waiting-delivered, sent-answered}
 use Rattle.world_core.proofs.ServerLemmas.{entries_under-here, entries_under-there}
 
@@ -164,3 +165,34 @@ ran_once call entries number reply e few h =
 -- a number is a name of the call that has it
 pub own_name : (call : Call) (number : ℕ) → call.number ≡ Some number → is_name_of call number ≡ true
 own_name call number e = ap (λ o. list_any (λ name. number == name) (option_to_list o)) e ∙ (or-false (number == number) ∙ eq-eqb number number refl)
+
+-- ---- the names of two calls
+
+-- a call's number, where it has one, is that of its place
+pub number-of_place : (place sent k : ℕ) (calls : List Call) (d : Call) (name : ℕ) → AreSentInOrder place sent calls → k < length calls → (get_or calls k d).number ≡ Some name → name ≡ 4 * (place + k + 1)
+number-of_place place sent k [] d name h within e = absurd (omega arith)
+number-of_place place zero zero (call ∷ calls) d name h within e = let none = h.0.1 in cc
+number-of_place place zero (suc k) (call ∷ calls) d name h within e =
+    let same : place + 1 + k ≡ place + suc k = omega arith in
+    subst (λ n. name ≡ 4 * (n + 1)) same (number-of_place (place + 1) zero k calls d name h.1 (omega arith) e)
+number-of_place place (suc sent) zero (call ∷ calls) d name h within e =
+    let own : 4 * (place + 1) ≡ name = same_Some _ _ (sym h.0.1 ∙ e) in
+    omega (arith, own)
+number-of_place place (suc sent) (suc k) (call ∷ calls) d name h within e =
+    let same : place + 1 + k ≡ place + suc k = omega arith in
+    subst (λ n. name ≡ 4 * (n + 1)) same (number-of_place (place + 1) sent k calls d name h.1 (omega arith) e)
+
+held-name : (o : Option ℕ) (name : ℕ) → Contains (option_to_list o) name → o ≡ Some name
+held-name None name h = absurd (omega (arith, h.1))
+held-name (Some own) name h = first h.0 h.1 h.2
+  where
+    first : (k : ℕ) → k < length (own ∷ []) → get_or (own ∷ []) k name ≡ name → Some own ≡ Some name
+    first zero within e = ap Some e
+    first (suc k) within e = absurd (omega (arith, within))
+
+-- two calls that were sent in order share no name
+pub names_apart : (sent : ℕ) (calls : List Call) → AreSentInOrder 0 sent calls → NamesAreApart calls
+names_apart sent calls h i j d before within name first second =
+    let one = number-of_place 0 sent i calls d name h (omega arith) (held-name (get_or calls i d).number name first) in
+    let other = number-of_place 0 sent j calls d name h within (held-name (get_or calls j d).number name second) in
+    omega (arith, one, other)

@@ -18,10 +18,10 @@ use Rattle.world_core.specs.Client.{is_queued, is_sent, queued, sent_under, next
 use Rattle.world_core.specs.Server.{Session, jobs_under, entries_under, reply_under, is_accepted, received, entry_of, ran, AreApart}
 use Rattle.world_core.specs.declared.world.StepFault.TheVariants.{NoClient}
 use Rattle.world_core.specs.World.{World, start, counted, arrived, ran_at, after, refusal, step, run_from, run}
-use Rattle.world_core.specs.Once.{IsEntryOf, RanOnce, Served, Once, OnceIn}
+use Rattle.world_core.specs.Once.{IsEntryOf, RanOnce, Served, Once, OnceIn, NamesAreApartIn}
 use Rattle.world_core.proofs.ClientLemmas.{in_order-push, in_order-sent, first_sent-none, packet_due-none, packet_due-at, flushed-at}
 use Rattle.world_core.proofs.ServerLemmas.{no_reply, reply_under-push, apart-received, apart-worked, unanswered}
-use Rattle.world_core.proofs.AskedLemmas.{Asked, asked-push, asked-set, asked-new, asked-delivered, asked-call, in_order-delivered, waiting-at, IsNumbered, all-numbered, entries_over-none, entries_over-few, ran_once, own_name}
+use Rattle.world_core.proofs.AskedLemmas.{Asked, asked-push, asked-set, asked-new, asked-delivered, asked-call, in_order-delivered, waiting-at, IsNumbered, all-numbered, entries_over-none, entries_over-few, ran_once, own_name, names_apart}
 
 -- a call that is done has its reply in the entries
 abbrev pub IsAnswered : List Entry → Call → Type 0
@@ -332,3 +332,8 @@ pub once_of_run : (events : List Event) → OnceIn (run events)
 once_of_run events =
     let w = run events in
     once-kept (unwrap_or w.client []) w.server w.bag (kept-run_from start events kept-start)
+
+pub names_apart_of_run : (events : List Event) → NamesAreApartIn (run events)
+names_apart_of_run events =
+    let kept = kept-run_from start events kept-start in
+    names_apart kept.sent (unwrap_or (run events).client []) kept.in_order

@@ -6,3 +6,4 @@ pub mod Schedule
 pub mod World
 pub mod Report
 pub mod Once
+pub mod Rows

@@ -1,6 +1,6 @@
 -- Each call runs at most once.
 use Rattle.std.specs.Prelude.{◌≡◌, ℕ, ◌≤◌, List, [], ◌∷◌, Bool, true, ◌==◌, option_to_list, unwrap_or, length, filter, All, Contains}
-use Rattle.std.specs.List.{list_any}
+use Rattle.std.specs.List.{list_any, AllPairs}
 use Rattle.world_core.specs.declared.service.Reply.{Reply}
 use Rattle.world_core.specs.declared.client.Call.{Call}
 use Rattle.world_core.specs.declared.client.CallState.TheVariants.{Queued, Done}
@@ -49,3 +49,10 @@ pub record Once (calls : List Call) (entries : List Entry) : Type 0 where
 -- the calls of a world's client, and the entries of its server
 abbrev pub OnceIn : World → Type 0
 OnceIn w = Once (unwrap_or w.client []) w.server.entries
+
+-- no two calls share a name
+abbrev pub NamesAreApart : List Call → Type 0
+NamesAreApart calls = AllPairs (λ call other. (name : ℕ) → Contains (names_of call) name → Contains (names_of other) name → ⊥) calls
+
+abbrev pub NamesAreApartIn : World → Type 0
+NamesAreApartIn w = NamesAreApart (unwrap_or w.client [])

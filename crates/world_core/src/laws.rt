@@ -1,9 +1,10 @@
 //! Laws of the world: what holds of every schedule, over the definitions alone.
 
-ghost use Rattle.std.specs.Prelude.{List};
+ghost use Rattle.std.specs.Prelude.{List, codes};
 ghost use Rattle.world_core.specs.declared.schedule.Event.{Event};
 ghost use Rattle.world_core.specs.World.{run};
-ghost use Rattle.world_core.specs.Once.{OnceIn};
+ghost use Rattle.world_core.specs.Once.{OnceIn, NamesAreApartIn};
+ghost use Rattle.world_core.specs.Rows.{Reports, packets_come_again, sum_is_full};
 
 /// Each call runs at most once. Whatever the events are, whichever packets are lost, repeated or overtaken: over all
 /// names of a call the server has at most one entry, each entry is what one of the calls asked, a call is done only
@@ -11,4 +12,16 @@ ghost use Rattle.world_core.specs.Once.{OnceIn};
 /// these requests one after the other.
 pub fn at_most_once()
     ensures { (events : List Event) → OnceIn (run events) }
+{}
+
+/// No two calls share a name, so that what ran under a name ran for one call alone.
+pub fn names_apart()
+    ensures { (events : List Event) → NamesAreApartIn (run events) }
+{}
+
+/// Calls can be done: the reports of two schedules, one in which packets come again, and one in which the second call
+/// is refused by the service.
+pub fn calls_can_be_done()
+    ensures again { Reports packets_come_again (codes "call 1 1 done 5\nrun 1 1 4 5\n") }
+    ensures full { Reports sum_is_full (codes "call 1 1 done 18446744073709551615\ncall 1 2 done error 400 TOO_LARGE\nrun 1 1 4 18446744073709551615\nrun 1 1 8 error 400 TOO_LARGE\n") }
 {}
