@@ -1,6 +1,7 @@
 pub mod AskedLemmas
 pub mod CallLemmas
 pub mod ClientLemmas
+pub mod JobLemmas
 pub mod NumberLemmas
 pub mod OnceLemmas
 pub mod RegistersLemmas

@@ -2,6 +2,7 @@ pub mod Service
 pub mod Registers
 pub mod Client
 pub mod Server
+pub mod Jobs
 pub mod Schedule
 pub mod World
 pub mod Report

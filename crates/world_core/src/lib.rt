@@ -5,6 +5,7 @@
 #![tactic(auto)]
 
 mod client;
+mod jobs;
 pub mod laws;
 mod packet;
 mod report;

@@ -3,9 +3,10 @@
 ghost use Rattle.std.specs.Prelude.{◌≡◌, ◌==◌, ◌<◌, ℕ, length, IfOk, OnOk, OnErr, IsSome, nat_eq, if◌then◌else◌};
 ghost use Rattle.std.specs.HashMap.{get};
 
+use crate::jobs::JobQueue;
 use crate::service::{AddRequest, Registers, Reply};
 use std::alloc::Global;
-use std::collections::{HashMap, VecDeque};
+use std::collections::HashMap;
 use std::marker::Model;
 use tl_codec::Memory;
 
@@ -34,7 +35,7 @@ pub(crate) enum Progress {
 /// A server session. Contracts see its jobs in order of acceptance, and its entries in the order in which they ran.
 #[derive(Drop)]
 pub struct Server {
-    jobs: VecDeque<Job>,
+    jobs: JobQueue,
     entries: Vec<Entry>,
     progress: HashMap<u64, Progress>,
     registers: Registers,
@@ -47,9 +48,9 @@ impl Model for Server {
 
     ghost use Rattle.world_core.specs.Server.{Stands};
 
-    ghost view = { λ server. record { jobs = server.jobs.items; entries = server.entries.items } };
+    ghost view = { λ server. record { jobs = server.jobs; entries = server.entries.items } };
 
-    ghost invariant = { λ server. Stands server.progress server.registers server.jobs.items server.entries.items };
+    ghost invariant = { λ server. Stands server.progress server.registers server.jobs server.entries.items };
 }
 
 impl Server {
@@ -61,7 +62,7 @@ impl Server {
         ensures { result ≡ none_yet }
     {
         Server {
-            jobs: VecDeque::new(alloc),
+            jobs: JobQueue::new(alloc),
             entries: Vec::new(alloc),
             progress: HashMap::new(alloc),
             registers: Registers::new(alloc),
@@ -100,9 +101,11 @@ impl Server {
             None => {}
         }
         let request = body.copy(alloc)?;
-        self.jobs.reserve(1)?;
-        self.progress.insert(number, Progress::Waiting)?;
-        self.jobs.push_back_reserved(Job { number, request });
+        self.progress.reserve(1)?;
+        self.jobs.push(alloc, Job { number, request })?;
+        // It has room, so that no failure comes once the job is queued.
+        let noted: Result<_, _> = self.progress.insert(number, Progress::Waiting);
+        noted.unwrap();
         Ok(None)
     }
 
@@ -115,8 +118,8 @@ impl Server {
         ensures unchanged { OnErr result (self.new ≡ self.old) }
     {
         self.entries.reserve(1)?;
-        let reply = self.registers.run(alloc, &self.jobs[place].request)?;
-        let Job { number, request } = self.jobs.remove(place).unwrap();
+        let reply = self.registers.run(alloc, &self.jobs.get(place).request)?;
+        let Job { number, request } = self.jobs.remove(place);
         answer(&mut self.progress, number, reply);
         self.entries.push_reserved(Entry {
             number,
