@@ -2,7 +2,7 @@ pub mod TableTests
 pub mod XorLaws
 pub mod FieldLaws
 pub mod Mixing
-pub mod TableLaws
+pub mod SubstitutionLaws
 pub mod ByteLists
 pub mod StateLaws
 pub mod CipherLaws

@@ -12,7 +12,7 @@ use Rattle.aes_core.specs.KeySchedule.{word, rot_word, sub_word, round_constant,
 use Rattle.aes_core.specs.declared.schedule.TheConstants.{ROUND_CONSTANTS}
 use Rattle.aes_core.proofs.TableTests.{passes_below, passes_at}
 use Rattle.aes_core.proofs.FieldLaws.{product_bits-lt}
-use Rattle.aes_core.proofs.TableLaws.{sub_byte-lt}
+use Rattle.aes_core.proofs.SubstitutionLaws.{sub_byte-lt}
 use Rattle.aes_core.proofs.ByteLists.{in_range-drop, IsBytes-nil, IsBytes-cons, IsBytes-append, IsBytes-part, IsBytes-map, IsBytes-xor_bytes}
 
 -- ---- the code's constants

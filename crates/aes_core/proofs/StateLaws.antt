@@ -5,7 +5,7 @@ use Rattle.aes_core.specs.Bytes.{IsBytes}
 use Rattle.aes_core.specs.SubstitutionBox.{sub_byte, inverse_sub_byte}
 use Rattle.aes_core.specs.KeySchedule.{round_key}
 use Rattle.aes_core.specs.Cipher.{from_cells, sub_bytes, inverse_sub_bytes, shift_rows, inverse_shift_rows, combination, mixed, mix_columns, inverse_mix_columns, add_round_key}
-use Rattle.aes_core.proofs.TableLaws.{sub_byte-lt, inverse_sub_byte-lt, inverse_sub_byte-sub_byte, sub_byte-inverse_sub_byte}
+use Rattle.aes_core.proofs.SubstitutionLaws.{sub_byte-lt, inverse_sub_byte-lt, inverse_sub_byte-sub_byte, sub_byte-inverse_sub_byte}
 use Rattle.aes_core.proofs.FieldLaws.{product_bits-lt}
 use Rattle.aes_core.proofs.Mixing.{inverse_column-column, column-inverse_column}
 use Rattle.aes_core.proofs.ByteLists.{IsBytes-nil, IsBytes-cons, IsBytes-map, map_undone, IsBytes-xor_bytes, xor_bytes_twice, by_places_16}

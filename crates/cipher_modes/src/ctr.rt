@@ -56,7 +56,7 @@ impl Ctr {
         ensures applied { text.new ≡ applied self.old text.old }
         ensures advanced { self.new ≡ advanced self.old (length text.old) }
     {
-        // The invariant, which bounds the place, is known once a field is used.
+        // A field that is read tells the proof that the place is below 2^132, for an empty text too.
         let _ = &self.used;
         for byte in text.iter_mut() {
             *byte ^= self.next_byte();

@@ -16,8 +16,7 @@ pub fn ige_encrypt(key: &Key256, iv: &[u8; 32], text: &mut [u8])
     ensures meets_equations { MeetsIgeEquations key.now iv.now text.old text.new }
     ensures undone_by_decrypting { inverse_ige key.now iv.now text.new ≡ text.old }
 {
-    let mut cipher_before = first_half(iv);
-    let mut plain_before = last_half(iv);
+    let (mut cipher_before, mut plain_before) = halves(iv);
     'each_block: for i in 0..text.len() / BLOCK_BYTES {
         let plain = block_at(text, i);
         let cipher = encrypted(key, cipher_before, plain_before, plain);
@@ -35,8 +34,7 @@ pub fn ige_decrypt(key: &Key256, iv: &[u8; 32], text: &mut [u8])
     ensures meets_equations { MeetsIgeEquations key.now iv.now text.new text.old }
     ensures undone_by_encrypting { ige key.now iv.now text.new ≡ text.old }
 {
-    let mut cipher_before = first_half(iv);
-    let mut plain_before = last_half(iv);
+    let (mut cipher_before, mut plain_before) = halves(iv);
     'each_block: for i in 0..text.len() / BLOCK_BYTES {
         let cipher = block_at(text, i);
         let plain = decrypted(key, cipher_before, plain_before, cipher);
@@ -67,14 +65,10 @@ fn decrypted(key: &Key256, cipher_before: Block, plain_before: Block, cipher: Bl
     xor_blocks(block, cipher_before)
 }
 
-fn first_half(iv: &[u8; 32]) -> Block
-    ensures { result ≡ take 16 iv.now }
+// c_0 and p_0, the halves of the initialisation vector.
+fn halves(iv: &[u8; 32]) -> (Block, Block)
+    ensures first { result.0 ≡ take 16 iv.now }
+    ensures last { result.1 ≡ drop 16 iv.now }
 {
-    block_at(iv, 0)
-}
-
-fn last_half(iv: &[u8; 32]) -> Block
-    ensures { result ≡ drop 16 iv.now }
-{
-    block_at(iv, 1)
+    (block_at(iv, 0), block_at(iv, 1))
 }

@@ -8,7 +8,7 @@ pub each_block-init : goal.each_block-init
 each_block-init c =
     let all : length c.args.text.now / 16 - 0 ≡ length c.args.text.now / 16 = omega arith in
     record {
-      whole_text = rw (c.first_half-cipher_before.ensures, c.last_half-plain_before.ensures, all) refl;
+      whole_text = rw (c.halves.ensures.first, c.halves.ensures.last, all) refl;
       key_bytes = λ h. absurd (omega arith);
       text_bytes = λ k. omega (arith, c.type_inv.text k);
     }

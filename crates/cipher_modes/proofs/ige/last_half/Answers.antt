@@ -1,6 +1,0 @@
-use Rattle.std.proofs.Common.{drop, arith, ◌∙◌}
-use Rattle.std.proofs.lemmas.List.{take_all, length-drop}
-use Rattle.cipher_modes.proofs.ige.last_half.Goals as goal
-
-pub returns : goal.returns
-returns c = c.block_at.ensures ∙ take_all 16 (drop 16 c.args.iv.now) (omega (arith, c.told-iv, length-drop 16 c.args.iv.now))
