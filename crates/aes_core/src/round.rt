@@ -1,4 +1,5 @@
-//! The steps of a round on a state, and the cipher over a whole schedule (FIPS 197, 5.1 and 5.3).
+//! The steps of a round on a state, and the cipher and its inverse under a schedule (FIPS 197, 5.1
+//! and 5.3).
 
 ghost use Rattle.std.specs.Prelude.{◌≡◌, ◌<◌};
 ghost use Rattle.aes_core.specs.Field.{xtime};
@@ -36,6 +37,7 @@ pub fn inverse_cipher(schedule: &[u8; SCHEDULE_BYTES], block: State) -> State
     add_round_key(schedule, 0, inverse_sub_bytes(inverse_shift_rows(state)))
 }
 
+// SubBytes (5.1.1).
 #[inline(always)]
 fn sub_bytes(mut state: State) -> State
     ensures { result ≡ sub_bytes state }
@@ -46,6 +48,7 @@ fn sub_bytes(mut state: State) -> State
     state
 }
 
+// InvSubBytes (5.3.2).
 #[inline(always)]
 fn inverse_sub_bytes(mut state: State) -> State
     ensures { result ≡ inverse_sub_bytes state }
@@ -56,6 +59,7 @@ fn inverse_sub_bytes(mut state: State) -> State
     state
 }
 
+// ShiftRows (5.1.2).
 #[inline(always)]
 fn shift_rows(state: State) -> State
     ensures { result ≡ shift_rows state }
@@ -66,6 +70,7 @@ fn shift_rows(state: State) -> State
     ]
 }
 
+// InvShiftRows (5.3.1).
 #[inline(always)]
 fn inverse_shift_rows(state: State) -> State
     ensures { result ≡ inverse_shift_rows state }
@@ -76,6 +81,7 @@ fn inverse_shift_rows(state: State) -> State
     ]
 }
 
+// Multiplication by x (4.2).
 #[inline(always)]
 fn xtime(byte: u8) -> u8
     ensures { result ≡ xtime byte }
@@ -85,7 +91,7 @@ fn xtime(byte: u8) -> u8
 
 // A byte of a mixed column, from the column's bytes from its row on.
 #[inline(always)]
-fn mixed(a: u8, b: u8, c: u8, d: u8) -> u8
+fn mixed_byte(a: u8, b: u8, c: u8, d: u8) -> u8
     ensures { result ≡ combination 0x02 0x03 0x01 0x01 a b c d }
 {
     (b ^ c ^ d) ^ xtime(a ^ b)
@@ -94,7 +100,7 @@ fn mixed(a: u8, b: u8, c: u8, d: u8) -> u8
 // The same of the inverse, by the bits of the coefficients: 14 = 8 + 4 + 2, 11 = 8 + 2 + 1,
 // 13 = 8 + 4 + 1 and 9 = 8 + 1.
 #[inline(always)]
-fn inverse_mixed(a: u8, b: u8, c: u8, d: u8) -> u8
+fn inverse_mixed_byte(a: u8, b: u8, c: u8, d: u8) -> u8
     ensures { result ≡ combination 0x0e 0x0b 0x0d 0x09 a b c d }
 {
     (b ^ c ^ d) ^ xtime((a ^ b) ^ xtime((a ^ c) ^ xtime(a ^ b ^ c ^ d)))
@@ -105,10 +111,10 @@ fn mix_column(a: u8, b: u8, c: u8, d: u8) -> [u8; 4]
     ensures { result ≡ column 0x02 0x03 0x01 0x01 a b c d }
 {
     [
-        mixed(a, b, c, d),
-        mixed(b, c, d, a),
-        mixed(c, d, a, b),
-        mixed(d, a, b, c),
+        mixed_byte(a, b, c, d),
+        mixed_byte(b, c, d, a),
+        mixed_byte(c, d, a, b),
+        mixed_byte(d, a, b, c),
     ]
 }
 
@@ -117,75 +123,42 @@ fn inverse_mix_column(a: u8, b: u8, c: u8, d: u8) -> [u8; 4]
     ensures { result ≡ column 0x0e 0x0b 0x0d 0x09 a b c d }
 {
     [
-        inverse_mixed(a, b, c, d),
-        inverse_mixed(b, c, d, a),
-        inverse_mixed(c, d, a, b),
-        inverse_mixed(d, a, b, c),
+        inverse_mixed_byte(a, b, c, d),
+        inverse_mixed_byte(b, c, d, a),
+        inverse_mixed_byte(c, d, a, b),
+        inverse_mixed_byte(d, a, b, c),
     ]
 }
 
+// MixColumns (5.1.3).
 #[inline(always)]
 fn mix_columns(state: State) -> State
     ensures { result ≡ mix_columns state }
 {
-    let [
-        s0,
-        s1,
-        s2,
-        s3,
-        s4,
-        s5,
-        s6,
-        s7,
-        s8,
-        s9,
-        s10,
-        s11,
-        s12,
-        s13,
-        s14,
-        s15,
-    ] = state;
-    let [m0, m1, m2, m3] = mix_column(s0, s1, s2, s3);
-    let [m4, m5, m6, m7] = mix_column(s4, s5, s6, s7);
-    let [m8, m9, m10, m11] = mix_column(s8, s9, s10, s11);
-    let [m12, m13, m14, m15] = mix_column(s12, s13, s14, s15);
+    let [m0, m1, m2, m3] = mix_column(state[0], state[1], state[2], state[3]);
+    let [m4, m5, m6, m7] = mix_column(state[4], state[5], state[6], state[7]);
+    let [m8, m9, m10, m11] = mix_column(state[8], state[9], state[10], state[11]);
+    let [m12, m13, m14, m15] = mix_column(state[12], state[13], state[14], state[15]);
     [
         m0, m1, m2, m3, m4, m5, m6, m7, m8, m9, m10, m11, m12, m13, m14, m15,
     ]
 }
 
+// InvMixColumns (5.3.3).
 #[inline(always)]
 fn inverse_mix_columns(state: State) -> State
     ensures { result ≡ inverse_mix_columns state }
 {
-    let [
-        s0,
-        s1,
-        s2,
-        s3,
-        s4,
-        s5,
-        s6,
-        s7,
-        s8,
-        s9,
-        s10,
-        s11,
-        s12,
-        s13,
-        s14,
-        s15,
-    ] = state;
-    let [m0, m1, m2, m3] = inverse_mix_column(s0, s1, s2, s3);
-    let [m4, m5, m6, m7] = inverse_mix_column(s4, s5, s6, s7);
-    let [m8, m9, m10, m11] = inverse_mix_column(s8, s9, s10, s11);
-    let [m12, m13, m14, m15] = inverse_mix_column(s12, s13, s14, s15);
+    let [m0, m1, m2, m3] = inverse_mix_column(state[0], state[1], state[2], state[3]);
+    let [m4, m5, m6, m7] = inverse_mix_column(state[4], state[5], state[6], state[7]);
+    let [m8, m9, m10, m11] = inverse_mix_column(state[8], state[9], state[10], state[11]);
+    let [m12, m13, m14, m15] = inverse_mix_column(state[12], state[13], state[14], state[15]);
     [
         m0, m1, m2, m3, m4, m5, m6, m7, m8, m9, m10, m11, m12, m13, m14, m15,
     ]
 }
 
+// AddRoundKey (5.1.4).
 #[inline(always)]
 fn add_round_key(schedule: &[u8; SCHEDULE_BYTES], round: usize, mut state: State) -> State
     requires { round < 15 }

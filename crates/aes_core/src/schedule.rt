@@ -1,8 +1,8 @@
 //! The key expansion (FIPS 197, 5.2).
 
-ghost use Rattle.std.specs.Prelude.{◌≡◌, ◌+◌, ◌*◌, ◌<◌, ◌≤◌, length};
+ghost use Rattle.std.specs.Prelude.{◌≡◌, ◌<◌, ◌≤◌};
 ghost use Rattle.aes_core.specs.Bytes.{xor_bytes};
-ghost use Rattle.aes_core.specs.KeySchedule.{word, rot_word, sub_word, round_constant, change, next_word, key_schedule, round_key};
+ghost use Rattle.aes_core.specs.KeySchedule.{word, rot_word, sub_word, change, next_word, key_schedule, round_key};
 
 use crate::table::sub_byte;
 

@@ -1,8 +1,8 @@
 //! Counter mode (NIST SP 800-38A, 6.5).
 
-ghost use Rattle.std.specs.Prelude.{◌≡◌, ◌^◌, length};
+ghost use Rattle.std.specs.Prelude.{◌≡◌, length};
 ghost use Rattle.aes_core.specs.Cipher.{aes};
-ghost use Rattle.cipher_modes.specs.CounterMode.{counter_block, ctr_stream, CtrState, applied, advanced};
+ghost use Rattle.cipher_modes.specs.CounterMode.{counter_block, ctr_stream, applied, advanced};
 
 use crate::block::{BLOCK_BYTES, Block};
 use aes_core::Key256;

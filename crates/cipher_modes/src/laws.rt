@@ -1,10 +1,10 @@
 //! Laws of the definitions, each the contract of a function that does nothing.
 
-ghost use Rattle.std.specs.Prelude.{◌≡◌, ◌%◌, ◌*◌, ◌+◌, ℕ, List, length};
+ghost use Rattle.std.specs.Prelude.{◌≡◌, ◌*◌, ℕ, List};
 ghost use Rattle.std.specs.List.{concat};
 ghost use Rattle.aes_core.specs.Bytes.{IsBytes};
 ghost use Rattle.cipher_modes.specs.Ige.{ige, inverse_ige, MeetsIgeEquations};
-ghost use Rattle.cipher_modes.specs.CounterMode.{CtrState, applied, advanced, applied_in_turn};
+ghost use Rattle.cipher_modes.specs.CounterMode.{CtrState, applied, applied_in_turn};
 
 /// A text enciphered in infinite garble extension meets the equations of the mode.
 pub fn ige_meets_its_equations()

@@ -1,5 +1,5 @@
 use Rattle.aes_core.proofs.Mixing.{inverse_combination_by_xtime}
-use Rattle.aes_core.proofs.round.inverse_mixed.Goals as goal
+use Rattle.aes_core.proofs.round.inverse_mixed_byte.Goals as goal
 
 pub returns : goal.returns
 returns c =
