@@ -3,7 +3,7 @@ use Rattle.std.proofs.Common.{◌≡◌, ℕ, ◌<◌, ◌+◌, ◌-◌, List, t
 use Rattle.std.specs.Prelude.{◌==◌}
 use Rattle.std.proofs.lemmas.Bool.{eqb-true}
 use Rattle.aes_core.specs.Bytes.{IsBytes}
-use Rattle.aes_core.specs.Field.{xtime, product_bits, product, power, inverse}
+use Rattle.aes_core.specs.Field.{xtime, product_bits, product, power_bits, inverse}
 use Rattle.aes_core.specs.KeySchedule.{key_schedule}
 use Rattle.aes_core.specs.Cipher.{aes, inverse_aes}
 use Rattle.aes_core.proofs.TableTests.{passes_below, passes_at}
@@ -23,7 +23,7 @@ pub IsBytes-inverse_aes : (key block : List ℕ) → IsBytes 32 key → IsBytes 
 IsBytes-inverse_aes key block k h = IsBytes-inverse_cipher (key_schedule key) (IsBytes-round_key key k) block h
 
 inverse_test : passes_below (λ j. product (j + 1) (inverse (j + 1)) == 1) 255 ≡ true
-unfolding xtime product_bits power inverse passes_below
+unfolding xtime product_bits power_bits inverse passes_below
 inverse_test = refl
 
 pub product-inverse : (b : ℕ) → 0 < b → b < 256 → product b (inverse b) ≡ 1
@@ -33,5 +33,5 @@ product-inverse b some below =
     rw place at found
 
 pub inverse_zero : inverse 0 ≡ 0
-unfolding xtime product_bits power inverse
+unfolding xtime product_bits power_bits inverse
 inverse_zero = refl

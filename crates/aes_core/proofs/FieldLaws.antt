@@ -5,7 +5,7 @@ use Rattle.std.specs.Int.{bit_at}
 use Rattle.std.specs.Int.Bits.{xor_zero_l, xor_zero_r}
 use Rattle.std.proofs.lemmas.Nat.{xor_block, xor_mod, xor_lt}
 use Rattle.std.proofs.lemmas.Nat.Bits.{bit_at_xor, bit_at-lt}
-use Rattle.aes_core.specs.Field.{xtime, product_bits, product}
+use Rattle.aes_core.specs.Field.{xtime, product_bits, product, square, power_bits}
 use Rattle.aes_core.proofs.TableTests.{by_bit}
 use Rattle.aes_core.proofs.XorLaws.{xor_swap, sum4}
 
@@ -87,6 +87,13 @@ unfolding product_bits
 product_bits-lt zero a x h = lit< tt
 product_bits-lt (suc n) a x h =
     xor_lt 8 (if a % 2 == 1 then x else 0) (xtime (product_bits n (a / 2) x)) (if-lt (a % 2 == 1) x h) (xtime-lt (product_bits n (a / 2) x))
+
+pub power_bits-lt : (n b e : ℕ) → power_bits n b e < 256
+unfolding power_bits
+power_bits-lt zero b e = lit< tt
+power_bits-lt (suc n) b e =
+    let half : ℕ = power_bits n b (e / 2) in
+    product_bits-lt 8 (if e % 2 == 1 then b else 1) (square half) (product_bits-lt 8 half half (power_bits-lt n b (e / 2)))
 
 -- products with the coefficients of the mixing, as sums of multiples by x
 pub product_1 : (b : ℕ) → product 1 b ≡ bit_xor b (xtime 0)

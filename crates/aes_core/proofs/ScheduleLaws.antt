@@ -6,19 +6,19 @@ use Rattle.std.proofs.lemmas.List.{take_all, take-append-le, length-append, leng
 use Rattle.std.proofs.lemmas.Slice.{take-put_mid}
 use borrow.Rule.Slice.PartMut.{put_mid}
 use Rattle.aes_core.specs.Bytes.{IsBytes, xor_bytes}
-use Rattle.aes_core.specs.Field.{xtime, product_bits, power}
+use Rattle.aes_core.specs.Field.{xtime, product_bits, power_bits, power}
 use Rattle.aes_core.specs.SubstitutionBox.{sub_byte}
 use Rattle.aes_core.specs.KeySchedule.{word, rot_word, sub_word, round_constant, change, next_word, expanded, key_schedule, IsExpansion, round_key}
 use Rattle.aes_core.specs.declared.schedule.TheConstants.{ROUND_CONSTANTS}
 use Rattle.aes_core.proofs.TableTests.{passes_below, passes_at}
-use Rattle.aes_core.proofs.FieldLaws.{product_bits-lt}
+use Rattle.aes_core.proofs.FieldLaws.{power_bits-lt}
 use Rattle.aes_core.proofs.SubstitutionLaws.{sub_byte-lt}
 use Rattle.aes_core.proofs.ByteLists.{in_range-drop, IsBytes-nil, IsBytes-cons, IsBytes-append, IsBytes-part, IsBytes-map, IsBytes-xor_bytes}
 
 -- ---- the code's constants
 
 constants_test : passes_below (λ j. slice_index ROUND_CONSTANTS j == power 2 j) 7 ≡ true
-unfolding xtime product_bits power passes_below
+unfolding xtime product_bits power_bits passes_below
 constants_test = refl
 
 pub change_with_constant : (i : ℕ) (w : List ℕ) → 8 ≤ i → i < 60 → i % 8 ≡ 0
@@ -78,13 +78,8 @@ IsBytes-rot_word w h =
 IsBytes-sub_word : (w : List ℕ) → IsBytes 4 w → IsBytes 4 (sub_word w)
 IsBytes-sub_word w h = IsBytes-map 4 sub_byte sub_byte-lt w h
 
-power-lt : (n : ℕ) → power 2 n < 256
-unfolding power
-power-lt zero = lit< tt
-power-lt (suc n) = product_bits-lt 8 2 (power 2 n) (power-lt n)
-
 IsBytes-round_constant : (j : ℕ) → IsBytes 4 (round_constant j)
-IsBytes-round_constant j = IsBytes-cons (power-lt (j - 1)) (IsBytes-cons (lit< tt) (IsBytes-cons (lit< tt) (IsBytes-cons (lit< tt) IsBytes-nil)))
+IsBytes-round_constant j = IsBytes-cons (power_bits-lt 8 2 (j - 1)) (IsBytes-cons (lit< tt) (IsBytes-cons (lit< tt) (IsBytes-cons (lit< tt) IsBytes-nil)))
 
 IsBytes-either : (t : Bool) (x y : List ℕ) → IsBytes 4 x → IsBytes 4 y → IsBytes 4 (if t then x else y)
 IsBytes-either true x y h k = h

@@ -19,10 +19,18 @@ product_bits (suc n) a b =
 abbrev pub product : ℕ → ℕ → ℕ
 product a b = product_bits 8 a b
 
--- b to the power n
-unfoldable pub power : ℕ → ℕ → ℕ
-power b zero = 1
-power b (suc n) = product b (power b n)
+abbrev pub square : ℕ → ℕ
+square b = product b b
+
+-- b to the power e by the n lowest bits of e: b where bit 0 of e is set, times the square of the
+-- power by the bits above.
+unfoldable pub power_bits : ℕ → ℕ → ℕ → ℕ
+power_bits zero b e = 1
+power_bits (suc n) b e = product (if e % 2 == 1 then b else 1) (square (power_bits n b (e / 2)))
+
+-- a byte to a power below 256
+abbrev pub power : ℕ → ℕ → ℕ
+power b e = power_bits 8 b e
 
 -- The multiplicative inverse of a byte (4.4), which is its power 254; 0 goes to 0.
 unfoldable pub inverse : ℕ → ℕ
