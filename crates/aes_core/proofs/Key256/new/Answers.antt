@@ -1,0 +1,10 @@
+use Rattle.aes_core.proofs.ScheduleLaws.{IsExpansion-new}
+use Rattle.aes_core.proofs.Key256.new.Goals as goal
+
+pub invariant_of-result : goal.invariant_of-result
+invariant_of-result c =
+    (IsExpansion-new c.args.key.now _ (record { count = c.told-key; in_range = c.fits-key }) c.key_schedule.ensures).0
+
+pub returns : goal.returns
+returns c =
+    (IsExpansion-new c.args.key.now _ (record { count = c.told-key; in_range = c.fits-key }) c.key_schedule.ensures).1

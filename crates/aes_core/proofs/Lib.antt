@@ -1,0 +1,10 @@
+pub mod TableTests
+pub mod XorLaws
+pub mod FieldLaws
+pub mod Mixing
+pub mod SubstitutionLaws
+pub mod ByteLists
+pub mod StateLaws
+pub mod CipherLaws
+pub mod ScheduleLaws
+pub mod AesLaws

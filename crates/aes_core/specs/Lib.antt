@@ -1,0 +1,5 @@
+pub mod Bytes
+pub mod Field
+pub mod SubstitutionBox
+pub mod KeySchedule
+pub mod Cipher

@@ -1,0 +1,2 @@
+pub mod IgeLaws
+pub mod CtrLaws

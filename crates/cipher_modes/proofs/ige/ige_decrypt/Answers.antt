@@ -1,0 +1,43 @@
+use Rattle.std.proofs.Common.{◌≡◌, ◌<◌, ◌-◌, ◌/◌, ◌*◌, length, arith, rules, ◌∙◌, ap, refl}
+use Rattle.aes_core.specs.Bytes.{IsBytes}
+use Rattle.cipher_modes.specs.Ige.{inverse_ige_block}
+use Rattle.cipher_modes.proofs.IgeLaws.{inverse_ige_next, inverse_ige_done, ige-inverse_ige, inverse_ige-MeetsIgeEquations}
+use Rattle.cipher_modes.proofs.ige.ige_decrypt.Goals as goal
+
+pub each_block-init : goal.each_block-init
+each_block-init c =
+    let all : length c.args.text.now / 16 - 0 ≡ length c.args.text.now / 16 = omega arith in
+    record {
+      whole_text = rw (c.halves.ensures.first, c.halves.ensures.last, all) refl;
+      key_bytes = λ h. absurd (omega arith);
+      text_bytes = λ k. omega (arith, c.type_inv.text k);
+    }
+
+pub each_block-preserved : goal.each_block-preserved
+each_block-preserved c =
+    let long : length c.decrypted-plain.result ≡ 16 = search rules in
+    let made = c.decrypted-plain.ensures.block
+    ∙ ap (inverse_ige_block c.args.key.now c.each_block.cipher_before c.each_block.plain_before) c.block_at-cipher.ensures in
+    record {
+      whole_text = rw (c.copy_from_slice.ensures.after, c.block_at-cipher.ensures)
+          (inverse_ige_next c.args.key.now c.each_block.cipher_before c.each_block.plain_before c.each_block.text c.decrypted-plain.result _
+          c.each_block.i _ (length c.args.text.now / 16) (omega arith) (omega arith) made long (omega arith) c.each_block.invariant.whole_text);
+      key_bytes = λ h. c.decrypted-plain.ensures.key_of_bytes;
+      text_bytes = c.each_block.invariant.text_bytes;
+    }
+
+pub returns : goal.returns
+returns c =
+    let count : length c.args.text.now ≡ 16 * (length c.args.text.now / 16) = omega arith in
+    let last : c.each_block.i ≡ length c.args.text.now / 16 = omega arith in
+    let key_bytes : 0 < length c.args.text.now / 16 → IsBytes 32 c.args.key.now = λ h. c.each_block.invariant.key_bytes (omega arith) in
+    let iv_bytes : IsBytes 32 c.args.iv.now = record { count = c.told-iv; in_range = c.fits-iv } in
+    let text_bytes : IsBytes (16 * (length c.args.text.now / 16)) c.args.text.now =
+    record { count = count; in_range = c.each_block.invariant.text_bytes } in
+    let made = inverse_ige_done c.args.key.now c.each_block.cipher_before c.each_block.plain_before c.each_block.text _
+    c.each_block.i (length c.args.text.now / 16) last (omega arith) c.each_block.invariant.whole_text in
+    record {
+      deciphered = made;
+      meets_equations = rw made (inverse_ige-MeetsIgeEquations c.args.key.now c.args.iv.now c.args.text.now _ key_bytes iv_bytes text_bytes);
+      undone_by_encrypting = rw made (ige-inverse_ige c.args.key.now c.args.iv.now c.args.text.now _ key_bytes iv_bytes text_bytes);
+    }

@@ -1,0 +1,2 @@
+pub mod Ige
+pub mod CounterMode

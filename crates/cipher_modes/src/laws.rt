@@ -1,0 +1,36 @@
+//! Laws of the definitions, each the contract of a function that does nothing.
+
+ghost use Rattle.std.specs.Prelude.{◌≡◌, ◌*◌, ℕ, List};
+ghost use Rattle.std.specs.List.{concat};
+ghost use Rattle.aes_core.specs.Bytes.{IsBytes};
+ghost use Rattle.cipher_modes.specs.Ige.{ige, inverse_ige, MeetsIgeEquations};
+ghost use Rattle.cipher_modes.specs.CounterMode.{CtrState, applied, applied_in_turn};
+
+/// A text enciphered in infinite garble extension meets the equations of the mode.
+pub fn ige_meets_its_equations()
+    ensures { (key iv text : List ℕ) (n : ℕ) → IsBytes 32 key → IsBytes 32 iv → IsBytes (16 * n) text
+        → MeetsIgeEquations key iv text (ige key iv text) }
+{}
+
+/// Deciphering in infinite garble extension undoes enciphering.
+pub fn ige_deciphering_undoes_enciphering()
+    ensures { (key iv text : List ℕ) (n : ℕ) → IsBytes 32 key → IsBytes 32 iv → IsBytes (16 * n) text
+        → inverse_ige key iv (ige key iv text) ≡ text }
+{}
+
+/// Enciphering in infinite garble extension undoes deciphering.
+pub fn ige_enciphering_undoes_deciphering()
+    ensures { (key iv text : List ℕ) (n : ℕ) → IsBytes 32 key → IsBytes 32 iv → IsBytes (16 * n) text
+        → ige key iv (inverse_ige key iv text) ≡ text }
+{}
+
+/// In counter mode, pieces in turn are the same as one call over all of them, whatever their lengths.
+pub fn ctr_pieces_equal_the_whole()
+    ensures { (stream : CtrState) (pieces : List (List ℕ))
+        → applied_in_turn stream pieces ≡ applied stream (concat pieces) }
+{}
+
+/// Counter mode undoes itself from the same place.
+pub fn ctr_undoes_itself()
+    ensures { (stream : CtrState) (text : List ℕ) → applied stream (applied stream text) ≡ text }
+{}
