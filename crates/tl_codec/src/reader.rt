@@ -1,0 +1,186 @@
+//! Reading TL values from the front of a text.
+
+ghost use Rattle.std.specs.Prelude.{◌≡◌, ◌≢◌, ◌+◌, ◌≤◌, [], length, IfOk, OnErr, IfErr, MatchResult, Err};
+ghost use Rattle.tl_codec.specs.Spelling.{Int, Long, Raw, Bytes, Longs, Truth, Tag, padding_of};
+ghost use Rattle.tl_codec.specs.Reading.{Takes, NoFront, Gives, GivesUnlessMemory, read_at, number_at, head_at};
+
+use crate::fault::TlFault;
+use crate::ids::IdList;
+use crate::tags::{BOOL_FALSE, BOOL_TRUE, LONGS_MAX, VECTOR};
+use byteorder::{ByteOrder, LittleEndian};
+use std::alloc::Global;
+use std::marker::Model;
+
+/// The first byte of a string whose length has three bytes.
+const LONG_FORM: u8 = 254;
+
+/// A place in a text. Contracts see it as the bytes that are left.
+#[derive(Debug, Drop)]
+pub struct Reader<'a> {
+    left: &'a [u8],
+}
+
+impl<'a> Model for Reader<'a> {
+    ghost use Rattle.std.specs.Prelude.{ℕ, List};
+
+    ghost Value = { List ℕ };
+
+    ghost use Rattle.tl_codec.specs.Bytes.{IsBytes};
+
+    ghost view = { λ reader. reader.left.now };
+
+    ghost invariant = { λ reader. IsBytes reader.left.now };
+}
+
+impl<'a> Reader<'a> {
+    /// A reader at the start of the text.
+    pub fn new(bytes: &'a [u8]) -> Reader<'a>
+        ensures { result ≡ bytes.now }
+    {
+        Reader { left: bytes }
+    }
+
+    /// Reads `n` raw bytes, as of an `int128` (16) or an `int256` (32).
+    pub fn raw(&mut self, n: usize) -> Result<&'a [u8], TlFault>
+        ensures exact { Gives (λ bytes. bytes.now) result self.old self.new (read_at (Raw n) self.old) }
+    {
+        if self.left.len() < n {
+            return Err(TlFault::Short {
+                need: n,
+                have: self.left.len(),
+            });
+        }
+        let (field, left) = self.left.split_at(n);
+        self.left = left;
+        Ok(field)
+    }
+
+    /// Reads an `int`.
+    #[tactic(auto, unfolding(crate::specs::Reading::number_at))]
+    pub fn int(&mut self) -> Result<u32, TlFault>
+        ensures exact { Gives (λ number. number) result self.old self.new (read_at Int self.old) }
+    {
+        let field = self.raw(4)?;
+        Ok(LittleEndian::read_u32(field))
+    }
+
+    /// Reads a `long`.
+    #[tactic(auto, unfolding(crate::specs::Reading::number_at))]
+    pub fn long(&mut self) -> Result<u64, TlFault>
+        ensures exact { Gives (λ number. number) result self.old self.new (read_at Long self.old) }
+    {
+        let field = self.raw(8)?;
+        Ok(LittleEndian::read_u64(field))
+    }
+
+    /// Reads a `string` or `bytes`: the content, without its length and padding.
+    #[tactic(auto, unfolding(crate::specs::Reading::bytes_at))]
+    pub fn bytes(&mut self) -> Result<&'a [u8], TlFault>
+        ensures exact { Gives (λ bytes. bytes.now) result self.old self.new (read_at Bytes self.old) }
+    {
+        let (head, len) = head_of(self.left)?;
+        let field = self.raw(padded(head + len))?;
+        Ok(&field[head..head + len])
+    }
+
+    /// Reads the constructor `want`.
+    #[tactic(auto, unfolding(crate::specs::Reading::tag_at))]
+    pub fn tag(&mut self, want: u32) -> Result<(), TlFault>
+        ensures exact { Gives (λ _. tt) result self.old self.new (read_at (Tag want) self.old) }
+    {
+        let mut ahead = Reader::new(self.left);
+        let found = ahead.int()?;
+        if found != want {
+            return Err(TlFault::BadTag { found });
+        }
+        self.left = ahead.left;
+        Ok(())
+    }
+
+    /// Reads a `Bool`.
+    #[tactic(auto, unfolding(crate::specs::Reading::truth_at))]
+    pub fn boolean(&mut self) -> Result<bool, TlFault>
+        ensures exact { Gives (λ value. value) result self.old self.new (read_at Truth self.old) }
+    {
+        let mut ahead = Reader::new(self.left);
+        let value = match ahead.int()? {
+            BOOL_TRUE => true,
+            BOOL_FALSE => false,
+            found => return Err(TlFault::BadTag { found }),
+        };
+        self.left = ahead.left;
+        Ok(value)
+    }
+
+    /// Reads a `Vector long`.
+    #[tactic(auto, unfolding(crate::specs::Reading::longs_at))]
+    pub fn longs(&mut self, alloc: Global) -> Result<IdList, TlFault>
+        ensures exact { GivesUnlessMemory (λ numbers. numbers) result self.old self.new (read_at Longs self.old) }
+    {
+        let mut ahead = Reader::new(self.left);
+        ahead.tag(VECTOR)?;
+        let count = ahead.int()?;
+        if count > LONGS_MAX {
+            return Err(TlFault::TooMany { count });
+        }
+        let count = count as usize;
+        if ahead.left.len() < 8 * count {
+            return Err(TlFault::Short {
+                need: 8,
+                have: ahead.left.len() % 8,
+            });
+        }
+        let numbers = IdList::read(alloc, count, ahead.left)?;
+        self.left = &ahead.left[8 * count..];
+        Ok(numbers)
+    }
+
+    /// All that is left.
+    pub fn rest(&mut self) -> &'a [u8]
+        ensures taken { result.now ≡ self.old }
+        ensures ended { self.new ≡ [] }
+    {
+        let rest = self.left;
+        self.left = &[];
+        rest
+    }
+
+    /// Answers whether the text has ended. Fails with `Extra` exactly where bytes are left.
+    pub fn end(&self) -> Result<(), TlFault>
+        ensures { MatchResult result (λ _. self.now ≡ []) (λ fault. (fault ≡ TlFault.Extra (length self.now)) × (self.now ≢ [])) }
+    {
+        if self.left.is_empty() {
+            Ok(())
+        } else {
+            Err(TlFault::Extra {
+                bytes: self.left.len(),
+            })
+        }
+    }
+}
+
+// How many bytes the length in front of a string takes, and the length.
+#[tactic(auto, unfolding(crate::specs::Reading::head_at))]
+fn head_of(bytes: &[u8]) -> Result<(usize, usize), TlFault>
+    ensures exact { MatchResult result (λ found. head_at bytes.now ≡ Ok found) (λ fault. head_at bytes.now ≡ Err fault) }
+    ensures sized { IfOk result (λ found. found.0 + found.1 ≤ 16777219) }
+{
+    match bytes {
+        [] => Err(TlFault::Short { need: 4, have: 0 }),
+        [LONG_FORM, a, b, c, ..] => Ok((4, LittleEndian::read_u24(&[*a, *b, *c]) as usize)),
+        [LONG_FORM, ..] => Err(TlFault::Short {
+            need: 4,
+            have: bytes.len(),
+        }),
+        [255, ..] => Err(TlFault::BadTag { found: 255 }),
+        [len, ..] => Ok((1, *len as usize)),
+    }
+}
+
+// The size with what lacks to a multiple of 4.
+fn padded(size: usize) -> usize
+    requires { size ≤ 16777219 }
+    ensures { result ≡ size + padding_of size }
+{
+    size + (4 - size % 4) % 4
+}
