@@ -1,1 +1,4 @@
 pub mod Longs
+pub mod Steps
+pub mod Numbers
+pub mod Strings
