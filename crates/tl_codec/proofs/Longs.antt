@@ -1,10 +1,11 @@
 -- Numbers of 8 bytes each, one after the other.
 use Rattle.std.proofs.Common.{◌≡◌, ℕ, zero, suc, ◌+◌, ◌-◌, ◌*◌, ◌^◌, ◌<◌, ◌≤◌, List, [], ◌∷◌, ◌++◌, length, take, drop, refl, sym, ap, ◌∙◌, append_assoc, arith}
-use Rattle.std.proofs.lemmas.List.{append-nil, get_or-drop}
+use Rattle.std.proofs.lemmas.List.{append-nil}
 use Rattle.byteorder.specs.Endian.{little_number}
 use Rattle.byteorder.specs.Numbers.{little_from-take, little_from-lt}
 use Rattle.tl_codec.specs.Bytes.{IsBytes, AreLongs}
 use Rattle.tl_codec.specs.Reading.{longs_in}
+use Rattle.tl_codec.proofs.Texts.{IsBytes-drop}
 
 -- one number more was read
 pub longs_more : (numbers : List ℕ) (left : List ℕ) (count i : ℕ) → i < count
@@ -19,9 +20,6 @@ pub longs_done : (numbers : List ℕ) (left : List ℕ) (count i : ℕ) → coun
 longs_done numbers left count i le =
     let none : count - i ≡ 0 = omega arith in
     rw none (append-nil numbers)
-
-pub IsBytes-drop : (n : ℕ) (bytes : List ℕ) → IsBytes bytes → IsBytes (drop n bytes)
-IsBytes-drop n bytes fits i = rw get_or-drop (fits (n + i))
 
 -- what 8 bytes hold is a `long`
 pub AreLongs-longs_in : (count : ℕ) (bytes : List ℕ) → IsBytes bytes → AreLongs (longs_in count bytes)

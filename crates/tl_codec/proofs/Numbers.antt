@@ -9,6 +9,7 @@ use Rattle.byteorder.specs.Numbers.{length-bytes_low_first, little_from-cons, li
 use Rattle.tl_codec.specs.declared.fault.TlFault.TheVariants.{Short}
 use Rattle.tl_codec.specs.Bytes.{IsBytes}
 use Rattle.tl_codec.specs.Reading.{◌>>=◌, raw_at, number_at}
+use Rattle.tl_codec.proofs.Texts.{IsBytes-tail}
 use Rattle.tl_codec.proofs.Steps.{guard_ok, same_parts}
 
 -- a byte of a number, by its place
@@ -23,9 +24,6 @@ bytes_low_first-suc j (suc k) x =
     let wide : x / 256 ^ suc j ≡ x / 256 / 256 ^ j = ap (λ (p : ℕ). x / p) (pow-succ' 256 j) ∙ sym (div-div-eq-div-mul x 256 (256 ^ j)) in
     let byte : byte_at (suc j) x ≡ byte_at j (x / 256) = ap (λ (y : ℕ). y % 256) wide ∙ sym (byte_at-pow j (x / 256)) in
     rw (byte, bytes_low_first-suc (suc j) k x) refl
-
-IsBytes-tail : (x : ℕ) (xs : List ℕ) → IsBytes (x ∷ xs) → IsBytes xs
-IsBytes-tail x xs fits i = fits (suc i)
 
 -- the bytes of the number that bytes hold
 pub little_bytes-little_number : (n : ℕ) (xs : List ℕ) → n ≤ length xs → IsBytes xs → little_bytes n (little_number n xs) ≡ take n xs

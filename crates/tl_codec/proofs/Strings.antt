@@ -11,7 +11,6 @@ use Rattle.tl_codec.specs.Bytes.{IsBytes}
 use Rattle.tl_codec.specs.Spelling.{Bytes, padding_of, head, short_head, long_head, IsHead, ReadsBytes, spelling}
 use Rattle.tl_codec.specs.Reading.{◌>>=◌, Takes, raw_at, head_at, bytes_at}
 use Rattle.tl_codec.proofs.Steps.{bind_ok, same_parts, same_value}
-use Rattle.tl_codec.proofs.Longs.{IsBytes-drop}
 use Rattle.tl_codec.proofs.Numbers.{little_bytes-little_number, raw_takes, raw_again}
 
 -- ---- the length in front
