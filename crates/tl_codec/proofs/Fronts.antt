@@ -1,14 +1,15 @@
 -- What stands at the front of a text is what `Reads` allows there.
-use Rattle.std.proofs.Common.{◌≡◌, ℕ, ◌+◌, ◌^◌, ◌<◌, ◌≤◌, inl, inr, Bool, true, false, eqb, cond, List, ◌++◌, length, take, drop, Result, Ok, Err, refl, sym, ap, subst, ◌∙◌, arith}
+use Rattle.std.proofs.Common.{◌≡◌, ◌≢◌, ℕ, ◌+◌, ◌^◌, ◌<◌, ◌≤◌, inl, inr, Bool, true, false, eqb, cond, List, ◌++◌, length, take, drop, Result, Ok, Err, refl, sym, ap, subst, ◌∙◌, arith}
+use Rattle.std.specs.Prelude.{IfOk, IfErr, OnErr}
 use Rattle.std.proofs.lemmas.Bool.{cases_eq, eq-eqb, ne_eqb}
 use Rattle.std.proofs.lemmas.List.{take-append-drop, length-take, append_cancel_right}
 use Rattle.byteorder.specs.Endian.{little_bytes}
 use Rattle.tl_codec.specs.declared.tags.TheConstants.{BOOL_TRUE, BOOL_FALSE}
 use Rattle.tl_codec.specs.declared.fault.TlFault.{TlFault}
-use Rattle.tl_codec.specs.declared.fault.TlFault.TheVariants.{BadTag}
+use Rattle.tl_codec.specs.declared.fault.TlFault.TheVariants.{Short, BadTag, TooMany, Extra, Memory}
 use Rattle.tl_codec.specs.Bytes.{IsBytes}
 use Rattle.tl_codec.specs.Spelling.{Form, Int, Long, Raw, Bytes, Longs, Truth, Tag, Of, Reads}
-use Rattle.tl_codec.specs.Reading.{◌>>=◌, Takes, raw_at, number_at, truth_at, read_at}
+use Rattle.tl_codec.specs.Reading.{◌>>=◌, Takes, NoFront, Gives, GivesUnlessMemory, raw_at, number_at, truth_at, read_at}
 use Rattle.tl_codec.proofs.Steps.{bind_ok, same_parts, same_value}
 use Rattle.tl_codec.proofs.Numbers.{raw_takes, raw_again, number_takes, number_again}
 use Rattle.tl_codec.proofs.Strings.{bytes_take, bytes_again}
@@ -84,3 +85,32 @@ pub one_reading : (form : Form) (v w : Of form) (x y r s : List ℕ) → Reads f
 one_reading form v w x y r s first second e =
     let same = same_parts (read_at form (x ++ r)) v w r s (again form v x r first) (ap (read_at form) e ∙ again form w y s second) in
     (same.0, append_cancel_right x y r (e ∙ ap (λ (z : List ℕ). y ++ z) (sym same.1)))
+
+-- a fault says that no front is a value
+pub refuses : (form : Form) (text : List ℕ) (fault : TlFault) → read_at form text ≡ Err fault → NoFront form text
+refuses form text fault e value rest t = let read = taken_again form text value rest t in absurd cc
+
+-- what a call that reads a form learns from its exact answer
+pub call_takes : {X : Type 0} (form : Form) (view : X → Of form) (result : Result X TlFault) (old new : List ℕ) → IsBytes old
+    → Gives view result old new (read_at form old) → IfOk result (λ x. Takes form (view x) old new)
+call_takes form view (Ok x) old new fits given = takes form old (view x) new fits given
+call_takes form view (Err fault) old new fits given = tt
+
+pub call_refuses : {X : Type 0} (form : Form) (view : X → Of form) (result : Result X TlFault) (old new : List ℕ)
+    → Gives view result old new (read_at form old) → OnErr result (NoFront form old)
+call_refuses form view (Ok x) old new given = tt
+call_refuses form view (Err fault) old new given = refuses form old fault given.0
+
+pub call_takes_with_memory : {X : Type 0} (form : Form) (view : X → Of form) (result : Result X TlFault) (old new : List ℕ) → IsBytes old
+    → GivesUnlessMemory view result old new (read_at form old) → IfOk result (λ x. Takes form (view x) old new)
+call_takes_with_memory form view (Ok x) old new fits given = takes form old (view x) new fits given
+call_takes_with_memory form view (Err fault) old new fits given = tt
+
+pub call_refuses_with_memory : {X : Type 0} (form : Form) (view : X → Of form) (result : Result X TlFault) (old new : List ℕ)
+    → GivesUnlessMemory view result old new (read_at form old) → IfErr result (λ fault. fault ≢ Memory → NoFront form old)
+call_refuses_with_memory form view (Ok x) old new given = tt
+call_refuses_with_memory form view (Err Memory) old new given = λ other. absurd (other refl)
+call_refuses_with_memory form view (Err (Short need have)) old new given = λ other. refuses form old (Short need have) given.0
+call_refuses_with_memory form view (Err (BadTag found)) old new given = λ other. refuses form old (BadTag found) given.0
+call_refuses_with_memory form view (Err (TooMany count)) old new given = λ other. refuses form old (TooMany count) given.0
+call_refuses_with_memory form view (Err (Extra bytes)) old new given = λ other. refuses form old (Extra bytes) given.0

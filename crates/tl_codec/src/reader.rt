@@ -1,8 +1,9 @@
 //! Reading TL values from the front of a text.
 
 ghost use Rattle.std.specs.Prelude.{◌≡◌, ◌≢◌, ◌+◌, ◌≤◌, [], length, IfOk, OnErr, IfErr, MatchResult, Err};
+ghost use Rattle.tl_codec.specs.Bytes.{IsBytes};
 ghost use Rattle.tl_codec.specs.Spelling.{Int, Long, Raw, Bytes, Longs, Truth, Tag, padding_of};
-ghost use Rattle.tl_codec.specs.Reading.{Takes, NoFront, Gives, GivesUnlessMemory, read_at, number_at, head_at};
+ghost use Rattle.tl_codec.specs.Reading.{Takes, NoFront, Gives, GivesUnlessMemory, read_at, raw_at, head_at};
 
 use crate::fault::TlFault;
 use crate::ids::IdList;
@@ -42,15 +43,11 @@ impl<'a> Reader<'a> {
 
     /// Reads `n` raw bytes, as of an `int128` (16) or an `int256` (32).
     pub fn raw(&mut self, n: usize) -> Result<&'a [u8], TlFault>
+        ensures taken { IfOk result (λ bytes. Takes (Raw n) bytes.now self.old self.new) }
+        ensures refused { OnErr result (NoFront (Raw n) self.old) }
         ensures exact { Gives (λ bytes. bytes.now) result self.old self.new (read_at (Raw n) self.old) }
     {
-        if self.left.len() < n {
-            return Err(TlFault::Short {
-                need: n,
-                have: self.left.len(),
-            });
-        }
-        let (field, left) = self.left.split_at(n);
+        let (field, left) = front_of(self.left, n)?;
         self.left = left;
         Ok(field)
     }
@@ -58,34 +55,45 @@ impl<'a> Reader<'a> {
     /// Reads an `int`.
     #[tactic(auto, unfolding(crate::specs::Reading::number_at))]
     pub fn int(&mut self) -> Result<u32, TlFault>
+        ensures taken { IfOk result (λ number. Takes Int number self.old self.new) }
+        ensures refused { OnErr result (NoFront Int self.old) }
         ensures exact { Gives (λ number. number) result self.old self.new (read_at Int self.old) }
     {
-        let field = self.raw(4)?;
+        let (field, left) = front_of(self.left, 4)?;
+        self.left = left;
         Ok(LittleEndian::read_u32(field))
     }
 
     /// Reads a `long`.
     #[tactic(auto, unfolding(crate::specs::Reading::number_at))]
     pub fn long(&mut self) -> Result<u64, TlFault>
+        ensures taken { IfOk result (λ number. Takes Long number self.old self.new) }
+        ensures refused { OnErr result (NoFront Long self.old) }
         ensures exact { Gives (λ number. number) result self.old self.new (read_at Long self.old) }
     {
-        let field = self.raw(8)?;
+        let (field, left) = front_of(self.left, 8)?;
+        self.left = left;
         Ok(LittleEndian::read_u64(field))
     }
 
     /// Reads a `string` or `bytes`: the content, without its length and padding.
     #[tactic(auto, unfolding(crate::specs::Reading::bytes_at))]
     pub fn bytes(&mut self) -> Result<&'a [u8], TlFault>
+        ensures taken { IfOk result (λ bytes. Takes Bytes bytes.now self.old self.new) }
+        ensures refused { OnErr result (NoFront Bytes self.old) }
         ensures exact { Gives (λ bytes. bytes.now) result self.old self.new (read_at Bytes self.old) }
     {
         let (head, len) = head_of(self.left)?;
-        let field = self.raw(padded(head + len))?;
+        let (field, left) = front_of(self.left, padded(head + len))?;
+        self.left = left;
         Ok(&field[head..head + len])
     }
 
     /// Reads the constructor `want`.
     #[tactic(auto, unfolding(crate::specs::Reading::tag_at))]
     pub fn tag(&mut self, want: u32) -> Result<(), TlFault>
+        ensures taken { IfOk result (λ _. Takes (Tag want) tt self.old self.new) }
+        ensures refused { OnErr result (NoFront (Tag want) self.old) }
         ensures exact { Gives (λ _. tt) result self.old self.new (read_at (Tag want) self.old) }
     {
         let mut ahead = Reader::new(self.left);
@@ -100,6 +108,8 @@ impl<'a> Reader<'a> {
     /// Reads a `Bool`.
     #[tactic(auto, unfolding(crate::specs::Reading::truth_at))]
     pub fn boolean(&mut self) -> Result<bool, TlFault>
+        ensures taken { IfOk result (λ value. Takes Truth value self.old self.new) }
+        ensures refused { OnErr result (NoFront Truth self.old) }
         ensures exact { Gives (λ value. value) result self.old self.new (read_at Truth self.old) }
     {
         let mut ahead = Reader::new(self.left);
@@ -115,6 +125,8 @@ impl<'a> Reader<'a> {
     /// Reads a `Vector long`.
     #[tactic(auto, unfolding(crate::specs::Reading::longs_at))]
     pub fn longs(&mut self, alloc: Global) -> Result<IdList, TlFault>
+        ensures taken { IfOk result (λ numbers. Takes Longs numbers self.old self.new) }
+        ensures refused { IfErr result (λ fault. fault ≢ TlFault.Memory → NoFront Longs self.old) }
         ensures exact { GivesUnlessMemory (λ numbers. numbers) result self.old self.new (read_at Longs self.old) }
     {
         let mut ahead = Reader::new(self.left);
@@ -131,7 +143,8 @@ impl<'a> Reader<'a> {
             });
         }
         let numbers = IdList::read(alloc, count, ahead.left)?;
-        self.left = &ahead.left[8 * count..];
+        let (_, left) = ahead.left.split_at(8 * count);
+        self.left = left;
         Ok(numbers)
     }
 
@@ -157,6 +170,20 @@ impl<'a> Reader<'a> {
             })
         }
     }
+}
+
+// The first `size` bytes and what follows them.
+fn front_of(text: &[u8], size: usize) -> Result<(&[u8], &[u8]), TlFault>
+    ensures exact { MatchResult result (λ parts. raw_at size text.now ≡ Ok (parts.0.now, parts.1.now)) (λ fault. raw_at size text.now ≡ Err fault) }
+    ensures texts { IfOk result (λ parts. IsBytes parts.1.now) }
+{
+    if text.len() < size {
+        return Err(TlFault::Short {
+            need: size,
+            have: text.len(),
+        });
+    }
+    Ok(text.split_at(size))
 }
 
 // How many bytes the length in front of a string takes, and the length.
