@@ -8,11 +8,11 @@ use Rattle.tl_codec.specs.declared.tags.TheConstants.{BOOL_TRUE, BOOL_FALSE}
 use Rattle.tl_codec.specs.declared.fault.TlFault.{TlFault}
 use Rattle.tl_codec.specs.declared.fault.TlFault.TheVariants.{Short, BadTag, TooMany, Extra, Memory}
 use Rattle.tl_codec.specs.Bytes.{IsBytes}
-use Rattle.tl_codec.specs.Spelling.{Form, Int, Long, Raw, Bytes, Longs, Truth, Tag, Of, Reads}
+use Rattle.tl_codec.specs.Spelling.{Form, Int, Long, Raw, Bytes, Longs, Truth, Tag, Of, Spells, Reads, ReadsBytes}
 use Rattle.tl_codec.specs.Reading.{◌>>=◌, Takes, NoFront, Gives, GivesUnlessMemory, raw_at, number_at, truth_at, read_at}
 use Rattle.tl_codec.proofs.Steps.{bind_ok, same_parts, same_value}
 use Rattle.tl_codec.proofs.Numbers.{raw_takes, raw_again, number_takes, number_again}
-use Rattle.tl_codec.proofs.Strings.{bytes_take, bytes_again}
+use Rattle.tl_codec.proofs.Strings.{bytes_take, bytes_again, spelling_reads}
 use Rattle.tl_codec.proofs.Vectors.{tag_takes, tag_again, longs_take, longs_again}
 
 raw_stands : (size : ℕ) (text : List ℕ) → size ≤ length text → Takes (Raw size) (take size text) text (drop size text)
@@ -114,3 +114,13 @@ call_refuses_with_memory form view (Err (Short need have)) old new given = λ ot
 call_refuses_with_memory form view (Err (BadTag found)) old new given = λ other. refuses form old (BadTag found) given.0
 call_refuses_with_memory form view (Err (TooMany count)) old new given = λ other. refuses form old (TooMany count) given.0
 call_refuses_with_memory form view (Err (Extra bytes)) old new given = λ other. refuses form old (Extra bytes) given.0
+
+-- a spelling is a reading
+pub spelt_reads : (form : Form) (value : Of form) (text : List ℕ) → Spells form value text → Reads form value text
+spelt_reads Int value text spelt = spelt
+spelt_reads Long value text spelt = spelt
+spelt_reads (Raw size) value text spelt = spelt
+spelt_reads Bytes value text spelt = subst (ReadsBytes value) (sym spelt.1) (spelling_reads value spelt.0)
+spelt_reads Longs value text spelt = spelt
+spelt_reads Truth value text spelt = spelt
+spelt_reads (Tag number) value text spelt = spelt

@@ -6,14 +6,19 @@
 
 mod fault;
 mod ids;
+mod laws;
 mod memory;
 mod octets;
 mod reader;
 mod tags;
+mod writer;
+mod trial;
 
 pub use fault::{FrameFault, TlFault};
 pub use ids::IdList;
+pub use laws::{exact_reading, one_reading, written_again};
 pub use memory::Memory;
 pub use octets::Octets;
 pub use reader::Reader;
 pub use tags::{BOOL_FALSE, BOOL_TRUE, BYTES_MAX, LONGS_MAX, VECTOR};
+pub use writer::Writer;

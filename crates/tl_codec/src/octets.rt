@@ -1,6 +1,6 @@
 //! Bytes that own their memory.
 
-ghost use Rattle.std.specs.Prelude.{◌≡◌, ◌<◌, ◌^◌, ◌++◌, [], length, IfOk, OnOk, OnErr};
+ghost use Rattle.std.specs.Prelude.{◌≡◌, ◌<◌, ◌^◌, ◌++◌, ◌+◌, [], length, IfOk, OnOk, OnErr};
 ghost use Rattle.tl_codec.specs.Bytes.{IsBytes};
 
 use crate::memory::Memory;
@@ -60,5 +60,18 @@ impl Octets {
         ensures length { length self.now < 2 ^ 63 }
     {
         self.bytes.as_slice()
+    }
+
+    /// Puts three parts at the end, all or none. The room for them is taken once.
+    pub(crate) fn push_parts(&mut self, front: &[u8], content: &[u8], back: &[u8]) -> Result<(), Memory>
+        requires { length front.now + length content.now + length back.now < 2 ^ 32 }
+        ensures appended { OnOk result (self.new ≡ self.old ++ (front.now ++ content.now ++ back.now)) }
+        ensures unchanged_on_memory { OnErr result (self.new ≡ self.old) }
+    {
+        self.bytes.reserve(front.len() + content.len() + back.len())?;
+        self.bytes.extend_from_slice(front)?;
+        self.bytes.extend_from_slice(content)?;
+        self.bytes.extend_from_slice(back)?;
+        Ok(())
     }
 }

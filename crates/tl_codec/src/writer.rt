@@ -1,0 +1,102 @@
+//! Writing TL values at the end of a text.
+
+ghost use Rattle.std.specs.Prelude.{◌≡◌, ◌≤◌, ◌<◌, ◌++◌, ◌+◌, replicate, length, OnOk, OnErr};
+ghost use Rattle.tl_codec.specs.Spelling as spec;
+ghost use Rattle.tl_codec.specs.Spelling.{Int, Long, Raw, Bytes, Longs};
+
+use crate::memory::Memory;
+use crate::octets::Octets;
+use crate::tags::{BYTES_MAX, LONGS_MAX, VECTOR};
+use byteorder::{ByteOrder, LittleEndian};
+use std::alloc::Global;
+
+/// The first byte of a string whose length has three bytes.
+const LONG_FORM: u8 = 254;
+
+/// Writes TL values at the end of the octets that it was made for.
+#[derive(Drop)]
+pub struct Writer<'a> {
+    into: &'a mut Octets,
+}
+
+impl<'a> Writer<'a> {
+    ghost use Rattle.tl_codec.specs.Writing.{Appends, IsSameText, text_of};
+
+    /// A writer at the end of the octets.
+    pub fn new(into: &'a mut Octets) -> Writer<'a>
+        ensures same_text { result.into.ghost_name ≡ into.entry.ghost_name }
+        ensures text { text_of result ≡ into.old }
+    {
+        Writer { into }
+    }
+
+    /// Writes an `int`, also a constructor number. A refused write leaves the text as it was.
+    pub fn int(&mut self, alloc: Global, v: u32) -> Result<(), Memory>
+        ensures same_text { IsSameText self.old self.new }
+        ensures appended { OnOk result (Appends Int v (text_of self.old) (text_of self.new)) }
+        ensures unchanged_on_memory { OnErr result (text_of self.new ≡ text_of self.old) }
+    {
+        let mut bytes = [0; 4];
+        LittleEndian::write_u32(&mut bytes, v);
+        self.into.push_all(alloc, &bytes)
+    }
+
+    /// Writes a `long`. A refused write leaves the text as it was.
+    pub fn long(&mut self, alloc: Global, v: u64) -> Result<(), Memory>
+        ensures same_text { IsSameText self.old self.new }
+        ensures appended { OnOk result (Appends Long v (text_of self.old) (text_of self.new)) }
+        ensures unchanged_on_memory { OnErr result (text_of self.new ≡ text_of self.old) }
+    {
+        let mut bytes = [0; 8];
+        LittleEndian::write_u64(&mut bytes, v);
+        self.into.push_all(alloc, &bytes)
+    }
+
+    /// Writes raw bytes. A refused write leaves the text as it was.
+    pub fn raw(&mut self, alloc: Global, v: &[u8]) -> Result<(), Memory>
+        ensures same_text { IsSameText self.old self.new }
+        ensures appended { OnOk result (Appends (Raw (length v.now)) v.now (text_of self.old) (text_of self.new)) }
+        ensures unchanged_on_memory { OnErr result (text_of self.new ≡ text_of self.old) }
+    {
+        self.into.push_all(alloc, v)
+    }
+
+    /// Writes a `string` or `bytes` of at most 16,777,215 bytes: the length in its short form where it
+    /// fits, and zeros as padding. A refused write leaves the text as it was.
+    pub fn bytes(&mut self, _alloc: Global, v: &[u8]) -> Result<(), Memory>
+        requires { length v.now ≤ BYTES_MAX }
+        ensures same_text { IsSameText self.old self.new }
+        ensures appended { OnOk result (Appends Bytes v.now (text_of self.old) (text_of self.new)) }
+        ensures unchanged_on_memory { OnErr result (text_of self.new ≡ text_of self.old) }
+    {
+        if v.len() < LONG_FORM as usize {
+            self.padded(&[v.len() as u8], v)
+        } else {
+            let mut front = [LONG_FORM; 4];
+            LittleEndian::write_u24(&mut front[1..], v.len() as u32);
+            self.padded(&front, v)
+        }
+    }
+
+    // Writes a string behind its length, and zeros to a multiple of 4.
+    fn padded(&mut self, front: &[u8], content: &[u8]) -> Result<(), Memory>
+        requires front { length front.now ≤ 4 }
+        requires content { length content.now ≤ BYTES_MAX }
+        ensures same_text { IsSameText self.old self.new }
+        ensures appended { OnOk result (text_of self.new
+            ≡ text_of self.old ++ (front.now ++ content.now ++ replicate (spec.padding_of (length front.now + length content.now)) 0)) }
+        ensures unchanged_on_memory { OnErr result (text_of self.new ≡ text_of self.old) }
+    {
+        let padding = [0; 3];
+        let size = padding_of(front.len() + content.len());
+        self.into.push_parts(front, content, &padding[..size])
+    }
+}
+
+// How many bytes lack to a multiple of 4.
+fn padding_of(size: usize) -> usize
+    ensures value { result ≡ spec.padding_of size }
+    ensures small { result ≤ 3 }
+{
+    (4 - size % 4) % 4
+}
