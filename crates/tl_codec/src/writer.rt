@@ -78,6 +78,19 @@ impl<'a> Writer<'a> {
         }
     }
 
+    /// Writes a `Vector long` of at most 8,192 numbers. A refused write leaves the text as it was.
+    pub fn longs(&mut self, _alloc: Global, v: &[u64]) -> Result<(), Memory>
+        requires { length v.now ≤ LONGS_MAX }
+        ensures same_text { IsSameText self.old self.new }
+        ensures appended { OnOk result (Appends Longs v.now (text_of self.old) (text_of self.new)) }
+        ensures unchanged_on_memory { OnErr result (text_of self.new ≡ text_of self.old) }
+    {
+        let mut front = [0; 8];
+        LittleEndian::write_u32(&mut front, VECTOR);
+        LittleEndian::write_u32(&mut front[4..], v.len() as u32);
+        self.into.push_numbers(&front, v)
+    }
+
     // Writes a string behind its length, and zeros to a multiple of 4.
     fn padded(&mut self, front: &[u8], content: &[u8]) -> Result<(), Memory>
         requires front { length front.now ≤ 4 }
