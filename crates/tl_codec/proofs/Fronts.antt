@@ -1,5 +1,5 @@
 -- What stands at the front of a text is what `Reads` allows there.
-use Rattle.std.proofs.Common.{◌≡◌, ◌≢◌, ℕ, ◌+◌, ◌^◌, ◌<◌, ◌≤◌, inl, inr, Bool, true, false, eqb, cond, List, ◌++◌, length, take, drop, Result, Ok, Err, refl, sym, ap, subst, ◌∙◌, arith}
+use Rattle.std.proofs.Common.{◌≡◌, ◌≢◌, ℕ, ◌≤◌, inl, inr, Bool, true, false, eqb, cond, List, ◌++◌, length, take, drop, Result, Ok, Err, refl, sym, ap, subst, ◌∙◌, arith}
 use Rattle.std.specs.Prelude.{IfOk, IfErr, OnErr}
 use Rattle.std.proofs.lemmas.Bool.{cases_eq, eq-eqb, ne_eqb}
 use Rattle.std.proofs.lemmas.List.{take-append-drop, length-take, append_cancel_right}
@@ -9,7 +9,7 @@ use Rattle.tl_codec.specs.declared.fault.TlFault.{TlFault}
 use Rattle.tl_codec.specs.declared.fault.TlFault.TheVariants.{Short, BadTag, TooMany, Extra, Memory}
 use Rattle.tl_codec.specs.Bytes.{IsBytes}
 use Rattle.tl_codec.specs.Spelling.{Form, Int, Long, Raw, Bytes, Longs, Truth, Tag, Of, Spells, Reads, ReadsBytes}
-use Rattle.tl_codec.specs.Reading.{◌>>=◌, Takes, NoFront, Gives, GivesUnlessMemory, raw_at, number_at, truth_at, read_at}
+use Rattle.tl_codec.specs.Reading.{Takes, NoFront, Gives, GivesUnlessMemory, number_at, truth_at, read_at}
 use Rattle.tl_codec.proofs.Steps.{bind_ok, same_parts, same_value}
 use Rattle.tl_codec.proofs.Numbers.{raw_takes, raw_again, number_takes, number_again}
 use Rattle.tl_codec.proofs.Strings.{bytes_take, bytes_again, spelling_reads}

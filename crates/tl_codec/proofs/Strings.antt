@@ -1,14 +1,13 @@
 -- A string at the front of a text: its length, its content and its padding.
-use Rattle.std.proofs.Common.{◌≡◌, ℕ, zero, suc, ◌+◌, ◌-◌, ◌*◌, ◌%◌, ◌^◌, ◌<◌, ◌≤◌, ltb, eqb, true, false, inl, inr, List, [], ◌∷◌, ◌++◌, length, take, drop, replicate, Result, Ok, Err, refl, sym, ap, subst, ◌∙◌, append_assoc, arith}
+use Rattle.std.proofs.Common.{◌≡◌, ℕ, suc, ◌+◌, ◌^◌, ◌<◌, ◌≤◌, ltb, eqb, true, false, inl, inr, List, [], ◌∷◌, ◌++◌, length, take, drop, replicate, Ok, refl, sym, ap, subst, ◌∙◌, append_assoc, arith}
 use Rattle.std.proofs.Math.Seq.{take-add}
 use Rattle.std.proofs.lemmas.Bool.{cases_lt, cases_eq, lt-ltb, le-ltb, eq-eqb, ne_eqb}
-use Rattle.std.proofs.lemmas.List.{take_at, drop_at, take-take, take-append-drop, drop-take, drop-drop, length-append, length-take, length-drop, length-replicate}
+use Rattle.std.proofs.lemmas.List.{take_at, drop_at, take-take, take-append-drop, length-append, length-take, length-drop, length-replicate}
 use Rattle.byteorder.specs.Endian.{little_bytes, little_number}
 use Rattle.byteorder.specs.Numbers.{length-bytes_low_first, little_from-lt, little_number-reads_back}
 use Rattle.tl_codec.specs.declared.tags.TheConstants.{BYTES_MAX}
-use Rattle.tl_codec.specs.declared.fault.TlFault.{TlFault}
 use Rattle.tl_codec.specs.Bytes.{IsBytes}
-use Rattle.tl_codec.specs.Spelling.{Bytes, padding_of, head, short_head, long_head, IsHead, ReadsBytes, spelling}
+use Rattle.tl_codec.specs.Spelling.{Bytes, padding_of, head, long_head, IsHead, ReadsBytes, spelling}
 use Rattle.tl_codec.specs.Reading.{◌>>=◌, Takes, raw_at, head_at, bytes_at}
 use Rattle.tl_codec.proofs.Steps.{bind_ok, same_parts, same_value}
 use Rattle.tl_codec.proofs.Numbers.{little_bytes-little_number, raw_takes, raw_again}
@@ -149,4 +148,3 @@ spelling_reads content fits =
       | inr le ↦ let test : ltb size 254 ≡ false = le-ltb _ _ le in inr (fits, rw test refl)
     ] in
     (front, padding, begins, length-replicate (padding_of (length front + size)) 0, refl)
-

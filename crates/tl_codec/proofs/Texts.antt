@@ -1,5 +1,5 @@
 -- Parts of a text are texts.
-use Rattle.std.proofs.Common.{◌≡◌, ℕ, zero, suc, ◌+◌, ◌/◌, ◌^◌, ◌<◌, arith, List, [], ◌∷◌, ◌++◌, length, drop, refl, sym, ap, subst, ◌∙◌}
+use Rattle.std.proofs.Common.{◌≡◌, ℕ, zero, suc, ◌+◌, ◌/◌, ◌^◌, ◌<◌, arith, List, [], ◌∷◌, ◌++◌, length, drop, refl, ap, subst, ◌∙◌}
 use Rattle.std.proofs.lemmas.List.{drop_at, get_or-drop}
 use Rattle.std.proofs.lemmas.Nat.{mod_below}
 use Rattle.std.specs.Int.{byte_at, bytes_low_first}

@@ -1,18 +1,17 @@
 -- A vector of numbers at the front of a text.
-use Rattle.std.proofs.Common.{◌≡◌, ℕ, zero, suc, ◌+◌, ◌-◌, ◌*◌, ◌%◌, ◌^◌, ◌<◌, ◌≤◌, ltb, eqb, true, false, cond, List, [], ◌∷◌, ◌++◌, length, take, drop, Result, Ok, Err, refl, sym, ap, subst, ◌∙◌, append_assoc, arith}
+use Rattle.std.proofs.Common.{◌≡◌, ℕ, zero, suc, ◌+◌, ◌*◌, ◌%◌, ◌^◌, ◌<◌, ◌≤◌, ltb, eqb, true, false, cond, List, [], ◌∷◌, ◌++◌, length, take, drop, Ok, Err, refl, sym, ap, subst, ◌∙◌, append_assoc, arith}
 use Rattle.std.proofs.Math.Seq.{take-add}
 use Rattle.std.specs.List.{flat_map}
-use Rattle.std.proofs.lemmas.Bool.{lt-ltb, le-ltb, ltb-false, eqb-true, eq-eqb}
-use Rattle.std.proofs.lemmas.List.{append-nil, take_at, drop_at, take-append-drop, length-append, length-take, length-drop}
-use Rattle.byteorder.specs.Endian.{little_bytes, little_number}
+use Rattle.std.proofs.lemmas.Bool.{le-ltb, ltb-false, eqb-true, eq-eqb}
+use Rattle.std.proofs.lemmas.List.{drop_at, take-append-drop, length-append, length-drop}
+use Rattle.byteorder.specs.Endian.{little_bytes}
 use Rattle.byteorder.specs.Numbers.{length-bytes_low_first, little_number-reads_back}
 use Rattle.tl_codec.specs.declared.tags.TheConstants.{VECTOR, LONGS_MAX}
-use Rattle.tl_codec.specs.declared.fault.TlFault.{TlFault}
 use Rattle.tl_codec.specs.declared.fault.TlFault.TheVariants.{BadTag, TooMany, Short}
 use Rattle.tl_codec.specs.Bytes.{IsBytes, AreLongs}
-use Rattle.tl_codec.specs.Spelling.{Longs, Tag, Fits, spelling, Spells}
+use Rattle.tl_codec.specs.Spelling.{Longs, spelling, Spells}
 use Rattle.tl_codec.specs.Reading.{◌>>=◌, Takes, number_at, tag_at, longs_in, longs_at}
-use Rattle.tl_codec.proofs.Steps.{bind_ok, guard_ok, guard_held, guard_then, same_parts}
+use Rattle.tl_codec.proofs.Steps.{bind_ok, guard_ok, guard_held, guard_then}
 use Rattle.tl_codec.proofs.Texts.{IsBytes-drop, IsBytes-after}
 use Rattle.tl_codec.proofs.Longs.{AreLongs-longs_in}
 use Rattle.tl_codec.proofs.Numbers.{little_bytes-little_number, number_takes, number_again}
@@ -96,7 +95,8 @@ longs_take text numbers rest fits e =
     let counted = number_takes 4 a.0.1 b.0.0 b.0.1 after b.1 in
     let left = IsBytes-after a.0.1 (little_bytes 4 b.0.0) b.0.1 counted.1 after in
     let spelt = tagged.1 ∙ ap (λ (x : List ℕ). little_bytes 4 VECTOR ++ x) counted.1 in
-    subst (λ (p : List ℕ × List ℕ). Takes Longs p.0 text p.1) whole.1 (longs_stand b.0.0 text b.0.1 left (ltb-false _ _ few.0) (ltb-false _ _ whole.0) spelt)
+    let made : List ℕ × List ℕ = (longs_in b.0.0 b.0.1, drop (8 * b.0.0) b.0.1) in
+    subst (λ (p : List ℕ × List ℕ). Takes Longs p.0 text p.1) {x = made} whole.1 (longs_stand b.0.0 text b.0.1 left (ltb-false _ _ few.0) (ltb-false _ _ whole.0) spelt)
 
 pub longs_again : (numbers text rest : List ℕ) → Spells Longs numbers text → longs_at (text ++ rest) ≡ Ok (numbers, rest)
 unfolding longs_at

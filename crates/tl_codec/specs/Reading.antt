@@ -48,7 +48,7 @@ head_at text =
     if length text == 0 then Err (Short 4 0)
     else if nat_lt first 254 then Ok (1, first)
     else if first == 254 then
-      if nat_lt (length text) 4 then Err (Short 4 (length text)) else Ok (4, little_number 3 (drop 1 text))
+    if nat_lt (length text) 4 then Err (Short 4 (length text)) else Ok (4, little_number 3 (drop 1 text))
     else Err (BadTag first)
 
 unfoldable pub bytes_at : List ℕ → Result (List ℕ × List ℕ) TlFault
@@ -68,8 +68,8 @@ longs_at text = do
   tag ← tag_at VECTOR text
   count ← number_at 4 tag.1
   if nat_lt LONGS_MAX count.0 then Err (TooMany count.0)
-    else if nat_lt (length count.1) (8 * count.0) then Err (Short 8 (length count.1 % 8))
-    else Ok (longs_in count.0 count.1, drop (8 * count.0) count.1)
+      else if nat_lt (length count.1) (8 * count.0) then Err (Short 8 (length count.1 % 8))
+      else Ok (longs_in count.0 count.1, drop (8 * count.0) count.1)
 
 abbrev pub read_at : (form : Form) → List ℕ → Result (Of form × List ℕ) TlFault
 read_at Int text = number_at 4 text

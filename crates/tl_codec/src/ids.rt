@@ -5,6 +5,7 @@ ghost use Rattle.tl_codec.specs.Bytes.{AreLongs};
 ghost use Rattle.tl_codec.specs.Reading.{longs_in};
 
 use crate::memory::Memory;
+use crate::tags::LONG_BYTES;
 use byteorder::{ByteOrder, LittleEndian};
 use std::alloc::Global;
 use std::marker::Model;
@@ -72,7 +73,7 @@ impl IdList {
         let mut numbers = Vec::with_capacity(alloc, count)?;
         let mut left = bytes;
         for _ in 0..count {
-            let (number, rest) = left.split_at(8);
+            let (number, rest) = left.split_at(LONG_BYTES);
             numbers.push(LittleEndian::read_u64(number))?;
             left = rest;
         }

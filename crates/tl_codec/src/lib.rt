@@ -9,10 +9,10 @@ mod ids;
 mod laws;
 mod memory;
 mod octets;
+mod padding;
 mod reader;
 mod tags;
 mod writer;
-mod trial;
 
 pub use fault::{FrameFault, TlFault};
 pub use ids::IdList;
@@ -22,3 +22,6 @@ pub use octets::Octets;
 pub use reader::Reader;
 pub use tags::{BOOL_FALSE, BOOL_TRUE, BYTES_MAX, LONGS_MAX, VECTOR};
 pub use writer::Writer;
+
+#[cfg(test)]
+mod tests;

@@ -2,18 +2,16 @@
 
 ghost use Rattle.std.specs.Prelude.{◌≡◌, ◌≢◌, ◌+◌, ◌≤◌, [], length, IfOk, OnErr, IfErr, MatchResult, Err};
 ghost use Rattle.tl_codec.specs.Bytes.{IsBytes};
-ghost use Rattle.tl_codec.specs.Spelling.{Int, Long, Raw, Bytes, Longs, Truth, Tag, padding_of};
+ghost use Rattle.tl_codec.specs.Spelling.{Int, Long, Raw, Bytes, Longs, Truth, Tag};
 ghost use Rattle.tl_codec.specs.Reading.{Takes, NoFront, Gives, GivesUnlessMemory, read_at, raw_at, head_at};
 
 use crate::fault::TlFault;
 use crate::ids::IdList;
-use crate::tags::{BOOL_FALSE, BOOL_TRUE, LONGS_MAX, VECTOR};
+use crate::padding::{LONG_FORM, NO_FORM, padding_of};
+use crate::tags::{BOOL_FALSE, BOOL_TRUE, BYTES_MAX, LONG_BYTES, LONGS_MAX, VECTOR, WORD_BYTES};
 use byteorder::{ByteOrder, LittleEndian};
 use std::alloc::Global;
 use std::marker::Model;
-
-/// The first byte of a string whose length has three bytes.
-const LONG_FORM: u8 = 254;
 
 /// A place in a text. Contracts see it as the bytes that are left.
 #[derive(Debug, Drop)]
@@ -59,7 +57,7 @@ impl<'a> Reader<'a> {
         ensures refused { OnErr result (NoFront Int self.old) }
         ensures exact { Gives (λ number. number) result self.old self.new (read_at Int self.old) }
     {
-        let (field, left) = front_of(self.left, 4)?;
+        let (field, left) = front_of(self.left, WORD_BYTES)?;
         self.left = left;
         Ok(LittleEndian::read_u32(field))
     }
@@ -71,7 +69,7 @@ impl<'a> Reader<'a> {
         ensures refused { OnErr result (NoFront Long self.old) }
         ensures exact { Gives (λ number. number) result self.old self.new (read_at Long self.old) }
     {
-        let (field, left) = front_of(self.left, 8)?;
+        let (field, left) = front_of(self.left, LONG_BYTES)?;
         self.left = left;
         Ok(LittleEndian::read_u64(field))
     }
@@ -84,7 +82,8 @@ impl<'a> Reader<'a> {
         ensures exact { Gives (λ bytes. bytes.now) result self.old self.new (read_at Bytes self.old) }
     {
         let (head, len) = head_of(self.left)?;
-        let (field, left) = front_of(self.left, padded(head + len))?;
+        let size = head + len + padding_of(head + len);
+        let (field, left) = front_of(self.left, size)?;
         self.left = left;
         Ok(&field[head..head + len])
     }
@@ -136,14 +135,14 @@ impl<'a> Reader<'a> {
             return Err(TlFault::TooMany { count });
         }
         let count = count as usize;
-        if ahead.left.len() < 8 * count {
+        if ahead.left.len() < LONG_BYTES * count {
             return Err(TlFault::Short {
-                need: 8,
-                have: ahead.left.len() % 8,
+                need: LONG_BYTES,
+                have: ahead.left.len() % LONG_BYTES,
             });
         }
         let numbers = IdList::read(alloc, count, ahead.left)?;
-        let (_, left) = ahead.left.split_at(8 * count);
+        let (_, left) = ahead.left.split_at(LONG_BYTES * count);
         self.left = left;
         Ok(numbers)
     }
@@ -190,24 +189,24 @@ fn front_of(text: &[u8], size: usize) -> Result<(&[u8], &[u8]), TlFault>
 #[tactic(auto, unfolding(crate::specs::Reading::head_at))]
 fn head_of(bytes: &[u8]) -> Result<(usize, usize), TlFault>
     ensures exact { MatchResult result (λ found. head_at bytes.now ≡ Ok found) (λ fault. head_at bytes.now ≡ Err fault) }
-    ensures sized { IfOk result (λ found. found.0 + found.1 ≤ 16777219) }
+    ensures sized { IfOk result (λ found. found.0 + found.1 ≤ WORD_BYTES + BYTES_MAX) }
 {
     match bytes {
-        [] => Err(TlFault::Short { need: 4, have: 0 }),
-        [LONG_FORM, a, b, c, ..] => Ok((4, LittleEndian::read_u24(&[*a, *b, *c]) as usize)),
+        [] => Err(TlFault::Short {
+            need: WORD_BYTES,
+            have: 0,
+        }),
+        [LONG_FORM, a, b, c, ..] => Ok((
+            WORD_BYTES,
+            LittleEndian::read_u24(&[*a, *b, *c]) as usize,
+        )),
         [LONG_FORM, ..] => Err(TlFault::Short {
-            need: 4,
+            need: WORD_BYTES,
             have: bytes.len(),
         }),
-        [255, ..] => Err(TlFault::BadTag { found: 255 }),
+        [NO_FORM, ..] => Err(TlFault::BadTag {
+            found: u32::from(NO_FORM),
+        }),
         [len, ..] => Ok((1, *len as usize)),
     }
-}
-
-// The size with what lacks to a multiple of 4.
-fn padded(size: usize) -> usize
-    requires { size ≤ 16777219 }
-    ensures { result ≡ size + padding_of size }
-{
-    size + (4 - size % 4) % 4
 }

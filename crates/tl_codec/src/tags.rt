@@ -14,3 +14,9 @@ pub const BYTES_MAX: usize = 16_777_215;
 
 /// The most numbers in a list; the standard lets at most 8,192 identifiers stand in one.
 pub const LONGS_MAX: u32 = 8_192;
+
+/// The bytes of an `int`; a string takes a multiple of them.
+pub(crate) const WORD_BYTES: usize = 4;
+
+/// The bytes of a `long`.
+pub(crate) const LONG_BYTES: usize = 8;

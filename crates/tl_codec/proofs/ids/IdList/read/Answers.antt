@@ -1,4 +1,4 @@
-use Rattle.std.proofs.Common.{◌≡◌, ◌∙◌, sym, subst, arith, length, length-drop}
+use Rattle.std.proofs.Common.{◌∙◌, sym, subst, arith, length-drop}
 use Rattle.tl_codec.specs.Bytes.{AreLongs}
 use Rattle.tl_codec.proofs.Longs.{longs_more, longs_done, AreLongs-longs_in}
 use Rattle.tl_codec.proofs.ids.IdList.read.Goals as goal

@@ -1,4 +1,4 @@
-use Rattle.std.proofs.Common.{rules, List, ℕ, ◌-◌, ◌*◌, ◌%◌, length, take, drop, subst}
+use Rattle.std.proofs.Common.{rules, List, ℕ, ◌%◌, length, subst}
 use Rattle.tl_codec.specs.declared.fault.TlFault.TheVariants.{Short}
 use Rattle.tl_codec.specs.Bytes.{IsBytes}
 use Rattle.tl_codec.specs.Spelling.{Longs}
