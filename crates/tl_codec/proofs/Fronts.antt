@@ -8,7 +8,7 @@ use Rattle.tl_codec.specs.declared.tags.TheConstants.{BOOL_TRUE, BOOL_FALSE}
 use Rattle.tl_codec.specs.declared.fault.TlFault.{TlFault}
 use Rattle.tl_codec.specs.declared.fault.TlFault.TheVariants.{Short, BadTag, TooMany, Extra, Memory}
 use Rattle.tl_codec.specs.Bytes.{IsBytes}
-use Rattle.tl_codec.specs.Spelling.{Form, Int, Long, Raw, Bytes, Longs, Truth, Tag, Of, Spells, Reads, ReadsBytes}
+use Rattle.tl_codec.specs.Spelling.{Form, Int, Long, Raw, Bytes, Longs, Truth, Tag, Of, Spells, Reads, ReadsBytes, spelling}
 use Rattle.tl_codec.specs.Reading.{Takes, NoFront, Gives, GivesUnlessMemory, number_at, truth_at, read_at}
 use Rattle.tl_codec.proofs.Steps.{bind_ok, same_parts, same_value}
 use Rattle.tl_codec.proofs.Numbers.{raw_takes, raw_again, number_takes, number_again}
@@ -16,9 +16,11 @@ use Rattle.tl_codec.proofs.Strings.{bytes_take, bytes_again, spelling_reads}
 use Rattle.tl_codec.proofs.Vectors.{tag_takes, tag_again, longs_take, longs_again}
 
 raw_stands : (size : ℕ) (text : List ℕ) → size ≤ length text → Takes (Raw size) (take size text) text (drop size text)
+unfolding spelling
 raw_stands size text enough = (take size text, (omega (arith, length-take size text), refl), sym (take-append-drop size text))
 
 truth_front : (value : Bool) (text left : List ℕ) → text ≡ little_bytes 4 (cond value BOOL_TRUE BOOL_FALSE) ++ left → Takes Truth value text left
+unfolding spelling
 truth_front value text left spelt = (little_bytes 4 (cond value BOOL_TRUE BOOL_FALSE), (tt, refl), spelt)
 
 truth_stands : (found : ℕ) (text left rest : List ℕ) (value : Bool) → text ≡ little_bytes 4 found ++ left
@@ -57,6 +59,7 @@ truth_again false rest = rw (number_again 4 BOOL_FALSE rest (omega arith)) refl
 
 -- what is read is a front
 pub takes : (form : Form) (text : List ℕ) (value : Of form) (rest : List ℕ) → IsBytes text → read_at form text ≡ Ok (value, rest) → Takes form value text rest
+unfolding spelling
 takes Int text value rest fits e = let t = number_takes 4 text value rest fits e in (little_bytes 4 value, (t.0, refl), t.1)
 takes Long text value rest fits e = let t = number_takes 8 text value rest fits e in (little_bytes 8 value, (t.0, refl), t.1)
 takes (Raw size) text value rest fits e =
@@ -69,6 +72,7 @@ takes (Tag number) text value rest fits e = let t = tag_takes number text value 
 
 -- a front is read
 pub again : (form : Form) (value : Of form) (front rest : List ℕ) → Reads form value front → read_at form (front ++ rest) ≡ Ok (value, rest)
+unfolding spelling
 again Int value front rest reads = rw reads.1 (number_again 4 value rest (omega (arith, reads.0)))
 again Long value front rest reads = rw reads.1 (number_again 8 value rest (omega (arith, reads.0)))
 again (Raw size) value front rest reads = rw reads.1 (raw_again size value rest reads.0)

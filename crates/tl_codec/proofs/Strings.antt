@@ -138,6 +138,7 @@ bytes_again content text rest read =
 
 -- the short form is a head, and zeros are a padding
 pub spelling_reads : (content : List ℕ) → length content ≤ BYTES_MAX → ReadsBytes content (spelling Bytes content)
+unfolding spelling
 spelling_reads content fits =
     let size = length content in
     let front = head size in

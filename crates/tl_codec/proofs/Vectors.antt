@@ -70,6 +70,7 @@ longs_in-again (n ∷ numbers) rest fit =
 
 longs_stand : (count : ℕ) (text left : List ℕ) → IsBytes left → count ≤ LONGS_MAX → 8 * count ≤ length left
     → text ≡ little_bytes 4 VECTOR ++ (little_bytes 4 count ++ left) → Takes Longs (longs_in count left) text (drop (8 * count) left)
+unfolding spelling
 longs_stand count text left fits few enough e =
     let numbers = longs_in count left in
     let len = length-longs_in count left in
@@ -99,7 +100,7 @@ longs_take text numbers rest fits e =
     subst (λ (p : List ℕ × List ℕ). Takes Longs p.0 text p.1) {x = made} whole.1 (longs_stand b.0.0 text b.0.1 left (ltb-false _ _ few.0) (ltb-false _ _ whole.0) spelt)
 
 pub longs_again : (numbers text rest : List ℕ) → Spells Longs numbers text → longs_at (text ++ rest) ≡ Ok (numbers, rest)
-unfolding longs_at
+unfolding longs_at spelling
 longs_again numbers text rest spelt =
     let count = length numbers in
     let items = flat_map (little_bytes 8) numbers in

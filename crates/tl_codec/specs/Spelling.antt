@@ -53,7 +53,7 @@ head size = if nat_lt size 254 then short_head size else long_head size
 
 -- The one spelling that a writer gives. A string is padded with zeros to a multiple of 4, its length
 -- counted in. A vector has its constructor, its count and its items.
-abbrev pub spelling : (form : Form) → Of form → List ℕ
+unfoldable pub spelling : (form : Form) → Of form → List ℕ
 spelling Int number = little_bytes 4 number
 spelling Long number = little_bytes 8 number
 spelling (Raw size) bytes = bytes

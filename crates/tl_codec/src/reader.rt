@@ -40,6 +40,7 @@ impl<'a> Reader<'a> {
     }
 
     /// Reads `n` raw bytes, as of an `int128` (16) or an `int256` (32).
+    #[tactic(auto, unfolding(crate::specs::Spelling::spelling))]
     pub fn raw(&mut self, n: usize) -> Result<&'a [u8], TlFault>
         ensures taken { IfOk result (λ bytes. Takes (Raw n) bytes.now self.old self.new) }
         ensures refused { OnErr result (NoFront (Raw n) self.old) }
@@ -51,7 +52,7 @@ impl<'a> Reader<'a> {
     }
 
     /// Reads an `int`.
-    #[tactic(auto, unfolding(crate::specs::Reading::number_at))]
+    #[tactic(auto, unfolding(crate::specs::Reading::number_at, crate::specs::Spelling::spelling))]
     pub fn int(&mut self) -> Result<u32, TlFault>
         ensures taken { IfOk result (λ number. Takes Int number self.old self.new) }
         ensures refused { OnErr result (NoFront Int self.old) }
@@ -63,7 +64,7 @@ impl<'a> Reader<'a> {
     }
 
     /// Reads a `long`.
-    #[tactic(auto, unfolding(crate::specs::Reading::number_at))]
+    #[tactic(auto, unfolding(crate::specs::Reading::number_at, crate::specs::Spelling::spelling))]
     pub fn long(&mut self) -> Result<u64, TlFault>
         ensures taken { IfOk result (λ number. Takes Long number self.old self.new) }
         ensures refused { OnErr result (NoFront Long self.old) }
@@ -75,7 +76,7 @@ impl<'a> Reader<'a> {
     }
 
     /// Reads a `string` or `bytes`: the content, without its length and padding.
-    #[tactic(auto, unfolding(crate::specs::Reading::bytes_at))]
+    #[tactic(auto, unfolding(crate::specs::Reading::bytes_at, crate::specs::Spelling::spelling))]
     pub fn bytes(&mut self) -> Result<&'a [u8], TlFault>
         ensures taken { IfOk result (λ bytes. Takes Bytes bytes.now self.old self.new) }
         ensures refused { OnErr result (NoFront Bytes self.old) }
@@ -89,7 +90,7 @@ impl<'a> Reader<'a> {
     }
 
     /// Reads the constructor `want`.
-    #[tactic(auto, unfolding(crate::specs::Reading::tag_at))]
+    #[tactic(auto, unfolding(crate::specs::Reading::tag_at, crate::specs::Spelling::spelling))]
     pub fn tag(&mut self, want: u32) -> Result<(), TlFault>
         ensures taken { IfOk result (λ _. Takes (Tag want) tt self.old self.new) }
         ensures refused { OnErr result (NoFront (Tag want) self.old) }
@@ -105,7 +106,7 @@ impl<'a> Reader<'a> {
     }
 
     /// Reads a `Bool`.
-    #[tactic(auto, unfolding(crate::specs::Reading::truth_at))]
+    #[tactic(auto, unfolding(crate::specs::Reading::truth_at, crate::specs::Spelling::spelling))]
     pub fn boolean(&mut self) -> Result<bool, TlFault>
         ensures taken { IfOk result (λ value. Takes Truth value self.old self.new) }
         ensures refused { OnErr result (NoFront Truth self.old) }
@@ -122,7 +123,7 @@ impl<'a> Reader<'a> {
     }
 
     /// Reads a `Vector long`.
-    #[tactic(auto, unfolding(crate::specs::Reading::longs_at))]
+    #[tactic(auto, unfolding(crate::specs::Reading::longs_at, crate::specs::Spelling::spelling))]
     pub fn longs(&mut self, alloc: Global) -> Result<IdList, TlFault>
         ensures taken { IfOk result (λ numbers. Takes Longs numbers self.old self.new) }
         ensures refused { IfErr result (λ fault. fault ≢ TlFault.Memory → NoFront Longs self.old) }

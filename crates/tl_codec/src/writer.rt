@@ -29,6 +29,7 @@ impl<'a> Writer<'a> {
     }
 
     /// Writes an `int`, also a constructor number. A refused write leaves the text as it was.
+    #[tactic(auto, unfolding(crate::specs::Spelling::spelling))]
     pub fn int(&mut self, alloc: Global, v: u32) -> Result<(), Memory>
         ensures same_text { IsSameText self.old self.new }
         ensures appended { OnOk result (Appends Int v (text_of self.old) (text_of self.new)) }
@@ -40,6 +41,7 @@ impl<'a> Writer<'a> {
     }
 
     /// Writes a `long`. A refused write leaves the text as it was.
+    #[tactic(auto, unfolding(crate::specs::Spelling::spelling))]
     pub fn long(&mut self, alloc: Global, v: u64) -> Result<(), Memory>
         ensures same_text { IsSameText self.old self.new }
         ensures appended { OnOk result (Appends Long v (text_of self.old) (text_of self.new)) }
@@ -51,6 +53,7 @@ impl<'a> Writer<'a> {
     }
 
     /// Writes raw bytes. A refused write leaves the text as it was.
+    #[tactic(auto, unfolding(crate::specs::Spelling::spelling))]
     pub fn raw(&mut self, alloc: Global, v: &[u8]) -> Result<(), Memory>
         ensures same_text { IsSameText self.old self.new }
         ensures appended { OnOk result (Appends (Raw (length v.now)) v.now (text_of self.old) (text_of self.new)) }
@@ -61,6 +64,7 @@ impl<'a> Writer<'a> {
 
     /// Writes a `string` or `bytes` of at most 16,777,215 bytes: the length in its short form where it
     /// fits, and zeros as padding. A refused write leaves the text as it was.
+    #[tactic(auto, unfolding(crate::specs::Spelling::spelling))]
     pub fn bytes(&mut self, alloc: Global, v: &[u8]) -> Result<(), Memory>
         requires { length v.now ≤ BYTES_MAX }
         ensures same_text { IsSameText self.old self.new }
@@ -77,6 +81,7 @@ impl<'a> Writer<'a> {
     }
 
     /// Writes a `Vector long` of at most 8,192 numbers. A refused write leaves the text as it was.
+    #[tactic(auto, unfolding(crate::specs::Spelling::spelling))]
     pub fn longs(&mut self, alloc: Global, v: &[u64]) -> Result<(), Memory>
         requires { length v.now ≤ LONGS_MAX }
         ensures same_text { IsSameText self.old self.new }
