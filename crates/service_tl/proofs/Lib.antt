@@ -1,2 +1,4 @@
 pub mod Loop
 pub mod Rows
+pub mod Membership
+pub mod Written

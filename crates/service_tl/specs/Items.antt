@@ -1,5 +1,6 @@
 -- How an item is spelt: its constructor and its fields, one line for each constructor.
-use Rattle.std.specs.Prelude.{◌≡◌, ℕ, List, [], ◌∷◌, ◌++◌, ⊤}
+use Rattle.std.specs.Prelude.{◌≡◌, ℕ, List, [], ◌∷◌, ◌++◌, ◌≤◌, length, ⊤}
+use Rattle.tl_codec.specs.declared.tags.TheConstants.{BYTES_MAX, LONGS_MAX}
 use Rattle.tl_codec.specs.Spelling.{Int, Long, Bytes, Longs, Tag, spelling}
 use Rattle.service_tl.specs.declared.item.Item.{Item}
 use Rattle.service_tl.specs.declared.item.Item.TheVariants.{RpcResult, RpcError, RpcDropAnswer, RpcAnswerUnknown, RpcAnswerDroppedRunning, RpcAnswerDropped, GetFutureSalts, FutureSalts, Ping, PingDelayDisconnect, Pong, DestroySession, DestroySessionOk, DestroySessionNone, NewSessionCreated, MsgContainer, MsgsAck, MsgsStateReq, MsgsStateInfo, MsgsAllInfo, MsgResendReq, MsgDetailedInfo, MsgNewDetailedInfo, BadMsgNotification, BadServerSalt, InvokeAfterMsg, InvokeAfterMsgs, AuthBindTempAuthKey, Packed, Call, Broken}
@@ -14,7 +15,7 @@ parts [] = []
 parts (text ∷ texts) = text ++ parts texts
 
 abbrev pub boxed : ℕ → List (List ℕ) → List ℕ
-boxed number fields = spelling (Tag number) tt ++ parts fields
+boxed number fields = spelling Int number ++ parts fields
 
 abbrev pub int : ℕ → List ℕ
 int value = spelling Int value
@@ -67,3 +68,52 @@ spelling_of (AuthBindTempAuthKey perm_auth_key_id nonce expires_at encrypted_mes
 spelling_of Packed = []
 spelling_of Call = []
 spelling_of (Broken number) = []
+
+-- what a writer takes: strings and lists of numbers that are not too long, and nothing that isn't read
+abbrev pub IsWritable : Item → Type 0
+IsWritable (RpcError error_code error_message) = length error_message ≤ BYTES_MAX
+IsWritable (MsgsAck msg_ids) = length msg_ids ≤ LONGS_MAX
+IsWritable (MsgsStateReq msg_ids) = length msg_ids ≤ LONGS_MAX
+IsWritable (MsgsStateInfo req_msg_id info) = length info ≤ BYTES_MAX
+IsWritable (MsgsAllInfo msg_ids info) = (length msg_ids ≤ LONGS_MAX) × (length info ≤ BYTES_MAX)
+IsWritable (MsgResendReq msg_ids) = length msg_ids ≤ LONGS_MAX
+IsWritable (InvokeAfterMsgs msg_ids query) = length msg_ids ≤ LONGS_MAX
+IsWritable (AuthBindTempAuthKey perm_auth_key_id nonce expires_at encrypted_message) = length encrypted_message ≤ BYTES_MAX
+IsWritable Packed = ⊥
+IsWritable Call = ⊥
+IsWritable (Broken number) = ⊥
+IsWritable other = ⊤
+
+-- which items have a spelling that is read again: each number fits its width
+abbrev pub ItemFits : Item → Type 0
+ItemFits (RpcResult req_msg_id result) = FieldFits (Plain Long) req_msg_id × FieldFits Rest result
+ItemFits (RpcError error_code error_message) = FieldFits (Plain Int) error_code × FieldFits (Plain Bytes) error_message
+ItemFits (RpcDropAnswer req_msg_id) = FieldFits (Plain Long) req_msg_id
+ItemFits RpcAnswerUnknown = ⊤
+ItemFits RpcAnswerDroppedRunning = ⊤
+ItemFits (RpcAnswerDropped msg_id seq_no size) = FieldFits (Plain Long) msg_id × FieldFits (Plain Int) seq_no × FieldFits (Plain Int) size
+ItemFits (GetFutureSalts num) = FieldFits (Plain Int) num
+ItemFits (FutureSalts req_msg_id now salts) = FieldFits (Plain Long) req_msg_id × FieldFits (Plain Int) now × FieldFits Salts salts
+ItemFits (Ping ping_id) = FieldFits (Plain Long) ping_id
+ItemFits (PingDelayDisconnect ping_id disconnect_delay) = FieldFits (Plain Long) ping_id × FieldFits (Plain Int) disconnect_delay
+ItemFits (Pong msg_id ping_id) = FieldFits (Plain Long) msg_id × FieldFits (Plain Long) ping_id
+ItemFits (DestroySession session_id) = FieldFits (Plain Long) session_id
+ItemFits (DestroySessionOk session_id) = FieldFits (Plain Long) session_id
+ItemFits (DestroySessionNone session_id) = FieldFits (Plain Long) session_id
+ItemFits (NewSessionCreated first_msg_id unique_id server_salt) = FieldFits (Plain Long) first_msg_id × FieldFits (Plain Long) unique_id × FieldFits (Plain Long) server_salt
+ItemFits (MsgContainer messages) = FieldFits Bodies messages
+ItemFits (MsgsAck msg_ids) = FieldFits (Plain Longs) msg_ids
+ItemFits (MsgsStateReq msg_ids) = FieldFits (Plain Longs) msg_ids
+ItemFits (MsgsStateInfo req_msg_id info) = FieldFits (Plain Long) req_msg_id × FieldFits (Plain Bytes) info
+ItemFits (MsgsAllInfo msg_ids info) = FieldFits (Plain Longs) msg_ids × FieldFits (Plain Bytes) info
+ItemFits (MsgResendReq msg_ids) = FieldFits (Plain Longs) msg_ids
+ItemFits (MsgDetailedInfo msg_id answer_msg_id size status) = FieldFits (Plain Long) msg_id × FieldFits (Plain Long) answer_msg_id × FieldFits (Plain Int) size × FieldFits (Plain Int) status
+ItemFits (MsgNewDetailedInfo answer_msg_id size status) = FieldFits (Plain Long) answer_msg_id × FieldFits (Plain Int) size × FieldFits (Plain Int) status
+ItemFits (BadMsgNotification bad_msg_id bad_msg_seqno error_code) = FieldFits (Plain Long) bad_msg_id × FieldFits (Plain Int) bad_msg_seqno × FieldFits (Plain Int) error_code
+ItemFits (BadServerSalt bad_msg_id bad_msg_seqno error_code new_server_salt) = FieldFits (Plain Long) bad_msg_id × FieldFits (Plain Int) bad_msg_seqno × FieldFits (Plain Int) error_code × FieldFits (Plain Long) new_server_salt
+ItemFits (InvokeAfterMsg msg_id query) = FieldFits (Plain Long) msg_id × FieldFits Rest query
+ItemFits (InvokeAfterMsgs msg_ids query) = FieldFits (Plain Longs) msg_ids × FieldFits Rest query
+ItemFits (AuthBindTempAuthKey perm_auth_key_id nonce expires_at encrypted_message) = FieldFits (Plain Long) perm_auth_key_id × FieldFits (Plain Long) nonce × FieldFits (Plain Int) expires_at × FieldFits (Plain Bytes) encrypted_message
+ItemFits Packed = ⊥
+ItemFits Call = ⊥
+ItemFits (Broken number) = ⊥

@@ -3,3 +3,4 @@ pub mod Fields
 pub mod Schema
 pub mod Items
 pub mod ItemOf
+pub mod Parts

@@ -25,53 +25,53 @@ row number fields item = record { number = number; fields = fields; item = item 
 abbrev pub calls : List Row
 calls =
     row RPC_RESULT (Plain Long ∷ Rest ∷ []) RpcResult
-    ∷     row RPC_ERROR (Plain Int ∷ Plain Bytes ∷ []) RpcError
-    ∷     row RPC_DROP_ANSWER (Plain Long ∷ []) RpcDropAnswer
-    ∷     row RPC_ANSWER_UNKNOWN ([]) RpcAnswerUnknown
-    ∷     row RPC_ANSWER_DROPPED_RUNNING ([]) RpcAnswerDroppedRunning
-    ∷     row RPC_ANSWER_DROPPED (Plain Long ∷ Plain Int ∷ Plain Int ∷ []) RpcAnswerDropped
+    ∷ row RPC_ERROR (Plain Int ∷ Plain Bytes ∷ []) RpcError
+    ∷ row RPC_DROP_ANSWER (Plain Long ∷ []) RpcDropAnswer
+    ∷ row RPC_ANSWER_UNKNOWN ([]) RpcAnswerUnknown
+    ∷ row RPC_ANSWER_DROPPED_RUNNING ([]) RpcAnswerDroppedRunning
+    ∷ row RPC_ANSWER_DROPPED (Plain Long ∷ Plain Int ∷ Plain Int ∷ []) RpcAnswerDropped
     ∷ []
 
 -- salts, pings and sessions (core.telegram.org/mtproto/service_messages)
 abbrev pub sessions : List Row
 sessions =
     row GET_FUTURE_SALTS (Plain Int ∷ []) GetFutureSalts
-    ∷     row FUTURE_SALTS (Plain Long ∷ Plain Int ∷ Salts ∷ []) FutureSalts
-    ∷     row PING (Plain Long ∷ []) Ping
-    ∷     row PING_DELAY_DISCONNECT (Plain Long ∷ Plain Int ∷ []) PingDelayDisconnect
-    ∷     row PONG (Plain Long ∷ Plain Long ∷ []) Pong
-    ∷     row DESTROY_SESSION (Plain Long ∷ []) DestroySession
-    ∷     row DESTROY_SESSION_OK (Plain Long ∷ []) DestroySessionOk
-    ∷     row DESTROY_SESSION_NONE (Plain Long ∷ []) DestroySessionNone
-    ∷     row NEW_SESSION_CREATED (Plain Long ∷ Plain Long ∷ Plain Long ∷ []) NewSessionCreated
+    ∷ row FUTURE_SALTS (Plain Long ∷ Plain Int ∷ Salts ∷ []) FutureSalts
+    ∷ row PING (Plain Long ∷ []) Ping
+    ∷ row PING_DELAY_DISCONNECT (Plain Long ∷ Plain Int ∷ []) PingDelayDisconnect
+    ∷ row PONG (Plain Long ∷ Plain Long ∷ []) Pong
+    ∷ row DESTROY_SESSION (Plain Long ∷ []) DestroySession
+    ∷ row DESTROY_SESSION_OK (Plain Long ∷ []) DestroySessionOk
+    ∷ row DESTROY_SESSION_NONE (Plain Long ∷ []) DestroySessionNone
+    ∷ row NEW_SESSION_CREATED (Plain Long ∷ Plain Long ∷ Plain Long ∷ []) NewSessionCreated
     ∷ []
 
 -- containers, acknowledgements and states (core.telegram.org/mtproto/service_messages_about_messages)
 abbrev pub lists : List Row
 lists =
     row MSG_CONTAINER (Bodies ∷ []) MsgContainer
-    ∷     row MSGS_ACK (Plain Longs ∷ []) MsgsAck
-    ∷     row MSGS_STATE_REQ (Plain Longs ∷ []) MsgsStateReq
-    ∷     row MSGS_STATE_INFO (Plain Long ∷ Plain Bytes ∷ []) MsgsStateInfo
-    ∷     row MSGS_ALL_INFO (Plain Longs ∷ Plain Bytes ∷ []) MsgsAllInfo
-    ∷     row MSG_RESEND_REQ (Plain Longs ∷ []) MsgResendReq
+    ∷ row MSGS_ACK (Plain Longs ∷ []) MsgsAck
+    ∷ row MSGS_STATE_REQ (Plain Longs ∷ []) MsgsStateReq
+    ∷ row MSGS_STATE_INFO (Plain Long ∷ Plain Bytes ∷ []) MsgsStateInfo
+    ∷ row MSGS_ALL_INFO (Plain Longs ∷ Plain Bytes ∷ []) MsgsAllInfo
+    ∷ row MSG_RESEND_REQ (Plain Longs ∷ []) MsgResendReq
     ∷ []
 
 -- notices about one message (core.telegram.org/mtproto/service_messages_about_messages)
 abbrev pub notices : List Row
 notices =
     row MSG_DETAILED_INFO (Plain Long ∷ Plain Long ∷ Plain Int ∷ Plain Int ∷ []) MsgDetailedInfo
-    ∷     row MSG_NEW_DETAILED_INFO (Plain Long ∷ Plain Int ∷ Plain Int ∷ []) MsgNewDetailedInfo
-    ∷     row BAD_MSG_NOTIFICATION (Plain Long ∷ Plain Int ∷ Plain Int ∷ []) BadMsgNotification
-    ∷     row BAD_SERVER_SALT (Plain Long ∷ Plain Int ∷ Plain Int ∷ Plain Long ∷ []) BadServerSalt
+    ∷ row MSG_NEW_DETAILED_INFO (Plain Long ∷ Plain Int ∷ Plain Int ∷ []) MsgNewDetailedInfo
+    ∷ row BAD_MSG_NOTIFICATION (Plain Long ∷ Plain Int ∷ Plain Int ∷ []) BadMsgNotification
+    ∷ row BAD_SERVER_SALT (Plain Long ∷ Plain Int ∷ Plain Int ∷ Plain Long ∷ []) BadServerSalt
     ∷ []
 
 -- queries after other messages, and the binding of temporary keys (core.telegram.org/mtproto/invoking-methods, core.telegram.org/method/auth.bindTempAuthKey)
 abbrev pub wrappers : List Row
 wrappers =
     row INVOKE_AFTER_MSG (Plain Long ∷ Rest ∷ []) InvokeAfterMsg
-    ∷     row INVOKE_AFTER_MSGS (Plain Longs ∷ Rest ∷ []) InvokeAfterMsgs
-    ∷     row AUTH_BIND_TEMP_AUTH_KEY (Plain Long ∷ Plain Long ∷ Plain Int ∷ Plain Bytes ∷ []) AuthBindTempAuthKey
+    ∷ row INVOKE_AFTER_MSGS (Plain Longs ∷ Rest ∷ []) InvokeAfterMsgs
+    ∷ row AUTH_BIND_TEMP_AUTH_KEY (Plain Long ∷ Plain Long ∷ Plain Int ∷ Plain Bytes ∷ []) AuthBindTempAuthKey
     ∷ []
 
 unfoldable pub schema : List Row

@@ -38,13 +38,15 @@ fn call_item(alloc: Global, number: u32, reader: &mut Reader<'_>) -> Result<Opti
 }
 
 // Salts, pings and sessions.
-fn session_item(alloc: Global, number: u32, reader: &mut Reader<'_>) -> Result<Option<Item>, TlFault>
+fn session_item(
+    alloc: Global,
+    number: u32,
+    reader: &mut Reader<'_>,
+) -> Result<Option<Item>, TlFault>
     ensures { Answers result reader.new (item_in sessions number reader.old) }
 {
     Ok(Some(match number {
-        GET_FUTURE_SALTS => Item::GetFutureSalts {
-            num: reader.int()?,
-        },
+        GET_FUTURE_SALTS => Item::GetFutureSalts { num: reader.int()? },
         FUTURE_SALTS => Item::FutureSalts {
             req_msg_id: reader.long()?,
             now: reader.int()?,
@@ -140,7 +142,11 @@ fn notice_item(number: u32, reader: &mut Reader<'_>) -> Result<Option<Item>, TlF
 }
 
 // Queries after other messages, and the binding of temporary keys.
-fn wrapper_item(alloc: Global, number: u32, reader: &mut Reader<'_>) -> Result<Option<Item>, TlFault>
+fn wrapper_item(
+    alloc: Global,
+    number: u32,
+    reader: &mut Reader<'_>,
+) -> Result<Option<Item>, TlFault>
     ensures { Answers result reader.new (item_in wrappers number reader.old) }
 {
     Ok(Some(match number {
@@ -163,7 +169,11 @@ fn wrapper_item(alloc: Global, number: u32, reader: &mut Reader<'_>) -> Result<O
 }
 
 /// The item behind a constructor, where it is one of the schema.
-pub(crate) fn item(alloc: Global, number: u32, reader: &mut Reader<'_>) -> Result<Option<Item>, TlFault>
+pub(crate) fn item(
+    alloc: Global,
+    number: u32,
+    reader: &mut Reader<'_>,
+) -> Result<Option<Item>, TlFault>
     ensures { Answers result reader.new (item_in schema number reader.old) }
 {
     if let Some(item) = call_item(alloc, number, reader)? {
