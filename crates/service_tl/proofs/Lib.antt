@@ -2,3 +2,4 @@ pub mod Loop
 pub mod Rows
 pub mod Membership
 pub mod Written
+pub mod Again
