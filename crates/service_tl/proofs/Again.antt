@@ -1,20 +1,20 @@
 -- What was written of an item is read again: one lemma for each form of field, and one for a row.
-use Rattle.std.proofs.Common.{◌≡◌, ℕ, zero, suc, ◌+◌, ◌^◌, ◌<◌, Bool, true, false, cond, eqb, List, [], ◌∷◌, ◌++◌, length, Option, Some, None, Result, Ok, Err, refl, sym, ap, ◌∙◌, append_assoc, arith}
+use Rattle.std.proofs.Common.{◌≡◌, ℕ, suc, ◌^◌, ◌<◌, false, eqb, List, [], ◌∷◌, ◌++◌, length, Some, Result, Ok, refl, ap, ◌∙◌, append_assoc, arith}
 use Rattle.std.specs.Prelude.{⊤}
 use Rattle.std.specs.List.{flat_map, AllByRecursion}
 use Rattle.std.proofs.lemmas.List.{append-nil}
 use Rattle.tl_codec.specs.declared.fault.TlFault.{TlFault}
 use Rattle.tl_codec.specs.Spelling.{Form, Int, Long, Raw, Bytes, Longs, Of, Fits, Spells, spelling}
-use Rattle.tl_codec.specs.Reading.{◌>>=◌, read_at, raw_at}
+use Rattle.tl_codec.specs.Reading.{◌>>=◌, read_at}
 use Rattle.service_tl.specs.declared.item.Item.{Item}
 use Rattle.service_tl.specs.declared.item.Item.TheVariants.{RpcResult, RpcError, RpcDropAnswer, RpcAnswerUnknown, RpcAnswerDroppedRunning, RpcAnswerDropped, GetFutureSalts, FutureSalts, Ping, PingDelayDisconnect, Pong, DestroySession, DestroySessionOk, DestroySessionNone, NewSessionCreated, MsgContainer, MsgsAck, MsgsStateReq, MsgsStateInfo, MsgsAllInfo, MsgResendReq, MsgDetailedInfo, MsgNewDetailedInfo, BadMsgNotification, BadServerSalt, InvokeAfterMsg, InvokeAfterMsgs, AuthBindTempAuthKey, Packed, Call, Broken}
 use Rattle.service_tl.specs.declared.lists.FutureSalt.{FutureSalt}
 use Rattle.service_tl.specs.declared.lists.Message.{Message}
 use Rattle.service_tl.specs.declared.numbers.TheConstants.{RPC_RESULT, RPC_ERROR, RPC_DROP_ANSWER, RPC_ANSWER_UNKNOWN, RPC_ANSWER_DROPPED_RUNNING, RPC_ANSWER_DROPPED, GET_FUTURE_SALTS, FUTURE_SALTS, PING, PING_DELAY_DISCONNECT, PONG, DESTROY_SESSION, DESTROY_SESSION_OK, DESTROY_SESSION_NONE, NEW_SESSION_CREATED, MSG_CONTAINER, MSGS_ACK, MSGS_STATE_REQ, MSGS_STATE_INFO, MSGS_ALL_INFO, MSG_RESEND_REQ, MSG_DETAILED_INFO, MSG_NEW_DETAILED_INFO, BAD_MSG_NOTIFICATION, BAD_SERVER_SALT, INVOKE_AFTER_MSG, INVOKE_AFTER_MSGS, AUTH_BIND_TEMP_AUTH_KEY, GZIP_PACKED}
-use Rattle.service_tl.specs.Fields.{Field, Plain, Rest, Salts, Bodies, Holds, field_spelling, FieldFits, SaltFits, MessageFits, salt_row, message_row, salt_at, message_at, items_at, vector_at, field_at}
+use Rattle.service_tl.specs.Fields.{Field, Plain, Rest, Salts, Bodies, Holds, field_spelling, FieldFits, SaltFits, MessageFits, salt_row, message_row, salt_at, message_at, items_at, vector_at}
 use Rattle.service_tl.specs.Schema.{Makes, schema, fields_at, item_in}
 use Rattle.service_tl.specs.Items.{spelling_of, ItemFits}
-use Rattle.service_tl.specs.ItemOf.{whole, item_behind, item_after, item_of}
+use Rattle.service_tl.specs.ItemOf.{item_of}
 
 -- the values of fields, and the item that they make
 abbrev pub Values : List Field → Type 0

@@ -1,5 +1,5 @@
 -- Whether a number stands in a list.
-use Rattle.std.proofs.Common.{◌≡◌, ℕ, ◌<◌, Bool, true, false, List, [], ◌∷◌, length, get_or, Contains, sym, ◌∙◌, subst, nat_eq, rules}
+use Rattle.std.proofs.Common.{◌≡◌, ℕ, Bool, List, get_or, Contains, sym, ◌∙◌, subst, nat_eq}
 use Rattle.std.specs.Prelude.{◌↔◌, IsTrue}
 use Rattle.std.specs.List.{list_any}
 use Rattle.std.proofs.lemmas.Bool.{eqb-true, eq-eqb}

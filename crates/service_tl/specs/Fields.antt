@@ -1,12 +1,11 @@
 -- The fields of service items: TL values, and the three forms that stand in items alone.
-use Rattle.std.specs.Prelude.{◌≡◌, ◌<◌, ◌^◌, ℕ, zero, suc, List, [], ◌∷◌, ◌++◌, length, Result, Ok, ⊤}
+use Rattle.std.specs.Prelude.{◌<◌, ◌^◌, ℕ, zero, suc, List, [], ◌∷◌, ◌++◌, length, Result, Ok, ⊤}
 use Rattle.std.specs.List.{flat_map, AllByRecursion}
 use Rattle.tl_codec.specs.declared.fault.TlFault.{TlFault}
 use Rattle.tl_codec.specs.Spelling.{Form, Int, Long, Raw, Of, Fits, spelling}
 use Rattle.tl_codec.specs.Reading.{◌>>=◌, read_at}
 use Rattle.service_tl.specs.declared.lists.FutureSalt.{FutureSalt}
 use Rattle.service_tl.specs.declared.lists.Message.{Message}
-use Rattle.service_tl.specs.Sizes.{AreSized}
 
 -- a TL value, the rest of the body, a bare vector of bare salts, one of bare messages
 pub data Field : Type 0 where

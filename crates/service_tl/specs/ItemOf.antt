@@ -1,5 +1,5 @@
 -- What a body is.
-use Rattle.std.specs.Prelude.{◌≡◌, ℕ, ◌==◌, if◌then◌else◌, List, [], ◌∷◌, length, Option, Some, None, Result, Ok, Err, ⊤}
+use Rattle.std.specs.Prelude.{◌≡◌, ℕ, ◌==◌, if◌then◌else◌, List, length, Option, Some, None, Result, Ok, Err, ⊤}
 use Rattle.tl_codec.specs.declared.fault.TlFault.{TlFault}
 use Rattle.tl_codec.specs.declared.fault.TlFault.TheVariants.{Memory}
 use Rattle.tl_codec.specs.Spelling.{Int}

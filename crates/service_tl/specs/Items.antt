@@ -1,13 +1,13 @@
 -- How an item is spelt: its constructor and its fields, one line for each constructor.
-use Rattle.std.specs.Prelude.{◌≡◌, ℕ, List, [], ◌∷◌, ◌++◌, ◌≤◌, length, ⊤}
+use Rattle.std.specs.Prelude.{ℕ, List, [], ◌∷◌, ◌++◌, ◌≤◌, length, ⊤}
 use Rattle.tl_codec.specs.declared.tags.TheConstants.{BYTES_MAX, LONGS_MAX}
-use Rattle.tl_codec.specs.Spelling.{Int, Long, Bytes, Longs, Tag, spelling}
+use Rattle.tl_codec.specs.Spelling.{Int, Long, Bytes, Longs, spelling}
 use Rattle.service_tl.specs.declared.item.Item.{Item}
 use Rattle.service_tl.specs.declared.item.Item.TheVariants.{RpcResult, RpcError, RpcDropAnswer, RpcAnswerUnknown, RpcAnswerDroppedRunning, RpcAnswerDropped, GetFutureSalts, FutureSalts, Ping, PingDelayDisconnect, Pong, DestroySession, DestroySessionOk, DestroySessionNone, NewSessionCreated, MsgContainer, MsgsAck, MsgsStateReq, MsgsStateInfo, MsgsAllInfo, MsgResendReq, MsgDetailedInfo, MsgNewDetailedInfo, BadMsgNotification, BadServerSalt, InvokeAfterMsg, InvokeAfterMsgs, AuthBindTempAuthKey, Packed, Call, Broken}
 use Rattle.service_tl.specs.declared.lists.FutureSalt.{FutureSalt}
 use Rattle.service_tl.specs.declared.lists.Message.{Message}
 use Rattle.service_tl.specs.declared.numbers.TheConstants.{RPC_RESULT, RPC_ERROR, RPC_DROP_ANSWER, RPC_ANSWER_UNKNOWN, RPC_ANSWER_DROPPED_RUNNING, RPC_ANSWER_DROPPED, GET_FUTURE_SALTS, FUTURE_SALTS, PING, PING_DELAY_DISCONNECT, PONG, DESTROY_SESSION, DESTROY_SESSION_OK, DESTROY_SESSION_NONE, NEW_SESSION_CREATED, MSG_CONTAINER, MSGS_ACK, MSGS_STATE_REQ, MSGS_STATE_INFO, MSGS_ALL_INFO, MSG_RESEND_REQ, MSG_DETAILED_INFO, MSG_NEW_DETAILED_INFO, BAD_MSG_NOTIFICATION, BAD_SERVER_SALT, INVOKE_AFTER_MSG, INVOKE_AFTER_MSGS, AUTH_BIND_TEMP_AUTH_KEY}
-use Rattle.service_tl.specs.Fields.{Field, Plain, Rest, Salts, Bodies, Holds, field_spelling, FieldFits}
+use Rattle.service_tl.specs.Fields.{Plain, Rest, Salts, Bodies, field_spelling, FieldFits}
 
 -- parts, one after the other
 abbrev pub parts : List (List ℕ) → List ℕ

@@ -1,5 +1,5 @@
 -- The schema of the service items: of each constructor its number and its fields in order.
-use Rattle.std.specs.Prelude.{◌≡◌, ℕ, ◌==◌, if◌then◌else◌, List, [], ◌∷◌, ◌++◌, map, Option, Some, None, Result, Ok, Err}
+use Rattle.std.specs.Prelude.{ℕ, ◌==◌, if◌then◌else◌, List, [], ◌∷◌, ◌++◌, map, Option, Some, None, Result, Ok}
 use Rattle.tl_codec.specs.declared.fault.TlFault.{TlFault}
 use Rattle.tl_codec.specs.Spelling.{Int, Long, Bytes, Longs}
 use Rattle.tl_codec.specs.Reading.{◌>>=◌}

@@ -25,3 +25,6 @@ pub use numbers::{
 };
 pub use parsing::{is_service, parse};
 pub use writing::write;
+
+#[cfg(test)]
+mod tests;

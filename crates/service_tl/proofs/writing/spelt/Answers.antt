@@ -1,4 +1,4 @@
-use Rattle.std.proofs.Common.{◌≡◌, ◌∙◌, ◌++◌, List, ℕ, ap}
+use Rattle.std.proofs.Common.{◌∙◌, ◌++◌, List, ℕ, ap}
 use Rattle.service_tl.specs.Parts.{part_spelling}
 use Rattle.service_tl.proofs.Written.{boxed_more}
 use Rattle.service_tl.proofs.writing.spelt.Goals as goal
