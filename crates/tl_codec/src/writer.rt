@@ -2,7 +2,7 @@
 
 ghost use Rattle.std.specs.Prelude.{◌≡◌, ◌≤◌, ◌<◌, ◌++◌, ◌+◌, replicate, length, OnOk, OnErr};
 ghost use Rattle.tl_codec.specs.Spelling as spelling;
-ghost use Rattle.tl_codec.specs.Spelling.{Int, Long, Raw, Bytes, Longs};
+ghost use Rattle.tl_codec.specs.Spelling.{Int, Long, Bytes, Longs};
 
 use crate::memory::Memory;
 use crate::octets::Octets;
@@ -56,7 +56,7 @@ impl<'a> Writer<'a> {
     #[tactic(auto, unfolding(crate::specs::Spelling::spelling))]
     pub fn raw(&mut self, alloc: Global, v: &[u8]) -> Result<(), Memory>
         ensures same_text { IsSameText self.old self.new }
-        ensures appended { OnOk result (Appends (Raw (length v.now)) v.now (text_of self.old) (text_of self.new)) }
+        ensures appended { OnOk result (text_of self.new ≡ text_of self.old ++ v.now) }
         ensures unchanged_on_memory { OnErr result (text_of self.new ≡ text_of self.old) }
     {
         self.into.push_all(alloc, v)

@@ -1,0 +1,5 @@
+pub mod Loop
+pub mod Rows
+pub mod Membership
+pub mod Written
+pub mod Again
