@@ -13,17 +13,9 @@ use Rattle.service_tl.specs.declared.lists.Message.{Message}
 use Rattle.service_tl.specs.declared.numbers.TheConstants.{RPC_RESULT, RPC_ERROR, RPC_DROP_ANSWER, RPC_ANSWER_UNKNOWN, RPC_ANSWER_DROPPED_RUNNING, RPC_ANSWER_DROPPED, GET_FUTURE_SALTS, FUTURE_SALTS, PING, PING_DELAY_DISCONNECT, PONG, DESTROY_SESSION, DESTROY_SESSION_OK, DESTROY_SESSION_NONE, NEW_SESSION_CREATED, MSG_CONTAINER, MSGS_ACK, MSGS_STATE_REQ, MSGS_STATE_INFO, MSGS_ALL_INFO, MSG_RESEND_REQ, MSG_DETAILED_INFO, MSG_NEW_DETAILED_INFO, BAD_MSG_NOTIFICATION, BAD_SERVER_SALT, INVOKE_AFTER_MSG, INVOKE_AFTER_MSGS, AUTH_BIND_TEMP_AUTH_KEY, GZIP_PACKED}
 use Rattle.service_tl.specs.Fields.{Field, Plain, Rest, Salts, Bodies, Holds, field_spelling, FieldFits, SaltFits, MessageFits, salt_row, message_row, salt_at, message_at, items_at, vector_at}
 use Rattle.service_tl.specs.Schema.{Makes, schema, fields_at, item_in}
+use Rattle.service_tl.specs.Exact.{Values, made}
 use Rattle.service_tl.specs.Items.{spelling_of, ItemFits}
 use Rattle.service_tl.specs.ItemOf.{item_of}
-
--- the values of fields, and the item that they make
-abbrev pub Values : List Field → Type 0
-Values [] = Unit {0}
-Values (field ∷ fields) = Holds field × Values fields
-
-abbrev pub made : (fields : List Field) → Makes fields → Values fields → Item
-made [] item values = item
-made (field ∷ fields) item values = made fields (item values.0) values.1
 
 abbrev pub all_spelt : (fields : List Field) → Values fields → List ℕ
 all_spelt [] values = []
@@ -42,10 +34,10 @@ IsLast (Salts ∷ fields) = IsLast fields
 IsLast (Bodies ∷ fields) = IsLast fields
 
 module _ (again : (form : Form) (value : Of form) (text rest : List ℕ) → Spells form value text → read_at form (text ++ rest) ≡ Ok (value, rest)) where
-  value_again : (form : Form) (value : Of form) (rest : List ℕ) → Fits form value → read_at form (spelling form value ++ rest) ≡ Ok (value, rest)
+  pub value_again : (form : Form) (value : Of form) (rest : List ℕ) → Fits form value → read_at form (spelling form value ++ rest) ≡ Ok (value, rest)
   value_again form value rest fits = again form value (spelling form value) rest (fits, refl)
 
-  salt_again : (row : FutureSalt) (rest : List ℕ) → SaltFits row → salt_at (salt_row row ++ rest) ≡ Ok (row, rest)
+  pub salt_again : (row : FutureSalt) (rest : List ℕ) → SaltFits row → salt_at (salt_row row ++ rest) ≡ Ok (row, rest)
   unfolding salt_at
   salt_again row rest fits =
       let since = spelling Int row.valid_since in
@@ -58,7 +50,7 @@ module _ (again : (form : Form) (value : Of form) (text rest : List ℕ) → Spe
   unfolding spelling
   raw_again body rest = again (Raw (length body)) body body rest (refl, refl)
 
-  message_again : (message : Message) (rest : List ℕ) → MessageFits message → message_at (message_row message ++ rest) ≡ Ok (message, rest)
+  pub message_again : (message : Message) (rest : List ℕ) → MessageFits message → message_at (message_row message ++ rest) ≡ Ok (message, rest)
   unfolding message_at
   message_again message rest fits =
       let number = spelling Long message.number in
@@ -80,7 +72,7 @@ module _ (again : (form : Form) (value : Of form) (text rest : List ℕ) → Spe
       let regrouped : flat_map row (x ∷ items) ++ rest ≡ row x ++ (flat_map row items ++ rest) = append_assoc (row x) (flat_map row items) rest in
       ap (items_at item_at (suc (length items))) regrouped ∙ rw (one x (flat_map row items ++ rest) fits.0, items_again item_at row Fit one items rest fits.1) refl
 
-  vector_again : {A : Type 0} (item_at : List ℕ → Result (A × List ℕ) TlFault) (row : A → List ℕ) (Fit : A → Type 0)
+  pub vector_again : {A : Type 0} (item_at : List ℕ → Result (A × List ℕ) TlFault) (row : A → List ℕ) (Fit : A → Type 0)
       → ((x : A) (rest : List ℕ) → Fit x → item_at (row x ++ rest) ≡ Ok (x, rest))
       → (items : List A) (rest : List ℕ) → length items < 2 ^ 32 → AllByRecursion Fit items → vector_at item_at ((spelling Int (length items) ++ flat_map row items) ++ rest) ≡ Ok (items, rest)
   unfolding vector_at

@@ -3,3 +3,6 @@ pub mod Rows
 pub mod Membership
 pub mod Written
 pub mod Again
+pub mod Exact
+pub mod Found
+pub mod Others

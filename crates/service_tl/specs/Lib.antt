@@ -4,3 +4,4 @@ pub mod Schema
 pub mod Items
 pub mod ItemOf
 pub mod Parts
+pub mod Exact
