@@ -1,0 +1,8 @@
+pub mod Loop
+pub mod Rows
+pub mod Membership
+pub mod Written
+pub mod Again
+pub mod Exact
+pub mod Found
+pub mod Others

@@ -1,0 +1,7 @@
+pub mod Sizes
+pub mod Fields
+pub mod Schema
+pub mod Items
+pub mod ItemOf
+pub mod Parts
+pub mod Exact

@@ -1,0 +1,16 @@
+-- What a writer puts at the end of a text.
+use Rattle.std.specs.Prelude.{◌≡◌, List, ℕ, ◌++◌}
+use Rattle.tl_codec.specs.declared.writer.Writer.{Writer}
+use Rattle.tl_codec.specs.Spelling.{Form, Of, Fits, spelling}
+
+-- the text that a writer has written so far, what stood there before it included
+abbrev pub text_of : Writer → List ℕ
+text_of writer = writer.into.now
+
+-- both write into the same octets
+abbrev pub IsSameText : Writer → Writer → Type 0
+IsSameText old new = new.into.ghost_name ≡ old.into.ghost_name
+
+-- the new text is the old one and then the value, which has a spelling
+abbrev pub Appends : (form : Form) → Of form → List ℕ → List ℕ → Type 0
+Appends form value old new = Fits form value × (new ≡ old ++ spelling form value)

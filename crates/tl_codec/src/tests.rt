@@ -1,0 +1,139 @@
+//! The worked texts of each form.
+
+ghost use Rattle.std.specs.Prelude.{◌≤◌, length};
+
+use super::*;
+use std::alloc::Global;
+use std::test::*;
+
+// 254 bytes of content, behind the length in its long form and before two zeros.
+fn sevens(alloc: Global) -> Result<Octets, Memory> {
+    let mut text = Octets::copy(alloc, &[0xfe, 0xfe, 0, 0])?;
+    text.push_all(alloc, &[7; 254])?;
+    text.push_all(alloc, &[0, 0])?;
+    Ok(text)
+}
+
+fn spelt(alloc: Global, content: &[u8]) -> Result<Octets, Memory>
+    requires { length content.now ≤ BYTES_MAX }
+{
+    let mut text = Octets::new(alloc);
+    let mut writer = Writer::new(&mut text);
+    writer.bytes(alloc, content)?;
+    Ok(text)
+}
+
+#[test]
+fn strings_are_padded(rt: HostRuntime) -> Result<(), Fail> {
+    let alloc = rt.alloc();
+    let short = [7; 253];
+    let long = [7; 254];
+    let empty = spelt(alloc, &[]).ok().ok_or("no memory")?;
+    assert_eq!(rt; empty.as_slice(), [0; 4].as_slice());
+    let abc = spelt(alloc, b"abc").ok().ok_or("no memory")?;
+    assert_eq!(rt; abc.as_slice(), b"\x03abc".as_slice());
+    let last_short = spelt(alloc, &short).ok().ok_or("no memory")?;
+    assert_eq!(rt; last_short.as_slice().len(), 256);
+    assert!(rt; last_short.as_slice().starts_with(&[0xfd, 7]));
+    assert!(rt; last_short.as_slice().ends_with(&[7, 0, 0]));
+    let first_long = spelt(alloc, &long).ok().ok_or("no memory")?;
+    let want = sevens(alloc).ok().ok_or("no memory")?;
+    assert_eq!(rt; first_long.as_slice(), want.as_slice());
+    Ok(())
+}
+
+#[test]
+fn strings_are_read(rt: HostRuntime) -> Result<(), Fail> {
+    let alloc = rt.alloc();
+    let long = sevens(alloc).ok().ok_or("no memory")?;
+    let content = [7; 254];
+    let rows: [(&[u8], Result<&[u8], TlFault>); 7] = [
+        (&[0; 4], Ok(&[])),
+        (b"\x03abc", Ok(b"abc")),
+        (b"\xfe\x03\0\0abc\x09", Ok(b"abc")),
+        (long.as_slice(), Ok(&content)),
+        (b"\x03a", Err(TlFault::Short { need: 4, have: 2 })),
+        (b"\xfe\x03\0", Err(TlFault::Short { need: 4, have: 3 })),
+        (b"\xff", Err(TlFault::BadTag { found: 255 })),
+    ];
+    for (text, want) in rows {
+        let mut reader = Reader::new(text);
+        assert!(rt; reader.bytes() == want);
+    }
+    Ok(())
+}
+
+#[test]
+fn truths_are_read(rt: HostRuntime) {
+    let rows: [([u8; 4], Result<bool, TlFault>); 3] = [
+        ([0xb5, 0x75, 0x72, 0x99], Ok(true)),
+        ([0x37, 0x97, 0x79, 0xbc], Ok(false)),
+        ([0; 4], Err(TlFault::BadTag { found: 0 })),
+    ];
+    for (text, want) in rows {
+        assert_eq!(rt; Reader::new(&text).boolean(), want);
+    }
+}
+
+#[test]
+fn fields_follow_each_other(rt: HostRuntime) -> Result<(), Fail> {
+    let alloc = rt.alloc();
+    let mut text = Octets::new(alloc);
+    let mut writer = Writer::new(&mut text);
+    assert!(rt; writer.int(alloc, 0x7abe77ec).is_ok());
+    assert!(rt; writer.long(alloc, 0x0807060504030201).is_ok());
+    assert!(rt; writer.raw(alloc, &[9; 16]).is_ok());
+    let bytes =
+        b"\xec\x77\xbe\x7a\x01\x02\x03\x04\x05\x06\x07\x08\x09\x09\x09\x09\x09\x09\x09\x09\x09\x09\x09\x09\x09\x09\x09\x09";
+    assert_eq!(rt; text.as_slice(), bytes.as_slice());
+    let mut reader = Reader::new(bytes);
+    assert_eq!(rt;
+        reader.tag(0x62d6b459),
+        Err(TlFault::BadTag { found: 0x7abe77ec })
+    );
+    assert_eq!(rt; reader.tag(0x7abe77ec), Ok(()));
+    assert_eq!(rt; reader.long(), Ok(0x0807060504030201));
+    assert_eq!(rt; reader.end(), Err(TlFault::Extra { bytes: 16 }));
+    assert!(rt; reader.raw(12) == Ok([9; 12].as_slice()));
+    assert_eq!(rt; reader.int(), Ok(0x09090909));
+    assert_eq!(rt; reader.int(), Err(TlFault::Short { need: 4, have: 0 }));
+    assert_eq!(rt; reader.rest().len(), 0);
+    assert_eq!(rt; reader.end(), Ok(()));
+    Ok(())
+}
+
+#[test]
+fn lists_of_numbers(rt: HostRuntime) -> Result<(), Fail> {
+    let alloc = rt.alloc();
+    let numbers = IdList::copy(alloc, &[4]).ok().ok_or("no memory")?;
+    let mut both = IdList::new(alloc);
+    assert!(rt; both.push_all(alloc, numbers.ids()).is_ok());
+    let bytes = b"\x15\xc4\xb5\x1c\x01\0\0\0\x04\0\0\0\0\0\0\0";
+    let mut text = Octets::new(alloc);
+    let mut writer = Writer::new(&mut text);
+    assert!(rt; writer.longs(alloc, &[4]).is_ok());
+    assert_eq!(rt; text.as_slice(), bytes.as_slice());
+    let read = Reader::new(bytes)
+        .longs(alloc)
+        .ok()
+        .ok_or("the bytes are a list")?;
+    assert_eq!(rt; read.ids(), both.ids());
+    let rows: [(&[u8], TlFault); 4] = [
+        (&bytes[..15], TlFault::Short { need: 8, have: 7 }),
+        (
+            b"\x15\xc4\xb5\x1c\x01\x20\0\0",
+            TlFault::TooMany { count: 8193 },
+        ),
+        (
+            b"\x15\xc4\xb5\x1c\0\x20\0\0",
+            TlFault::Short { need: 8, have: 0 },
+        ),
+        (b"\x01\0\0\0\x04\0\0\0", TlFault::BadTag { found: 1 }),
+    ];
+    for (text, want) in rows {
+        let mut reader = Reader::new(text);
+        assert_eq!(rt; reader.longs(alloc).err(), Some(want));
+        assert_eq!(rt; reader.rest(), text);
+    }
+    Ok(())
+}
