@@ -1,7 +1,7 @@
-use Rattle.std.proofs.Common.{◌≡◌, ◌∙◌, ◌+◌, ◌<◌, ap, sym, subst, arith, Some, None, List, [], ◌∷◌, ◌++◌}
+use Rattle.std.proofs.Common.{◌∙◌, ap, sym, subst, arith, Some, List, [], ◌∷◌, ◌++◌}
 use Rattle.world_core.specs.declared.service.AddRequest.{AddRequest}
 use Rattle.world_core.specs.declared.server.Job.{Job}
-use Rattle.world_core.specs.Server.{Session, Stands, received, jobs_under, entries_under}
+use Rattle.world_core.specs.Server.{Stands, received, jobs_under}
 use Rattle.world_core.proofs.ServerLemmas.{progress-answered, progress-none, some_entry, no_entry, received-again, received-new, stands-same, stands-received}
 use Rattle.world_core.proofs.server.Server.receive.Goals as goal
 

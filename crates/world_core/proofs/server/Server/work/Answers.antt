@@ -1,10 +1,10 @@
-use Rattle.std.proofs.Common.{◌≡◌, ◌∙◌, ◌<◌, ap, sym, subst, Some, List, [], ◌∷◌, ◌++◌, IsSome, get_or, length, remove, option_map, refl, ℕ}
+use Rattle.std.proofs.Common.{◌≡◌, ◌∙◌, ◌<◌, ap, sym, subst, Some, List, [], ◌∷◌, ◌++◌, IsSome, length, remove, option_map, refl, ℕ}
 use Rattle.std.proofs.lemmas.List.{get_or_default}
 use Rattle.world_core.specs.declared.server.Job.{Job}
 use Rattle.world_core.specs.declared.server.Entry.{Entry}
 use Rattle.world_core.specs.Registers.{sums_in}
 use Rattle.world_core.specs.Service.{reply_to, added}
-use Rattle.world_core.specs.Server.{Session, Stands, worked, entry_at, entry_of}
+use Rattle.world_core.specs.Server.{Session, Stands, worked, entry_at}
 use Rattle.world_core.proofs.ServerLemmas.{stands-worked, stands-unrun, waiting-known, worked-job, entry_at-job, entry-made}
 use Rattle.world_core.proofs.server.Server.work.Goals as goal
 
@@ -32,7 +32,7 @@ invariant_of-self-2 c =
     let within = subst (λ (s : Session). c.args.place < length s.jobs) (sym c.self.view_is) c.requires in
     let same : c.index.result.now ≡ job = c.index.ensures ∙ (get_or_default jobs c.args.place c.index.result.now job within ∙ sym at) in
     let sums : (name : List ℕ) → sums_in c.run.new.self name ≡ added (sums_in c.self.inside.registers) job.request name =
-        λ name. c.in_ok-reply.ensures.sums name ∙ ap (λ (j : Job). added (sums_in c.self.inside.registers) j.request name) same in
+    λ name. c.in_ok-reply.ensures.sums name ∙ ap (λ (j : Job). added (sums_in c.self.inside.registers) j.request name) same in
     subst (λ (left : List Job). Stands c.answer.new.progress c.run.new.self left c.push_reserved.new.self.items) (sym (rw c.unwrap-number.ensures at c.remove.ensures.items))
     (subst (λ (made : List Entry). Stands c.answer.new.progress c.run.new.self (remove jobs c.args.place) made) (sym (c.push_reserved.ensures.items ∙ ap (λ (made : List Entry). made ++ entry ∷ []) c.in_ok-reserve.ensures.items))
     (stands-worked c.self.inside.progress c.answer.new.progress c.self.inside.registers c.run.new.self jobs entries c.args.place job c.in_ok-reply.reply c.self.invariant within at c.answer.ensures sums))
