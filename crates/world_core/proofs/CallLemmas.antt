@@ -1,8 +1,8 @@
 -- The words of a call.
-use Rattle.std.proofs.Common.{◌≡◌, ◌≢◌, ◌∙◌, ℕ, suc, ◌+◌, ◌<◌, ◌≤◌, List, [], ◌∷◌, ◌++◌, length, get_or, All, Bor, ap, sym, refl, subst, arith, append_assoc, ◌^◌, inl, inr}
+use Rattle.std.proofs.Common.{◌≡◌, ◌≢◌, ◌∙◌, ℕ, ◌<◌, List, [], ◌∷◌, ◌++◌, ap, sym, refl, subst, arith, append_assoc, ◌^◌, inl, inr}
 use Rattle.std.specs.Fmt.{decimal}
 use Rattle.std.specs.Prelude.{codes}
-use Rattle.std.proofs.lemmas.List.Elements.{All-head, All-tail, All-append, All-weaker}
+use Rattle.std.proofs.lemmas.List.Elements.{All-head, All-tail, All-weaker}
 use Rattle.world_core.specs.Schedule.{HasNoBlank, IsName, IsNameByte, IsCallOf}
 use Rattle.world_core.proofs.NumberLemmas.{no_blank-decimal}
 
@@ -50,6 +50,8 @@ module _ (rest : List ℕ) (client amount : ℕ) (name : List ℕ) (call : IsCal
 pub spelled_call : (rest word after text own last : List ℕ) (client amount : ℕ) → rest ≡ word ++ 32 ∷ after → after ≡ codes "add " ++ text → text ≡ own ++ 32 ∷ last → word ≡ decimal client → last ≡ decimal amount → client < 2 ^ 64 → amount < 2 ^ 64 → IsName own → IsCallOf rest client own amount
 spelled_call rest word after text own last client amount e f g w l c a n =
     record {
-      client_fits = c; name_fits = n; amount_fits = a;
+      client_fits = c;
+      name_fits = n;
+      amount_fits = a;
       spelled = e ∙ ap (λ t. word ++ 32 ∷ t) (f ∙ ap (λ t. codes "add " ++ t) g) ∙ ap (λ t. t ++ 32 ∷ (codes "add " ++ (own ++ 32 ∷ last))) w ∙ ap (λ t. decimal client ++ 32 ∷ (codes "add " ++ (own ++ 32 ∷ t))) l ∙ sym (parts (decimal client) (decimal amount) own);
     }

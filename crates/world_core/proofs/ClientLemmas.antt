@@ -1,14 +1,11 @@
 -- Calls that were sent in order.
-use Rattle.std.proofs.Common.{◌≡◌, ◌≢◌, ◌∙◌, ℕ, zero, suc, ◌+◌, ◌-◌, ◌*◌, ◌<◌, ◌≤◌, List, [], ◌∷◌, ◌++◌, length, get_or, set, map, find, count_by, Option, option_map, Some, None, is_some, true, false, Bool, cond, ap, sym, refl, arith, add-one, one-add, zero-add, add-zero, ◌==◌, ◌&&◌}
+use Rattle.std.proofs.Common.{◌≡◌, ◌≢◌, ◌∙◌, ℕ, zero, suc, ◌+◌, ◌*◌, ◌<◌, ◌≤◌, List, [], ◌∷◌, ◌++◌, length, get_or, set, map, count_by, option_map, Some, None, is_some, ap, sym, refl, arith, one-add, zero-add, add-zero}
 use Rattle.std.proofs.lemmas.Bool.{cond-true, cond-false, cond_both, ne_eqb, eq-eqb}
-use Rattle.std.proofs.lemmas.Grind.{common_steps}
 use Rattle.std.proofs.lemmas.List.Sums.{sum_by-cons}
 use Rattle.std.specs.List.{AllByRecursion}
 use Rattle.world_core.specs.declared.service.AddRequest.{AddRequest}
 use Rattle.world_core.specs.declared.service.Reply.{Reply}
 use Rattle.world_core.specs.declared.client.Call.{Call}
-use Rattle.world_core.specs.declared.client.CallState.{CallState}
-use Rattle.world_core.specs.declared.client.CallState.TheVariants.{Queued, Sent, Done}
 use Rattle.world_core.specs.Client.{is_queued, is_sent, queued, sent_under, next_number, first_queued, first_sent, packet_due, flushed, has_number, answered, done_by, delivered, WasSent, IsWaiting, AreSentInOrder}
 use Rattle.world_core.specs.declared.packet.Packet.TheVariants.{Up}
 

@@ -1,5 +1,5 @@
 -- Numbers in decimal.
-use Rattle.std.proofs.Common.{◌≡◌, ◌≢◌, ◌∙◌, ℕ, ◌+◌, ◌-◌, ◌/◌, ◌%◌, ◌<◌, ◌≤◌, ◌^◌, List, [], ◌∷◌, ◌++◌, length, All, Bool, true, false, Option, Some, None, Result, Ok, Err, MatchResult, IfNone, Bor, ap, sym, refl, subst, arith}
+use Rattle.std.proofs.Common.{◌≡◌, ◌≢◌, ◌∙◌, ℕ, ◌+◌, ◌%◌, ◌<◌, ◌^◌, List, [], ◌∷◌, All, Bool, true, false, Option, Some, None, Result, Ok, Err, MatchResult, IfNone, Bor, ap, sym, refl, subst, arith}
 use Rattle.std.specs.Result.{result_ok}
 use Rattle.std.specs.Bool.{then_some}
 use Rattle.std.specs.Fmt.{decimal}

@@ -1,5 +1,5 @@
 -- A text has one reading: it is a schedule of one list of events, or it has a first bad line.
-use Rattle.std.proofs.Common.{◌≡◌, ◌≢◌, ◌∙◌, ℕ, suc, ◌+◌, ◌<◌, ◌^◌, List, [], ◌∷◌, ◌++◌, Option, Some, None, ◌⊎◌, inl, inr, ap, sym, refl, subst, arith, ◌*◌, get_or}
+use Rattle.std.proofs.Common.{◌≡◌, ◌≢◌, ◌∙◌, ℕ, ◌+◌, List, [], ◌∷◌, ◌++◌, inl, inr, ap, sym, refl, arith, ◌*◌, get_or}
 use Rattle.std.specs.Prelude.{codes}
 use Rattle.std.specs.Fmt.{decimal}
 use Rattle.std.proofs.lemmas.Fmt.{decimal_injective}
@@ -7,7 +7,7 @@ use Rattle.world_core.specs.declared.service.AddRequest.{AddRequest}
 use Rattle.world_core.specs.declared.schedule.Event.{Event}
 use Rattle.world_core.specs.declared.schedule.Event.TheVariants.{Client, Call, Flush, Give, Work}
 use Rattle.world_core.specs.declared.schedule.Placed.{Placed}
-use Rattle.world_core.specs.Schedule.{spelling, HasSpelling, Says, SaysNothing, IsLeftOut, IsName, IsCallOf, AreEvents, IsFirstBad, IsGood, IsBad}
+use Rattle.world_core.specs.Schedule.{spelling, HasSpelling, Says, IsLeftOut, IsCallOf, AreEvents, IsFirstBad}
 use Rattle.world_core.proofs.CallLemmas.{call_client, call_name, parts, no_blank-name}
 use Rattle.world_core.proofs.NumberLemmas.{no_blank-decimal}
 

@@ -1,21 +1,20 @@
 -- Jobs and entries of a session.
-use Rattle.std.proofs.Common.{◌≡◌, ◌≢◌, ◌∙◌, ℕ, zero, suc, ◌+◌, ◌<◌, ◌≤◌, List, [], ◌∷◌, ◌++◌, length, get_or, map, remove, slice_get, count_by, Option, option_map, Some, None, Bool, true, false, cond, ◌==◌, nat_eq, nat_lt, IsSome, ap, sym, refl, subst, arith, inl, inr, ⊎_elim, zero-add, add-zero, ◌^◌, ◌&&◌}
+use Rattle.std.proofs.Common.{◌≡◌, ◌∙◌, ℕ, zero, suc, ◌+◌, ◌<◌, List, [], ◌∷◌, ◌++◌, length, get_or, map, remove, Option, option_map, Some, None, true, false, cond, ◌==◌, nat_eq, nat_lt, ap, sym, refl, subst, arith, ⊎_elim, zero-add, add-zero, ◌^◌, ◌&&◌}
 use Rattle.std.specs.Map.{lookup}
 use Rattle.std.proofs.lemmas.Option.{slice_get_read}
 use Rattle.std.specs.Str.{bytes_eq}
 use Rattle.world_core.specs.declared.service.Reply.TheVariants.{Value, TooLarge}
-use Rattle.std.specs.HashMap.{get, HashMap}
+use Rattle.std.specs.HashMap.{get}
 use Rattle.std.proofs.lemmas.List.Sums.{sum_by-cons, sum_by-append, sum_by-remove}
-use Rattle.std.proofs.lemmas.Bool.{cond-true, cond-false, cases_Bool, lt-ltb, le-ltb, eq-eqb, eqb-true, ne_eqb}
+use Rattle.std.proofs.lemmas.Bool.{cond-true, cond-false, cases_Bool, lt-ltb, le-ltb, eq-eqb, eqb-true}
 use Rattle.world_core.specs.Service.{Sums, fresh, reply_to, added, added_all}
-use Rattle.world_core.specs.Server.{Session, jobs_under, entries_under, reply_under, is_accepted, received, sums_of, entry_of, entry_at, ran, worked, AreApart, progress_from, progress_of, ProgressMap, Stands}
+use Rattle.world_core.specs.Server.{Session, jobs_under, entries_under, reply_under, is_accepted, received, sums_of, entry_of, entry_at, ran, worked, AreApart, progress_from, ProgressMap, Stands}
 use Rattle.world_core.specs.Registers.{sums_in}
 use Rattle.world_core.specs.declared.service.AddRequest.{AddRequest}
 use Rattle.world_core.specs.declared.service.Reply.{Reply}
 use Rattle.world_core.specs.declared.service.Registers.{Registers}
 use Rattle.world_core.specs.declared.server.Job.{Job}
 use Rattle.world_core.specs.declared.server.Entry.{Entry}
-use Rattle.world_core.specs.declared.server.Progress.{Progress}
 use Rattle.world_core.specs.declared.server.Progress.TheVariants.{Waiting, Answered}
 
 -- ---- numbers of entries and jobs
@@ -92,8 +91,8 @@ pub apart-received : (session : Session) (job : Job) → AreApart session → jo
 apart-received session job apart none number =
     ⊎_elim
     (λ here. let same : job.number ≡ number = eqb-true job.number number here in
-        let was : jobs_under number session.jobs + entries_under number session.entries ≡ 0 = subst (λ n. jobs_under n session.jobs + entries_under n session.entries ≡ 0) same none in
-        omega (arith, jobs_under-push number session.jobs job, cond-true {A = ℕ} (job.number == number) 1 0 here, was))
+    let was : jobs_under number session.jobs + entries_under number session.entries ≡ 0 = subst (λ n. jobs_under n session.jobs + entries_under n session.entries ≡ 0) same none in
+    omega (arith, jobs_under-push number session.jobs job, cond-true {A = ℕ} (job.number == number) 1 0 here, was))
     (λ there. omega (arith, jobs_under-push number session.jobs job, cond-false {A = ℕ} (job.number == number) 1 0 there, apart number))
     (cases_Bool (job.number == number))
 
@@ -134,14 +133,14 @@ stands-received old new registers jobs entries job h absent updates =
     record {
       apart = apart-received (record { jobs = jobs; entries = entries }) job h.apart (omega (arith, none.1, count));
       progress = λ number.
-        updates number ∙ ⊎_elim
-        (λ here. let same : job.number ≡ number = eqb-true job.number number here in
-            let no : reply_under number entries ≡ None = subst (λ n. reply_under n entries ≡ None) same none.0 in
-            let more : 0 < jobs_under number (jobs ++ job ∷ []) = omega (arith, jobs_under-push number jobs job, cond-true {A = ℕ} (job.number == number) 1 0 here) in
-            cond-true (nat_eq job.number number) _ _ here ∙ sym (ap (λ o. progress_from o (jobs_under number (jobs ++ job ∷ []))) no ∙ progress-some _ more))
-        (λ there. let less : jobs_under number (jobs ++ job ∷ []) ≡ jobs_under number jobs = omega (arith, jobs_under-push number jobs job, cond-false {A = ℕ} (job.number == number) 1 0 there) in
-            cond-false (nat_eq job.number number) _ _ there ∙ (h.progress number ∙ ap (progress_from (reply_under number entries)) (sym less)))
-        (cases_Bool (job.number == number));
+          updates number ∙ ⊎_elim
+          (λ here. let same : job.number ≡ number = eqb-true job.number number here in
+          let no : reply_under number entries ≡ None = subst (λ n. reply_under n entries ≡ None) same none.0 in
+          let more : 0 < jobs_under number (jobs ++ job ∷ []) = omega (arith, jobs_under-push number jobs job, cond-true {A = ℕ} (job.number == number) 1 0 here) in
+          cond-true (nat_eq job.number number) _ _ here ∙ sym (ap (λ o. progress_from o (jobs_under number (jobs ++ job ∷ []))) no ∙ progress-some _ more))
+          (λ there. let less : jobs_under number (jobs ++ job ∷ []) ≡ jobs_under number jobs = omega (arith, jobs_under-push number jobs job, cond-false {A = ℕ} (job.number == number) 1 0 there) in
+          cond-false (nat_eq job.number number) _ _ there ∙ (h.progress number ∙ ap (progress_from (reply_under number entries)) (sym less)))
+          (cases_Bool (job.number == number));
       sums = h.sums;
     }
 
@@ -197,13 +196,13 @@ stands-worked old new before after jobs entries place job reply h within at upda
     record {
       apart = apart-worked jobs entries place job entry h.apart within at refl;
       progress = λ number.
-        updates number ∙ ⊎_elim
-        (λ here. let same : job.number ≡ number = eqb-true job.number number here in
-            let no : reply_under number entries ≡ None = no_reply number entries (subst (λ n. entries_under n entries ≡ 0) same alone.1) in
-            cond-true (job.number == number) _ _ here ∙ sym (ap (λ o. progress_from o (jobs_under number (remove jobs place))) (reply_under-push number entries entry no ∙ cond-true (job.number == number) (Some reply) None here)))
-        (λ there. let less : jobs_under number (remove jobs place) ≡ jobs_under number jobs = omega (arith, jobs_under-remove number jobs place job within at, cond-false {A = ℕ} (job.number == number) 1 0 there) in
-            cond-false (job.number == number) _ _ there ∙ (h.progress number ∙ (ap (progress_from (reply_under number entries)) (sym less) ∙ ap (λ o. progress_from o (jobs_under number (remove jobs place))) (sym (reply_under-push_other number entries entry there)))))
-        (cases_Bool (job.number == number));
+          updates number ∙ ⊎_elim
+          (λ here. let same : job.number ≡ number = eqb-true job.number number here in
+          let no : reply_under number entries ≡ None = no_reply number entries (subst (λ n. entries_under n entries ≡ 0) same alone.1) in
+          cond-true (job.number == number) _ _ here ∙ sym (ap (λ o. progress_from o (jobs_under number (remove jobs place))) (reply_under-push number entries entry no ∙ cond-true (job.number == number) (Some reply) None here)))
+          (λ there. let less : jobs_under number (remove jobs place) ≡ jobs_under number jobs = omega (arith, jobs_under-remove number jobs place job within at, cond-false {A = ℕ} (job.number == number) 1 0 there) in
+          cond-false (job.number == number) _ _ there ∙ (h.progress number ∙ (ap (progress_from (reply_under number entries)) (sym less) ∙ ap (λ o. progress_from o (jobs_under number (remove jobs place))) (sym (reply_under-push_other number entries entry there)))))
+          (cases_Bool (job.number == number));
       sums = λ name. sums name ∙ (added-same (sums_in before) (sums_of entries) job.request name (h.sums job.request.name) (h.sums name) ∙ sym (sums_of-push entries entry name));
     }
 

@@ -1,13 +1,11 @@
 -- Packets and jobs that are counted from 1.
-use Rattle.std.proofs.Common.{◌≡◌, ◌∙◌, ℕ, zero, suc, ◌<◌, ◌+◌, List, [], ◌∷◌, ◌++◌, length, get_or, Option, option_map, option_to_list, Some, None, ap, sym, refl, append-nil}
+use Rattle.std.proofs.Common.{◌≡◌, ◌∙◌, ℕ, suc, ◌<◌, List, ◌++◌, length, get_or, Option, option_map, option_to_list, Some, None, ap, sym, refl, append-nil}
 use Rattle.std.proofs.lemmas.Option.{slice_get_read}
-use Rattle.world_core.specs.World.{World, counted, arrived}
-use Rattle.world_core.specs.Client.{delivered}
-use Rattle.world_core.specs.Server.{Session, received, reply_under}
-use Rattle.world_core.specs.declared.service.AddRequest.{AddRequest}
+use Rattle.world_core.specs.World.{World, counted}
+use Rattle.world_core.specs.Server.{Session}
 use Rattle.world_core.specs.declared.service.Reply.{Reply}
 use Rattle.world_core.specs.declared.packet.Packet.{Packet}
-use Rattle.world_core.specs.declared.packet.Packet.TheVariants.{Up, Down}
+use Rattle.world_core.specs.declared.packet.Packet.TheVariants.{Down}
 use Rattle.world_core.specs.declared.client.Call.{Call}
 
 pub counted-at : {X : Type 0} (xs : List X) (k place : ℕ) (x : X) → k ≡ suc place → place < length xs → x ≡ get_or xs place x → counted xs k ≡ Some x

@@ -1,10 +1,10 @@
 -- The client.
-use Rattle.std.specs.Prelude.{◌≡◌, ◌≢◌, ℕ, zero, suc, ◌+◌, ◌*◌, List, [], ◌∷◌, Bool, true, false, ◌==◌, Option, Some, None, is_some, option_map, find, map, count_by, if◌then◌else◌}
+use Rattle.std.specs.Prelude.{◌≡◌, ℕ, zero, suc, ◌+◌, ◌*◌, List, [], ◌∷◌, Bool, true, false, ◌==◌, Option, Some, None, is_some, option_map, find, map, count_by, if◌then◌else◌}
 use Rattle.std.specs.List.{AllByRecursion}
 use Rattle.world_core.specs.declared.service.AddRequest.{AddRequest}
 use Rattle.world_core.specs.declared.service.Reply.{Reply}
 use Rattle.world_core.specs.declared.packet.Packet.{Packet}
-use Rattle.world_core.specs.declared.packet.Packet.TheVariants.{Up, Down}
+use Rattle.world_core.specs.declared.packet.Packet.TheVariants.{Up}
 use Rattle.world_core.specs.declared.client.Call.{Call}
 use Rattle.world_core.specs.declared.client.CallState.{CallState}
 use Rattle.world_core.specs.declared.client.CallState.TheVariants.{Queued, Sent, Done}

@@ -1,5 +1,5 @@
 -- The report of a world.
-use Rattle.std.specs.Prelude.{ℕ, ◌+◌, List, [], ◌∷◌, ◌++◌, Option, unwrap_or, codes, decimal}
+use Rattle.std.specs.Prelude.{ℕ, ◌+◌, List, [], ◌∷◌, ◌++◌, unwrap_or, codes, decimal}
 use Rattle.std.specs.List.{flat_map}
 use Rattle.world_core.specs.declared.service.Reply.{Reply}
 use Rattle.world_core.specs.declared.service.Reply.TheVariants.{Value, TooLarge}

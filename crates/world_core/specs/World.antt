@@ -1,14 +1,11 @@
 -- The world of a schedule.
-use Rattle.std.specs.Prelude.{◌≡◌, ℕ, zero, suc, ◌-◌, List, [], ◌∷◌, ◌++◌, Bool, ◌==◌, ◌&&◌, nat_lt, Option, Some, None, is_some, option_map, option_to_list, unwrap_or, length, map, slice_get, Result, Ok, Err, if◌then◌else◌}
-use Rattle.world_core.specs.declared.service.AddRequest.{AddRequest}
-use Rattle.world_core.specs.declared.service.Reply.{Reply}
+use Rattle.std.specs.Prelude.{◌≡◌, ℕ, zero, suc, List, [], ◌∷◌, ◌++◌, ◌==◌, nat_lt, Option, Some, None, is_some, option_map, option_to_list, unwrap_or, length, map, slice_get, Result, Ok, Err, if◌then◌else◌}
 use Rattle.world_core.specs.declared.packet.Packet.{Packet}
 use Rattle.world_core.specs.declared.packet.Packet.TheVariants.{Up, Down}
 use Rattle.world_core.specs.declared.client.Call.{Call}
 use Rattle.world_core.specs.declared.client.SubmitFault.{SubmitFault}
 use Rattle.world_core.specs.declared.client.SubmitFault.TheVariants as submit
 use Rattle.world_core.specs.declared.client.SubmitFault.TheVariants.{TooMany}
-use Rattle.world_core.specs.declared.server.Entry.{Entry}
 use Rattle.world_core.specs.declared.schedule.Event.{Event}
 use Rattle.world_core.specs.declared.schedule.Event.TheVariants as event
 use Rattle.world_core.specs.declared.schedule.Placed.{Placed}

@@ -244,5 +244,9 @@ fn number_of(word: &[u8]) -> Option<u64>
 fn is_name(word: &[u8]) -> bool
     ensures { IsTrue result ↔ IsName word.now }
 {
-    !word.is_empty() && word.len() <= NAME_BYTES_MAX && word.iter().all(|byte| byte.is_ascii_lowercase() || byte.is_ascii_digit())
+    !word.is_empty()
+        && word.len() <= NAME_BYTES_MAX
+        && word
+            .iter()
+            .all(|byte| byte.is_ascii_lowercase() || byte.is_ascii_digit())
 }

@@ -1,4 +1,4 @@
-use Rattle.std.proofs.Common.{List, ℕ, ◌≡◌, ◌≢◌, ◌++◌, Option, Some, None, MatchOption, IfSome, IfNone, Bor}
+use Rattle.std.proofs.Common.{List, ℕ, Option, Some, None, MatchOption, IfSome, IfNone, Bor}
 use Rattle.std.proofs.lemmas.Slice.Eq.{strip_prefix_is}
 use Rattle.std.proofs.lemmas.Bool.Decides.{Decides-eqb}
 use Rattle.world_core.proofs.schedule.behind.Goals as goal

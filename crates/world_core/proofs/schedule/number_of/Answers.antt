@@ -1,4 +1,4 @@
-use Rattle.std.proofs.Common.{◌≡◌, ◌∙◌, ap, sym}
+use Rattle.std.proofs.Common.{◌∙◌, ap, sym}
 use Rattle.std.specs.Fmt.{decimal}
 use Rattle.world_core.proofs.NumberLemmas.{not_from_err, text_from_ok, text-decimal, parsed-decimal, same_number, if_other, differs}
 use Rattle.world_core.proofs.schedule.number_of.Goals as goal
@@ -16,6 +16,6 @@ pub returns-clause-none : goal.returns-clause-none
 returns-clause-none c =
     let same = text_from_ok c.from_utf8.result c.args.word.now _ _ c.in_ok-text.text c.in_ok-text.ensures.value c.from_utf8.ensures.cases in
     if_other c.eq.result c.in_ok-number.number _ _ c.then_some.ensures (λ other number fits e.
-        let parsed = parsed-decimal c.args.word.now c.in_ok-text.text.now c.parse.result number fits same e c.parse.ensures.value.0 in
-        let own = same_number c.in_ok-number.number number _ c.in_ok-number.ensures.value parsed in
-        differs c.eq.result c.as_bytes.result.now c.args.word.now c.eq.ensures other (c.as_bytes.ensures.value ∙ c.format.ensures.text ∙ ap decimal own ∙ sym e))
+    let parsed = parsed-decimal c.args.word.now c.in_ok-text.text.now c.parse.result number fits same e c.parse.ensures.value.0 in
+    let own = same_number c.in_ok-number.number number _ c.in_ok-number.ensures.value parsed in
+    differs c.eq.result c.as_bytes.result.now c.args.word.now c.eq.ensures other (c.as_bytes.ensures.value ∙ c.format.ensures.text ∙ ap decimal own ∙ sym e))

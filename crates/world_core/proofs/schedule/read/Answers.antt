@@ -1,4 +1,4 @@
-use Rattle.std.proofs.Common.{◌≡◌, ◌∙◌, ◌+◌, List, [], ◌∷◌, ◌++◌, inl, inr, refl, sym, ap, subst, arith, append_assoc, append-nil}
+use Rattle.std.proofs.Common.{◌≡◌, ◌∙◌, ◌+◌, List, [], ◌∷◌, ◌++◌, inr, refl, sym, ap, subst, arith, append_assoc, append-nil}
 use Rattle.std.proofs.lemmas.List.{nil_from_length}
 use Rattle.std.proofs.lemmas.Bool.{eqb-true}
 use Rattle.world_core.specs.declared.schedule.Placed.{Placed}
@@ -14,9 +14,9 @@ loop-rest-preserved-in_ok-push-in-Some c =
     record {
       counted = omega (arith, c.first_line.ensures.shorter);
       said = λ tail h.
-        subst (λ (events : List Placed). AreEvents 1 (lines_of c.args.text.now) events)
-        (sym (ap (λ (l : List Placed). l ++ tail) c.in_ok-push-in-Some.ensures.items ∙ append_assoc _ _ tail))
-        (c.loop-rest.invariant.said (placed ∷ tail) (rw c.first_line.ensures.lines (inr (event, tail, says, refl, h))));
+          subst (λ (events : List Placed). AreEvents 1 (lines_of c.args.text.now) events)
+          (sym (ap (λ (l : List Placed). l ++ tail) c.in_ok-push-in-Some.ensures.items ∙ append_assoc _ _ tail))
+          (c.loop-rest.invariant.said (placed ∷ tail) (rw c.first_line.ensures.lines (inr (event, tail, says, refl, h))));
       good = λ bad h. c.loop-rest.invariant.good bad (rw c.first_line.ensures.lines (inr (inr (event, says), h)));
     }
 

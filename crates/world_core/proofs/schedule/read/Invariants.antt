@@ -1,4 +1,4 @@
-use Rattle.std.proofs.Common.{◌≡◌, ◌≤◌, ◌+◌, ℕ, List, ◌++◌, length}
+use Rattle.std.proofs.Common.{◌≤◌, ◌+◌, ℕ, List, ◌++◌, length}
 use Rattle.world_core.specs.declared.schedule.Placed.{Placed}
 use Rattle.world_core.specs.Schedule.{AreEvents, IsFirstBad, lines_of}
 use Rattle.world_core.proofs.schedule.read.Given as goal

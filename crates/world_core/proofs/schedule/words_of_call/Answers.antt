@@ -1,4 +1,4 @@
-use Rattle.std.proofs.Common.{◌≡◌, ◌∙◌, sym, subst}
+use Rattle.std.proofs.Common.{sym, subst}
 use Rattle.std.proofs.lemmas.Bool.{iff_false}
 use Rattle.world_core.specs.Schedule.{IsName}
 use Rattle.world_core.proofs.CallLemmas.{call_has_blank, call_client, call_behind, call_name, no_blank_inside}

@@ -1,4 +1,4 @@
-use Rattle.std.proofs.Common.{◌≡◌, arith, sym, ◌∙◌, ap, subst, set, length-set}
+use Rattle.std.proofs.Common.{arith, sym, ◌∙◌, ap, subst, set, length-set}
 use Rattle.world_core.specs.declared.client.Call.{Call}
 use Rattle.world_core.specs.Client.{AreSentInOrder, answered, delivered}
 use Rattle.world_core.proofs.ClientLemmas.{sent_le_length, delivered-call, delivered-none, in_order-done}
@@ -11,9 +11,10 @@ pub invariant_of-self : goal.invariant_of-self
 invariant_of-self c =
     let calls = c.self.inside.calls.items in
     let call = c.index_mut.result.now in
-    let e = c.answer.ensures ∙ ap (answered c.args.reply) c.index_mut.ensures.value in
-    ( subst (λ (new : Call). AreSentInOrder 0 c.self.inside.sent (set calls c.in-Some.place new)) (sym e) (in_order-done 0 c.self.inside.sent c.in-Some.place c.args.reply calls call c.self.invariant.0 c.in-Some.ensures.0)
-    , rw length-set c.self.invariant.1)
+    let e = c.answer.ensures ∙ ap (answered c.args.reply) c.index_mut.ensures.value in (
+      subst (λ (new : Call). AreSentInOrder 0 c.self.inside.sent (set calls c.in-Some.place new)) (sym e) (in_order-done 0 c.self.inside.sent c.in-Some.place c.args.reply calls call c.self.invariant.0 c.in-Some.ensures.0),
+      rw length-set c.self.invariant.1,
+    )
 
 pub returns-in-Some : goal.returns-in-Some
 returns-in-Some c =

@@ -1,10 +1,6 @@
-use Rattle.std.proofs.Common.{◌≡◌, ◌∙◌, ◌<◌, ap, sym, refl, arith, Some, List, length, get_or, option_map, option_to_list}
+use Rattle.std.proofs.Common.{◌∙◌, ap, sym, refl, arith, Some, List, get_or, option_map}
 use Rattle.world_core.specs.declared.packet.Packet.{Packet}
-use Rattle.world_core.specs.declared.packet.Packet.TheVariants.{Down}
-use Rattle.world_core.specs.declared.service.Reply.{Reply}
 use Rattle.world_core.specs.Client.{delivered}
-use Rattle.world_core.specs.Server.{reply_under}
-use Rattle.world_core.specs.World.{counted}
 use Rattle.world_core.proofs.WorldLemmas.{counted-at, world-same, none_joins}
 use Rattle.world_core.proofs.world.World.give.Goals as goal
 
