@@ -11,7 +11,7 @@ use Rattle.service_tl.specs.declared.item.Item.TheVariants.{RpcResult, RpcError,
 use Rattle.service_tl.specs.declared.lists.FutureSalt.{FutureSalt}
 use Rattle.service_tl.specs.declared.lists.Message.{Message}
 use Rattle.service_tl.specs.declared.numbers.TheConstants.{RPC_RESULT, RPC_ERROR, RPC_DROP_ANSWER, RPC_ANSWER_UNKNOWN, RPC_ANSWER_DROPPED_RUNNING, RPC_ANSWER_DROPPED, GET_FUTURE_SALTS, FUTURE_SALTS, PING, PING_DELAY_DISCONNECT, PONG, DESTROY_SESSION, DESTROY_SESSION_OK, DESTROY_SESSION_NONE, NEW_SESSION_CREATED, MSG_CONTAINER, MSGS_ACK, MSGS_STATE_REQ, MSGS_STATE_INFO, MSGS_ALL_INFO, MSG_RESEND_REQ, MSG_DETAILED_INFO, MSG_NEW_DETAILED_INFO, BAD_MSG_NOTIFICATION, BAD_SERVER_SALT, INVOKE_AFTER_MSG, INVOKE_AFTER_MSGS, AUTH_BIND_TEMP_AUTH_KEY, GZIP_PACKED}
-use Rattle.service_tl.specs.Fields.{Field, Plain, Rest, Salts, Bodies, Holds, field_spelling, FieldFits, SaltFits, MessageFits, salt_row, message_row, salt_at, message_at, items_at, vector_at}
+use Rattle.service_tl.specs.Fields.{Field, Plain, Rest, Salts, Bodies, field_spelling, FieldFits, SaltFits, MessageFits, salt_row, message_row, salt_at, message_at, items_at, vector_at}
 use Rattle.service_tl.specs.Schema.{Makes, schema, fields_at, item_in}
 use Rattle.service_tl.specs.Exact.{Values, made}
 use Rattle.service_tl.specs.Items.{spelling_of, ItemFits}

@@ -1,21 +1,21 @@
 -- What is read of a text is what the text is.
-use Rattle.std.proofs.Common.{◌≡◌, ℕ, zero, suc, ◌+◌, ◌^◌, ◌<◌, Bool, true, false, cond, eqb, List, [], ◌∷◌, ◌++◌, length, drop, Option, Some, None, Result, Ok, Err, refl, sym, ap, subst, ◌∙◌, append_assoc, arith}
+use Rattle.std.proofs.Common.{◌≡◌, ℕ, zero, suc, ◌+◌, ◌^◌, ◌<◌, false, eqb, List, [], ◌∷◌, ◌++◌, length, drop, Some, Result, Ok, Err, refl, sym, ap, subst, ◌∙◌, append_assoc, arith}
 use Rattle.std.specs.List.{flat_map, AllByRecursion}
 use Rattle.std.proofs.lemmas.Bool.{ne_eqb}
 use Rattle.std.proofs.lemmas.List.{append-nil, drop_at, get_or-drop}
 use Rattle.tl_codec.specs.declared.fault.TlFault.{TlFault}
 use Rattle.tl_codec.specs.Bytes.{IsBytes}
-use Rattle.tl_codec.specs.Spelling.{Form, Int, Long, Raw, Bytes, Longs, Of, Fits, Spells, Reads, spelling}
+use Rattle.tl_codec.specs.Spelling.{Form, Int, Long, Raw, Bytes, Longs, Of, Spells, spelling}
 use Rattle.tl_codec.specs.Reading.{◌>>=◌, Takes, read_at}
 use Rattle.service_tl.specs.declared.item.Item.{Item}
 use Rattle.service_tl.specs.declared.item.Item.TheVariants.{RpcResult, RpcError, RpcDropAnswer, RpcAnswerUnknown, RpcAnswerDroppedRunning, RpcAnswerDropped, GetFutureSalts, FutureSalts, Ping, PingDelayDisconnect, Pong, DestroySession, DestroySessionOk, DestroySessionNone, NewSessionCreated, MsgContainer, MsgsAck, MsgsStateReq, MsgsStateInfo, MsgsAllInfo, MsgResendReq, MsgDetailedInfo, MsgNewDetailedInfo, BadMsgNotification, BadServerSalt, InvokeAfterMsg, InvokeAfterMsgs, AuthBindTempAuthKey, Broken}
 use Rattle.service_tl.specs.declared.lists.FutureSalt.{FutureSalt}
 use Rattle.service_tl.specs.declared.lists.Message.{Message}
 use Rattle.service_tl.specs.declared.numbers.TheConstants.{RPC_RESULT, RPC_ERROR, RPC_DROP_ANSWER, RPC_ANSWER_UNKNOWN, RPC_ANSWER_DROPPED_RUNNING, RPC_ANSWER_DROPPED, GET_FUTURE_SALTS, FUTURE_SALTS, PING, PING_DELAY_DISCONNECT, PONG, DESTROY_SESSION, DESTROY_SESSION_OK, DESTROY_SESSION_NONE, NEW_SESSION_CREATED, MSG_CONTAINER, MSGS_ACK, MSGS_STATE_REQ, MSGS_STATE_INFO, MSGS_ALL_INFO, MSG_RESEND_REQ, MSG_DETAILED_INFO, MSG_NEW_DETAILED_INFO, BAD_MSG_NOTIFICATION, BAD_SERVER_SALT, INVOKE_AFTER_MSG, INVOKE_AFTER_MSGS, AUTH_BIND_TEMP_AUTH_KEY, GZIP_PACKED}
-use Rattle.service_tl.specs.Fields.{Field, Plain, Rest, Salts, Bodies, Holds, field_spelling, FieldFits, SaltFits, MessageFits, salt_row, message_row, salt_at, message_at, items_at, vector_at, field_at}
-use Rattle.service_tl.specs.Schema.{Makes, Row, schema, fields_at, item_in}
-use Rattle.service_tl.specs.ItemOf.{whole, item_of}
-use Rattle.service_tl.specs.Exact.{Values, ReadsField, ReadsFields, behind, IsBroken}
+use Rattle.service_tl.specs.Fields.{Field, Plain, Rest, Salts, Bodies, Holds, field_spelling, SaltFits, MessageFits, salt_row, message_row, salt_at, message_at, items_at, vector_at, field_at}
+use Rattle.service_tl.specs.Schema.{Makes, schema, fields_at, item_in}
+use Rattle.service_tl.specs.ItemOf.{whole}
+use Rattle.service_tl.specs.Exact.{Values, ReadsField, ReadsFields, IsBroken}
 use Rattle.service_tl.proofs.Again.{value_again}
 
 -- the value of a step that did not fail
@@ -82,7 +82,7 @@ module _ (again : (form : Form) (value : Of form) (text rest : List ℕ) → Spe
       let whole : text ≡ salt_row value ++ d.0.1 = then text (spelling Int a.0.0) a.0.1 (spelling Int b.0.0 ++ spelling Long d.0.0) d.0.1 since.parts tail in
       let read : FutureSalt × List ℕ = (value, d.0.1) in
       let found : Found (SaltFits read.0) text (salt_row read.0) read.1 = record { fits = (since.fits, until.fits, salt.fits); parts = whole; after = salt.after } in
-      subst (λ (p : FutureSalt × List ℕ). Found (SaltFits p.0) text (salt_row p.0) p.1) (ok_is read (row, rest) d.2) found
+      subst (λ (p : FutureSalt × List ℕ). Found (SaltFits p.0) text (salt_row p.0) p.1) {x = read} (ok_is read (row, rest) d.2) found
 
   message_found : (text : List ℕ) (message : Message) (rest : List ℕ) → IsBytes text → message_at text ≡ Ok (message, rest) → Found (MessageFits message) text (message_row message) rest
   unfolding message_at
@@ -104,7 +104,7 @@ module _ (again : (form : Form) (value : Of form) (text rest : List ℕ) → Spe
       let read : Message × List ℕ = (value, g.0.1) in
       let short : length g.0.0 < 2 ^ 32 = subst (λ (n : ℕ). n < 2 ^ 32) len size.fits in
       let found : Found (MessageFits read.0) text (message_row read.0) read.1 = record { fits = (number.fits, seq.fits, short); parts = whole; after = body.after } in
-      subst (λ (p : Message × List ℕ). Found (MessageFits p.0) text (message_row p.0) p.1) (ok_is read (message, rest) g.2) found
+      subst (λ (p : Message × List ℕ). Found (MessageFits p.0) text (message_row p.0) p.1) {x = read} (ok_is read (message, rest) g.2) found
 
   module _ {A : Type 0} (item_at : List ℕ → Result (A × List ℕ) TlFault) (row : A → List ℕ) (Fit : A → Type 0) (one : (text : List ℕ) (x : A) (rest : List ℕ) → IsBytes text → item_at text ≡ Ok (x, rest) → Found (Fit x) text (row x) rest) where
     items_found : (count : ℕ) (text : List ℕ) (items : List A) (rest : List ℕ) → IsBytes text → items_at item_at count text ≡ Ok (items, rest) → Found ((length items ≡ count) × AllByRecursion Fit items) text (flat_map row items) rest
@@ -112,7 +112,7 @@ module _ (again : (form : Form) (value : Of form) (text rest : List ℕ) → Spe
     items_found zero text items rest bytes e =
         let read : List A × List ℕ = ([], text) in
         let found : Found ((length read.0 ≡ 0) × AllByRecursion Fit read.0) text (flat_map row read.0) read.1 = record { fits = (refl, tt); parts = refl; after = bytes } in
-        subst (λ (p : List A × List ℕ). Found ((length p.0 ≡ 0) × AllByRecursion Fit p.0) text (flat_map row p.0) p.1) (ok_is read (items, rest) e) found
+        subst (λ (p : List A × List ℕ). Found ((length p.0 ≡ 0) × AllByRecursion Fit p.0) text (flat_map row p.0) p.1) {x = read} (ok_is read (items, rest) e) found
     items_found (suc count) text items rest bytes e =
         let a = bind_ok (item_at text) (λ first. items_at item_at count first.1 >>= λ others. Ok (first.0 ∷ others.0, others.1)) (items, rest) e in
         let b = bind_ok (items_at item_at count a.0.1) (λ others. Ok (a.0.0 ∷ others.0, others.1)) (items, rest) a.2 in
@@ -120,7 +120,7 @@ module _ (again : (form : Form) (value : Of form) (text rest : List ℕ) → Spe
         let others = items_found count a.0.1 b.0.0 b.0.1 first.after b.1 in
         let read : List A × List ℕ = (a.0.0 ∷ b.0.0, b.0.1) in
         let found : Found ((length read.0 ≡ suc count) × AllByRecursion Fit read.0) text (flat_map row read.0) read.1 = record { fits = (ap suc others.fits.0, (first.fits, others.fits.1)); parts = then text (row a.0.0) a.0.1 (flat_map row b.0.0) b.0.1 first.parts others.parts; after = others.after } in
-        subst (λ (p : List A × List ℕ). Found ((length p.0 ≡ suc count) × AllByRecursion Fit p.0) text (flat_map row p.0) p.1) (ok_is read (items, rest) b.2) found
+        subst (λ (p : List A × List ℕ). Found ((length p.0 ≡ suc count) × AllByRecursion Fit p.0) text (flat_map row p.0) p.1) {x = read} (ok_is read (items, rest) b.2) found
 
     vector_found : (text : List ℕ) (items : List A) (rest : List ℕ) → IsBytes text → vector_at item_at text ≡ Ok (items, rest) → Found ((length items < 2 ^ 32) × AllByRecursion Fit items) text (spelling Int (length items) ++ flat_map row items) rest
     unfolding vector_at
@@ -165,33 +165,88 @@ module _ (again : (form : Form) (value : Of form) (text rest : List ℕ) → Spe
 
   pub each_broken : AllByRecursion IsBroken schema
   unfolding schema
-  each_broken =
-      (row_broken RPC_RESULT (Plain Long ∷ Rest ∷ []) RpcResult (omega arith) refl (λ text. refl),
-      (row_broken RPC_ERROR (Plain Int ∷ Plain Bytes ∷ []) RpcError (omega arith) refl (λ text. refl),
-      (row_broken RPC_DROP_ANSWER (Plain Long ∷ []) RpcDropAnswer (omega arith) refl (λ text. refl),
-      (row_broken RPC_ANSWER_UNKNOWN ([]) RpcAnswerUnknown (omega arith) refl (λ text. refl),
-      (row_broken RPC_ANSWER_DROPPED_RUNNING ([]) RpcAnswerDroppedRunning (omega arith) refl (λ text. refl),
-      (row_broken RPC_ANSWER_DROPPED (Plain Long ∷ Plain Int ∷ Plain Int ∷ []) RpcAnswerDropped (omega arith) refl (λ text. refl),
-      (row_broken GET_FUTURE_SALTS (Plain Int ∷ []) GetFutureSalts (omega arith) refl (λ text. refl),
-      (row_broken FUTURE_SALTS (Plain Long ∷ Plain Int ∷ Salts ∷ []) FutureSalts (omega arith) refl (λ text. refl),
-      (row_broken PING (Plain Long ∷ []) Ping (omega arith) refl (λ text. refl),
-      (row_broken PING_DELAY_DISCONNECT (Plain Long ∷ Plain Int ∷ []) PingDelayDisconnect (omega arith) refl (λ text. refl),
-      (row_broken PONG (Plain Long ∷ Plain Long ∷ []) Pong (omega arith) refl (λ text. refl),
-      (row_broken DESTROY_SESSION (Plain Long ∷ []) DestroySession (omega arith) refl (λ text. refl),
-      (row_broken DESTROY_SESSION_OK (Plain Long ∷ []) DestroySessionOk (omega arith) refl (λ text. refl),
-      (row_broken DESTROY_SESSION_NONE (Plain Long ∷ []) DestroySessionNone (omega arith) refl (λ text. refl),
-      (row_broken NEW_SESSION_CREATED (Plain Long ∷ Plain Long ∷ Plain Long ∷ []) NewSessionCreated (omega arith) refl (λ text. refl),
-      (row_broken MSG_CONTAINER (Bodies ∷ []) MsgContainer (omega arith) refl (λ text. refl),
-      (row_broken MSGS_ACK (Plain Longs ∷ []) MsgsAck (omega arith) refl (λ text. refl),
-      (row_broken MSGS_STATE_REQ (Plain Longs ∷ []) MsgsStateReq (omega arith) refl (λ text. refl),
-      (row_broken MSGS_STATE_INFO (Plain Long ∷ Plain Bytes ∷ []) MsgsStateInfo (omega arith) refl (λ text. refl),
-      (row_broken MSGS_ALL_INFO (Plain Longs ∷ Plain Bytes ∷ []) MsgsAllInfo (omega arith) refl (λ text. refl),
-      (row_broken MSG_RESEND_REQ (Plain Longs ∷ []) MsgResendReq (omega arith) refl (λ text. refl),
-      (row_broken MSG_DETAILED_INFO (Plain Long ∷ Plain Long ∷ Plain Int ∷ Plain Int ∷ []) MsgDetailedInfo (omega arith) refl (λ text. refl),
-      (row_broken MSG_NEW_DETAILED_INFO (Plain Long ∷ Plain Int ∷ Plain Int ∷ []) MsgNewDetailedInfo (omega arith) refl (λ text. refl),
-      (row_broken BAD_MSG_NOTIFICATION (Plain Long ∷ Plain Int ∷ Plain Int ∷ []) BadMsgNotification (omega arith) refl (λ text. refl),
-      (row_broken BAD_SERVER_SALT (Plain Long ∷ Plain Int ∷ Plain Int ∷ Plain Long ∷ []) BadServerSalt (omega arith) refl (λ text. refl),
-      (row_broken INVOKE_AFTER_MSG (Plain Long ∷ Rest ∷ []) InvokeAfterMsg (omega arith) refl (λ text. refl),
-      (row_broken INVOKE_AFTER_MSGS (Plain Longs ∷ Rest ∷ []) InvokeAfterMsgs (omega arith) refl (λ text. refl),
-      (row_broken AUTH_BIND_TEMP_AUTH_KEY (Plain Long ∷ Plain Long ∷ Plain Int ∷ Plain Bytes ∷ []) AuthBindTempAuthKey (omega arith) refl (λ text. refl),
-      tt))))))))))))))))))))))))))))
+  each_broken = (
+    row_broken RPC_RESULT (Plain Long ∷ Rest ∷ []) RpcResult (omega arith) refl (λ text. refl),
+    (
+      row_broken RPC_ERROR (Plain Int ∷ Plain Bytes ∷ []) RpcError (omega arith) refl (λ text. refl),
+      (
+        row_broken RPC_DROP_ANSWER (Plain Long ∷ []) RpcDropAnswer (omega arith) refl (λ text. refl),
+        (
+          row_broken RPC_ANSWER_UNKNOWN ([]) RpcAnswerUnknown (omega arith) refl (λ text. refl),
+          (
+            row_broken RPC_ANSWER_DROPPED_RUNNING ([]) RpcAnswerDroppedRunning (omega arith) refl (λ text. refl),
+            (
+              row_broken RPC_ANSWER_DROPPED (Plain Long ∷ Plain Int ∷ Plain Int ∷ []) RpcAnswerDropped (omega arith) refl (λ text. refl),
+              (
+                row_broken GET_FUTURE_SALTS (Plain Int ∷ []) GetFutureSalts (omega arith) refl (λ text. refl),
+                (
+                  row_broken FUTURE_SALTS (Plain Long ∷ Plain Int ∷ Salts ∷ []) FutureSalts (omega arith) refl (λ text. refl),
+                  (
+                    row_broken PING (Plain Long ∷ []) Ping (omega arith) refl (λ text. refl),
+                    (
+                      row_broken PING_DELAY_DISCONNECT (Plain Long ∷ Plain Int ∷ []) PingDelayDisconnect (omega arith) refl (λ text. refl),
+                      (
+                        row_broken PONG (Plain Long ∷ Plain Long ∷ []) Pong (omega arith) refl (λ text. refl),
+                        (
+                          row_broken DESTROY_SESSION (Plain Long ∷ []) DestroySession (omega arith) refl (λ text. refl),
+                          (
+                            row_broken DESTROY_SESSION_OK (Plain Long ∷ []) DestroySessionOk (omega arith) refl (λ text. refl),
+                            (
+                              row_broken DESTROY_SESSION_NONE (Plain Long ∷ []) DestroySessionNone (omega arith) refl (λ text. refl),
+                              (
+                                row_broken NEW_SESSION_CREATED (Plain Long ∷ Plain Long ∷ Plain Long ∷ []) NewSessionCreated (omega arith) refl (λ text. refl),
+                                (
+                                  row_broken MSG_CONTAINER (Bodies ∷ []) MsgContainer (omega arith) refl (λ text. refl),
+                                  (
+                                    row_broken MSGS_ACK (Plain Longs ∷ []) MsgsAck (omega arith) refl (λ text. refl),
+                                    (
+                                      row_broken MSGS_STATE_REQ (Plain Longs ∷ []) MsgsStateReq (omega arith) refl (λ text. refl),
+                                      (
+                                        row_broken MSGS_STATE_INFO (Plain Long ∷ Plain Bytes ∷ []) MsgsStateInfo (omega arith) refl (λ text. refl),
+                                        (
+                                          row_broken MSGS_ALL_INFO (Plain Longs ∷ Plain Bytes ∷ []) MsgsAllInfo (omega arith) refl (λ text. refl),
+                                          (
+                                            row_broken MSG_RESEND_REQ (Plain Longs ∷ []) MsgResendReq (omega arith) refl (λ text. refl),
+                                            (
+                                              row_broken MSG_DETAILED_INFO (Plain Long ∷ Plain Long ∷ Plain Int ∷ Plain Int ∷ []) MsgDetailedInfo (omega arith) refl (λ text. refl),
+                                              (
+                                                row_broken MSG_NEW_DETAILED_INFO (Plain Long ∷ Plain Int ∷ Plain Int ∷ []) MsgNewDetailedInfo (omega arith) refl (λ text. refl),
+                                                (
+                                                  row_broken BAD_MSG_NOTIFICATION (Plain Long ∷ Plain Int ∷ Plain Int ∷ []) BadMsgNotification (omega arith) refl (λ text. refl),
+                                                  (
+                                                    row_broken BAD_SERVER_SALT (Plain Long ∷ Plain Int ∷ Plain Int ∷ Plain Long ∷ []) BadServerSalt (omega arith) refl (λ text. refl),
+                                                    (
+                                                      row_broken INVOKE_AFTER_MSG (Plain Long ∷ Rest ∷ []) InvokeAfterMsg (omega arith) refl (λ text. refl),
+                                                      (
+                                                        row_broken INVOKE_AFTER_MSGS (Plain Longs ∷ Rest ∷ []) InvokeAfterMsgs (omega arith) refl (λ text. refl),
+                                                        (
+                                                          row_broken AUTH_BIND_TEMP_AUTH_KEY (Plain Long ∷ Plain Long ∷ Plain Int ∷ Plain Bytes ∷ []) AuthBindTempAuthKey (omega arith) refl (λ text. refl),
+                                                          tt,
+                                                        ),
+                                                      ),
+                                                    ),
+                                                  ),
+                                                ),
+                                              ),
+                                            ),
+                                          ),
+                                        ),
+                                      ),
+                                    ),
+                                  ),
+                                ),
+                              ),
+                            ),
+                          ),
+                        ),
+                      ),
+                    ),
+                  ),
+                ),
+              ),
+            ),
+          ),
+        ),
+      ),
+    ),
+  )

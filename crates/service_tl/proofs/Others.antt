@@ -1,13 +1,13 @@
 -- Bodies that begin with no row's constructor.
-use Rattle.std.proofs.Common.{◌≡◌, ℕ, suc, ◌+◌, ◌^◌, ◌<◌, true, false, ltb, eqb, inl, inr, List, [], ◌∷◌, ◌++◌, length, get_or, map, Contains, None, Result, Ok, refl, sym, ap, subst, arith}
-use Rattle.std.proofs.lemmas.Bool.{cases_eq, lt-ltb, ne_eqb}
+use Rattle.std.proofs.Common.{◌≡◌, ℕ, suc, ◌^◌, ◌<◌, true, false, ltb, eqb, List, [], ◌∷◌, ◌++◌, length, map, Contains, None, Ok, refl, sym, subst, arith}
+use Rattle.std.proofs.lemmas.Bool.{lt-ltb, ne_eqb}
 use Rattle.std.proofs.lemmas.List.{length-append, get_or_at, get_or_append_left}
-use Rattle.tl_codec.specs.Spelling.{Form, Int, Of, Spells, spelling}
+use Rattle.tl_codec.specs.Spelling.{Form, Int, Of, Spells}
 use Rattle.tl_codec.specs.Reading.{read_at, number_at}
 use Rattle.service_tl.specs.declared.item.Item.TheVariants.{Packed, Call}
 use Rattle.service_tl.specs.declared.numbers.TheConstants.{GZIP_PACKED}
 use Rattle.service_tl.specs.Schema.{Row, schema, service_numbers, item_in}
-use Rattle.service_tl.specs.ItemOf.{whole, item_of}
+use Rattle.service_tl.specs.ItemOf.{item_of}
 use Rattle.service_tl.specs.Exact.{behind}
 use Rattle.service_tl.proofs.Again.{value_again}
 

@@ -2,7 +2,7 @@
 use Rattle.std.proofs.Common.{◌≡◌, ℕ, ◌+◌, ◌<◌, List, [], ◌∷◌, ◌++◌, length, get_or, take, map, sym, ap, ◌∙◌, append_assoc}
 use Rattle.std.proofs.lemmas.List.{append-nil, take_more, map_push}
 use Rattle.tl_codec.specs.Spelling.{Int, spelling}
-use Rattle.service_tl.specs.declared.writing.Part.{Part}
+use Rattle.service_tl.specs.declared.parts.Part.{Part}
 use Rattle.service_tl.specs.Items.{parts, boxed}
 use Rattle.service_tl.specs.Parts.{part_spelling}
 

@@ -84,6 +84,47 @@ IsWritable Call = ⊥
 IsWritable (Broken number) = ⊥
 IsWritable other = ⊤
 
+-- an item but the answers to calls
+abbrev pub IsNoAnswer : Item → Type 0
+IsNoAnswer (RpcResult req_msg_id result) = ⊥
+IsNoAnswer (RpcError error_code error_message) = ⊥
+IsNoAnswer (RpcDropAnswer req_msg_id) = ⊥
+IsNoAnswer RpcAnswerUnknown = ⊥
+IsNoAnswer RpcAnswerDroppedRunning = ⊥
+IsNoAnswer (RpcAnswerDropped msg_id seq_no size) = ⊥
+IsNoAnswer other = ⊤
+
+-- of these one that isn't about salts, pings and sessions
+abbrev pub IsNoSession : Item → Type 0
+IsNoSession (GetFutureSalts num) = ⊥
+IsNoSession (FutureSalts req_msg_id now salts) = ⊥
+IsNoSession (Ping ping_id) = ⊥
+IsNoSession (PingDelayDisconnect ping_id disconnect_delay) = ⊥
+IsNoSession (Pong msg_id ping_id) = ⊥
+IsNoSession (DestroySession session_id) = ⊥
+IsNoSession (DestroySessionOk session_id) = ⊥
+IsNoSession (DestroySessionNone session_id) = ⊥
+IsNoSession (NewSessionCreated first_msg_id unique_id server_salt) = ⊥
+IsNoSession other = IsNoAnswer other
+
+-- of these one that is no container, acknowledgement or state
+abbrev pub IsNoList : Item → Type 0
+IsNoList (MsgContainer messages) = ⊥
+IsNoList (MsgsAck msg_ids) = ⊥
+IsNoList (MsgsStateReq msg_ids) = ⊥
+IsNoList (MsgsStateInfo req_msg_id info) = ⊥
+IsNoList (MsgsAllInfo msg_ids info) = ⊥
+IsNoList (MsgResendReq msg_ids) = ⊥
+IsNoList other = IsNoSession other
+
+-- of these one that is no notice
+abbrev pub IsWrapper : Item → Type 0
+IsWrapper (MsgDetailedInfo msg_id answer_msg_id size status) = ⊥
+IsWrapper (MsgNewDetailedInfo answer_msg_id size status) = ⊥
+IsWrapper (BadMsgNotification bad_msg_id bad_msg_seqno error_code) = ⊥
+IsWrapper (BadServerSalt bad_msg_id bad_msg_seqno error_code new_server_salt) = ⊥
+IsWrapper other = IsNoList other
+
 -- which items have a spelling that is read again: each number fits its width
 abbrev pub ItemFits : Item → Type 0
 ItemFits (RpcResult req_msg_id result) = FieldFits (Plain Long) req_msg_id × FieldFits Rest result

@@ -1,8 +1,8 @@
 -- What is written of an item, part by part.
 use Rattle.std.specs.Prelude.{◌≤◌, ℕ, List, length, ⊤}
 use Rattle.tl_codec.specs.declared.tags.TheConstants.{BYTES_MAX, LONGS_MAX}
-use Rattle.service_tl.specs.declared.writing.Part.{Part}
-use Rattle.service_tl.specs.declared.writing.Part.TheVariants.{Int, Long, Bytes, Longs, Rest, Salts, Bodies}
+use Rattle.service_tl.specs.declared.parts.Part.{Part}
+use Rattle.service_tl.specs.declared.parts.Part.TheVariants.{Int, Long, Bytes, Longs, Rest, Salts, Bodies}
 use Rattle.service_tl.specs.Items.{int, long, bytes, longs, salt_rows, message_rows}
 
 abbrev pub part_spelling : Part → List ℕ

@@ -9,6 +9,7 @@ mod laws;
 mod lists;
 mod numbers;
 mod parsing;
+mod parts;
 mod reading;
 mod writing;
 

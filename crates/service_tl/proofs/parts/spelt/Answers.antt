@@ -1,7 +1,7 @@
 use Rattle.std.proofs.Common.{◌∙◌, ◌++◌, List, ℕ, ap}
 use Rattle.service_tl.specs.Parts.{part_spelling}
 use Rattle.service_tl.proofs.Written.{boxed_more}
-use Rattle.service_tl.proofs.writing.spelt.Goals as goal
+use Rattle.service_tl.proofs.parts.spelt.Goals as goal
 
 pub loop-part-preserved : goal.loop-part-preserved
 loop-part-preserved c =
