@@ -16,6 +16,7 @@ first_same e = cc
 pub returns-in-len1 : goal.returns-in-len1
 returns-in-len1 c =
     let words = ap (map string_bytes) (one c.args.words.now c.word-item.result (omega arith) c.word-item.is) in
-    let decides = bytes_eq-Decides c.as_str.result.now (codes "sim") in
-    ( λ yes. words ∙ ap (λ (bytes : List ℕ). bytes ∷ []) (sym c.as_str.ensures.value ∙ decides.0 (sym c.eq.ensures ∙ yes))
-    , λ same. let bytes : string_bytes c.word-item.result ≡ codes "sim" = first_same (sym words ∙ same) in c.eq.ensures ∙ decides.1 (c.as_str.ensures.value ∙ bytes))
+    let decides = bytes_eq-Decides c.as_str.result.now (codes "sim") in (
+      λ yes. words ∙ ap (λ (bytes : List ℕ). bytes ∷ []) (sym c.as_str.ensures.value ∙ decides.0 (sym c.eq.ensures ∙ yes)),
+      λ same. let bytes : string_bytes c.word-item.result ≡ codes "sim" = first_same (sym words ∙ same) in c.eq.ensures ∙ decides.1 (c.as_str.ensures.value ∙ bytes),
+    )
