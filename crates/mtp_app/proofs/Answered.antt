@@ -1,12 +1,12 @@
 -- A text is reported or refused, and not both.
-use Rattle.std.proofs.Common.{◌≡◌, ◌∙◌, ℕ, ◌<◌, ◌≤◌, List, Option, Some, None, ◌⊎◌, inl, inr, IfSome, ap, sym, refl, arith}
+use Rattle.std.proofs.Common.{◌≡◌, ◌∙◌, ℕ, List, Option, Some, None, inl, inr, IfSome, ap, sym, refl, arith}
 use Rattle.world_core.specs.declared.schedule.Placed.{Placed}
 use Rattle.world_core.specs.Schedule.{lines_of}
 use Rattle.world_core.specs.World.{start, run, events_of, first_refusal}
 use Rattle.world_core.specs.Once.{OnceIn, NamesAreApartIn}
 use Rattle.world_core.proofs.OnceLemmas.{once_of_run, names_apart_of_run}
 use Rattle.world_core.proofs.Readings.{events-one, events-no_bad}
-use Rattle.mtp_app.specs.Sim.{AreSim, IsLawful, IsTooLong, HasBadLineAt, IsRefusedAt, Refused, Reported, Answers, UnlessFault, status_of}
+use Rattle.mtp_app.specs.Sim.{AreSim, IsLawful, Refused, Answers, UnlessFault, status_of}
 use Rattle.mtp_app.specs.declared.sim.Outcome.{Outcome}
 use Rattle.mtp_app.specs.declared.sim.Outcome.TheVariants.{Finished, WordsRefused, InputRefused}
 

@@ -1,6 +1,5 @@
-use Rattle.std.proofs.Common.{◌≡◌, ◌∙◌, List, [], ◌∷◌, map, length, ap, sym, arith, get_or, String, Global, ℕ, Bool, true}
+use Rattle.std.proofs.Common.{◌≡◌, ◌∙◌, List, [], ◌∷◌, map, length, ap, sym, arith, get_or, String, Global, ℕ}
 use Rattle.std.specs.Prelude.{string_bytes, codes}
-use Rattle.std.specs.Str.{bytes_eq}
 use Rattle.std.proofs.lemmas.Slice.Eq.{bytes_eq-Decides}
 use Rattle.mtp_app.proofs.app.are_sim.Goals as goal
 
