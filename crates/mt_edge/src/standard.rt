@@ -1,6 +1,6 @@
 //! Readers and writers of std, standard input and output among them, as a source and a sink. They tell nothing.
 
-ghost use Rattle.std.specs.Prelude.{None};
+ghost use Rattle.std.specs.Prelude.{◌≡◌, None};
 
 use crate::faults::raised;
 use crate::sink::{Put, Sink};
@@ -16,7 +16,9 @@ pub struct ReadSource<R> {
 
 impl<R: Read + Drop> ReadSource<R> {
     /// A source over the reader, with no fault yet.
-    pub fn new(reader: R) -> ReadSource<R> {
+    pub fn new(reader: R) -> ReadSource<R>
+        ensures { ⟦<ReadSource<R> as Source>⟧.faults result ≡ 0 }
+    {
         ReadSource { reader, faults: 0 }
     }
 }
@@ -47,7 +49,9 @@ pub struct WriteSink<W> {
 
 impl<W: Write + Drop> WriteSink<W> {
     /// A sink over the writer, with no fault yet.
-    pub fn new(writer: W) -> WriteSink<W> {
+    pub fn new(writer: W) -> WriteSink<W>
+        ensures { ⟦<WriteSink<W> as Sink>⟧.faults result ≡ 0 }
+    {
         WriteSink { writer, faults: 0 }
     }
 }
