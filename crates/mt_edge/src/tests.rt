@@ -1,6 +1,8 @@
 //! Whole texts through sources and sinks that cut and fail.
 
-use crate::{MemSink, MemSource, ReadFault, ReadSource, WriteFault, WriteSink, read_all, write_all};
+use crate::{
+    MemSink, MemSource, ReadFault, ReadSource, WriteFault, WriteSink, read_all, write_all,
+};
 use std::alloc::Global;
 use std::process::Abort;
 use std::test::Fail;
@@ -53,7 +55,12 @@ fn texts_are_read(rt: HostRuntime) -> Result<(), Fail> {
     reads(&rt, alloc, 7, &[2, 3], Err(ReadFault::Failed), 1)?;
     reads(&rt, alloc, 7, &[3], Err(ReadFault::Failed), 1)?;
     let mut long = MemSource::new(alloc, b"0123456789x", 4, &[])?;
-    assert!(rt; matches!(read_all(alloc, &mut long, TEXT.len()), Err(ReadFault::TooLong)));
+    assert!(rt;
+        matches!(
+            read_all(alloc, &mut long, TEXT.len()),
+            Err(ReadFault::TooLong)
+        )
+    );
     assert_eq!(rt; long.faults(), 0);
     Ok(())
 }

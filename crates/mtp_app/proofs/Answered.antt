@@ -1,12 +1,12 @@
 -- A text is reported or refused, and not both.
-use Rattle.std.proofs.Common.{◌≡◌, ◌∙◌, ℕ, ◌<◌, ◌≤◌, List, Option, Some, None, ◌⊎◌, inl, inr, IfSome, ap, sym, refl, arith}
+use Rattle.std.proofs.Common.{◌≡◌, ◌∙◌, ℕ, List, Option, Some, None, inl, inr, IfSome, ap, sym, refl, arith}
 use Rattle.world_core.specs.declared.schedule.Placed.{Placed}
 use Rattle.world_core.specs.Schedule.{lines_of}
 use Rattle.world_core.specs.World.{start, run, events_of, first_refusal}
-use Rattle.world_core.specs.Once.{OnceIn}
-use Rattle.world_core.proofs.OnceLemmas.{once_of_run}
+use Rattle.world_core.specs.Once.{OnceIn, NamesAreApartIn}
+use Rattle.world_core.proofs.OnceLemmas.{once_of_run, names_apart_of_run}
 use Rattle.world_core.proofs.Readings.{events-one, events-no_bad}
-use Rattle.mtp_app.specs.Sim.{AreSim, IsLawful, IsTooLong, HasBadLineAt, IsRefusedAt, Refused, Reported, Answers, UnlessFault, status_of}
+use Rattle.mtp_app.specs.Sim.{AreSim, IsLawful, Refused, Answers, UnlessFault, status_of}
 use Rattle.mtp_app.specs.declared.sim.Outcome.{Outcome}
 use Rattle.mtp_app.specs.declared.sim.Outcome.TheVariants.{Finished, WordsRefused, InputRefused}
 
@@ -32,9 +32,9 @@ caused-refused words (Some text) Finished due h sim = λ why refused. absurd (la
 caused-refused words (Some text) WordsRefused due h sim = absurd (h.0 sim)
 caused-refused words (Some text) InputRefused due h sim = λ why refused. inl refl
 
--- in the world of what is reported each call ran at most once
-pub reported-once : (words : List (List ℕ)) (input : Option (List ℕ)) (outcome : Outcome) (due : List ℕ) → Answers words input outcome due → status_of outcome ≡ 0 → IfSome input (λ text. (events : List Placed) × IsLawful text events × OnceIn (run (events_of events)))
+-- in the world of what is reported each call ran at most once, and under names of its own
+pub reported-once : (words : List (List ℕ)) (input : Option (List ℕ)) (outcome : Outcome) (due : List ℕ) → Answers words input outcome due → status_of outcome ≡ 0 → IfSome input (λ text. (events : List Placed) × IsLawful text events × OnceIn (run (events_of events)) × NamesAreApartIn (run (events_of events)))
 reported-once words None outcome due h done = tt
-reported-once words (Some text) Finished due h done = (h.1.0, h.1.1, once_of_run (events_of h.1.0))
+reported-once words (Some text) Finished due h done = (h.1.0, h.1.1, once_of_run (events_of h.1.0), names_apart_of_run (events_of h.1.0))
 reported-once words (Some text) WordsRefused due h done = cc
 reported-once words (Some text) InputRefused due h done = cc

@@ -1,5 +1,5 @@
 -- A schedule that is played event by event.
-use Rattle.std.proofs.Common.{◌≡◌, ◌∙◌, ℕ, suc, ◌+◌, ◌<◌, List, [], ◌∷◌, length, get_or, drop, Option, Some, None, IfSome, Result, Ok, Err, IfOk, slice_get, ap, sym, refl, subst, add-one, drop-cons}
+use Rattle.std.proofs.Common.{◌≡◌, ◌∙◌, ℕ, ◌+◌, ◌<◌, List, ◌∷◌, length, get_or, drop, Option, Some, None, IfSome, Result, Ok, Err, IfOk, slice_get, ap, sym, subst, add-one, drop-cons}
 use Rattle.std.proofs.lemmas.Option.{slice_get-get_or}
 use Rattle.world_core.specs.declared.schedule.Event.{Event}
 use Rattle.world_core.specs.declared.schedule.Placed.{Placed}
@@ -10,7 +10,7 @@ use Rattle.mtp_app.specs.declared.sim.Answer.{Answer}
 use Rattle.mtp_app.specs.declared.sim.Outcome.{Outcome}
 use Rattle.mtp_app.specs.declared.sim.Outcome.TheVariants.{Finished, WordsRefused, InputRefused}
 use Rattle.mtp_app.specs.Sim.{Plays, refusal_line}
-use Rattle.world_core.specs.World.{World, start, IsRefusal, step, after, refusal, run_from, events_of, first_of, first_refusal}
+use Rattle.world_core.specs.World.{World, start, IsRefusal, step, refusal, run_from, events_of, first_of, first_refusal}
 
 module _ (w : World) (events : List Placed) (k : ℕ) (event : Event) (within : k < length events) (at : IfSome (slice_get events k) (λ p. event ≡ p.event)) where
   abbrev placed : Placed

@@ -1,9 +1,9 @@
 -- What `sim` owes to the words that it is given and to the bytes of its input.
-use Rattle.std.specs.Prelude.{◌≡◌, ℕ, ◌<◌, ◌≤◌, List, [], ◌∷◌, ◌++◌, ◌⊎◌, Option, Some, None, map, length, codes, decimal, IfSome, IsSomeAnd}
+use Rattle.std.specs.Prelude.{◌≡◌, ℕ, ◌<◌, ◌≤◌, List, [], ◌∷◌, ◌++◌, ◌⊎◌, Option, Some, None, length, codes, decimal, IfSome, IsSomeAnd}
 use Rattle.world_core.specs.declared.schedule.Placed.{Placed}
 use Rattle.world_core.specs.declared.world.StepFault.{StepFault}
 use Rattle.world_core.specs.Schedule.{IsSchedule, HasBadLine}
-use Rattle.world_core.specs.World.{World, start, run, events_of, first_refusal}
+use Rattle.world_core.specs.World.{start, run, events_of, first_refusal}
 use Rattle.world_core.specs.Report.{report, cause_text}
 use Rattle.mtp_app.specs.declared.sim.Outcome.{Outcome}
 use Rattle.mtp_app.specs.declared.sim.Outcome.TheVariants.{Finished, WordsRefused, InputRefused}

@@ -3,7 +3,7 @@
 ghost use Rattle.std.specs.Prelude.{◌≡◌, ◌⊎◌, ◌↔◌, [], Some, Err, ℕ, List, map, codes, string_bytes, IsTrue, IfOk, IfSome};
 ghost use Rattle.mt_edge.specs.Faults.{Rose};
 ghost use Rattle.world_core.specs.declared.schedule.Placed.{Placed};
-ghost use Rattle.world_core.specs.Once.{OnceIn};
+ghost use Rattle.world_core.specs.Once.{OnceIn, NamesAreApartIn};
 ghost use Rattle.world_core.specs.World.{run as run_of, events_of};
 ghost use Rattle.mtp_app.specs.Sim.{AreSim, IsLawful, Refused, Reported, Answers, UnlessFault, Writes, WritesFront};
 
@@ -26,19 +26,15 @@ const MEMORY: u8 = 9;
 /// The one word `sim` reads a schedule to its end and writes the report of its world. Status 0: the report is
 /// written. 1: the words are refused. 2: the input is refused, with the line and the cause. 3: the input can't be
 /// read. 4: the output can't be written. 9: memory ran out.
-pub fn run<S: Source, O: Sink>(
-    alloc: Global,
-    words: &[String],
-    input: &mut S,
-    out: &mut O,
-) -> u8
+pub fn run<S: Source, O: Sink>(alloc: Global, words: &[String], input: &mut S, out: &mut O) -> u8
     ensures statuses { (result ≡ 0) ⊎ (result ≡ 1) ⊎ (result ≡ 2) ⊎ (result ≡ 3) ⊎ (result ≡ 4) ⊎ (result ≡ 9) }
 
     // Status 0 comes where the input was read to its end and spells a lawful schedule; its report is written.
     ensures read_to_the_end { result ≡ 0 → IfSome (S.left input.old) (λ _. S.left input.new ≡ Some []) }
     ensures reported { result ≡ 0 → IfSome (S.left input.old) (λ text. (due : List ℕ) × Reported text due × Writes (O.written out.old) (O.written out.new) due) }
-    // In the one world of that schedule each call ran at most once.
-    ensures at_most_once { result ≡ 0 → IfSome (S.left input.old) (λ text. (events : List Placed) × IsLawful text events × OnceIn (run_of (events_of events))) }
+    // In the one world of that schedule each call ran at most once, and no two calls share a name.
+    ensures at_most_once { result ≡ 0 → IfSome (S.left input.old) (λ text. (events : List Placed) × IsLawful text events
+        × OnceIn (run_of (events_of events)) × NamesAreApartIn (run_of (events_of events))) }
     // Nothing but a fault keeps a lawful schedule from its report.
     ensures completeness { AreSim (map string_bytes words.now) → IfSome (S.left input.old) (λ text.
         (events : List Placed) → IsLawful text events → UnlessFault result 0) }

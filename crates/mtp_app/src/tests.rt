@@ -13,6 +13,7 @@ use tl_codec::Octets;
 const ROOM_BYTES: usize = 4096;
 
 const FIRST: &str = "client\ncall 1 add x 5\nflush 1\ngive 1\nwork 1\ngive 2\n";
+
 const FIRST_REPORT: &str = "call 1 1 done 5\nrun 1 1 4 5\n";
 
 /// A run: its schedule, how it is cut, which reads and writes fail, and what has to come of it.
@@ -73,7 +74,12 @@ fn checks(rt: &impl Abort, alloc: Global, case: &Case) -> Result<(), Fail> {
     let mut out = MemSink::new(alloc, ROOM_BYTES, piece_bytes, case.failing_writes)?;
     let status = run(alloc, sim.as_slice(), &mut input, &mut out);
     assert_eq!(rt; status, case.status, "of {}", case.schedule);
-    assert_eq!(rt; out.written(), case.written.as_bytes(), "of {}", case.schedule);
+    assert_eq!(rt;
+        out.written(),
+        case.written.as_bytes(),
+        "of {}",
+        case.schedule
+    );
     Ok(())
 }
 
@@ -83,13 +89,21 @@ fn schedules_and_their_reports(rt: HostRuntime) -> Result<(), Fail> {
         plain("", 0, ""),
         plain(FIRST, 0, FIRST_REPORT),
         // Repeats run nothing again.
-        plain("client\ncall 1 add x 5\nflush 1\ngive 1\ngive 1\nwork 1\ngive 1\ngive 3\ngive 2", 0, FIRST_REPORT),
+        plain(
+            "client\ncall 1 add x 5\nflush 1\ngive 1\ngive 1\nwork 1\ngive 1\ngive 3\ngive 2",
+            0,
+            FIRST_REPORT,
+        ),
         plain(
             "client\ncall 1 add x 18446744073709551615\ncall 1 add x 1\nflush 1\nflush 1\ngive 1\ngive 2\nwork 1\nwork 1\ngive 3\ngive 4\n",
             0,
             "call 1 1 done 18446744073709551615\ncall 1 2 done error 400 TOO_LARGE\nrun 1 1 4 18446744073709551615\nrun 1 1 8 error 400 TOO_LARGE\n",
         ),
-        plain("# a call that is queued, and one that is sent\n\nclient\ncall 1 add x 1\ncall 1 add y 2\nflush 1\n", 0, "call 1 1 sent\ncall 1 2 queued\n"),
+        plain(
+            "# a call that is queued, and one that is sent\n\nclient\ncall 1 add x 1\ncall 1 add y 2\nflush 1\n",
+            0,
+            "call 1 1 sent\ncall 1 2 queued\n",
+        ),
         plain("client\ngive 1", 2, "refused at line 2: no packet\n"),
         plain("client\nclient\n", 2, "refused at line 2: no client\n"),
         plain("flush 1\n", 2, "refused at line 1: no client\n"),
@@ -101,13 +115,41 @@ fn schedules_and_their_reports(rt: HostRuntime) -> Result<(), Fail> {
         plain("client \n", 2, "refused at line 1: bad line\n"),
         plain("client\r\n", 2, "refused at line 1: bad line\n"),
         plain("client\n \n", 2, "refused at line 2: bad line\n"),
-        plain("client\ncall 1 add X 5\n", 2, "refused at line 2: bad line\n"),
-        plain("client\ncall 1 add x 05\n", 2, "refused at line 2: bad line\n"),
-        plain("client\ncall 1 add x +5\n", 2, "refused at line 2: bad line\n"),
-        plain("client\ncall 1 add x 18446744073709551616\n", 2, "refused at line 2: bad line\n"),
-        plain("client\ncall 1 add  x 5\n", 2, "refused at line 2: bad line\n"),
-        plain("client\ncall 1 add a23456789012345678901234567890123 5\n", 2, "refused at line 2: bad line\n"),
-        plain("client\ncall 1 add a2345678901234567890123456789012 5\n", 0, "call 1 1 queued\n"),
+        plain(
+            "client\ncall 1 add X 5\n",
+            2,
+            "refused at line 2: bad line\n",
+        ),
+        plain(
+            "client\ncall 1 add x 05\n",
+            2,
+            "refused at line 2: bad line\n",
+        ),
+        plain(
+            "client\ncall 1 add x +5\n",
+            2,
+            "refused at line 2: bad line\n",
+        ),
+        plain(
+            "client\ncall 1 add x 18446744073709551616\n",
+            2,
+            "refused at line 2: bad line\n",
+        ),
+        plain(
+            "client\ncall 1 add  x 5\n",
+            2,
+            "refused at line 2: bad line\n",
+        ),
+        plain(
+            "client\ncall 1 add a23456789012345678901234567890123 5\n",
+            2,
+            "refused at line 2: bad line\n",
+        ),
+        plain(
+            "client\ncall 1 add a2345678901234567890123456789012 5\n",
+            0,
+            "call 1 1 queued\n",
+        ),
     ];
     for case in &cases {
         checks(&rt, rt.alloc(), case)?;
@@ -203,6 +245,9 @@ fn too_many_calls(rt: HostRuntime) -> Result<(), Fail> {
     let mut out = MemSink::new(alloc, ROOM_BYTES, ROOM_BYTES, &[])?;
     let status = run(alloc, sim.as_slice(), &mut input, &mut out);
     assert_eq!(rt; status, 2);
-    assert_eq!(rt; out.written(), b"refused at line 65538: too many calls\n".as_slice());
+    assert_eq!(rt;
+        out.written(),
+        b"refused at line 65538: too many calls\n".as_slice()
+    );
     Ok(())
 }

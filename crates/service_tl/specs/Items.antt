@@ -35,14 +35,16 @@ salt_rows rows = field_spelling Salts rows
 abbrev pub message_rows : List Message → List ℕ
 message_rows messages = field_spelling Bodies messages
 
--- what isn't read has no spelling of its own
+-- Each part's bytes, one after the other, behind the constructor.
 abbrev pub spelling_of : Item → List ℕ
+-- answers to calls: core.telegram.org/mtproto/service_messages, "Response to an RPC query", "RPC Error", "Cancellation of an RPC Query"
 spelling_of (RpcResult req_msg_id result) = boxed RPC_RESULT (long req_msg_id ∷ result ∷ [])
 spelling_of (RpcError error_code error_message) = boxed RPC_ERROR (int error_code ∷ bytes error_message ∷ [])
 spelling_of (RpcDropAnswer req_msg_id) = boxed RPC_DROP_ANSWER (long req_msg_id ∷ [])
-spelling_of RpcAnswerUnknown = boxed RPC_ANSWER_UNKNOWN ([])
-spelling_of RpcAnswerDroppedRunning = boxed RPC_ANSWER_DROPPED_RUNNING ([])
+spelling_of RpcAnswerUnknown = boxed RPC_ANSWER_UNKNOWN []
+spelling_of RpcAnswerDroppedRunning = boxed RPC_ANSWER_DROPPED_RUNNING []
 spelling_of (RpcAnswerDropped msg_id seq_no size) = boxed RPC_ANSWER_DROPPED (long msg_id ∷ int seq_no ∷ int size ∷ [])
+-- salts, pings and sessions: the same page, "Request for several future salts", "Ping Messages", "Request to Destroy Session", "New Session Creation Notification"
 spelling_of (GetFutureSalts num) = boxed GET_FUTURE_SALTS (int num ∷ [])
 spelling_of (FutureSalts req_msg_id now salts) = boxed FUTURE_SALTS (long req_msg_id ∷ int now ∷ salt_rows salts ∷ [])
 spelling_of (Ping ping_id) = boxed PING (long ping_id ∷ [])
@@ -52,19 +54,23 @@ spelling_of (DestroySession session_id) = boxed DESTROY_SESSION (long session_id
 spelling_of (DestroySessionOk session_id) = boxed DESTROY_SESSION_OK (long session_id ∷ [])
 spelling_of (DestroySessionNone session_id) = boxed DESTROY_SESSION_NONE (long session_id ∷ [])
 spelling_of (NewSessionCreated first_msg_id unique_id server_salt) = boxed NEW_SESSION_CREATED (long first_msg_id ∷ long unique_id ∷ long server_salt ∷ [])
+-- containers, acknowledgements and states: the same page, "Containers", and core.telegram.org/mtproto/service_messages_about_messages
 spelling_of (MsgContainer messages) = boxed MSG_CONTAINER (message_rows messages ∷ [])
 spelling_of (MsgsAck msg_ids) = boxed MSGS_ACK (longs msg_ids ∷ [])
 spelling_of (MsgsStateReq msg_ids) = boxed MSGS_STATE_REQ (longs msg_ids ∷ [])
 spelling_of (MsgsStateInfo req_msg_id info) = boxed MSGS_STATE_INFO (long req_msg_id ∷ bytes info ∷ [])
 spelling_of (MsgsAllInfo msg_ids info) = boxed MSGS_ALL_INFO (longs msg_ids ∷ bytes info ∷ [])
 spelling_of (MsgResendReq msg_ids) = boxed MSG_RESEND_REQ (longs msg_ids ∷ [])
+-- notices about one message: core.telegram.org/mtproto/service_messages_about_messages
 spelling_of (MsgDetailedInfo msg_id answer_msg_id size status) = boxed MSG_DETAILED_INFO (long msg_id ∷ long answer_msg_id ∷ int size ∷ int status ∷ [])
 spelling_of (MsgNewDetailedInfo answer_msg_id size status) = boxed MSG_NEW_DETAILED_INFO (long answer_msg_id ∷ int size ∷ int status ∷ [])
 spelling_of (BadMsgNotification bad_msg_id bad_msg_seqno error_code) = boxed BAD_MSG_NOTIFICATION (long bad_msg_id ∷ int bad_msg_seqno ∷ int error_code ∷ [])
 spelling_of (BadServerSalt bad_msg_id bad_msg_seqno error_code new_server_salt) = boxed BAD_SERVER_SALT (long bad_msg_id ∷ int bad_msg_seqno ∷ int error_code ∷ long new_server_salt ∷ [])
+-- queries after other messages, and the binding of temporary keys: core.telegram.org/api/invoking, core.telegram.org/method/auth.bindTempAuthKey
 spelling_of (InvokeAfterMsg msg_id query) = boxed INVOKE_AFTER_MSG (long msg_id ∷ query ∷ [])
 spelling_of (InvokeAfterMsgs msg_ids query) = boxed INVOKE_AFTER_MSGS (longs msg_ids ∷ query ∷ [])
 spelling_of (AuthBindTempAuthKey perm_auth_key_id nonce expires_at encrypted_message) = boxed AUTH_BIND_TEMP_AUTH_KEY (long perm_auth_key_id ∷ long nonce ∷ int expires_at ∷ bytes encrypted_message ∷ [])
+-- what isn't read has no spelling of its own
 spelling_of Packed = []
 spelling_of Call = []
 spelling_of (Broken number) = []

@@ -27,8 +27,8 @@ calls =
     row RPC_RESULT (Plain Long ∷ Rest ∷ []) RpcResult
     ∷ row RPC_ERROR (Plain Int ∷ Plain Bytes ∷ []) RpcError
     ∷ row RPC_DROP_ANSWER (Plain Long ∷ []) RpcDropAnswer
-    ∷ row RPC_ANSWER_UNKNOWN ([]) RpcAnswerUnknown
-    ∷ row RPC_ANSWER_DROPPED_RUNNING ([]) RpcAnswerDroppedRunning
+    ∷ row RPC_ANSWER_UNKNOWN [] RpcAnswerUnknown
+    ∷ row RPC_ANSWER_DROPPED_RUNNING [] RpcAnswerDroppedRunning
     ∷ row RPC_ANSWER_DROPPED (Plain Long ∷ Plain Int ∷ Plain Int ∷ []) RpcAnswerDropped
     ∷ []
 
@@ -66,7 +66,7 @@ notices =
     ∷ row BAD_SERVER_SALT (Plain Long ∷ Plain Int ∷ Plain Int ∷ Plain Long ∷ []) BadServerSalt
     ∷ []
 
--- queries after other messages, and the binding of temporary keys (core.telegram.org/mtproto/invoking-methods, core.telegram.org/method/auth.bindTempAuthKey)
+-- queries after other messages, and the binding of temporary keys (core.telegram.org/api/invoking, core.telegram.org/method/auth.bindTempAuthKey)
 abbrev pub wrappers : List Row
 wrappers =
     row INVOKE_AFTER_MSG (Plain Long ∷ Rest ∷ []) InvokeAfterMsg

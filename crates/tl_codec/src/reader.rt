@@ -40,6 +40,8 @@ impl<'a> Reader<'a> {
     }
 
     /// Reads `n` raw bytes, as of an `int128` (16) or an `int256` (32).
+    ///
+    /// `Short` where fewer are left. A refused read leaves the place where it was, here and below.
     #[tactic(auto, unfolding(crate::specs::Spelling::spelling))]
     pub fn raw(&mut self, n: usize) -> Result<&'a [u8], TlFault>
         ensures taken { IfOk result (λ bytes. Takes (Raw n) bytes.now self.old self.new) }
@@ -51,7 +53,7 @@ impl<'a> Reader<'a> {
         Ok(field)
     }
 
-    /// Reads an `int`.
+    /// Reads an `int`, 4 bytes, the least first. `Short` where fewer are left.
     #[tactic(auto, unfolding(crate::specs::Reading::number_at, crate::specs::Spelling::spelling))]
     pub fn int(&mut self) -> Result<u32, TlFault>
         ensures taken { IfOk result (λ number. Takes Int number self.old self.new) }
@@ -63,7 +65,7 @@ impl<'a> Reader<'a> {
         Ok(LittleEndian::read_u32(field))
     }
 
-    /// Reads a `long`.
+    /// Reads a `long`, 8 bytes, the least first. `Short` where fewer are left.
     #[tactic(auto, unfolding(crate::specs::Reading::number_at, crate::specs::Spelling::spelling))]
     pub fn long(&mut self) -> Result<u64, TlFault>
         ensures taken { IfOk result (λ number. Takes Long number self.old self.new) }
@@ -75,7 +77,11 @@ impl<'a> Reader<'a> {
         Ok(LittleEndian::read_u64(field))
     }
 
-    /// Reads a `string` or `bytes`: the content, without its length and padding.
+    /// Reads a `string` or `bytes`: the content, without its length and padding. The long form is taken
+    /// for any length, and any bytes as padding.
+    ///
+    /// `Short` where fewer bytes are left than the whole field takes with its padding, or than 4 where
+    /// its length isn't known yet. `BadTag` at the byte `ff`, which begins no string.
     #[tactic(auto, unfolding(crate::specs::Reading::bytes_at, crate::specs::Spelling::spelling))]
     pub fn bytes(&mut self) -> Result<&'a [u8], TlFault>
         ensures taken { IfOk result (λ bytes. Takes Bytes bytes.now self.old self.new) }
@@ -89,7 +95,8 @@ impl<'a> Reader<'a> {
         Ok(&field[head..head + len])
     }
 
-    /// Reads the constructor `want`.
+    /// Reads the constructor `want`. `Short` where fewer than 4 bytes are left, `BadTag` where another
+    /// constructor stands.
     #[tactic(auto, unfolding(crate::specs::Reading::tag_at, crate::specs::Spelling::spelling))]
     pub fn tag(&mut self, want: u32) -> Result<(), TlFault>
         ensures taken { IfOk result (λ _. Takes (Tag want) tt self.old self.new) }
@@ -105,7 +112,8 @@ impl<'a> Reader<'a> {
         Ok(())
     }
 
-    /// Reads a `Bool`.
+    /// Reads a `Bool`. `Short` where fewer than 4 bytes are left, `BadTag` where neither constructor of a
+    /// `Bool` stands.
     #[tactic(auto, unfolding(crate::specs::Reading::truth_at, crate::specs::Spelling::spelling))]
     pub fn boolean(&mut self) -> Result<bool, TlFault>
         ensures taken { IfOk result (λ value. Takes Truth value self.old self.new) }
@@ -122,7 +130,11 @@ impl<'a> Reader<'a> {
         Ok(value)
     }
 
-    /// Reads a `Vector long`.
+    /// Reads a `Vector long` of at most 8,192 numbers. Room for them is taken once, and only where they
+    /// are all there.
+    ///
+    /// `Short` where constructor or count are cut, or a number, with what is left of the first one that
+    /// isn't whole. `BadTag` where another constructor stands. `TooMany` at a greater count. `Memory`.
     #[tactic(auto, unfolding(crate::specs::Reading::longs_at, crate::specs::Spelling::spelling))]
     pub fn longs(&mut self, alloc: Global) -> Result<IdList, TlFault>
         ensures taken { IfOk result (λ numbers. Takes Longs numbers self.old self.new) }
@@ -148,7 +160,7 @@ impl<'a> Reader<'a> {
         Ok(numbers)
     }
 
-    /// All that is left.
+    /// All that is left, which may be nothing. Never fails.
     pub fn rest(&mut self) -> &'a [u8]
         ensures taken { result.now ≡ self.old }
         ensures ended { self.new ≡ [] }

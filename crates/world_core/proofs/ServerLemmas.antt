@@ -1,6 +1,5 @@
 -- Jobs and entries of a session.
 use Rattle.std.proofs.Common.{◌≡◌, ◌∙◌, ℕ, zero, suc, ◌+◌, ◌<◌, List, [], ◌∷◌, ◌++◌, length, get_or, map, remove, Option, option_map, Some, None, true, false, cond, ◌==◌, nat_eq, nat_lt, ap, sym, refl, subst, arith, ⊎_elim, zero-add, add-zero, ◌^◌, ◌&&◌}
-use Rattle.std.specs.Map.{lookup}
 use Rattle.std.proofs.lemmas.Option.{slice_get_read}
 use Rattle.std.specs.Str.{bytes_eq}
 use Rattle.world_core.specs.declared.service.Reply.TheVariants.{Value, TooLarge}
@@ -117,10 +116,6 @@ progress-some : (n : ℕ) → 0 < n → progress_from None n ≡ Some Waiting
 progress-some n h = cond-true (nat_lt 0 n) (Some Waiting) None (lt-ltb 0 n h)
 
 -- ---- what stands beside the jobs and entries
-
-pub stands-same : (old new : ProgressMap) (registers : Registers) (jobs : List Job) (entries : List Entry) → new.entries ≡ old.entries → Stands old registers jobs entries → Stands new registers jobs entries
-stands-same old new registers jobs entries e h =
-    record { apart = h.apart; progress = λ number. ap (lookup (nat_eq number)) e ∙ h.progress number; sums = h.sums }
 
 -- after a packet of a new number
 pub stands-received : (old new : ProgressMap) (registers : Registers) (jobs : List Job) (entries : List Entry) (job : Job)

@@ -1,4 +1,4 @@
-use Rattle.std.proofs.Common.{◌≡◌, ◌≤◌, ℕ, List, ◌++◌, length, Option, Some, IfSome}
+use Rattle.std.proofs.Common.{◌≡◌, ◌≤◌, ℕ, List, ◌++◌, length, Some, IfSome}
 use Rattle.mt_edge.proofs.whole.write_all.Given as goal
 
 -- a front of the text is written, and the rest is still to be

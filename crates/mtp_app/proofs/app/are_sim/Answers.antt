@@ -1,6 +1,5 @@
-use Rattle.std.proofs.Common.{◌≡◌, ◌∙◌, List, [], ◌∷◌, map, length, ap, sym, arith, get_or, String, Global, ℕ, Bool, true}
+use Rattle.std.proofs.Common.{◌≡◌, ◌∙◌, List, [], ◌∷◌, map, length, ap, sym, arith, get_or, String, Global, ℕ}
 use Rattle.std.specs.Prelude.{string_bytes, codes}
-use Rattle.std.specs.Str.{bytes_eq}
 use Rattle.std.proofs.lemmas.Slice.Eq.{bytes_eq-Decides}
 use Rattle.mtp_app.proofs.app.are_sim.Goals as goal
 
@@ -16,6 +15,7 @@ first_same e = cc
 pub returns-in-len1 : goal.returns-in-len1
 returns-in-len1 c =
     let words = ap (map string_bytes) (one c.args.words.now c.word-item.result (omega arith) c.word-item.is) in
-    let decides = bytes_eq-Decides c.as_str.result.now (codes "sim") in
-    ( λ yes. words ∙ ap (λ (bytes : List ℕ). bytes ∷ []) (sym c.as_str.ensures.value ∙ decides.0 (sym c.eq.ensures ∙ yes))
-    , λ same. let bytes : string_bytes c.word-item.result ≡ codes "sim" = first_same (sym words ∙ same) in c.eq.ensures ∙ decides.1 (c.as_str.ensures.value ∙ bytes))
+    let decides = bytes_eq-Decides c.as_str.result.now (codes "sim") in (
+      λ yes. words ∙ ap (λ (bytes : List ℕ). bytes ∷ []) (sym c.as_str.ensures.value ∙ decides.0 (sym c.eq.ensures ∙ yes)),
+      λ same. let bytes : string_bytes c.word-item.result ≡ codes "sim" = first_same (sym words ∙ same) in c.eq.ensures ∙ decides.1 (c.as_str.ensures.value ∙ bytes),
+    )

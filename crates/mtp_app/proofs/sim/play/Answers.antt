@@ -1,4 +1,4 @@
-use Rattle.std.proofs.Common.{◌≡◌, ◌∙◌, ◌<◌, ap, sym, ◌+◌, drop, length, arith}
+use Rattle.std.proofs.Common.{◌∙◌, ◌<◌, ap, sym, ◌+◌, drop, length, arith}
 use Rattle.world_core.specs.World.{World, run_from, events_of, first_refusal}
 use Rattle.mtp_app.proofs.Plays.{plays-on, refuses-on, refuses-here, refusal-told, answer-refused}
 use Rattle.mtp_app.proofs.sim.play.Goals as goal
