@@ -41,6 +41,7 @@ pub fn run<S: Source, O: Sink>(alloc: Global, words: &[String], input: &mut S, o
 
     // Status 1 comes exactly where the words are not the one word `sim`.
     ensures words_refused { result ≡ 1 → AreSim (map string_bytes words.now) → ⊥ }
+    ensures unread { result ≡ 1 → input.new ≡ input.old }
     ensures words_told { result ≡ 1 → Writes (O.written out.old) (O.written out.new) (codes "words refused\n") }
     ensures other_words { (AreSim (map string_bytes words.now) → ⊥) → UnlessFault result 1 }
 
@@ -69,6 +70,7 @@ pub fn run<S: Source, O: Sink>(alloc: Global, words: &[String], input: &mut S, o
 fn answer<S: Source>(alloc: Global, words: &[String], input: &mut S) -> Result<Answer, Stop>
     ensures answered { IfOk result (λ answer. Answers (map string_bytes words.now) (S.left input.old) answer.outcome answer.text) }
     ensures to_the_end { IfOk result (λ answer. answer.outcome ≡ Outcome.Finished → IfSome (S.left input.old) (λ _. S.left input.new ≡ Some [])) }
+    ensures unread { IfOk result (λ answer. answer.outcome ≡ Outcome.WordsRefused → input.new ≡ input.old) }
     ensures read_fault { result ≡ Err Stop.ReadFault → Rose (S.faults input.old) (S.faults input.new) }
 {
     if are_sim(words) {
