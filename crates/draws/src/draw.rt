@@ -1,6 +1,10 @@
 //! What gives words.
 
-ghost use Rattle.std.specs.Prelude.{◌≡◌, ◌+◌, ◌%◌, ◌^◌, ◌<◌, ℕ, List};
+ghost use Rattle.std.specs.Prelude.{◌≡◌, ◌+◌, ◌%◌, ◌^◌, ◌<◌, ℕ, List, length};
+ghost use Rattle.draws.specs.Draws.{draw_after, words_for, next_bytes};
+
+/// The bytes of a word.
+const WORD_BYTES: usize = 8;
 
 /// What gives words of 64 bits, one after another. It can't fail.
 pub trait Draw {
@@ -38,4 +42,19 @@ pub trait Seeded: Draw + Sized {
         → Self.step (standing_at seed place) ≡ (word_of seed place, standing_at seed ((place + 1) % 2 ^ 64)) };
 
     ghost places: { (seed : List ℕ) (place : ℕ) → place < 2 ^ 64 → place_of (standing_at seed place) ≡ place };
+}
+
+/// Fills the buffer with the bytes of the next words, the least byte of each first. The last word is cut where the
+/// buffer ends.
+pub fn draw_bytes<D: Draw>(draw: &mut D, into: &mut [u8])
+    ensures bytes { into.new ≡ next_bytes D.step (length into.old) draw.old }
+    ensures after { draw.new ≡ draw_after D.step (words_for (length into.old)) draw.old }
+{
+    let words = into.len().div_ceil(WORD_BYTES);
+    for k in 0..words {
+        let bytes = draw.word().to_le_bytes();
+        let start = k * WORD_BYTES;
+        let count = (into.len() - start).min(WORD_BYTES);
+        into[start..start + count].copy_from_slice(&bytes[..count]);
+    }
 }

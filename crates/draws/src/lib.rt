@@ -11,7 +11,7 @@ pub mod laws;
 mod step_draw;
 
 pub use chacha_draw::ChaChaDraw;
-pub use draw::{Draw, Seeded};
+pub use draw::{Draw, Seeded, draw_bytes};
 pub use step_draw::StepDraw;
 
 #[cfg(test)]
