@@ -1,0 +1,3 @@
+pub mod SeededLemmas
+pub mod WordLemmas
+pub mod ByteLemmas

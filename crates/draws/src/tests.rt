@@ -1,0 +1,83 @@
+ghost use Rattle.std.specs.Prelude.{◌≡◌, ◌+◌, ◌<◌, ◌^◌, ◌%◌, ◌==◌, IsTrue};
+ghost use Rattle.draws.specs.Draws.{draw_after, next_bytes, word_after};
+
+use crate::laws::seeded_draws_go_on;
+use crate::{ChaChaDraw, Draw, Seeded, StepDraw, draw_bytes};
+use std::process::Abort;
+
+fn gives<D: Draw>(rt: &impl Abort, draw: &mut D, expected: &[u64]) {
+    for word in expected {
+        assert_eq!(rt; draw.word(), *word);
+    }
+}
+
+#[test]
+fn step_words(rt: HostRuntime) {
+    // 6364136223846793005 times 1, 2 and 3, modulo 2^64.
+    let words = [
+        6_364_136_223_846_793_005,
+        12_728_272_447_693_586_010,
+        645_664_597_830_827_399,
+    ];
+    gives(&rt, &mut StepDraw::new(), &words);
+    let mut draw: StepDraw = Seeded::at(&[7; 32], 1);
+    gives(&rt, &mut draw, &[12_728_272_447_693_586_010]);
+    assert_eq!(rt; draw.place(), 2);
+}
+
+// The key stream of RFC 8439, A.1, of a key and a nonce of zeros: words 0 and 1 of block 0, words 0 and 1 of block 1.
+#[test]
+fn chacha_words(rt: HostRuntime) {
+    let mut draw: ChaChaDraw = Seeded::at(&[0; 32], 0);
+    gives(
+        &rt,
+        &mut draw,
+        &[0x903d_f1a0_ade0_b876, 0x28bd_8653_e56a_5d40],
+    );
+    assert_eq!(rt; draw.place(), 2);
+    let mut draw: ChaChaDraw = Seeded::at(&[0; 32], 8);
+    gives(
+        &rt,
+        &mut draw,
+        &[0x7a38_5155_bee7_079f, 0x0d08_2d73_7c97_ba98],
+    );
+}
+
+// What a sender does: it draws a number, and then a nonce.
+fn number_and_nonce<D: Draw>(draw: &mut D) -> (u64, [u8; 12])
+    ensures number { result.0 ≡ word_after D.step 0 draw.old }
+    ensures nonce { result.1 ≡ next_bytes D.step 12 (draw_after D.step 1 draw.old) }
+    ensures after { draw.new ≡ draw_after D.step 3 draw.old }
+{
+    let number = draw.word();
+    let mut nonce = [0; 12];
+    draw_bytes(draw, &mut nonce);
+    (number, nonce)
+}
+
+// What a journal does: it notes a place, and later draws the same words again.
+fn drawn_again<D: Seeded + Drop>(seed: &[u8; 32]) -> bool
+    ensures { IsTrue result }
+{
+    seeded_draws_go_on::<D>();
+    let mut first = D::at(seed, 7);
+    let _ = first.word();
+    let mut again = D::at(seed, first.place());
+    first.word() == again.word()
+}
+
+// 8 bytes of the word 12728272447693586010 and 4 of 645664597830827399, the least first.
+#[test]
+fn bytes_of_words(rt: HostRuntime) {
+    let mut draw = StepDraw::new();
+    let (number, nonce) = number_and_nonce(&mut draw);
+    assert_eq!(rt; number, 6_364_136_223_846_793_005);
+    assert_eq!(rt;
+        nonce,
+        [
+            0x5a, 0xfe, 0x2a, 0x99, 0x5a, 0xe8, 0xa3, 0xb0, 0x87, 0x7d, 0xc0, 0xe5
+        ]
+    );
+    assert_eq!(rt; draw.place(), 3);
+    assert!(rt; drawn_again::<ChaChaDraw>(&[1; 32]));
+}

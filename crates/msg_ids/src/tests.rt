@@ -1,0 +1,68 @@
+ghost use Rattle.std.specs.Prelude.{◌<◌, IfSome};
+
+use crate::{Moment, Numbers};
+use std::process::Abort;
+
+// What a sender gives to messages at moments, each content-related or not.
+fn gives(rt: &impl Abort, asked: &[(u64, bool)], expected: &[(u64, u32)]) {
+    let mut numbers = Numbers::new();
+    for (asked, expected) in asked.iter().zip(expected) {
+        let (seconds, content) = *asked;
+        let given = numbers.next(Moment::new(seconds), content);
+        assert_eq!(rt; given, Some(*expected));
+    }
+}
+
+#[test]
+fn moments_end(rt: HostRuntime) {
+    assert_eq!(rt; Moment::new(4_000_000_000).seconds(), 4_000_000_000);
+    assert_eq!(rt; Moment::new(u64::MAX).seconds(), 4_000_000_000);
+    assert!(rt; Moment::new(3) < Moment::new(4));
+}
+
+#[test]
+fn numbers_and_seqs(rt: HostRuntime) {
+    gives(
+        &rt,
+        &[(0, true), (0, false), (1, true), (0, true), (1, false)],
+        &[
+            (4, 1),
+            (8, 2),
+            (4294967296, 3),
+            (4294967300, 5),
+            (4294967304, 6),
+        ],
+    );
+    gives(&rt, &[(4_000_000_000, false)], &[(17179869184000000000, 0)]);
+}
+
+#[test]
+fn room_falls(rt: HostRuntime) {
+    let mut numbers = Numbers::new();
+    assert_eq!(rt; numbers.room(), 1_073_741_824);
+    let copy = numbers;
+    assert!(rt; numbers.next(Moment::new(0), true).is_some());
+    assert_eq!(rt; numbers.room(), 1_073_741_823);
+    assert_eq!(rt; copy.room(), 1_073_741_824);
+}
+
+// What a sender does: it looks whether there is room, and then numbers two messages.
+fn number_two(numbers: &mut Numbers, at: Moment) -> Option<(u64, u64)>
+    ensures { IfSome result (λ both. both.0 < both.1) }
+{
+    if numbers.room() < 2 {
+        return None;
+    }
+    let (first, _) = numbers.next(at, true).unwrap();
+    let (second, _) = numbers.next(at, false).unwrap();
+    Some((first, second))
+}
+
+#[test]
+fn two_messages(rt: HostRuntime) {
+    let mut numbers = Numbers::new();
+    assert_eq!(rt;
+        number_two(&mut numbers, Moment::new(1)),
+        Some((4294967296, 4294967300))
+    );
+}
