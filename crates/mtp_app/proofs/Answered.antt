@@ -3,8 +3,8 @@ use Rattle.std.proofs.Common.{◌≡◌, ◌∙◌, ℕ, List, Option, Some, Non
 use Rattle.world_core.specs.declared.schedule.Placed.{Placed}
 use Rattle.world_core.specs.Schedule.{lines_of}
 use Rattle.world_core.specs.World.{start, run, events_of, first_refusal}
-use Rattle.world_core.specs.Once.{OnceIn, NamesAreApartIn}
-use Rattle.world_core.proofs.OnceLemmas.{once_of_run, names_apart_of_run}
+use Rattle.world_core.specs.Once.{OnceIn, MessageIdsAreApartIn}
+use Rattle.world_core.proofs.OnceLemmas.{once_of_run, message_ids_apart_of_run}
 use Rattle.world_core.proofs.Readings.{events-one, events-no_bad}
 use Rattle.mtp_app.specs.Sim.{AreSim, IsLawful, Refused, Answers, UnlessFault, status_of}
 use Rattle.mtp_app.specs.declared.sim.Outcome.{Outcome}
@@ -33,8 +33,8 @@ caused-refused words (Some text) WordsRefused due h sim = absurd (h.0 sim)
 caused-refused words (Some text) InputRefused due h sim = λ why refused. inl refl
 
 -- in the world of what is reported each call ran at most once, and under names of its own
-pub reported-once : (words : List (List ℕ)) (input : Option (List ℕ)) (outcome : Outcome) (due : List ℕ) → Answers words input outcome due → status_of outcome ≡ 0 → IfSome input (λ text. (events : List Placed) × IsLawful text events × OnceIn (run (events_of events)) × NamesAreApartIn (run (events_of events)))
+pub reported-once : (words : List (List ℕ)) (input : Option (List ℕ)) (outcome : Outcome) (due : List ℕ) → Answers words input outcome due → status_of outcome ≡ 0 → IfSome input (λ text. (events : List Placed) × IsLawful text events × OnceIn (run (events_of events)) × MessageIdsAreApartIn (run (events_of events)))
 reported-once words None outcome due h done = tt
-reported-once words (Some text) Finished due h done = (h.1.0, h.1.1, once_of_run (events_of h.1.0), names_apart_of_run (events_of h.1.0))
+reported-once words (Some text) Finished due h done = (h.1.0, h.1.1, once_of_run (events_of h.1.0), message_ids_apart_of_run (events_of h.1.0))
 reported-once words (Some text) WordsRefused due h done = cc
 reported-once words (Some text) InputRefused due h done = cc

@@ -8,7 +8,7 @@ ghost use Rattle.mtp_app.specs.Sim.{Owes, Plays, refusal_line, status_of};
 use itoa::Buffer;
 use mt_edge::{ReadFault, Source, read_all};
 use std::alloc::Global;
-use tl_codec::{Memory, Octets};
+use octets::{Memory, Octets};
 use world_core::{Events, SchedFault, StepFault, World, read};
 
 /// The most bytes of a schedule.

@@ -7,7 +7,7 @@ use mt_edge::{Got, MemSink, MemSource, Source};
 use std::alloc::{AllocError, Global};
 use std::process::Abort;
 use std::test::Fail;
-use tl_codec::Octets;
+use octets::Octets;
 
 /// Room for what a test writes, in bytes.
 const ROOM_BYTES: usize = 4096;

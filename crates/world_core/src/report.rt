@@ -9,11 +9,15 @@ use crate::server::Entry;
 use crate::service::Reply;
 use crate::world::{StepFault, World};
 use itoa::Buffer;
+use octets::{Memory, Octets};
 use std::alloc::Global;
-use tl_codec::{Memory, Octets};
 
 impl World {
-    /// Puts the world's report behind a text. Fails for want of memory alone, and then leaves the text as it was.
+    /// Puts the world's report behind a text.
+    ///
+    /// # Errors
+    ///
+    /// `Memory`, and then the text is as it was.
     pub fn report(&self, alloc: Global, into: &mut Octets) -> Result<(), Memory>
         ensures reported { OnOk result (into.new ≡ into.old ++ report self.now) }
         ensures unchanged { OnErr result (into.new ≡ into.old) }
@@ -26,7 +30,7 @@ impl World {
 }
 
 impl StepFault {
-    /// The cause of the refusal, as it is told; want of memory has none.
+    /// The cause of the refusal, as it is told; that memory ran out has none.
     pub fn cause(&self) -> Option<&'static str>
         ensures text { IfSome result (λ text. text.now ≡ cause_text self.now) }
         ensures none { IfNone result (IsMemory self.now) }
@@ -37,7 +41,7 @@ impl StepFault {
             StepFault::NoClient => Some("no client"),
             StepFault::NoJob { .. } => Some("no job"),
             StepFault::Submit(SubmitFault::TooMany) => Some("too many calls"),
-            StepFault::Submit(SubmitFault::Memory) | StepFault::Memory => None,
+            StepFault::Memory => None,
         }
     }
 }
