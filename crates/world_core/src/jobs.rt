@@ -68,7 +68,7 @@ impl JobQueue {
         ensures unchanged { OnErr result (self.new ≡ self.old) }
     {
         let count = self.count.checked_add(1).ok_or(Memory)?;
-        append(&mut self.blocks, alloc, job)?;
+        append(alloc, &mut self.blocks, job)?;
         self.count = count;
         Ok(())
     }
@@ -110,7 +110,7 @@ fn find(blocks: &[Vec<Job>], place: usize) -> Spot
 
 /// Puts a job behind the last one, into a new block where the last one has no room. Where
 /// memory runs out, the jobs stay.
-fn append(blocks: &mut Vec<Vec<Job>>, alloc: Global, job: Job) -> Result<(), Memory>
+fn append(alloc: Global, blocks: &mut Vec<Vec<Job>>, job: Job) -> Result<(), Memory>
     ensures appended { OnOk result (jobs_in blocks.new.items ≡ jobs_in blocks.old.items ++ job ∷ []) }
     ensures unchanged { OnErr result (jobs_in blocks.new.items ≡ jobs_in blocks.old.items) }
 {
