@@ -1,16 +1,16 @@
 //! A source and a sink in memory, for tests.
 
 ghost use Rattle.std.specs.Prelude.{◌≡◌, ◌<◌, ◌≤◌, [], Some, length, vec_len, drop, IfOk};
-ghost use Rattle.tl_codec.specs.Bytes.{IsBytes};
+ghost use Rattle.octets.specs.Bytes.{IsBytes};
 
 use crate::faults::raised;
 use crate::sink::{Put, Sink};
 use crate::source::{Got, Source};
+use octets::{Memory, Octets};
 use std::alloc::Global;
-use tl_codec::{Memory, Octets};
 
 /// Bytes in memory that are read in pieces of one length. The reads of the given numbers, from 1, fail.
-#[derive(Drop)]
+#[derive(Debug, Drop)]
 pub struct MemSource {
     contents: Octets,
     place: usize,
@@ -23,7 +23,11 @@ pub struct MemSource {
 }
 
 impl MemSource {
-    /// A source of these bytes that hands over at most `piece_bytes` at a time. Fails for want of memory alone.
+    /// A source of these bytes that hands over at most `piece_bytes` at a time.
+    ///
+    /// # Errors
+    ///
+    /// `Memory`.
     pub fn new(
         alloc: Global,
         contents: &[u8],
@@ -76,7 +80,7 @@ impl Source for MemSource {
 
 /// Bytes in memory that are written in pieces of one length, up to a room. The writes of the given numbers, from 1,
 /// fail, and so does one that finds no room.
-#[derive(Drop)]
+#[derive(Debug, Drop)]
 pub struct MemSink {
     written: Vec<u8>,
     room: usize,
@@ -89,8 +93,11 @@ pub struct MemSink {
 }
 
 impl MemSink {
-    /// A sink with room for `room` bytes, all taken now, that takes at most `piece_bytes` at a time. Fails for want
-    /// of memory alone.
+    /// A sink with room for `room` bytes, all taken now, that takes at most `piece_bytes` at a time.
+    ///
+    /// # Errors
+    ///
+    /// `Memory`.
     pub fn new(
         alloc: Global,
         room: usize,

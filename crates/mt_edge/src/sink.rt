@@ -7,7 +7,7 @@ ghost use Rattle.mt_edge.specs.Put.{IsWithin, TakesOver};
 /// The answer of a write.
 #[derive(Clone, Copy, Debug, PartialEq, Eq)]
 pub enum Put {
-    /// So many bytes of the piece's front are written: from 1 to its length.
+    /// The first `n` bytes of the piece are written: from 1 to its length.
     Took(usize),
     /// The write failed, and none of the piece is written.
     Failed,

@@ -7,7 +7,7 @@ ghost use Rattle.mt_edge.specs.Got.{IsWithin, HandsOver};
 /// The answer of a read.
 #[derive(Clone, Copy, Debug, PartialEq, Eq)]
 pub enum Got {
-    /// So many bytes stand at the front of the buffer: from 1 to its length.
+    /// `n` bytes stand at the front of the buffer: from 1 to its length.
     Bytes(usize),
     /// Nothing is left.
     End,

@@ -8,7 +8,7 @@ use crate::source::{Got, Source};
 use std::io::{Read, Write};
 
 /// A reader of std as a source.
-#[derive(Drop)]
+#[derive(Debug, Drop)]
 pub struct ReadSource<R> {
     reader: R,
     faults: u64,
@@ -41,7 +41,7 @@ impl<R: Read + Drop> Source for ReadSource<R> {
 }
 
 /// A writer of std as a sink. Each piece is flushed as it is written.
-#[derive(Drop)]
+#[derive(Debug, Drop)]
 pub struct WriteSink<W> {
     writer: W,
     faults: u64,

@@ -6,20 +6,24 @@ ghost use Rattle.mt_edge.specs.declared.whole.ReadFault.TheVariants.{Memory as O
 
 use crate::sink::{Put, Sink};
 use crate::source::{Got, Source};
+use octets::{Memory, Octets};
 use std::alloc::Global;
-use tl_codec::{Memory, Octets};
+use thiserror::Error;
 
 /// Room for one read, in bytes.
 const PIECE_BYTES: usize = 4096;
 
 /// Why a source wasn't read to its end.
-#[derive(Clone, Copy, Debug, PartialEq, Eq)]
+#[derive(Clone, Copy, Debug, PartialEq, Eq, Error)]
 pub enum ReadFault {
     /// A read failed.
+    #[error("a read failed")]
     Failed,
     /// More bytes came than were allowed.
+    #[error("more bytes came than were allowed")]
     TooLong,
     /// Memory ran out.
+    #[error("out of memory")]
     Memory,
 }
 
@@ -32,26 +36,31 @@ impl From<Memory> for ReadFault {
 }
 
 /// A write failed.
-#[derive(Clone, Copy, Debug, PartialEq, Eq)]
+#[derive(Clone, Copy, Debug, PartialEq, Eq, Error)]
+#[error("a write failed")]
 pub struct WriteFault;
 
-/// Reads a source to its end, where it has at most so many bytes.
+/// Reads a source to its end, where it has at most `max_bytes` bytes.
+///
+/// # Errors
+///
+/// `Failed` where a read failed, and `TooLong` where more bytes came. `Memory`. The bytes read are lost.
 pub fn read_all<S: Source>(
     alloc: Global,
     source: &mut S,
-    most_bytes: usize,
+    max_bytes: usize,
 ) -> Result<Octets, ReadFault>
-    requires { most_bytes < 2 ^ 32 }
-    ensures short { IfOk result (λ text. length text ≤ most_bytes) }
+    requires { max_bytes < 2 ^ 32 }
+    ensures short { IfOk result (λ text. length text ≤ max_bytes) }
     ensures whole { IfOk result (λ text. IfSome (S.left source.old) (λ left. text ≡ left)) }
     ensures to_the_end { IfOk result (λ _. IfSome (S.left source.old) (λ _. S.left source.new ≡ Some [])) }
-    ensures too_long { result ≡ Err ReadFault.TooLong → IfSome (S.left source.old) (λ left. most_bytes < length left) }
+    ensures too_long { result ≡ Err ReadFault.TooLong → IfSome (S.left source.old) (λ left. max_bytes < length left) }
     ensures failed { result ≡ Err ReadFault.Failed → Rose (S.faults source.old) (S.faults source.new) }
     ensures never_falls { S.faults source.old ≤ S.faults source.new }
 {
     let mut text = Octets::new(alloc);
     let mut piece = [0u8; PIECE_BYTES];
-    let mut room = most_bytes;
+    let mut room = max_bytes;
     loop {
         match source.read(&mut piece) {
             Got::Bytes(count) if count <= room => {
@@ -65,7 +74,11 @@ pub fn read_all<S: Source>(
     }
 }
 
-/// Writes a whole text. Where a write fails, what is written is a front of the text.
+/// Writes a whole text.
+///
+/// # Errors
+///
+/// `WriteFault` where a write failed, and then what is written is a front of the text.
 pub fn write_all<O: Sink>(sink: &mut O, text: &[u8]) -> Result<(), WriteFault>
     ensures whole { OnOk result (IfSome (O.written sink.old) (λ before. O.written sink.new ≡ Some (before ++ text.now))) }
     ensures front { IfSome (O.written sink.old) (λ before. IsSomeAnd (O.written sink.new) (λ after.

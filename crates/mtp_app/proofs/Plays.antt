@@ -9,7 +9,8 @@ use Rattle.world_core.specs.Report.{cause_text, IsMemory}
 use Rattle.mtp_app.specs.declared.sim.Answer.{Answer}
 use Rattle.mtp_app.specs.declared.sim.Outcome.{Outcome}
 use Rattle.mtp_app.specs.declared.sim.Outcome.TheVariants.{Finished, WordsRefused, InputRefused}
-use Rattle.mtp_app.specs.Sim.{Plays, refusal_line}
+use Rattle.mtp_app.specs.Sim.{refusal_line}
+use Rattle.mtp_app.specs.Inner.{Plays}
 use Rattle.world_core.specs.World.{World, start, IsRefusal, step, refusal, run_from, events_of, first_of, first_refusal}
 
 module _ (w : World) (events : List Placed) (k : ℕ) (event : Event) (within : k < length events) (at : IfSome (slice_get events k) (λ p. event ≡ p.event)) where

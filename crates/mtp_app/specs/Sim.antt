@@ -14,9 +14,13 @@ AreSim words = words ≡ codes "sim" ∷ []
 
 -- ---- the input
 
+-- the most bytes of a schedule
+abbrev pub schedule_bytes_max : ℕ
+schedule_bytes_max = 16777216
+
 -- a schedule of these events, each of them lawful
 pub record IsLawful (text : List ℕ) (events : List Placed) : Type 0 where
-  pub short : length text ≤ 16777216
+  pub short : length text ≤ schedule_bytes_max
   pub schedule : IsSchedule text events
   pub lawful : first_refusal start events ≡ None
 
@@ -26,18 +30,18 @@ refusal_line line cause = codes "refused at line " ++ decimal line ++ codes ": "
 
 -- more bytes than a schedule may have
 pub record IsTooLong (text due : List ℕ) : Type 0 where
-  pub long : 16777216 < length text
+  pub long : schedule_bytes_max < length text
   pub told : due ≡ codes "input too long\n"
 
 -- the first line outside the grammar
 pub record HasBadLineAt (text : List ℕ) (line : ℕ) (due : List ℕ) : Type 0 where
-  pub short : length text ≤ 16777216
+  pub short : length text ≤ schedule_bytes_max
   pub bad : HasBadLine text line
   pub told : due ≡ refusal_line line (codes "bad line")
 
 -- else the first line whose step is refused
 pub record IsRefusedAt (text : List ℕ) (events : List Placed) (line : ℕ) (fault : StepFault) (due : List ℕ) : Type 0 where
-  pub short : length text ≤ 16777216
+  pub short : length text ≤ schedule_bytes_max
   pub schedule : IsSchedule text events
   pub refused : first_refusal start events ≡ Some (line, fault)
   pub told : due ≡ refusal_line line (cause_text fault)
@@ -60,12 +64,6 @@ abbrev pub Owes : List ℕ → Outcome → List ℕ → Type 0
 Owes text Finished due = Reported text due
 Owes text InputRefused due = Refused text due
 Owes text WordsRefused due = ⊥
-
--- the text that an outcome owes to the events of a schedule
-abbrev pub Plays : List Placed → Outcome → List ℕ → Type 0
-Plays events Finished due = (first_refusal start events ≡ None) × (due ≡ report (run (events_of events)))
-Plays events InputRefused due = (line : ℕ) × (fault : StepFault) × (first_refusal start events ≡ Some (line, fault)) × (due ≡ refusal_line line (cause_text fault))
-Plays events WordsRefused due = ⊥
 
 -- an outcome with its text is the answer to the words and, where it is told, the input
 abbrev pub Answers : List (List ℕ) → Option (List ℕ) → Outcome → List ℕ → Type 0

@@ -3,14 +3,15 @@
 ghost use Rattle.std.specs.Prelude.{◌≡◌, ◌⊎◌, ◌↔◌, [], Some, Err, ℕ, List, map, codes, string_bytes, IsTrue, IfOk, IfSome};
 ghost use Rattle.mt_edge.specs.Faults.{Rose};
 ghost use Rattle.world_core.specs.declared.schedule.Placed.{Placed};
-ghost use Rattle.world_core.specs.Once.{OnceIn, NamesAreApartIn};
+ghost use Rattle.world_core.specs.Once.{OnceIn, MessageIdsAreApartIn};
 ghost use Rattle.world_core.specs.World.{run as run_of, events_of};
 ghost use Rattle.mtp_app.specs.Sim.{AreSim, IsLawful, Refused, Reported, Answers, UnlessFault, Writes, WritesFront};
 
 use crate::sim::{Answer, Outcome, Stop, sim};
 use mt_edge::{Sink, Source, WriteFault, write_all};
+use octets::Octets;
 use std::alloc::Global;
-use tl_codec::Octets;
+use world_core::laws;
 
 /// The status where the input can't be read.
 const READ_FAULT: u8 = 3;
@@ -32,9 +33,9 @@ pub fn run<S: Source, O: Sink>(alloc: Global, words: &[String], input: &mut S, o
     // Status 0 comes where the input was read to its end and spells a lawful schedule; its report is written.
     ensures read_to_the_end { result ≡ 0 → IfSome (S.left input.old) (λ _. S.left input.new ≡ Some []) }
     ensures reported { result ≡ 0 → IfSome (S.left input.old) (λ text. (due : List ℕ) × Reported text due × Writes (O.written out.old) (O.written out.new) due) }
-    // In the one world of that schedule each call ran at most once, and no two calls share a name.
+    // In the one world of that schedule each call ran at most once, and no two calls share a message identifier.
     ensures at_most_once { result ≡ 0 → IfSome (S.left input.old) (λ text. (events : List Placed) × IsLawful text events
-        × OnceIn (run_of (events_of events)) × NamesAreApartIn (run_of (events_of events))) }
+        × OnceIn (run_of (events_of events)) × MessageIdsAreApartIn (run_of (events_of events))) }
     // Nothing but a fault keeps a lawful schedule from its report.
     ensures completeness { AreSim (map string_bytes words.now) → IfSome (S.left input.old) (λ text.
         (events : List Placed) → IsLawful text events → UnlessFault result 0) }
@@ -56,6 +57,9 @@ pub fn run<S: Source, O: Sink>(alloc: Global, words: &[String], input: &mut S, o
     ensures front_written { result ≡ 4 → WritesFront (map string_bytes words.now) (S.left input.old) (O.written out.old) (O.written out.new) }
     ensures nothing_written { (result ≡ 3) ⊎ (result ≡ 9) → O.written out.new ≡ O.written out.old }
 {
+    laws::one_reading();
+    laws::at_most_once();
+    laws::message_ids_apart();
     match answer(alloc, words, input) {
         Ok(answer) => match write_all(out, answer.text.as_slice()) {
             Ok(()) => answer.outcome.status(),

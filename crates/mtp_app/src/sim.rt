@@ -3,12 +3,13 @@
 ghost use Rattle.std.specs.Prelude.{◌≡◌, ◌<◌, ◌≤◌, ◌^◌, ◌++◌, [], Some, None, Err, ℕ, length, codes, decimal, IfOk, IfSome, OnOk};
 ghost use Rattle.mt_edge.specs.Faults.{Rose};
 ghost use Rattle.world_core.specs.Report.{cause_text, IsMemory};
-ghost use Rattle.mtp_app.specs.Sim.{Owes, Plays, refusal_line, status_of};
+ghost use Rattle.mtp_app.specs.Sim.{Owes, refusal_line, status_of, schedule_bytes_max};
+ghost use Rattle.mtp_app.specs.Inner.{Plays};
 
 use itoa::Buffer;
 use mt_edge::{ReadFault, Source, read_all};
+use octets::{Memory, Octets};
 use std::alloc::Global;
-use tl_codec::{Memory, Octets};
 use world_core::{Events, SchedFault, StepFault, World, read};
 
 /// The most bytes of a schedule.
@@ -39,10 +40,10 @@ impl Outcome {
 }
 
 /// An outcome and the text that is due for it.
-#[derive(Drop)]
+#[derive(Debug, Drop)]
 pub(crate) struct Answer {
-    pub outcome: Outcome,
-    pub text: Octets,
+    pub(crate) outcome: Outcome,
+    pub(crate) text: Octets,
 }
 
 /// Why there is no answer.
@@ -85,7 +86,7 @@ pub(crate) fn sim<S: Source>(alloc: Global, input: &mut S) -> Result<Answer, Sto
 
 /// The answer to the bytes of a schedule.
 fn answer_to(alloc: Global, text: &[u8]) -> Result<Answer, Memory>
-    requires { length text.now ≤ 16777216 }
+    requires { length text.now ≤ schedule_bytes_max }
     ensures { IfOk result (λ answer. Owes text.now answer.outcome answer.text) }
 {
     match read(alloc, text) {

@@ -4,10 +4,10 @@ ghost use Rattle.std.specs.Prelude.{◌≡◌, ◌<◌, ◌≤◌, None, length}
 
 use crate::run;
 use mt_edge::{Got, MemSink, MemSource, Source};
+use octets::Octets;
 use std::alloc::{AllocError, Global};
 use std::process::Abort;
 use std::test::Fail;
-use tl_codec::Octets;
 
 /// Room for what a test writes, in bytes.
 const ROOM_BYTES: usize = 4096;
@@ -196,7 +196,7 @@ fn other_words(rt: HostRuntime) -> Result<(), Fail> {
     refuses(&rt, rt.alloc(), &[""])
 }
 
-/// So many newlines.
+/// `left` newlines.
 #[derive(Drop)]
 struct Newlines {
     left: usize,

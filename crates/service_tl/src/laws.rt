@@ -10,7 +10,7 @@ ghost use Rattle.service_tl.specs.ItemOf.{item_of};
 ghost use Rattle.service_tl.specs.Exact.{behind, IsRead, IsBroken};
 
 use crate::numbers::GZIP_PACKED;
-use tl_codec::{exact_reading, written_again};
+use tl_codec::laws::{exact_reading, written_again};
 
 /// What was written of an item is that item again.
 pub fn items_again()

@@ -13,7 +13,7 @@ use Rattle.world_core.specs.declared.client.CallState.TheVariants.{Queued}
 use Rattle.world_core.specs.declared.server.Entry.{Entry}
 use Rattle.world_core.specs.Client.{is_queued, is_sent, has_number, answered, done_by, WasSent, IsWaiting, AreSentInOrder}
 use Rattle.world_core.specs.Server.{entries_under, reply_under}
-use Rattle.world_core.specs.Once.{is_name_of, entries_over, RanOnce, NamesAreApart}
+use Rattle.world_core.specs.Once.{is_message_id_of, entries_over, RanOnce, MessageIdsAreApart}
 use Rattle.world_core.proofs.ClientLemmas.{waiting-delivered, sent-answered}
 use Rattle.world_core.proofs.ServerLemmas.{entries_under-here, entries_under-there}
 
@@ -163,7 +163,7 @@ ran_once call entries number reply e few h =
     (ran.0, entries_over-some call entries number e ∙ ran.1, ran.2)
 
 -- a number is a name of the call that has it
-pub own_name : (call : Call) (number : ℕ) → call.number ≡ Some number → is_name_of call number ≡ true
+pub own_name : (call : Call) (number : ℕ) → call.number ≡ Some number → is_message_id_of call number ≡ true
 own_name call number e = ap (λ o. list_any (λ name. number == name) (option_to_list o)) e ∙ (or-false (number == number) ∙ eq-eqb number number refl)
 
 -- ---- the names of two calls
@@ -191,8 +191,8 @@ held-name (Some own) name h = first h.0 h.1 h.2
     first (suc k) within e = absurd (omega (arith, within))
 
 -- two calls that were sent in order share no name
-pub names_apart : (sent : ℕ) (calls : List Call) → AreSentInOrder 0 sent calls → NamesAreApart calls
-names_apart sent calls h i j d before within name first second =
+pub message_ids_apart : (sent : ℕ) (calls : List Call) → AreSentInOrder 0 sent calls → MessageIdsAreApart calls
+message_ids_apart sent calls h i j d before within name first second =
     let one = number-of_place 0 sent i calls d name h (omega arith) (held-name (get_or calls i d).number name first) in
     let other = number-of_place 0 sent j calls d name h within (held-name (get_or calls j d).number name second) in
     omega (arith, one, other)

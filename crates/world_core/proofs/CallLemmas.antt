@@ -3,7 +3,8 @@ use Rattle.std.proofs.Common.{◌≡◌, ◌≢◌, ◌∙◌, ℕ, ◌<◌, Lis
 use Rattle.std.specs.Fmt.{decimal}
 use Rattle.std.specs.Prelude.{codes}
 use Rattle.std.proofs.lemmas.List.Elements.{All-head, All-tail, All-weaker}
-use Rattle.world_core.specs.Schedule.{HasNoBlank, IsName, IsNameByte, IsCallOf}
+use Rattle.world_core.specs.Schedule.{HasNoBlank, IsCallOf}
+use Rattle.world_core.specs.RegisterName.{IsRegisterName, IsRegisterNameByte}
 use Rattle.world_core.proofs.NumberLemmas.{no_blank-decimal}
 
 -- two fronts with no blank, each before a blank, are one
@@ -22,8 +23,8 @@ pub no_blank_inside : (text a x : List ℕ) → HasNoBlank text → text ≡ a +
 no_blank_inside text [] x h e = All-head (λ b. b ≢ 32) 32 x (subst HasNoBlank e h) refl
 no_blank_inside text (c ∷ a) x h e = no_blank_inside (a ++ 32 ∷ x) a x (All-tail (λ b. b ≢ 32) c (a ++ 32 ∷ x) (subst HasNoBlank e h)) refl
 
-pub no_blank-name : (name : List ℕ) → IsName name → HasNoBlank name
-no_blank-name name h = All-weaker IsNameByte (λ b. b ≢ 32) (λ b is e. elim is [ inl r ↦ omega (arith, r.0, e) | inr r ↦ omega (arith, r.0, e) ]) name h.bytes
+pub no_blank-name : (name : List ℕ) → IsRegisterName name → HasNoBlank name
+no_blank-name name h = All-weaker IsRegisterNameByte (λ b. b ≢ 32) (λ b is e. elim is [ inl r ↦ omega (arith, r.0, e) | inr r ↦ omega (arith, r.0, e) ]) name h.bytes
 
 -- a call's client, and what stands behind it
 pub parts : (client amount name : List ℕ) → client ++ codes " add " ++ name ++ 32 ∷ amount ≡ client ++ 32 ∷ (codes "add " ++ (name ++ 32 ∷ amount))
@@ -47,7 +48,7 @@ module _ (rest : List ℕ) (client amount : ℕ) (name : List ℕ) (call : IsCal
   call_name word after text own last h e f k g = same_front own name last _ k (no_blank-name name call.name_fits) (sym g ∙ call_behind word after text h e f)
 
 -- what the words spell
-pub spelled_call : (rest word after text own last : List ℕ) (client amount : ℕ) → rest ≡ word ++ 32 ∷ after → after ≡ codes "add " ++ text → text ≡ own ++ 32 ∷ last → word ≡ decimal client → last ≡ decimal amount → client < 2 ^ 64 → amount < 2 ^ 64 → IsName own → IsCallOf rest client own amount
+pub spelled_call : (rest word after text own last : List ℕ) (client amount : ℕ) → rest ≡ word ++ 32 ∷ after → after ≡ codes "add " ++ text → text ≡ own ++ 32 ∷ last → word ≡ decimal client → last ≡ decimal amount → client < 2 ^ 64 → amount < 2 ^ 64 → IsRegisterName own → IsCallOf rest client own amount
 spelled_call rest word after text own last client amount e f g w l c a n =
     record {
       client_fits = c;

@@ -18,10 +18,10 @@ use Rattle.world_core.specs.Client.{is_queued, is_sent, queued, sent_under, next
 use Rattle.world_core.specs.Server.{Session, jobs_under, entries_under, reply_under, is_accepted, received, entry_of, ran, AreApart}
 use Rattle.world_core.specs.declared.world.StepFault.TheVariants.{NoClient}
 use Rattle.world_core.specs.World.{World, start, counted, arrived, ran_at, after, refusal, step, run_from, run}
-use Rattle.world_core.specs.Once.{IsEntryOf, RanOnce, Served, Once, OnceIn, NamesAreApartIn}
+use Rattle.world_core.specs.Once.{IsEntryOf, RanOnce, Served, Once, OnceIn, MessageIdsAreApartIn}
 use Rattle.world_core.proofs.ClientLemmas.{in_order-push, in_order-sent, first_sent-none, packet_due-none, packet_due-at, flushed-at}
 use Rattle.world_core.proofs.ServerLemmas.{no_reply, reply_under-push, apart-received, apart-worked, unanswered}
-use Rattle.world_core.proofs.AskedLemmas.{Asked, asked-push, asked-set, asked-new, asked-delivered, asked-call, in_order-delivered, waiting-at, IsNumbered, all-numbered, entries_over-none, entries_over-few, ran_once, own_name, names_apart}
+use Rattle.world_core.proofs.AskedLemmas.{Asked, asked-push, asked-set, asked-new, asked-delivered, asked-call, in_order-delivered, waiting-at, IsNumbered, all-numbered, entries_over-none, entries_over-few, ran_once, own_name, message_ids_apart}
 
 -- a call that is done has its reply in the entries
 abbrev pub IsAnswered : List Entry → Call → Type 0
@@ -309,7 +309,7 @@ few session apart number = omega (arith, apart number)
 entry-call : (calls : List Call) (entry : Entry) → Asked entry.number entry.request calls → (call : Call) × Contains calls call × IsEntryOf call entry
 entry-call calls entry asked =
     let found = asked-call entry.number entry.request calls asked in
-    (found.0, found.1, record { name = own_name found.0 entry.number found.2; request = sym found.3 })
+    (found.0, found.1, record { message_id = own_name found.0 entry.number found.2; request = sym found.3 })
 
 done-call : (session : Session) (call : Call) → AreApart session → IsNumbered call → IsAnswered session.entries call → (reply : Reply) → call.state ≡ Done reply → RanOnce session.entries call reply
 done-call session call apart numbered answered reply e =
@@ -333,7 +333,7 @@ once_of_run events =
     let w = run events in
     once-kept (unwrap_or w.client []) w.server w.bag (kept-run_from start events kept-start)
 
-pub names_apart_of_run : (events : List Event) → NamesAreApartIn (run events)
-names_apart_of_run events =
+pub message_ids_apart_of_run : (events : List Event) → MessageIdsAreApartIn (run events)
+message_ids_apart_of_run events =
     let kept = kept-run_from start events kept-start in
-    names_apart kept.sent (unwrap_or (run events).client []) kept.in_order
+    message_ids_apart kept.sent (unwrap_or (run events).client []) kept.in_order

@@ -69,7 +69,7 @@ WasSent place call = (is_queued call.state ≡ false) × (call.number ≡ Some (
 abbrev pub IsWaiting : Call → Type 0
 IsWaiting call = (call.state ≡ Queued) × (call.number ≡ None)
 
--- of calls that stand from this place on, so many were sent, and then the others wait
+-- of calls that stand from this place on, the first `sent` were sent, and then the others wait
 abbrev pub AreSentInOrder : ℕ → ℕ → List Call → Type 0
 AreSentInOrder place zero calls = AllByRecursion IsWaiting calls
 AreSentInOrder place (suc sent) [] = ⊥

@@ -1,4 +1,4 @@
--- The jobs that wait, kept in blocks.
+-- The jobs that wait, kept in blocks: words of private contracts, which are no promise of this crate.
 use Rattle.std.specs.Prelude.{◌≡◌, ℕ, ◌+◌, ◌<◌, List, length, take, slice_index_or}
 use Rattle.std.specs.List.{flat_map}
 use Rattle.std.specs.Global.{Vec}

@@ -1,3 +1,5 @@
+pub mod Limits
+pub mod RegisterName
 pub mod Service
 pub mod Registers
 pub mod Client
@@ -8,3 +10,4 @@ pub mod World
 pub mod Report
 pub mod Once
 pub mod Rows
+pub mod Inner

@@ -7,7 +7,6 @@ use Rattle.world_core.specs.declared.client.Call.{Call}
 use Rattle.world_core.specs.declared.client.CallState.{CallState}
 use Rattle.world_core.specs.declared.client.CallState.TheVariants.{Queued, Sent, Done}
 use Rattle.world_core.specs.declared.server.Entry.{Entry}
-use Rattle.world_core.specs.declared.client.SubmitFault.TheVariants as submit
 use Rattle.world_core.specs.declared.client.SubmitFault.TheVariants.{TooMany}
 use Rattle.world_core.specs.declared.world.StepFault.{StepFault}
 use Rattle.world_core.specs.declared.world.StepFault.TheVariants.{NoClient, NoPacket, NoJob, Submit, Memory}
@@ -46,14 +45,12 @@ cause_text (NoPacket k) = codes "no packet"
 cause_text NoClient = codes "no client"
 cause_text (NoJob k) = codes "no job"
 cause_text (Submit TooMany) = codes "too many calls"
-cause_text (Submit submit.Memory) = []
 cause_text Memory = []
 
--- want of memory has no cause to tell
+-- that memory ran out has no cause to tell
 abbrev pub IsMemory : StepFault → Type 0
 IsMemory (NoPacket k) = ⊥
 IsMemory NoClient = ⊥
 IsMemory (NoJob k) = ⊥
 IsMemory (Submit TooMany) = ⊥
-IsMemory (Submit submit.Memory) = Unit {0}
 IsMemory Memory = Unit {0}

@@ -1,5 +1,6 @@
 -- Schedules as text.
 use Rattle.std.specs.Prelude.{◌≡◌, ◌≢◌, ℕ, ◌+◌, ◌≤◌, ◌<◌, ◌^◌, List, [], ◌∷◌, ◌++◌, ◌==◌, ◌⊎◌, length, codes, decimal, All, if◌then◌else◌}
+use Rattle.world_core.specs.RegisterName.{IsRegisterName}
 use Rattle.world_core.specs.declared.schedule.Event.{Event}
 use Rattle.world_core.specs.declared.schedule.Event.TheVariants.{Client, Call, Flush, Give, Work}
 use Rattle.world_core.specs.declared.schedule.Placed.{Placed}
@@ -16,15 +17,6 @@ abbrev pub lines_of : List ℕ → List (List ℕ)
 lines_of [] = []
 lines_of (byte ∷ bytes) = if byte == 10 then [] ∷ lines_of bytes else onto_first byte (lines_of bytes)
 
--- `a` to `z`, `0` to `9`
-abbrev pub IsNameByte : ℕ → Type 0
-IsNameByte byte = ((97 ≤ byte) × (byte ≤ 122)) ⊎ ((48 ≤ byte) × (byte ≤ 57))
-
-pub record IsName (name : List ℕ) : Type 0 where
-  pub some_byte : 0 < length name
-  pub short : length name ≤ 32
-  pub bytes : All IsNameByte name
-
 abbrev pub HasNoBlank : List ℕ → Type 0
 HasNoBlank bytes = All (λ byte. byte ≢ 32) bytes
 
@@ -39,7 +31,7 @@ spelling (Work job) = codes "work " ++ decimal job
 -- an event that has a spelling
 abbrev pub HasSpelling : Event → Type 0
 HasSpelling Client = Unit {0}
-HasSpelling (Call client body) = (client < 2 ^ 64) × IsName body.name × (body.amount < 2 ^ 64)
+HasSpelling (Call client body) = (client < 2 ^ 64) × IsRegisterName body.name × (body.amount < 2 ^ 64)
 HasSpelling (Flush client) = client < 2 ^ 64
 HasSpelling (Give packet) = packet < 2 ^ 64
 HasSpelling (Work job) = job < 2 ^ 64
@@ -52,7 +44,7 @@ pub record Says (line : List ℕ) (event : Event) : Type 0 where
 -- what stands behind `call ` says this client, name and amount
 pub record IsCallOf (rest : List ℕ) (client : ℕ) (name : List ℕ) (amount : ℕ) : Type 0 where
   pub client_fits : client < 2 ^ 64
-  pub name_fits : IsName name
+  pub name_fits : IsRegisterName name
   pub amount_fits : amount < 2 ^ 64
   pub spelled : rest ≡ decimal client ++ codes " add " ++ name ++ 32 ∷ decimal amount
 

@@ -1,11 +1,12 @@
 -- The world of a schedule.
-use Rattle.std.specs.Prelude.{◌≡◌, ℕ, zero, suc, List, [], ◌∷◌, ◌++◌, ◌==◌, nat_lt, Option, Some, None, is_some, option_map, option_to_list, unwrap_or, length, map, slice_get, Result, Ok, Err, if◌then◌else◌}
+use Rattle.std.specs.Prelude.{◌≡◌, ℕ, zero, suc, List, [], ◌∷◌, ◌++◌, ◌==◌, nat_lt, Option, Some, None, is_some, option_map, option_to_list, unwrap_or, length, map, slice_get, if◌then◌else◌}
 use Rattle.world_core.specs.declared.packet.Packet.{Packet}
 use Rattle.world_core.specs.declared.packet.Packet.TheVariants.{Up, Down}
 use Rattle.world_core.specs.declared.client.Call.{Call}
-use Rattle.world_core.specs.declared.client.SubmitFault.{SubmitFault}
-use Rattle.world_core.specs.declared.client.SubmitFault.TheVariants as submit
+use Rattle.world_core.specs.Limits.{calls_max}
 use Rattle.world_core.specs.declared.client.SubmitFault.TheVariants.{TooMany}
+use Rattle.world_core.specs.declared.client.SubmitError.{SubmitError}
+use Rattle.world_core.specs.declared.client.SubmitError.TheVariants as submit
 use Rattle.world_core.specs.declared.schedule.Event.{Event}
 use Rattle.world_core.specs.declared.schedule.Event.TheVariants as event
 use Rattle.world_core.specs.declared.schedule.Placed.{Placed}
@@ -71,7 +72,7 @@ after w (event.Work job) = ran_at job w
 -- a client with this list of calls takes one more, or has too many
 abbrev pub call_refusal : Option (List Call) → Option StepFault
 call_refusal None = Some NoClient
-call_refusal (Some calls) = if nat_lt (length calls) 65536 then None else Some (Submit TooMany)
+call_refusal (Some calls) = if nat_lt (length calls) calls_max then None else Some (Submit TooMany)
 
 -- the refusal of an event, where it is refused
 abbrev pub refusal : World → Event → Option StepFault
@@ -81,14 +82,14 @@ refusal w (event.Flush client) = if is_some (calls_of client w) then None else S
 refusal w (event.Give packet) = if is_some (counted w.bag packet) then None else Some (NoPacket packet)
 refusal w (event.Work job) = if is_some (counted w.server.jobs job) then None else Some (NoJob job)
 
--- the fault that a step answers: the refusal of the event, or want of memory, which is free
+-- the fault that a step answers: the refusal of the event, or that memory ran out, which is free
 abbrev pub IsRefusal : Option StepFault → StepFault → Type 0
 IsRefusal refusal Memory = Unit {0}
 IsRefusal refusal fault = refusal ≡ Some fault
 
--- what a client's refusal is to a world
-abbrev pub step_fault : SubmitFault → StepFault
-step_fault TooMany = Submit TooMany
+-- what a client's answer is to a world
+abbrev pub step_fault : SubmitError → StepFault
+step_fault (submit.Refused fault) = Submit fault
 step_fault submit.Memory = Memory
 
 -- one event: where it is refused, nothing changes
@@ -115,8 +116,3 @@ first_of line (Some fault) later = Some (line, fault)
 abbrev pub first_refusal : World → List Placed → Option (ℕ × StepFault)
 first_refusal w [] = None
 first_refusal w (p ∷ placed) = first_of p.line (refusal w p.event) (first_refusal (step w p.event) placed)
-
--- what a step of an event does, with its answer
-abbrev pub Steps : {X : Type 0} → World → Event → World → Result X StepFault → Type 0
-Steps old event new (Ok done) = (refusal old event ≡ None) × (new ≡ after old event)
-Steps old event new (Err fault) = IsRefusal (refusal old event) fault × (new ≡ old)

@@ -1,15 +1,17 @@
 //! The client: its calls, in the order in which they were submitted.
 
+ghost use Rattle.world_core.specs.Limits.{calls_max};
 ghost use Rattle.std.specs.Prelude.{◌≡◌, ◌≢◌, ◌+◌, ◌*◌, ◌++◌, ◌∷◌, [], ◌<◌, ◌≤◌, ℕ, length, IfOk, OnOk, OnErr, Err, MatchOption};
 
 use crate::packet::Packet;
 use crate::service::{AddRequest, Reply};
-use std::alloc::{AllocFailed, Global};
+use octets::Memory;
+use std::alloc::Global;
 use std::marker::Model;
-use tl_codec::Memory;
+use thiserror::Error;
 
 /// The most calls that a client takes.
-pub const CALLS_MAX: usize = 65_536;
+const CALLS_MAX: usize = 65_536;
 
 /// What became of a call.
 #[derive(Clone, Copy, Debug, PartialEq, Eq)]
@@ -43,39 +45,38 @@ impl Call {
     }
 }
 
-/// Why a call wasn't taken.
-#[derive(Clone, Copy, Debug, PartialEq, Eq)]
+/// Why a client refuses a call.
+#[derive(Clone, Copy, Debug, PartialEq, Eq, Error)]
 pub enum SubmitFault {
     /// The client has 65,536 calls.
+    #[error("too many calls")]
     TooMany,
+}
+
+/// Why a call wasn't taken.
+#[derive(Clone, Copy, Debug, PartialEq, Eq, Error)]
+pub enum SubmitError {
+    /// The client refuses it.
+    #[error("{0}")]
+    Refused(SubmitFault),
     /// Memory ran out.
+    #[error("out of memory")]
     Memory,
 }
 
-impl From<Memory> for SubmitFault {
+impl From<Memory> for SubmitError {
     ghost use Rattle.std.specs.Prelude.{◌≡◌};
-    ghost use Rattle.world_core.specs.declared.client.SubmitFault.TheVariants.{Memory};
+    ghost use Rattle.world_core.specs.declared.client.SubmitError.TheVariants.{Memory};
 
-    ghost from_gives = { λ _ fault. fault ≡ Memory };
+    ghost from_gives = { λ _ error. error ≡ Memory };
 
-    fn from(_memory: Memory) -> SubmitFault {
-        SubmitFault::Memory
-    }
-}
-
-impl<T: Drop> From<AllocFailed<T>> for SubmitFault {
-    ghost use Rattle.std.specs.Prelude.{◌≡◌};
-    ghost use Rattle.world_core.specs.declared.client.SubmitFault.TheVariants.{Memory};
-
-    ghost from_gives = { λ _ fault. fault ≡ Memory };
-
-    fn from(_failed: AllocFailed<T>) -> SubmitFault {
-        SubmitFault::Memory
+    fn from(_memory: Memory) -> SubmitError {
+        SubmitError::Memory
     }
 }
 
 /// A client. Contracts see it as the list of its calls.
-#[derive(Drop)]
+#[derive(Debug, Drop)]
 pub struct Client {
     calls: Vec<Call>,
     sent: usize,
@@ -87,11 +88,12 @@ impl Model for Client {
 
     ghost Value = { List Call };
 
+    ghost use Rattle.world_core.specs.Limits.{calls_max};
     ghost use Rattle.world_core.specs.Client.{AreSentInOrder};
 
     ghost view = { λ client. client.calls.items };
 
-    ghost invariant = { λ client. AreSentInOrder 0 client.sent client.calls.items × (length client.calls.items ≤ 65536) };
+    ghost invariant = { λ client. AreSentInOrder 0 client.sent client.calls.items × (length client.calls.items ≤ calls_max) };
 }
 
 impl Client {
@@ -110,32 +112,39 @@ impl Client {
     /// The calls in order.
     pub fn calls(&self) -> &[Call]
         ensures calls { result.now ≡ self.now }
-        ensures few { length self.now ≤ 65536 }
+        ensures few { length self.now ≤ calls_max }
     {
         self.calls.as_slice()
     }
 
-    /// Takes a call, which waits for a flush. A refused call changes nothing.
-    pub fn submit(&mut self, alloc: Global, body: &AddRequest) -> Result<(), SubmitFault>
+    /// Takes a call, which waits for a flush.
+    ///
+    /// # Errors
+    ///
+    /// `Refused` exactly where the client has 65,536 calls. `Memory`. Nothing has changed then.
+    pub fn submit(&mut self, alloc: Global, body: &AddRequest) -> Result<(), SubmitError>
         ensures taken { OnOk result (self.new ≡ self.old ++ queued body.now ∷ []) }
-        ensures too_many { result ≡ Err SubmitFault.TooMany → length self.old ≡ 65536 }
-        ensures room { OnOk result (length self.old < 65536) }
+        ensures too_many { result ≡ Err (SubmitError.Refused SubmitFault.TooMany) → length self.old ≡ calls_max }
+        ensures room { OnOk result (length self.old < calls_max) }
         ensures unchanged { OnErr result (self.new ≡ self.old) }
     {
         if self.calls.len() >= CALLS_MAX {
-            return Err(SubmitFault::TooMany);
+            return Err(SubmitError::Refused(SubmitFault::TooMany));
         }
         let call = Call {
             body: body.copy(alloc)?,
             state: CallState::Queued,
             number: None,
         };
-        self.calls.push(call)?;
+        append(&mut self.calls, call)?;
         Ok(())
     }
 
-    /// Sends the first queued call under the next number, where one is queued. Fails for want of memory alone, and
-    /// then changes nothing.
+    /// Sends the first queued call under the next number, where one is queued.
+    ///
+    /// # Errors
+    ///
+    /// `Memory`, and then nothing has changed.
     pub fn flush(&mut self, alloc: Global) -> Result<Option<Packet>, Memory>
         ensures packet { IfOk result (λ packet. packet ≡ packet_due self.old) }
         ensures sent { OnOk result (self.new ≡ flushed self.old) }
@@ -163,7 +172,16 @@ impl Client {
     }
 }
 
-/// The place, among so many that were sent, of the call that was sent under this number.
+/// Puts a call at the end.
+fn append(calls: &mut Vec<Call>, call: Call) -> Result<(), Memory>
+    ensures appended { OnOk result (calls.new.items ≡ calls.old.items ++ call ∷ []) }
+    ensures unchanged { OnErr result (calls.new.items ≡ calls.old.items) }
+{
+    calls.push(call)?;
+    Ok(())
+}
+
+/// The place, among the first `sent` calls, of the one that was sent under this number.
 fn place_of(number: u64, sent: usize) -> Option<usize>
     ensures { MatchOption result ((place : ℕ) → place < sent → 4 * (place + 1) ≢ number) (λ place. (place < sent) × (number ≡ 4 * (place + 1))) }
 {

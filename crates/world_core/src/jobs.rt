@@ -4,16 +4,16 @@ ghost use Rattle.std.specs.Prelude.{◌≡◌, ◌<◌, [], ◌∷◌, ◌++◌,
 ghost use Rattle.world_core.specs.Jobs.{jobs_in, StandsAt};
 
 use crate::server::Job;
+use octets::Memory;
 use std::alloc::Global;
 use std::marker::Model;
-use tl_codec::Memory;
 
 /// The most jobs in a block. A job is found by the lengths of the blocks before its own, and only jobs of its block
 /// move when it is taken out. A new block is begun where the last one is full, so 65,536 jobs fill at most 256.
 const BLOCK_JOBS_MAX: usize = 256;
 
 /// A queue of jobs, which contracts see as the list of them in order.
-#[derive(Drop)]
+#[derive(Debug, Drop)]
 pub(crate) struct JobQueue {
     blocks: Vec<Vec<Job>>,
     count: usize,
@@ -58,13 +58,17 @@ impl JobQueue {
         &self.blocks[spot.block][spot.offset]
     }
 
-    /// Puts a job at the end. Fails for want of memory alone, and then changes nothing.
+    /// Puts a job at the end.
+    ///
+    /// # Errors
+    ///
+    /// `Memory`, and then nothing has changed.
     pub(crate) fn push(&mut self, alloc: Global, job: Job) -> Result<(), Memory>
         ensures pushed { OnOk result (self.new ≡ self.old ++ job ∷ []) }
         ensures unchanged { OnErr result (self.new ≡ self.old) }
     {
         let count = self.count.checked_add(1).ok_or(Memory)?;
-        append(&mut self.blocks, alloc, job)?;
+        append(alloc, &mut self.blocks, job)?;
         self.count = count;
         Ok(())
     }
@@ -104,9 +108,9 @@ fn find(blocks: &[Vec<Job>], place: usize) -> Spot
     unreachable!()
 }
 
-/// Puts a job behind the last one, into a new block where the last one has no room. Fails for want of memory alone,
-/// and then the jobs stay.
-fn append(blocks: &mut Vec<Vec<Job>>, alloc: Global, job: Job) -> Result<(), Memory>
+/// Puts a job behind the last one, into a new block where the last one has no room. Where
+/// memory runs out, the jobs stay.
+fn append(alloc: Global, blocks: &mut Vec<Vec<Job>>, job: Job) -> Result<(), Memory>
     ensures appended { OnOk result (jobs_in blocks.new.items ≡ jobs_in blocks.old.items ++ job ∷ []) }
     ensures unchanged { OnErr result (jobs_in blocks.new.items ≡ jobs_in blocks.old.items) }
 {

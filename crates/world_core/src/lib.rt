@@ -14,9 +14,9 @@ mod server;
 mod service;
 mod world;
 
-pub use client::{Call, CallState, Client, SubmitFault};
+pub use client::{Call, CallState, Client, SubmitError, SubmitFault};
 pub use packet::Packet;
 pub use schedule::{Event, Events, Placed, SchedFault, read};
 pub use server::{Entry, Job, Server};
-pub use service::{AddRequest, Reply};
+pub use service::{AddRequest, RegisterName, Reply, is_register_name};
 pub use world::{StepFault, World};

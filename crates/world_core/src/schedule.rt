@@ -1,17 +1,15 @@
 //! Schedules as text: one event a line, words with one blank between.
 
-ghost use Rattle.std.specs.Prelude.{◌≡◌, ◌≢◌, ◌<◌, ◌^◌, ◌↔◌, ◌∷◌, ◌++◌, [], ℕ, List, length, IsTrue, IfOk, IfErr, IfSome, IfNone, OnOk, OnErr, MatchOption, decimal, slice_get, Some, IsSome};
+ghost use Rattle.std.specs.Prelude.{◌≡◌, ◌≢◌, ◌<◌, ◌^◌, ◌↔◌, ◌∷◌, ◌++◌, [], ℕ, List, length, IsTrue, IfOk, IfErr, IfSome, IfNone, OnOk, MatchOption, decimal, slice_get, Some, IsSome};
 ghost use Rattle.std.specs.Prelude.{codes, slice_index};
-ghost use Rattle.world_core.specs.Schedule.{IsName, IsLeftOut, Says, SaysNothing, IsSchedule, IsFaultOf, IsCallOf, HasNoBlank, lines_of};
+ghost use Rattle.world_core.specs.Schedule.{IsLeftOut, Says, SaysNothing, IsSchedule, IsFaultOf, IsCallOf, HasNoBlank, lines_of};
 
-use crate::service::AddRequest;
+use crate::service::{AddRequest, RegisterName, is_register_name};
 use itoa::Buffer;
-use std::alloc::{AllocFailed, Global};
+use octets::Memory;
+use std::alloc::Global;
 use std::marker::Model;
-use tl_codec::{Memory, Octets};
-
-/// The most bytes of a name.
-const NAME_BYTES_MAX: usize = 32;
+use thiserror::Error;
 
 /// An event of a schedule.
 #[derive(Debug, Drop)]
@@ -36,11 +34,13 @@ pub struct Placed {
 }
 
 /// Why a text is no schedule.
-#[derive(Clone, Copy, Debug, PartialEq, Eq)]
+#[derive(Clone, Copy, Debug, PartialEq, Eq, Error)]
 pub enum SchedFault {
     /// The first line that is outside the grammar.
+    #[error("line {line} is no event")]
     BadLine { line: u32 },
     /// Memory ran out.
+    #[error("out of memory")]
     Memory,
 }
 
@@ -55,19 +55,8 @@ impl From<Memory> for SchedFault {
     }
 }
 
-impl<T: Drop> From<AllocFailed<T>> for SchedFault {
-    ghost use Rattle.std.specs.Prelude.{◌≡◌};
-    ghost use Rattle.world_core.specs.declared.schedule.SchedFault.TheVariants.{Memory};
-
-    ghost from_gives = { λ _ fault. fault ≡ Memory };
-
-    fn from(_failed: AllocFailed<T>) -> SchedFault {
-        SchedFault::Memory
-    }
-}
-
 /// The events of a schedule, each with the number of its line. Contracts see the list of these.
-#[derive(Drop)]
+#[derive(Debug, Drop)]
 pub struct Events {
     placed: Vec<Placed>,
 }
@@ -114,6 +103,10 @@ impl Events {
 }
 
 /// Reads a schedule.
+///
+/// # Errors
+///
+/// `BadLine` with the first line that is outside the grammar. `Memory`.
 pub fn read(alloc: Global, text: &[u8]) -> Result<Events, SchedFault>
     requires { length text.now < 2 ^ 32 }
     ensures schedule { IfOk result (λ events. IsSchedule text.now events) }
@@ -127,13 +120,21 @@ pub fn read(alloc: Global, text: &[u8]) -> Result<Events, SchedFault>
         line += 1;
         if !is_left_out(first) {
             match event_of(alloc, first)? {
-                Some(event) => placed.push(Placed { event, line })?,
+                Some(event) => append(&mut placed, Placed { event, line })?,
                 None => return Err(SchedFault::BadLine { line }),
             }
         }
         rest = after;
     }
     Ok(Events { placed })
+}
+
+/// Puts an event at the end.
+fn append(placed: &mut Vec<Placed>, last: Placed) -> Result<(), Memory>
+    ensures { OnOk result (placed.new.items ≡ placed.old.items ++ last ∷ []) }
+{
+    placed.push(last)?;
+    Ok(())
 }
 
 /// The first line of a text that isn't empty, and what follows its newline.
@@ -186,7 +187,7 @@ fn call_of(alloc: Global, rest: &[u8]) -> Result<Option<Event>, Memory>
     let Some((client, name, amount)) = words_of_call(rest) else {
         return Ok(None);
     };
-    let name = Octets::copy(alloc, name)?;
+    let name = RegisterName::new(alloc, name)?;
     let body = AddRequest { name, amount };
     Ok(Some(Event::Call { client, body }))
 }
@@ -198,7 +199,7 @@ fn words_of_call(rest: &[u8]) -> Option<(u64, &[u8], u64)>
 {
     let (client, rest) = split_at_blank(rest)?;
     let (name, amount) = split_at_blank(behind(rest, b"add ")?)?;
-    if !is_name(name) {
+    if !is_register_name(name) {
         return None;
     }
     Some((number_of(client)?, name, number_of(amount)?))
@@ -239,14 +240,4 @@ fn number_of(word: &[u8]) -> Option<u64>
     let number = text.parse::<u64>().ok()?;
     let mut buffer = Buffer::new();
     (buffer.format(number).as_bytes() == word).then_some(number)
-}
-
-fn is_name(word: &[u8]) -> bool
-    ensures { IsTrue result ↔ IsName word.now }
-{
-    !word.is_empty()
-        && word.len() <= NAME_BYTES_MAX
-        && word
-            .iter()
-            .all(|byte| byte.is_ascii_lowercase() || byte.is_ascii_digit())
 }

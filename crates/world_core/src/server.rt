@@ -5,10 +5,10 @@ ghost use Rattle.std.specs.HashMap.{get};
 
 use crate::jobs::JobQueue;
 use crate::service::{AddRequest, Registers, Reply};
+use octets::Memory;
 use std::alloc::Global;
 use std::collections::HashMap;
 use std::marker::Model;
-use tl_codec::Memory;
 
 /// A request that was accepted and hasn't run.
 #[derive(Debug, Drop)]
@@ -33,7 +33,7 @@ pub(crate) enum Progress {
 }
 
 /// A server session. Contracts see its jobs in order of acceptance, and its entries in the order in which they ran.
-#[derive(Drop)]
+#[derive(Debug, Drop)]
 pub struct Server {
     jobs: JobQueue,
     entries: Vec<Entry>,
@@ -84,7 +84,10 @@ impl Server {
     }
 
     /// Takes a client's packet. Where its number is new it makes a job; where it was answered, the reply is given again.
-    /// Fails for want of memory alone, and then changes nothing.
+    ///
+    /// # Errors
+    ///
+    /// `Memory`, and then nothing has changed.
     pub fn receive(
         &mut self,
         alloc: Global,
@@ -109,8 +112,11 @@ impl Server {
         Ok(None)
     }
 
-    /// Runs the job at a place, from 0, and answers its number and reply. Fails for want of memory alone, and then
-    /// changes nothing.
+    /// Runs the job at a place, from 0, and answers its number and reply.
+    ///
+    /// # Errors
+    ///
+    /// `Memory`, and then nothing has changed.
     pub fn work(&mut self, alloc: Global, place: usize) -> Result<(u64, Reply), Memory>
         requires { place < length self.old.jobs }
         ensures worked { OnOk result (self.new ≡ worked place self.old) }

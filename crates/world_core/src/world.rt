@@ -1,15 +1,17 @@
 //! One world, stepped through the events of a schedule, and its report.
 
-ghost use Rattle.std.specs.Prelude.{◌≡◌, IfErr, OnOk, OnErr, None};
+ghost use Rattle.std.specs.Prelude.{◌≡◌, ◌<◌, IfErr, OnOk, OnErr, None, vec_len, vec_capacity};
 
-use crate::client::{Call, Client, SubmitFault};
+use crate::client::{Call, Client, SubmitError, SubmitFault};
 use crate::packet::Packet;
 use crate::schedule::Event;
 use crate::server::{Entry, Server};
 use crate::service::AddRequest;
-use std::alloc::{AllocError, AllocFailed, Global};
+use octets::Memory;
+use std::alloc::Global;
+use std::error::Error;
+use std::fmt;
 use std::marker::Model;
-use tl_codec::Memory;
 
 /// The number of the one client.
 const THE_CLIENT: u64 = 1;
@@ -23,7 +25,7 @@ pub enum StepFault {
     NoClient,
     /// No job of this number waits.
     NoJob { k: u64 },
-    /// The client refused the call. It never carries `Memory`.
+    /// The client refused the call.
     Submit(SubmitFault),
     /// Memory ran out.
     Memory,
@@ -40,44 +42,30 @@ impl From<Memory> for StepFault {
     }
 }
 
-impl From<AllocError> for StepFault {
-    ghost use Rattle.std.specs.Prelude.{◌≡◌};
-    ghost use Rattle.world_core.specs.declared.world.StepFault.TheVariants.{Memory};
-
-    ghost from_gives = { λ _ fault. fault ≡ Memory };
-
-    fn from(_error: AllocError) -> StepFault {
-        StepFault::Memory
-    }
-}
-
-impl<T: Drop> From<AllocFailed<T>> for StepFault {
-    ghost use Rattle.std.specs.Prelude.{◌≡◌};
-    ghost use Rattle.world_core.specs.declared.world.StepFault.TheVariants.{Memory};
-
-    ghost from_gives = { λ _ fault. fault ≡ Memory };
-
-    fn from(_failed: AllocFailed<T>) -> StepFault {
-        StepFault::Memory
-    }
-}
-
-impl From<SubmitFault> for StepFault {
+impl From<SubmitError> for StepFault {
     ghost use Rattle.std.specs.Prelude.{◌≡◌};
     ghost use Rattle.world_core.specs.World.{step_fault};
 
-    ghost from_gives = { λ fault given. given ≡ step_fault fault };
+    ghost from_gives = { λ error given. given ≡ step_fault error };
 
-    fn from(fault: SubmitFault) -> StepFault {
-        match fault {
-            SubmitFault::Memory => StepFault::Memory,
-            SubmitFault::TooMany => StepFault::Submit(fault),
+    fn from(error: SubmitError) -> StepFault {
+        match error {
+            SubmitError::Refused(fault) => StepFault::Submit(fault),
+            SubmitError::Memory => StepFault::Memory,
         }
     }
 }
 
+impl fmt::Display for StepFault {
+    fn fmt<W: fmt::Write>(&self, f: &mut fmt::Formatter<W>) -> fmt::Result {
+        write!(f, "{}", self.cause().unwrap_or("out of memory"))
+    }
+}
+
+impl Error for StepFault {}
+
 /// The one world of a schedule: a client, once it is made, a server session, and the bag of every packet ever made.
-#[derive(Drop)]
+#[derive(Debug, Drop)]
 pub struct World {
     client: Option<Client>,
     server: Server,
@@ -94,7 +82,8 @@ impl Model for World {
 
 impl World {
     ghost use Rattle.std.specs.Prelude.{unwrap_or, []};
-    ghost use Rattle.world_core.specs.World.{start, step, refusal, IsRefusal, Steps};
+    ghost use Rattle.world_core.specs.World.{start, step, refusal, IsRefusal};
+    ghost use Rattle.world_core.specs.Inner.{Steps};
 
     /// A world with no client, no job and no packet.
     pub fn new(alloc: Global) -> World
@@ -107,7 +96,11 @@ impl World {
         }
     }
 
-    /// One event. A refused one changes nothing.
+    /// One event.
+    ///
+    /// # Errors
+    ///
+    /// The refusal of the event, or `Memory`. Nothing has changed then.
     pub fn step(&mut self, alloc: Global, event: &Event) -> Result<(), StepFault>
         ensures stepped { OnOk result (self.new ≡ step self.old event.now) }
         ensures lawful { OnOk result (refusal self.old event.now ≡ None) }
@@ -167,7 +160,7 @@ impl World {
     {
         match &mut self.client {
             Some(held) if client == THE_CLIENT => {
-                self.bag.reserve(1)?;
+                make_room(&mut self.bag)?;
                 if let Some(packet) = held.flush(alloc)? {
                     self.bag.push_reserved(packet);
                 }
@@ -184,7 +177,7 @@ impl World {
             Some(place) if place < self.bag.len() as u64 => place as usize,
             _ => return Err(StepFault::NoPacket { k: packet }),
         };
-        self.bag.reserve(1)?;
+        make_room(&mut self.bag)?;
         match &self.bag[place] {
             Packet::Up { number, body } => {
                 let number = *number;
@@ -208,9 +201,18 @@ impl World {
             Some(place) if place < self.server.waiting() as u64 => place as usize,
             _ => return Err(StepFault::NoJob { k: job }),
         };
-        self.bag.reserve(1)?;
+        make_room(&mut self.bag)?;
         let (number, reply) = self.server.work(alloc, place)?;
         self.bag.push_reserved(Packet::Down { number, reply });
         Ok(())
     }
+}
+
+/// Takes room for one more packet.
+fn make_room(bag: &mut Vec<Packet>) -> Result<(), Memory>
+    ensures items { bag.new.items ≡ bag.old.items }
+    ensures room { OnOk result (vec_len bag.new < vec_capacity bag.new) }
+{
+    bag.reserve(1)?;
+    Ok(())
 }

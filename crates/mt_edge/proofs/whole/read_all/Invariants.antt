@@ -4,7 +4,7 @@ use Rattle.mt_edge.proofs.whole.read_all.Given as goal
 -- the text so far is the front of what was left, and the room is what the text may still grow by
 abbrev pub invariant-loop-count : goal.invariant-loop-count
 invariant-loop-count g l = record {
-  room : length l.text + l.room ≡ l.most_bytes;
+  room : length l.text + l.room ≡ l.max_bytes;
   read : IfSome (g.S.Source.left l.fn.source) (λ left. (rest : List ℕ) × (left ≡ l.text ++ rest) × (g.S.Source.left l.source ≡ Some rest));
   faults : g.S.Source.faults l.fn.source ≤ g.S.Source.faults l.source;
 }

@@ -6,8 +6,8 @@ use Rattle.world_core.specs.Schedule.{AreEvents, lines_of}
 use Rattle.world_core.proofs.schedule.read.Goals as goal
 
 -- a line that says an event: it and what the lines that are left say are what the lines so far leave
-pub loop-rest-preserved-in_ok-push-in-Some : goal.loop-rest-preserved-in_ok-push-in-Some
-loop-rest-preserved-in_ok-push-in-Some c =
+pub loop-rest-preserved-in_ok-append-in-Some : goal.loop-rest-preserved-in_ok-append-in-Some
+loop-rest-preserved-in_ok-append-in-Some c =
     let says = rw c.in-Some.is at c.in_ok-event.ensures in
     let event = c.in-Some.event in
     let placed : Placed = record { event = event; line = c.loop-rest.line + 1 } in
@@ -15,7 +15,7 @@ loop-rest-preserved-in_ok-push-in-Some c =
       counted = omega (arith, c.first_line.ensures.shorter);
       said = λ tail h.
           subst (λ (events : List Placed). AreEvents 1 (lines_of c.args.text.now) events)
-          (sym (ap (λ (l : List Placed). l ++ tail) c.in_ok-push-in-Some.ensures.items ∙ append_assoc _ _ tail))
+          (sym (ap (λ (l : List Placed). l ++ tail) c.in_ok-append-in-Some.ensures ∙ append_assoc _ _ tail))
           (c.loop-rest.invariant.said (placed ∷ tail) (rw c.first_line.ensures.lines (inr (event, tail, says, refl, h))));
       good = λ bad h. c.loop-rest.invariant.good bad (rw c.first_line.ensures.lines (inr (inr (event, says), h)));
     }

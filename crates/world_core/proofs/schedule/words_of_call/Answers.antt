@@ -1,6 +1,6 @@
 use Rattle.std.proofs.Common.{sym, subst}
 use Rattle.std.proofs.lemmas.Bool.{iff_false}
-use Rattle.world_core.specs.Schedule.{IsName}
+use Rattle.world_core.specs.RegisterName.{IsRegisterName}
 use Rattle.world_core.proofs.CallLemmas.{call_has_blank, call_client, call_behind, call_name, no_blank_inside}
 use Rattle.world_core.proofs.schedule.words_of_call.Goals as goal
 
@@ -17,12 +17,12 @@ returns-in_err-name-clause-none c = rw c.from_residual-in_err-name.ensures (λ c
     let cut = c.in_ok-client.ensures.found in
     no_blank_inside c.in_ok-behind.field-0.now _ _ c.in_err-name.ensures.none (call_behind c.args.rest.now client amount name call c.in_ok-client.client.now c.in_ok-client.rest.now c.in_ok-behind.field-0.now cut.0 cut.1 c.in_ok-behind.ensures.found))
 
-pub returns-then-not-is_name-clause-none : goal.returns-then-not-is_name-clause-none
-returns-then-not-is_name-clause-none c = λ client amount name call.
+pub returns-then-not-is_register_name-clause-none : goal.returns-then-not-is_register_name-clause-none
+returns-then-not-is_register_name-clause-none c = λ client amount name call.
     let cut = c.in_ok-client.ensures.found in
     let words = c.in_ok-name.ensures.found in
     let same = (call_name c.args.rest.now client amount name call c.in_ok-client.client.now c.in_ok-client.rest.now c.in_ok-behind.field-0.now c.in_ok-name.name.now c.in_ok-name.amount.now cut.0 cut.1 c.in_ok-behind.ensures.found words.0 words.1).0 in
-    iff_false c.is_name.ensures c.if-not-is_name.true (subst IsName (sym same) call.name_fits)
+    iff_false c.is_register_name.ensures c.if-not-is_register_name.true (subst IsRegisterName (sym same) call.name_fits)
 
 pub returns-in_err-number_of-clause-none : goal.returns-in_err-number_of-clause-none
 returns-in_err-number_of-clause-none c = rw c.from_residual-in_err-number_of.ensures (λ client amount name call.
