@@ -3,3 +3,4 @@ pub mod Field
 pub mod SubstitutionBox
 pub mod KeySchedule
 pub mod Cipher
+pub mod Words

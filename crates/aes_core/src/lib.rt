@@ -7,30 +7,38 @@ ghost use Rattle.std.specs.Prelude.{◌≡◌};
 ghost use Rattle.aes_core.specs.Bytes.{IsBytes};
 ghost use Rattle.aes_core.specs.Cipher.{aes, inverse_aes};
 
+use crate::round::{cipher, inverse_cipher};
+use crate::schedule::{Schedule, inverse_schedule, key_schedule};
 use std::marker::Model;
 
 pub mod laws;
+mod inverse_mixing;
+mod mixing;
 mod round;
 mod schedule;
 mod table;
 #[cfg(test)]
 mod tests;
+mod words;
 
 /// A key of 256 bits, with its round keys. Contracts see the 32 bytes of the key.
 #[derive(Drop)]
 pub struct Key256 {
-    schedule: [u8; schedule::SCHEDULE_BYTES],
+    schedule: Schedule,
+    // The schedule of the equivalent inverse cipher.
+    inverse: Schedule,
 }
 
 impl Model for Key256 {
     ghost use Rattle.std.specs.Prelude.{List, ℕ, take};
     ghost use Rattle.aes_core.specs.KeySchedule.{IsExpansion};
+    ghost use Rattle.aes_core.specs.Words.{bytes_of, IsInverseSchedule};
 
     ghost Value = { List ℕ };
 
-    ghost view = { λ k. take 32 k.schedule };
+    ghost view = { λ k. take 32 (bytes_of k.schedule) };
 
-    ghost invariant = { λ k. IsExpansion k.schedule };
+    ghost invariant = { λ k. IsExpansion (bytes_of k.schedule) × IsInverseSchedule (bytes_of k.inverse) (bytes_of k.schedule) };
 }
 
 impl Key256 {
@@ -38,9 +46,9 @@ impl Key256 {
     pub fn new(key: &[u8; 32]) -> Key256
         ensures { result ≡ key.now }
     {
-        Key256 {
-            schedule: schedule::key_schedule(key),
-        }
+        let schedule = key_schedule(key);
+        let inverse = inverse_schedule(&schedule);
+        Key256 { schedule, inverse }
     }
 
     /// Enciphers a block in place (FIPS 197, 5.1).
@@ -49,7 +57,7 @@ impl Key256 {
         ensures undone_by_inverse { inverse_aes self.now block.new ≡ block.old }
         ensures key_of_bytes { IsBytes 32 self.now }
     {
-        *block = round::cipher(&self.schedule, *block);
+        *block = cipher(&self.schedule, block);
     }
 
     /// Deciphers a block in place (FIPS 197, 5.3).
@@ -58,6 +66,6 @@ impl Key256 {
         ensures undone_by_cipher { aes self.now block.new ≡ block.old }
         ensures key_of_bytes { IsBytes 32 self.now }
     {
-        *block = round::inverse_cipher(&self.schedule, *block);
+        *block = inverse_cipher(&self.inverse, block);
     }
 }

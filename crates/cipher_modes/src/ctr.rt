@@ -4,7 +4,7 @@ ghost use Rattle.std.specs.Prelude.{◌≡◌, length};
 ghost use Rattle.aes_core.specs.Cipher.{aes};
 ghost use Rattle.cipher_modes.specs.CounterMode.{counter_block, ctr_stream, applied, advanced};
 
-use crate::block::{BLOCK_BYTES, Block};
+use crate::block::{BLOCK_BYTES, Block, block_at, xor_blocks};
 use aes_core::Key256;
 use std::marker::Model;
 
@@ -56,11 +56,49 @@ impl Ctr {
         ensures applied { text.new ≡ applied self.old text.old }
         ensures advanced { self.new ≡ advanced self.old (length text.old) }
     {
+        let begun = (BLOCK_BYTES - self.used) % BLOCK_BYTES;
+        if begun < text.len() {
+            let ended = begun + (text.len() - begun) / BLOCK_BYTES * BLOCK_BYTES;
+            self.apply_bytes(&mut text[..begun]);
+            self.apply_blocks(&mut text[begun..ended]);
+            self.apply_bytes(&mut text[ended..]);
+        } else {
+            self.apply_bytes(text);
+        }
+    }
+
+    // The same, byte by byte.
+    fn apply_bytes(&mut self, text: &mut [u8])
+        ensures applied { text.new ≡ applied self.old text.old }
+        ensures advanced { self.new ≡ advanced self.old (length text.old) }
+    {
         // A field that is read tells the proof that the place is below 2^132, for an empty text too.
         let _ = &self.used;
         for byte in text.iter_mut() {
             *byte ^= self.next_byte();
         }
+    }
+
+    // The same, of whole blocks at a block's start.
+    fn apply_blocks(&mut self, text: &mut [u8])
+        requires { (length text.old % 16 ≡ 0) × (self.old.place % 16 ≡ 0) }
+        ensures applied { text.new ≡ applied self.old text.old }
+        ensures advanced { self.new ≡ advanced self.old (length text.old) }
+    {
+        'blocks: for i in 0..text.len() / BLOCK_BYTES {
+            let block = xor_blocks(block_at(text, i), self.next_block());
+            text[BLOCK_BYTES * i..BLOCK_BYTES * i + BLOCK_BYTES].copy_from_slice(&block);
+        }
+    }
+
+    // The block at whose start the stream stands, which moves on to the next.
+    #[inline(always)]
+    fn next_block(&mut self) -> Block
+    {
+        let block = self.stream;
+        self.index = self.index.wrapping_add(1);
+        self.stream = stream_block(&self.key, &self.iv, self.index);
+        block
     }
 
     // The byte where the stream stands, which moves on by one.
