@@ -1,4 +1,4 @@
-pub mod Bytes
+pub use Rattle.octets.specs.Bytes
 pub mod Field
 pub mod SubstitutionBox
 pub mod KeySchedule

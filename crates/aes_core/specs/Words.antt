@@ -1,6 +1,6 @@
 -- How the code keeps bytes: in words of 32 bits, the lowest byte first. This is scaffolding of the
 -- proofs, and no promise.
-use Rattle.std.specs.Prelude.{ℕ, ◌≡◌, ◌≤◌, ◌<◌, List, [], ◌∷◌, ◌++◌}
+use Rattle.std.specs.Prelude.{ℕ, ◌≡◌, ◌≤◌, ◌<◌, List, [], ◌∷◌, ◌++◌, length}
 use Rattle.std.specs.Int.{w32, to_le_bytes, byte_at}
 use Rattle.aes_core.specs.Field.{product}
 use Rattle.aes_core.specs.KeySchedule.{round_key}
@@ -20,8 +20,9 @@ abbrev pub inverse_mixed_word : ℕ → List ℕ
 inverse_mixed_word w = column 0x0e 0x0b 0x0d 0x09 (byte_at 0 w) (byte_at 1 w) (byte_at 2 w) (byte_at 3 w)
 
 -- The schedule of the equivalent inverse cipher (FIPS 197, 5.3.5): the round keys of the rounds from 1
--- to 13 go through InvMixColumns.
+-- to 13 go through InvMixColumns. Both are lists of 60 words.
 pub record IsInverseSchedule (inverse schedule : List ℕ) : Type 0 where
-  pub first : round_key inverse 0 ≡ round_key schedule 0
-  pub between : (r : ℕ) → 1 ≤ r → r < 14 → round_key inverse r ≡ inverse_mix_columns (round_key schedule r)
-  pub last : round_key inverse 14 ≡ round_key schedule 14
+  pub whole : length schedule ≡ 60
+  pub first : round_key (bytes_of inverse) 0 ≡ round_key (bytes_of schedule) 0
+  pub between : (r : ℕ) → 1 ≤ r → r < 14 → round_key (bytes_of inverse) r ≡ inverse_mix_columns (round_key (bytes_of schedule) r)
+  pub last : round_key (bytes_of inverse) 14 ≡ round_key (bytes_of schedule) 14

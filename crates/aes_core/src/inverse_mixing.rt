@@ -5,6 +5,7 @@ ghost use Rattle.std.specs.Prelude.{◌≡◌};
 ghost use Rattle.std.specs.Int.{w32, to_le_bytes};
 ghost use Rattle.aes_core.specs.SubstitutionBox.{inverse_sub_byte};
 ghost use Rattle.aes_core.specs.Cipher.{column};
+ghost use Rattle.aes_core.specs.Words.{products};
 
 // What a byte of row 0, substituted back, adds to its column: its products with 14, 9, 13 and 11.
 const ROW_0: [u32; 256] = [
@@ -155,5 +156,33 @@ const ROW_3: [u32; 256] = [
 pub fn inverse_mixed_column(a: u8, b: u8, c: u8, d: u8) -> u32
     ensures { to_le_bytes w32 result ≡ column 0x0e 0x0b 0x0d 0x09 (inverse_sub_byte a) (inverse_sub_byte b) (inverse_sub_byte c) (inverse_sub_byte d) }
 {
-    ROW_0[a as usize] ^ ROW_1[b as usize] ^ ROW_2[c as usize] ^ ROW_3[d as usize]
+    row_0(a) ^ row_1(b) ^ row_2(c) ^ row_3(d)
+}
+
+#[inline(always)]
+fn row_0(byte: u8) -> u32
+    ensures { to_le_bytes w32 result ≡ products 14 9 13 11 (inverse_sub_byte byte) }
+{
+    ROW_0[byte as usize]
+}
+
+#[inline(always)]
+fn row_1(byte: u8) -> u32
+    ensures { to_le_bytes w32 result ≡ products 11 14 9 13 (inverse_sub_byte byte) }
+{
+    ROW_1[byte as usize]
+}
+
+#[inline(always)]
+fn row_2(byte: u8) -> u32
+    ensures { to_le_bytes w32 result ≡ products 13 11 14 9 (inverse_sub_byte byte) }
+{
+    ROW_2[byte as usize]
+}
+
+#[inline(always)]
+fn row_3(byte: u8) -> u32
+    ensures { to_le_bytes w32 result ≡ products 9 13 11 14 (inverse_sub_byte byte) }
+{
+    ROW_3[byte as usize]
 }

@@ -4,7 +4,7 @@
 #![tactic(auto)]
 
 ghost use Rattle.std.specs.Prelude.{◌≡◌};
-ghost use Rattle.aes_core.specs.Bytes.{IsBytes};
+ghost use Rattle.octets.specs.Bytes.{HasBytes};
 ghost use Rattle.aes_core.specs.Cipher.{aes, inverse_aes};
 
 use crate::round::{cipher, inverse_cipher};
@@ -38,7 +38,7 @@ impl Model for Key256 {
 
     ghost view = { λ k. take 32 (bytes_of k.schedule) };
 
-    ghost invariant = { λ k. IsExpansion (bytes_of k.schedule) × IsInverseSchedule (bytes_of k.inverse) (bytes_of k.schedule) };
+    ghost invariant = { λ k. IsExpansion (bytes_of k.schedule) × IsInverseSchedule k.inverse k.schedule };
 }
 
 impl Key256 {
@@ -55,7 +55,7 @@ impl Key256 {
     pub fn encrypt_block(&self, block: &mut [u8; 16])
         ensures enciphered { block.new ≡ aes self.now block.old }
         ensures undone_by_inverse { inverse_aes self.now block.new ≡ block.old }
-        ensures key_of_bytes { IsBytes 32 self.now }
+        ensures key_of_bytes { HasBytes 32 self.now }
     {
         *block = cipher(&self.schedule, block);
     }
@@ -64,7 +64,7 @@ impl Key256 {
     pub fn decrypt_block(&self, block: &mut [u8; 16])
         ensures deciphered { block.new ≡ inverse_aes self.now block.old }
         ensures undone_by_cipher { aes self.now block.new ≡ block.old }
-        ensures key_of_bytes { IsBytes 32 self.now }
+        ensures key_of_bytes { HasBytes 32 self.now }
     {
         *block = inverse_cipher(&self.inverse, block);
     }

@@ -5,6 +5,7 @@ ghost use Rattle.std.specs.Prelude.{◌≡◌};
 ghost use Rattle.std.specs.Int.{w32, to_le_bytes};
 ghost use Rattle.aes_core.specs.SubstitutionBox.{sub_byte};
 ghost use Rattle.aes_core.specs.Cipher.{column};
+ghost use Rattle.aes_core.specs.Words.{products};
 
 // What a byte of row 0, substituted, adds to its column: its products with 2, 1, 1 and 3.
 const ROW_0: [u32; 256] = [
@@ -155,5 +156,33 @@ const ROW_3: [u32; 256] = [
 pub fn mixed_column(a: u8, b: u8, c: u8, d: u8) -> u32
     ensures { to_le_bytes w32 result ≡ column 0x02 0x03 0x01 0x01 (sub_byte a) (sub_byte b) (sub_byte c) (sub_byte d) }
 {
-    ROW_0[a as usize] ^ ROW_1[b as usize] ^ ROW_2[c as usize] ^ ROW_3[d as usize]
+    row_0(a) ^ row_1(b) ^ row_2(c) ^ row_3(d)
+}
+
+#[inline(always)]
+fn row_0(byte: u8) -> u32
+    ensures { to_le_bytes w32 result ≡ products 2 1 1 3 (sub_byte byte) }
+{
+    ROW_0[byte as usize]
+}
+
+#[inline(always)]
+fn row_1(byte: u8) -> u32
+    ensures { to_le_bytes w32 result ≡ products 3 2 1 1 (sub_byte byte) }
+{
+    ROW_1[byte as usize]
+}
+
+#[inline(always)]
+fn row_2(byte: u8) -> u32
+    ensures { to_le_bytes w32 result ≡ products 1 3 2 1 (sub_byte byte) }
+{
+    ROW_2[byte as usize]
+}
+
+#[inline(always)]
+fn row_3(byte: u8) -> u32
+    ensures { to_le_bytes w32 result ≡ products 1 1 3 2 (sub_byte byte) }
+{
+    ROW_3[byte as usize]
 }

@@ -1,15 +1,14 @@
 //! The rounds on a state, and the cipher and its inverse under a schedule (FIPS 197, 5.1 and 5.3.5).
 
-ghost use Rattle.std.specs.Prelude.{◌≡◌, List, ℕ, [], ◌∷◌};
-ghost use Rattle.aes_core.specs.Bytes.{xor_bytes};
-ghost use Rattle.aes_core.specs.SubstitutionBox.{sub_byte, inverse_sub_byte};
+ghost use Rattle.std.specs.Prelude.{◌≡◌, List, ℕ};
+ghost use Rattle.octets.specs.Bytes.{xor_bytes};
 ghost use Rattle.aes_core.specs.Cipher.{sub_bytes, inverse_sub_bytes, shift_rows, inverse_shift_rows, mix_columns, inverse_mix_columns, cipher, inverse_cipher};
 ghost use Rattle.aes_core.specs.Words.{bytes_of, IsInverseSchedule};
 
 use crate::inverse_mixing::inverse_mixed_column;
 use crate::mixing::mixed_column;
 use crate::schedule::{Schedule, round_key};
-use crate::table::{inverse_sub_byte, sub_byte};
+use crate::table::{inverse_sub_word, sub_word};
 use crate::words::{State, block_of, state_of, xor_states};
 
 /// The rounds of the cipher, Nr.
@@ -30,8 +29,8 @@ pub fn cipher(schedule: &Schedule, block: &[u8; 16]) -> [u8; 16]
 /// The inverse cipher, under the schedule of the equivalent inverse cipher (5.3.5).
 #[inline(always)]
 pub fn inverse_cipher(inverse: &Schedule, block: &[u8; 16]) -> [u8; 16]
-    ensures { (schedule : List ℕ) → IsInverseSchedule (bytes_of inverse.now) schedule
-        → result ≡ inverse_cipher schedule block.now }
+    ensures { (schedule : List ℕ) → IsInverseSchedule inverse.now schedule
+        → result ≡ inverse_cipher (bytes_of schedule) block.now }
 {
     let mut state = xor_states(state_of(block), round_key(inverse, ROUNDS));
     'rounds: for rounds_done in 1..ROUNDS {
@@ -62,10 +61,10 @@ fn last_rows(state: State) -> State
 {
     let [s0, s1, s2, s3, s4, s5, s6, s7, s8, s9, s10, s11, s12, s13, s14, s15] = block_of(state);
     [
-        column(s0, s5, s10, s15),
-        column(s4, s9, s14, s3),
-        column(s8, s13, s2, s7),
-        column(s12, s1, s6, s11),
+        sub_word(s0, s5, s10, s15),
+        sub_word(s4, s9, s14, s3),
+        sub_word(s8, s13, s2, s7),
+        sub_word(s12, s1, s6, s11),
     ]
 }
 
@@ -90,30 +89,9 @@ fn inverse_last_rows(state: State) -> State
 {
     let [s0, s1, s2, s3, s4, s5, s6, s7, s8, s9, s10, s11, s12, s13, s14, s15] = block_of(state);
     [
-        inverse_column(s0, s13, s10, s7),
-        inverse_column(s4, s1, s14, s11),
-        inverse_column(s8, s5, s2, s15),
-        inverse_column(s12, s9, s6, s3),
+        inverse_sub_word(s0, s13, s10, s7),
+        inverse_sub_word(s4, s1, s14, s11),
+        inverse_sub_word(s8, s5, s2, s15),
+        inverse_sub_word(s12, s9, s6, s3),
     ]
-}
-
-// The word of a column of four bytes, substituted.
-#[inline(always)]
-fn column(a: u8, b: u8, c: u8, d: u8) -> u32
-    ensures { bytes_of (result ∷ []) ≡ sub_byte a ∷ sub_byte b ∷ sub_byte c ∷ sub_byte d ∷ [] }
-{
-    u32::from_le_bytes([sub_byte(a), sub_byte(b), sub_byte(c), sub_byte(d)])
-}
-
-// The word of a column of four bytes, substituted back.
-#[inline(always)]
-fn inverse_column(a: u8, b: u8, c: u8, d: u8) -> u32
-    ensures { bytes_of (result ∷ []) ≡ inverse_sub_byte a ∷ inverse_sub_byte b ∷ inverse_sub_byte c ∷ inverse_sub_byte d ∷ [] }
-{
-    u32::from_le_bytes([
-        inverse_sub_byte(a),
-        inverse_sub_byte(b),
-        inverse_sub_byte(c),
-        inverse_sub_byte(d),
-    ])
 }

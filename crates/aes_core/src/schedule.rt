@@ -6,7 +6,7 @@ ghost use Rattle.aes_core.specs.KeySchedule.{change, key_schedule, round_key};
 ghost use Rattle.aes_core.specs.Words.{bytes_of, inverse_mixed_word, IsInverseSchedule};
 
 use crate::inverse_mixing::inverse_mixed_column;
-use crate::table::sub_byte;
+use crate::table::{sub_byte, sub_word};
 use crate::words::{State, word_at};
 
 /// The words of a key, Nk.
@@ -35,7 +35,7 @@ pub fn key_schedule(key: &[u8; 32]) -> Schedule
 
 /// The schedule of the equivalent inverse cipher, from that of a key.
 pub fn inverse_schedule(schedule: &Schedule) -> Schedule
-    ensures { IsInverseSchedule (bytes_of result) (bytes_of schedule.now) }
+    ensures { IsInverseSchedule result schedule.now }
 {
     let mut inverse = *schedule;
     'words: for i in 4..SCHEDULE_WORDS - 4 {
@@ -76,10 +76,9 @@ fn change(i: usize, before: u32) -> u32
 {
     let [a, b, c, d] = before.to_le_bytes();
     if i % KEY_WORDS == 0 {
-        u32::from_le_bytes([sub_byte(b), sub_byte(c), sub_byte(d), sub_byte(a)])
-            ^ ROUND_CONSTANTS[i / KEY_WORDS - 1]
+        sub_word(b, c, d, a) ^ ROUND_CONSTANTS[i / KEY_WORDS - 1]
     } else if i % KEY_WORDS == 4 {
-        u32::from_le_bytes([sub_byte(a), sub_byte(b), sub_byte(c), sub_byte(d)])
+        sub_word(a, b, c, d)
     } else {
         before
     }

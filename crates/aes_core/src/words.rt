@@ -2,7 +2,7 @@
 
 ghost use Rattle.std.specs.Prelude.{◌≡◌, ◌≤◌, ◌+◌, length, take, drop};
 ghost use Rattle.std.specs.Int.{w32, to_le_bytes};
-ghost use Rattle.aes_core.specs.Bytes.{xor_bytes};
+ghost use Rattle.octets.specs.Bytes.{xor_bytes};
 ghost use Rattle.aes_core.specs.Words.{bytes_of};
 
 /// A state: a word for each column, the byte of row 0 lowest (FIPS 197, 3.4).

@@ -1,7 +1,7 @@
 //! Blocks of 16 bytes.
 
 ghost use Rattle.std.specs.Prelude.{◌≡◌, ◌≤◌, ◌+◌, ◌*◌, length};
-ghost use Rattle.aes_core.specs.Bytes.{xor_bytes};
+ghost use Rattle.octets.specs.Bytes.{xor_bytes};
 ghost use Rattle.cipher_modes.specs.Ige.{block};
 
 /// The bytes of a block of AES.

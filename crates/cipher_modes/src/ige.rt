@@ -1,7 +1,7 @@
 //! Infinite garble extension (core.telegram.org/mtproto/description).
 
 ghost use Rattle.std.specs.Prelude.{◌≡◌, ◌%◌, length, take, drop};
-ghost use Rattle.aes_core.specs.Bytes.{IsBytes};
+ghost use Rattle.octets.specs.Bytes.{HasBytes};
 ghost use Rattle.cipher_modes.specs.Ige.{ige, inverse_ige, ige_block, inverse_ige_block, MeetsIgeEquations};
 
 use crate::block::{BLOCK_BYTES, Block, block_at, xor_blocks};
@@ -48,7 +48,7 @@ pub fn ige_decrypt(key: &Key256, iv: &[u8; 32], text: &mut [u8])
 #[inline(always)]
 fn encrypted(key: &Key256, cipher_before: Block, plain_before: Block, plain: Block) -> Block
     ensures block { result ≡ ige_block key.now cipher_before plain_before plain }
-    ensures key_of_bytes { IsBytes 32 key.now }
+    ensures key_of_bytes { HasBytes 32 key.now }
 {
     let mut block = xor_blocks(plain, cipher_before);
     key.encrypt_block(&mut block);
@@ -58,7 +58,7 @@ fn encrypted(key: &Key256, cipher_before: Block, plain_before: Block, plain: Blo
 #[inline(always)]
 fn decrypted(key: &Key256, cipher_before: Block, plain_before: Block, cipher: Block) -> Block
     ensures block { result ≡ inverse_ige_block key.now cipher_before plain_before cipher }
-    ensures key_of_bytes { IsBytes 32 key.now }
+    ensures key_of_bytes { HasBytes 32 key.now }
 {
     let mut block = xor_blocks(cipher, plain_before);
     key.decrypt_block(&mut block);

@@ -2,6 +2,8 @@
 //! prints the word, the two numbers and a checksum of the last output.
 #![tactic(auto)]
 
+ghost use Rattle.std.specs.Prelude.{◌≡◌, ◌%◌};
+
 mod ciphers;
 mod text;
 mod work;
@@ -37,7 +39,9 @@ fn words(rt: &HostRuntime) -> io::Result<Vec<String>> {
 }
 
 // Does what is asked, and prints the line.
-fn timed(rt: &HostRuntime, asked: Asked) -> io::Result<()> {
+fn timed(rt: &HostRuntime, asked: Asked) -> io::Result<()>
+    requires { asked.bytes % 16 ≡ 0 }
+{
     let mut text = text_of(rt.alloc(), asked.bytes)?;
     asked.work.run(&mut text, asked.times);
     let Asked { work, bytes, times } = asked;

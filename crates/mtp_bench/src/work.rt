@@ -1,6 +1,6 @@
 //! What a command line asks for.
 
-ghost use Rattle.std.specs.Prelude.{◌≡◌, ◌%◌, length};
+ghost use Rattle.std.specs.Prelude.{◌≡◌, ◌%◌, length, IfSome};
 
 use crate::ciphers::{ctr, fresh_keys, ige_decrypting, ige_encrypting};
 use std::fmt;
@@ -24,7 +24,9 @@ pub struct Asked {
 
 /// What the words ask for, if they are a word of a work and two numbers, where the bytes are whole
 /// blocks of 16.
-pub fn read(words: &[String]) -> Option<Asked> {
+pub fn read(words: &[String]) -> Option<Asked>
+    ensures { IfSome result (λ asked. asked.bytes % 16 ≡ 0) }
+{
     let [word, bytes, times] = words else {
         return None;
     };

@@ -1,0 +1,6 @@
+use Rattle.std.proofs.Common.{arith}
+use Rattle.aes_core.proofs.InverseTables.{row_1_at}
+use Rattle.aes_core.proofs.inverse_mixing.row_1.Goals as goal
+
+pub returns : goal.returns
+returns c = row_1_at c.args.byte (omega arith)

@@ -1,0 +1,6 @@
+use Rattle.std.proofs.Common.{arith}
+use Rattle.aes_core.proofs.Tables.{row_3_at}
+use Rattle.aes_core.proofs.mixing.row_3.Goals as goal
+
+pub returns : goal.returns
+returns c = row_3_at c.args.byte (omega arith)
