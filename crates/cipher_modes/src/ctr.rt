@@ -1,6 +1,6 @@
 //! Counter mode (NIST SP 800-38A, 6.5).
 
-ghost use Rattle.std.specs.Prelude.{◌≡◌, length};
+ghost use Rattle.std.specs.Prelude.{◌≡◌, ◌/◌, ◌%◌, length};
 ghost use Rattle.aes_core.specs.Cipher.{aes};
 ghost use Rattle.cipher_modes.specs.CounterMode.{counter_block, ctr_stream, applied, advanced};
 
@@ -56,12 +56,14 @@ impl Ctr {
         ensures applied { text.new ≡ applied self.old text.old }
         ensures advanced { self.new ≡ advanced self.old (length text.old) }
     {
-        let begun = (BLOCK_BYTES - self.used) % BLOCK_BYTES;
-        if begun < text.len() {
-            let ended = begun + (text.len() - begun) / BLOCK_BYTES * BLOCK_BYTES;
-            self.apply_bytes(&mut text[..begun]);
-            self.apply_blocks(&mut text[begun..ended]);
-            self.apply_bytes(&mut text[ended..]);
+        let to_block_end = (BLOCK_BYTES - self.used) % BLOCK_BYTES;
+        if to_block_end < text.len() {
+            let (first, others) = text.split_at_mut(to_block_end);
+            let blocks_bytes = others.len() / BLOCK_BYTES * BLOCK_BYTES;
+            let (blocks, last) = others.split_at_mut(blocks_bytes);
+            self.apply_bytes(first);
+            self.apply_blocks(blocks);
+            self.apply_bytes(last);
         } else {
             self.apply_bytes(text);
         }
@@ -81,11 +83,14 @@ impl Ctr {
 
     // The same, of whole blocks at a block's start.
     fn apply_blocks(&mut self, text: &mut [u8])
-        requires { (length text.old % 16 ≡ 0) × (self.old.place % 16 ≡ 0) }
+        requires whole_blocks { length text.old % 16 ≡ 0 }
+        requires at_a_start { self.old.place % 16 ≡ 0 }
         ensures applied { text.new ≡ applied self.old text.old }
         ensures advanced { self.new ≡ advanced self.old (length text.old) }
     {
-        'blocks: for i in 0..text.len() / BLOCK_BYTES {
+        // As in `apply_bytes`.
+        let _ = &self.used;
+        'each_block: for i in 0..text.len() / BLOCK_BYTES {
             let block = xor_blocks(block_at(text, i), self.next_block());
             text[BLOCK_BYTES * i..BLOCK_BYTES * i + BLOCK_BYTES].copy_from_slice(&block);
         }
@@ -94,6 +99,9 @@ impl Ctr {
     // The block at whose start the stream stands, which moves on to the next.
     #[inline(always)]
     fn next_block(&mut self) -> Block
+        requires { self.old.place % 16 ≡ 0 }
+        ensures block { result ≡ aes self.old.key (counter_block self.old.iv (self.old.place / 16)) }
+        ensures advanced { self.new ≡ advanced self.old 16 }
     {
         let block = self.stream;
         self.index = self.index.wrapping_add(1);

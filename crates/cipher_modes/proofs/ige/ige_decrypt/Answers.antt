@@ -38,6 +38,6 @@ returns c =
     c.each_block.i (length c.args.text.now / 16) last (omega arith) c.each_block.invariant.whole_text in
     record {
       deciphered = made;
-      meets_equations = rw made (inverse_ige-MeetsIgeEquations c.args.key.now c.args.iv.now c.args.text.now _ key_bytes iv_bytes text_bytes);
-      undone_by_encrypting = rw made (ige-inverse_ige c.args.key.now c.args.iv.now c.args.text.now _ key_bytes iv_bytes text_bytes);
+      meets_equations = rw made (inverse_ige-MeetsIgeEquations c.block_laws.ensures c.args.key.now c.args.iv.now c.args.text.now _ key_bytes iv_bytes text_bytes);
+      undone_by_encrypting = rw made (ige-inverse_ige c.block_laws.ensures c.args.key.now c.args.iv.now c.args.text.now _ key_bytes iv_bytes text_bytes);
     }

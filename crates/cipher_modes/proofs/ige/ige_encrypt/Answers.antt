@@ -38,6 +38,6 @@ returns c =
     c.each_block.i (length c.args.text.now / 16) last (omega arith) c.each_block.invariant.whole_text in
     record {
       enciphered = made;
-      meets_equations = rw made (ige-MeetsIgeEquations c.args.key.now c.args.iv.now c.args.text.now _ key_bytes iv_bytes text_bytes);
-      undone_by_decrypting = rw made (inverse_ige-ige c.args.key.now c.args.iv.now c.args.text.now _ key_bytes iv_bytes text_bytes);
+      meets_equations = rw made (ige-MeetsIgeEquations c.block_laws.ensures c.args.key.now c.args.iv.now c.args.text.now _ key_bytes iv_bytes text_bytes);
+      undone_by_decrypting = rw made (inverse_ige-ige c.block_laws.ensures c.args.key.now c.args.iv.now c.args.text.now _ key_bytes iv_bytes text_bytes);
     }

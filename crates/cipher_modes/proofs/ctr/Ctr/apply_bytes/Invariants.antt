@@ -1,6 +1,6 @@
 use Rattle.std.proofs.Common.{◌≡◌, ◌++◌, take, drop}
 use Rattle.cipher_modes.specs.CounterMode.{applied, advanced}
-use Rattle.cipher_modes.proofs.ctr.Ctr.apply.Given as goal
+use Rattle.cipher_modes.proofs.ctr.Ctr.apply_bytes.Given as goal
 
 abbrev pub invariant-loop-byte : goal.invariant-loop-byte
 invariant-loop-byte l =
