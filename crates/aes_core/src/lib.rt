@@ -1,6 +1,7 @@
-//! AES with keys of 256 bits (FIPS 197), a block of 16 bytes at a time. The key schedule is computed
-//! once for a key, and no call takes memory. Side channels are not treated: the S-box is a table, and
-//! a key is not wiped when it is dropped.
+//! AES with keys of 256 bits, a block of 16 bytes at a time, by FIPS 197 as updated in May 2023 (FIPS
+//! 197-upd1), whose sections and tables are cited throughout. A key makes its round keys for both
+//! directions once, and no call takes memory. Side channels are not treated: the rounds look up
+//! tables, and a key is not wiped when it is dropped.
 #![tactic(auto)]
 
 ghost use Rattle.std.specs.Prelude.{◌≡◌};
@@ -9,6 +10,7 @@ ghost use Rattle.aes_core.specs.Cipher.{aes, inverse_aes};
 
 use crate::round::{cipher, inverse_cipher};
 use crate::schedule::{Schedule, inverse_schedule, key_schedule};
+use std::fmt;
 use std::marker::Model;
 
 pub mod laws;
@@ -39,6 +41,13 @@ impl Model for Key256 {
     ghost view = { λ k. take 32 (bytes_of k.schedule) };
 
     ghost invariant = { λ k. IsExpansion (bytes_of k.schedule) × IsInverseSchedule k.inverse k.schedule };
+}
+
+impl fmt::Debug for Key256 {
+    /// The name alone: the key is a secret.
+    fn fmt<W: fmt::Write>(&self, f: &mut fmt::Formatter<W>) -> fmt::Result {
+        f.debug_struct("Key256").finish_non_exhaustive()
+    }
 }
 
 impl Key256 {

@@ -6,6 +6,7 @@ ghost use Rattle.cipher_modes.specs.CounterMode.{counter_block, ctr_stream, appl
 
 use crate::block::{BLOCK_BYTES, Block, block_at, xor_blocks};
 use aes_core::Key256;
+use std::fmt;
 use std::marker::Model;
 
 /// A key stream of counter mode, and the place where it stands. Contracts see the key, the
@@ -31,6 +32,16 @@ impl Model for Ctr {
     ghost view = { λ c. record { key = c.key; iv = c.iv; place = 16 * c.index + c.used } };
 
     ghost invariant = { λ c. (c.used < 16) × (c.stream ≡ aes c.key (counter_block c.iv c.index)) };
+}
+
+impl fmt::Debug for Ctr {
+    /// Where the stream stands: the key and the stream are secrets.
+    fn fmt<W: fmt::Write>(&self, f: &mut fmt::Formatter<W>) -> fmt::Result {
+        f.debug_struct("Ctr")
+            .field("index", &self.index)
+            .field("used", &self.used)
+            .finish_non_exhaustive()
+    }
 }
 
 impl Ctr {
