@@ -93,13 +93,6 @@ xor_bytes_twice (x ∷ xs) [] h = absurd (omega arith)
 xor_bytes_twice (x ∷ xs) (y ∷ ys) h =
     ap₂ (λ (z : ℕ) (zs : List ℕ). z ∷ zs) (xor_twice x y) (xor_bytes_twice xs ys (omega arith))
 
-pub slice_index-xor_bytes : (xs ys : List ℕ) (k : ℕ) → k < length xs → k < length ys
-    → slice_index (xor_bytes xs ys) k ≡ bit_xor (slice_index xs k) (slice_index ys k)
-slice_index-xor_bytes [] ys k h t = absurd (omega arith)
-slice_index-xor_bytes (x ∷ xs) [] k h t = absurd (omega arith)
-slice_index-xor_bytes (x ∷ xs) (y ∷ ys) zero h t = refl
-slice_index-xor_bytes (x ∷ xs) (y ∷ ys) (suc k) h t = slice_index-xor_bytes xs ys k (omega arith) (omega arith)
-
 -- ---- a list of sixteen by its places
 
 pub by_places_16 : (xs : List ℕ) → length xs ≡ 16
@@ -123,13 +116,3 @@ by_places_16 xs h =
     let e15 = drop_more xs 15 0 (omega arith) in
     let e16 = drop_all 16 xs (omega arith) in
     cc
-
--- a list that is the exclusive or at each place
-pub same_as_xor_bytes : (xs ys zs : List ℕ) → length zs ≡ length xs → length xs ≤ length ys
-    → ((k : ℕ) → k < length xs → slice_index zs k ≡ bit_xor (slice_index xs k) (slice_index ys k)) → zs ≡ xor_bytes xs ys
-same_as_xor_bytes xs ys zs len fits same =
-    let total = length-xor_bytes xs ys fits in
-    same_lists zs (xor_bytes xs ys) (len ∙ sym total) (λ k d h.
-    get_or_default zs k d 0 h ∙ same k (omega arith)
-    ∙ sym (slice_index-xor_bytes xs ys k (omega arith) (omega arith))
-    ∙ get_or_default (xor_bytes xs ys) k 0 d (omega arith))

@@ -12,4 +12,3 @@ pub mod AesLaws
 pub mod ColumnLaws
 pub mod InverseSchedule
 pub mod Tables
-pub mod InverseTables

@@ -61,13 +61,14 @@ fn blocks_of_the_standards(rt: HostRuntime) -> Result<(), Fail> {
 // answers were computed with OpenSSL 3.0.19.
 #[test]
 fn blocks_under_keys_of_their_outputs(rt: HostRuntime) -> Result<(), Fail> {
-    let (mut key, mut block) = (ROWS[0].key, ROWS[0].plain);
+    let first = &ROWS[0];
+    let (mut key, mut block) = (first.key, first.plain);
     for _ in 0..1000 {
         Key256::new(&key).encrypt_block(&mut block);
         key = next_key(&key, &block);
     }
     assert_eq!(rt; block, CHAIN_ENCIPHERED);
-    (key, block) = (ROWS[0].key, ROWS[0].plain);
+    (key, block) = (first.key, first.plain);
     for _ in 0..1000 {
         Key256::new(&key).decrypt_block(&mut block);
         key = next_key(&key, &block);
@@ -101,8 +102,9 @@ fn there_and_back(key: &Key256, block: &mut [u8; 16])
 
 #[test]
 fn a_key_does_not_show(rt: HostRuntime) -> Result<(), Fail> {
-    let key = Key256::new(&ROWS[0].key);
-    let mut block = ROWS[0].plain;
+    let row = &ROWS[0];
+    let key = Key256::new(&row.key);
+    let mut block = row.plain;
     there_and_back(&key, &mut block);
     let shown = format!(in rt.alloc(); "{key:?}")?;
     assert_eq!(rt; shown.as_str(), "Key256 { .. }");

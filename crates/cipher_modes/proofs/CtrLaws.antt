@@ -88,11 +88,6 @@ block_applied s xs ys long same_long start is =
 
 -- ---- the place
 
-pub advanced-zero : (s : CtrState) → s.place < 2 ^ 132 → s ≡ advanced s 0
-advanced-zero s below =
-    let same : (s.place + 0) % 2 ^ 132 ≡ s.place = omega arith in
-    ap (λ (p : ℕ). record s { place = p }) (sym same)
-
 pub advanced-advanced : (s : CtrState) (m n : ℕ) → advanced (advanced s m) n ≡ advanced s (m + n)
 advanced-advanced s m n =
     let sum : s.place + m + n ≡ s.place + (m + n) = omega arith in

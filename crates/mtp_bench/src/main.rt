@@ -2,56 +2,61 @@
 //! prints the word, the two numbers and a checksum of the last output.
 #![tactic(auto)]
 
-ghost use Rattle.std.specs.Prelude.{◌≡◌, ◌%◌};
-
 mod ciphers;
+mod request;
 mod text;
-mod work;
 
+use crate::request::{Asked, Request, read};
 use crate::text::{checksum, text_of};
-use crate::work::{Asked, read};
+use std::alloc::AllocError;
 use std::process::ExitCode;
 use std::{env, io};
 
-/// The statuses of a faulty command line, of a fault of the outside, and of memory that ran out.
-const USAGE: u8 = 2;
-const OUTSIDE: u8 = 3;
+const USAGE: &str = "usage: mtp_bench ige-encrypt|ige-decrypt|ctr|key BYTES TIMES";
+
+/// The statuses of a faulty command line, of a failed write, and of memory that ran out.
+const FAULTY: u8 = 2;
+const WRITE: u8 = 4;
 const MEMORY: u8 = 9;
 
 fn main(rt: HostRuntime) -> ExitCode {
-    let asked = match words(&rt) {
-        Ok(words) => read(&words),
-        Err(error) => return ExitCode::from(status_of(&error)),
+    let answered = match words(&rt) {
+        Ok(words) => answer(&rt, read(&words)),
+        Err(AllocError) => Ok(MEMORY),
     };
-    let Some(asked) = asked else {
-        let _ = eprintln!(rt; "usage: mtp_bench ige-encrypt|ige-decrypt|ctr|key BYTES TIMES");
-        return ExitCode::from(USAGE);
-    };
-    match timed(&rt, asked) {
-        Ok(()) => ExitCode::SUCCESS,
-        Err(error) => ExitCode::from(status_of(&error)),
+    match answered {
+        Ok(status) => ExitCode::from(status),
+        Err(error) if error.kind() == io::ErrorKind::OutOfMemory => ExitCode::from(MEMORY),
+        Err(_) => ExitCode::from(WRITE),
     }
 }
 
-// The words after the program's name.
-fn words(rt: &HostRuntime) -> io::Result<Vec<String>> {
-    Ok(env::args(rt)?.skip(1).collect(rt.alloc())?)
+// The words after the program's name; none where one isn't UTF-8.
+fn words(rt: &HostRuntime) -> Result<Vec<String>, AllocError> {
+    match env::args(rt) {
+        Ok(words) => words.skip(1).collect(rt.alloc()),
+        Err(error) if error.kind() == io::ErrorKind::OutOfMemory => Err(AllocError),
+        Err(_) => Ok(Vec::new(rt.alloc())),
+    }
 }
 
-// Does what is asked, and prints the line.
-fn timed(rt: &HostRuntime, asked: Asked) -> io::Result<()>
-    requires { asked.bytes % 16 ≡ 0 }
-{
+// Does what is asked for, and answers the status.
+fn answer(rt: &HostRuntime, request: Option<Request>) -> io::Result<u8> {
+    match request {
+        Some(Request::Work(asked)) => timed(rt, asked)?,
+        Some(Request::Help) => println!(rt; "{USAGE}")?,
+        Some(Request::Version) => println!(rt; "mtp_bench 1")?,
+        None => {
+            eprintln!(rt; "{USAGE}")?;
+            return Ok(FAULTY);
+        }
+    }
+    Ok(0)
+}
+
+fn timed(rt: &HostRuntime, asked: Asked) -> io::Result<()> {
     let mut text = text_of(rt.alloc(), asked.bytes)?;
     asked.work.run(&mut text, asked.times);
     let Asked { work, bytes, times } = asked;
     println!(rt; "{work} {bytes} {times} {:016x}", checksum(&text))
-}
-
-fn status_of(error: &io::Error) -> u8 {
-    if error.kind() == io::ErrorKind::OutOfMemory {
-        MEMORY
-    } else {
-        OUTSIDE
-    }
 }

@@ -1,6 +1,6 @@
 //! What a command line asks for.
 
-ghost use Rattle.std.specs.Prelude.{◌≡◌, ◌%◌, length, IfSome};
+ghost use Rattle.std.specs.Prelude.{◌≡◌, ◌%◌, length};
 
 use crate::ciphers::{ctr, fresh_keys, ige_decrypting, ige_encrypting};
 use std::fmt;
@@ -14,25 +14,42 @@ pub enum Work {
     Key,
 }
 
-/// A work, over how many bytes, and how many times.
+/// A work, over how many bytes in whole blocks of 16, and how many times.
 #[derive(Clone, Copy, Debug)]
 pub struct Asked {
     pub work: Work,
     pub bytes: usize,
     pub times: u64,
+    ghost whole_blocks: { bytes % 16 ≡ 0 },
 }
 
-/// What the words ask for, if they are a word of a work and two numbers, where the bytes are whole
-/// blocks of 16.
-pub fn read(words: &[String]) -> Option<Asked>
-    ensures { IfSome result (λ asked. asked.bytes % 16 ≡ 0) }
-{
-    let [word, bytes, times] = words else {
-        return None;
-    };
-    let work = work_of(word.as_str())?;
-    let bytes: usize = bytes.as_str().parse().ok()?;
-    let times: u64 = times.as_str().parse().ok()?;
+/// What a command line asks for.
+#[derive(Clone, Copy, Debug)]
+pub enum Request {
+    Help,
+    Version,
+    Work(Asked),
+}
+
+/// What the words ask for; `None` where they are none of the program's.
+pub fn read(words: &[String]) -> Option<Request> {
+    match words {
+        [word] => match word.as_str() {
+            "--help" => Some(Request::Help),
+            "--version" => Some(Request::Version),
+            _ => None,
+        },
+        [word, bytes, times] => {
+            let work = work_of(word.as_str())?;
+            let bytes: usize = bytes.as_str().parse().ok()?;
+            let times: u64 = times.as_str().parse().ok()?;
+            in_whole_blocks(work, bytes, times).map(Request::Work)
+        }
+        _ => None,
+    }
+}
+
+fn in_whole_blocks(work: Work, bytes: usize, times: u64) -> Option<Asked> {
     if bytes % 16 == 0 {
         Some(Asked { work, bytes, times })
     } else {
