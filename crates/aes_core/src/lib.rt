@@ -13,8 +13,8 @@ use crate::schedule::{Schedule, inverse_schedule, key_schedule};
 use std::fmt;
 use std::marker::Model;
 
-pub mod laws;
 mod inverse_mixing;
+pub mod laws;
 mod mixing;
 mod round;
 mod schedule;

@@ -45,12 +45,12 @@ pub fn inverse_cipher(inverse: &Schedule, block: &[u8; 16]) -> [u8; 16]
 fn mixed_rows(state: State) -> State
     ensures { bytes_of result ≡ mix_columns (shift_rows (sub_bytes (bytes_of state))) }
 {
-    let [s0, s1, s2, s3, s4, s5, s6, s7, s8, s9, s10, s11, s12, s13, s14, s15] = block_of(state);
+    let s = block_of(state);
     [
-        mixed_column(s0, s5, s10, s15),
-        mixed_column(s4, s9, s14, s3),
-        mixed_column(s8, s13, s2, s7),
-        mixed_column(s12, s1, s6, s11),
+        mixed_column(s[0], s[5], s[10], s[15]),
+        mixed_column(s[4], s[9], s[14], s[3]),
+        mixed_column(s[8], s[13], s[2], s[7]),
+        mixed_column(s[12], s[1], s[6], s[11]),
     ]
 }
 
@@ -59,12 +59,12 @@ fn mixed_rows(state: State) -> State
 fn last_rows(state: State) -> State
     ensures { bytes_of result ≡ shift_rows (sub_bytes (bytes_of state)) }
 {
-    let [s0, s1, s2, s3, s4, s5, s6, s7, s8, s9, s10, s11, s12, s13, s14, s15] = block_of(state);
+    let s = block_of(state);
     [
-        sub_word(s0, s5, s10, s15),
-        sub_word(s4, s9, s14, s3),
-        sub_word(s8, s13, s2, s7),
-        sub_word(s12, s1, s6, s11),
+        sub_word(s[0], s[5], s[10], s[15]),
+        sub_word(s[4], s[9], s[14], s[3]),
+        sub_word(s[8], s[13], s[2], s[7]),
+        sub_word(s[12], s[1], s[6], s[11]),
     ]
 }
 
@@ -73,12 +73,12 @@ fn last_rows(state: State) -> State
 fn inverse_mixed_rows(state: State) -> State
     ensures { bytes_of result ≡ inverse_mix_columns (inverse_sub_bytes (inverse_shift_rows (bytes_of state))) }
 {
-    let [s0, s1, s2, s3, s4, s5, s6, s7, s8, s9, s10, s11, s12, s13, s14, s15] = block_of(state);
+    let s = block_of(state);
     [
-        inverse_mixed_column(s0, s13, s10, s7),
-        inverse_mixed_column(s4, s1, s14, s11),
-        inverse_mixed_column(s8, s5, s2, s15),
-        inverse_mixed_column(s12, s9, s6, s3),
+        inverse_mixed_column(s[0], s[13], s[10], s[7]),
+        inverse_mixed_column(s[4], s[1], s[14], s[11]),
+        inverse_mixed_column(s[8], s[5], s[2], s[15]),
+        inverse_mixed_column(s[12], s[9], s[6], s[3]),
     ]
 }
 
@@ -87,11 +87,11 @@ fn inverse_mixed_rows(state: State) -> State
 fn inverse_last_rows(state: State) -> State
     ensures { bytes_of result ≡ inverse_sub_bytes (inverse_shift_rows (bytes_of state)) }
 {
-    let [s0, s1, s2, s3, s4, s5, s6, s7, s8, s9, s10, s11, s12, s13, s14, s15] = block_of(state);
+    let s = block_of(state);
     [
-        inverse_sub_word(s0, s13, s10, s7),
-        inverse_sub_word(s4, s1, s14, s11),
-        inverse_sub_word(s8, s5, s2, s15),
-        inverse_sub_word(s12, s9, s6, s3),
+        inverse_sub_word(s[0], s[13], s[10], s[7]),
+        inverse_sub_word(s[4], s[1], s[14], s[11]),
+        inverse_sub_word(s[8], s[5], s[2], s[15]),
+        inverse_sub_word(s[12], s[9], s[6], s[3]),
     ]
 }

@@ -12,11 +12,14 @@ use std::alloc::AllocError;
 use std::process::ExitCode;
 use std::{env, io};
 
-const USAGE: &str = "usage: mtp_bench ige-encrypt|ige-decrypt|ctr|key BYTES TIMES";
+const USAGE: &str =
+    "usage: mtp_bench ige-encrypt|ige-decrypt|ctr|key BYTES TIMES (BYTES a multiple of 16)";
 
 /// The statuses of a faulty command line, of a failed write, and of memory that ran out.
 const FAULTY: u8 = 2;
+
 const WRITE: u8 = 4;
+
 const MEMORY: u8 = 9;
 
 fn main(rt: HostRuntime) -> ExitCode {

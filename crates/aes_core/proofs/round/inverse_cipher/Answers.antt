@@ -12,8 +12,12 @@ rounds-init c schedule is =
 
 pub rounds-preserved : goal.rounds-preserved
 rounds-preserved c schedule is =
-    rw (c.xor_states-state-in-rounds.ensures, c.inverse_mixed_rows.ensures, c.round_key-key.ensures,
-      equivalent_round c.args.inverse.now schedule (bytes_of c.rounds.state) (14 - c.rounds.rounds_done) is (omega arith) (omega arith))
+    rw (
+      c.xor_states-state-in-rounds.ensures,
+      c.inverse_mixed_rows.ensures,
+      c.round_key-key.ensures,
+      equivalent_round c.args.inverse.now schedule (bytes_of c.rounds.state) (14 - c.rounds.rounds_done) is (omega arith) (omega arith),
+    )
     (inverse_rounds_next (bytes_of schedule) (bytes_of c.rounds.state) _ c.rounds.rounds_done (omega arith) (c.rounds.invariant schedule is))
 
 pub returns : goal.returns
