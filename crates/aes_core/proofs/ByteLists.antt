@@ -1,7 +1,6 @@
 -- Lists of bytes, and lists of sixteen.
-use Rattle.std.proofs.Common.{◌≡◌, ℕ, zero, suc, ◌<◌, ◌≤◌, ◌+◌, List, [], ◌∷◌, ◌++◌, map, take, drop, length, slice_index, refl, sym, ap, ap₂, ◌∙◌, arith, lit<}
-use Rattle.std.specs.Prelude.{bit_xor}
-use Rattle.std.proofs.lemmas.List.{length-map, length-append, length-take-le, length-drop, get_or-drop, drop_more, drop_all, same_lists, get_or_default}
+use Rattle.std.proofs.Common.{◌≡◌, ℕ, zero, suc, ◌<◌, ◌≤◌, ◌+◌, List, [], ◌∷◌, ◌++◌, map, take, drop, length, slice_index, refl, ap, ap₂, ◌∙◌, arith, lit<}
+use Rattle.std.proofs.lemmas.List.{length-map, length-append, length-take-le, length-drop, get_or-drop, drop_more, drop_all}
 use Rattle.std.proofs.lemmas.Nat.{xor_lt}
 use Rattle.octets.specs.Bytes.{HasBytes, xor_bytes}
 use Rattle.aes_core.proofs.XorLaws.{xor_twice}

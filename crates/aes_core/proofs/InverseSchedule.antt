@@ -1,11 +1,10 @@
 -- The schedule of the equivalent inverse cipher, word by word, and that a round with it is a round of
 -- the inverse cipher.
-use Rattle.std.proofs.Common.{◌≡◌, ℕ, zero, suc, ◌<◌, ◌≤◌, ◌+◌, ◌-◌, ◌*◌, List, [], ◌∷◌, take, drop, set, length, slice_index, refl, sym, ap, ap₂, ◌∙◌, inl, inr, arith}
+use Rattle.std.proofs.Common.{◌≡◌, ℕ, ◌<◌, ◌≤◌, ◌+◌, ◌*◌, List, [], ◌∷◌, drop, set, length, slice_index, refl, sym, ap, ◌∙◌, inl, inr, arith}
 use Rattle.std.specs.Int.{w32, to_le_bytes}
-use Rattle.std.proofs.lemmas.List.{length-map, length-drop, length-take-le, get_or-set_same, get_or-set_other, length-set}
+use Rattle.std.proofs.lemmas.List.{length-drop, length-take-le, get_or-set_same, get_or-set_other, length-set}
 use Rattle.std.proofs.lemmas.Bool.{cases_lt}
 use Rattle.octets.specs.Bytes.{xor_bytes}
-use Rattle.aes_core.specs.SubstitutionBox.{inverse_sub_byte}
 use Rattle.aes_core.specs.KeySchedule.{round_key}
 use Rattle.aes_core.specs.Cipher.{from_cells, inverse_sub_bytes, inverse_shift_rows, inverse_mix_columns, add_round_key, inverse_round}
 use Rattle.aes_core.specs.Words.{bytes_of, inverse_mixed_word, IsInverseSchedule}

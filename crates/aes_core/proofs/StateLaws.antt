@@ -1,5 +1,5 @@
 -- The steps of a round on states, and that the inverse steps undo them.
-use Rattle.std.proofs.Common.{◌≡◌, ℕ, ◌<◌, List, ◌++◌, slice_index, ◌∙◌, arith}
+use Rattle.std.proofs.Common.{◌≡◌, ℕ, ◌<◌, List, slice_index, ◌∙◌, arith}
 use Rattle.std.proofs.lemmas.Nat.{xor_lt}
 use Rattle.octets.specs.Bytes.{HasBytes}
 use Rattle.aes_core.specs.SubstitutionBox.{sub_byte, inverse_sub_byte}

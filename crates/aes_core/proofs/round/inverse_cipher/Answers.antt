@@ -1,5 +1,5 @@
-use Rattle.std.proofs.Common.{◌≡◌, ◌-◌, refl, ap, sym, ◌∙◌, arith}
-use Rattle.aes_core.specs.Cipher.{add_round_key, inverse_rounds, inverse_cipher}
+use Rattle.std.proofs.Common.{◌-◌, refl, arith}
+use Rattle.aes_core.specs.Cipher.{add_round_key, inverse_cipher}
 use Rattle.aes_core.specs.Words.{bytes_of}
 use Rattle.aes_core.proofs.CipherLaws.{inverse_rounds_next, inverse_rounds_done}
 use Rattle.aes_core.proofs.InverseSchedule.{equivalent_round}

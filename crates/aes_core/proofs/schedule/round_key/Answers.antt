@@ -1,4 +1,4 @@
-use Rattle.std.proofs.Common.{◌≡◌, sym, arith}
+use Rattle.std.proofs.Common.{sym, arith}
 use Rattle.aes_core.proofs.WordLaws.{round_key_words}
 use Rattle.aes_core.proofs.schedule.round_key.Goals as goal
 
