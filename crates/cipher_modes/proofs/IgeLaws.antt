@@ -1,7 +1,7 @@
 -- Infinite garble extension: the steps of the loops, the equations, and that each way undoes the
 -- other.
 use Rattle.std.proofs.Common.{◌≡◌, ℕ, zero, suc, ◌<◌, ◌≤◌, ◌+◌, ◌-◌, ◌*◌, ◌/◌, List, [], ◌++◌, take, drop, length, slice_index, sym, ap, ap₂, subst, ◌∙◌, arith}
-use Rattle.std.proofs.lemmas.List.{take_at, drop_at, take_all, drop-drop, take-append-drop, append_assoc, append-nil, nil_from_length, length-drop}
+use Rattle.std.proofs.lemmas.List.{take_at, drop_at, take_all, drop-drop, take-append-drop, append_assoc, append-nil, nil_from_length}
 use Rattle.std.proofs.lemmas.Slice.{take-put_mid, drop-put_mid}
 use borrow.Rule.Slice.PartMut.{put_mid}
 use Rattle.octets.specs.Bytes.{HasBytes, xor_bytes}
