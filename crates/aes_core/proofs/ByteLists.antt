@@ -1,21 +1,20 @@
 -- Lists of bytes, and lists of sixteen.
-use Rattle.std.proofs.Common.{◌≡◌, ℕ, zero, suc, ◌<◌, ◌≤◌, ◌+◌, List, [], ◌∷◌, ◌++◌, map, take, drop, length, slice_index, refl, sym, ap, ap₂, ◌∙◌, arith, lit<}
-use Rattle.std.specs.Prelude.{bit_xor}
-use Rattle.std.proofs.lemmas.List.{length-map, length-append, length-take-le, length-drop, get_or-drop, drop_more, drop_all, same_lists, get_or_default}
+use Rattle.std.proofs.Common.{◌≡◌, ℕ, zero, suc, ◌<◌, ◌≤◌, ◌+◌, List, [], ◌∷◌, ◌++◌, map, take, drop, length, slice_index, refl, ap, ap₂, ◌∙◌, arith, lit<}
+use Rattle.std.proofs.lemmas.List.{length-map, length-append, length-take-le, length-drop, get_or-drop, drop_more, drop_all}
 use Rattle.std.proofs.lemmas.Nat.{xor_lt}
-use Rattle.aes_core.specs.Bytes.{IsBytes, xor_bytes}
+use Rattle.octets.specs.Bytes.{HasBytes, xor_bytes}
 use Rattle.aes_core.proofs.XorLaws.{xor_twice}
 
-pub IsBytes-nil : IsBytes 0 []
-IsBytes-nil = record { count = refl; in_range = λ k. lit< tt }
+pub HasBytes-nil : HasBytes 0 []
+HasBytes-nil = record { count = refl; in_range = λ k. lit< tt }
 
 in_range-cons : (x : ℕ) (xs : List ℕ) → x < 256 → ((k : ℕ) → slice_index xs k < 256)
     → (k : ℕ) → slice_index (x ∷ xs) k < 256
 in_range-cons x xs h t zero = h
 in_range-cons x xs h t (suc k) = t k
 
-pub IsBytes-cons : {n x : ℕ} {xs : List ℕ} → x < 256 → IsBytes n xs → IsBytes (suc n) (x ∷ xs)
-IsBytes-cons {n} {x} {xs} h t = record {
+pub HasBytes-cons : {n x : ℕ} {xs : List ℕ} → x < 256 → HasBytes n xs → HasBytes (suc n) (x ∷ xs)
+HasBytes-cons {n} {x} {xs} h t = record {
   count = ap suc t.count;
   in_range = in_range-cons x xs h t.in_range;
 }
@@ -26,8 +25,8 @@ in_range-append [] ys h t k = t k
 in_range-append (x ∷ xs) ys h t zero = h 0
 in_range-append (x ∷ xs) ys h t (suc k) = in_range-append xs ys (λ j. h (suc j)) t k
 
-pub IsBytes-append : (m n : ℕ) (xs ys : List ℕ) → IsBytes m xs → IsBytes n ys → IsBytes (m + n) (xs ++ ys)
-IsBytes-append m n xs ys h t = record {
+pub HasBytes-append : (m n : ℕ) (xs ys : List ℕ) → HasBytes m xs → HasBytes n ys → HasBytes (m + n) (xs ++ ys)
+HasBytes-append m n xs ys h t = record {
   count = length-append xs ys ∙ ap₂ (λ (i : ℕ) (j : ℕ). i + j) h.count t.count;
   in_range = in_range-append xs ys h.in_range t.in_range;
 }
@@ -42,8 +41,8 @@ in_range-take (suc n) (x ∷ xs) h zero = h 0
 in_range-take (suc n) (x ∷ xs) h (suc k) = in_range-take n xs (λ j. h (suc j)) k
 
 -- a part of a list of bytes
-pub IsBytes-part : (i n : ℕ) (xs : List ℕ) → i + n ≤ length xs → ((k : ℕ) → slice_index xs k < 256) → IsBytes n (take n (drop i xs))
-IsBytes-part i n xs fits h = record {
+pub HasBytes-part : (i n : ℕ) (xs : List ℕ) → i + n ≤ length xs → ((k : ℕ) → slice_index xs k < 256) → HasBytes n (take n (drop i xs))
+HasBytes-part i n xs fits h = record {
   count = length-take-le n (drop i xs) (omega (arith, length-drop i xs));
   in_range = in_range-take n (drop i xs) (in_range-drop i xs h);
 }
@@ -56,8 +55,8 @@ in_range-map f p [] h k = lit< tt
 in_range-map f p (x ∷ xs) h zero = p x (h 0)
 in_range-map f p (x ∷ xs) h (suc k) = in_range-map f p xs (λ j. h (suc j)) k
 
-pub IsBytes-map : (n : ℕ) (f : ℕ → ℕ) → ((b : ℕ) → b < 256 → f b < 256) → (xs : List ℕ) → IsBytes n xs → IsBytes n (map f xs)
-IsBytes-map n f p xs h = record {
+pub HasBytes-map : (n : ℕ) (f : ℕ → ℕ) → ((b : ℕ) → b < 256 → f b < 256) → (xs : List ℕ) → HasBytes n xs → HasBytes n (map f xs)
+HasBytes-map n f p xs h = record {
   count = length-map xs f ∙ h.count;
   in_range = in_range-map f p xs h.in_range;
 }
@@ -81,8 +80,8 @@ in_range-xor_bytes (x ∷ xs) [] h t k = lit< tt
 in_range-xor_bytes (x ∷ xs) (y ∷ ys) h t zero = xor_lt 8 x y (h 0) (t 0)
 in_range-xor_bytes (x ∷ xs) (y ∷ ys) h t (suc k) = in_range-xor_bytes xs ys (λ j. h (suc j)) (λ j. t (suc j)) k
 
-pub IsBytes-xor_bytes : (n : ℕ) (xs ys : List ℕ) → IsBytes n xs → IsBytes n ys → IsBytes n (xor_bytes xs ys)
-IsBytes-xor_bytes n xs ys h t = record {
+pub HasBytes-xor_bytes : (n : ℕ) (xs ys : List ℕ) → HasBytes n xs → HasBytes n ys → HasBytes n (xor_bytes xs ys)
+HasBytes-xor_bytes n xs ys h t = record {
   count = length-xor_bytes xs ys (omega (arith, h.count, t.count)) ∙ h.count;
   in_range = in_range-xor_bytes xs ys h.in_range t.in_range;
 }
@@ -92,13 +91,6 @@ xor_bytes_twice [] ys h = refl
 xor_bytes_twice (x ∷ xs) [] h = absurd (omega arith)
 xor_bytes_twice (x ∷ xs) (y ∷ ys) h =
     ap₂ (λ (z : ℕ) (zs : List ℕ). z ∷ zs) (xor_twice x y) (xor_bytes_twice xs ys (omega arith))
-
-pub slice_index-xor_bytes : (xs ys : List ℕ) (k : ℕ) → k < length xs → k < length ys
-    → slice_index (xor_bytes xs ys) k ≡ bit_xor (slice_index xs k) (slice_index ys k)
-slice_index-xor_bytes [] ys k h t = absurd (omega arith)
-slice_index-xor_bytes (x ∷ xs) [] k h t = absurd (omega arith)
-slice_index-xor_bytes (x ∷ xs) (y ∷ ys) zero h t = refl
-slice_index-xor_bytes (x ∷ xs) (y ∷ ys) (suc k) h t = slice_index-xor_bytes xs ys k (omega arith) (omega arith)
 
 -- ---- a list of sixteen by its places
 
@@ -123,13 +115,3 @@ by_places_16 xs h =
     let e15 = drop_more xs 15 0 (omega arith) in
     let e16 = drop_all 16 xs (omega arith) in
     cc
-
--- a list that is the exclusive or at each place
-pub same_as_xor_bytes : (xs ys zs : List ℕ) → length zs ≡ length xs → length xs ≤ length ys
-    → ((k : ℕ) → k < length xs → slice_index zs k ≡ bit_xor (slice_index xs k) (slice_index ys k)) → zs ≡ xor_bytes xs ys
-same_as_xor_bytes xs ys zs len fits same =
-    let total = length-xor_bytes xs ys fits in
-    same_lists zs (xor_bytes xs ys) (len ∙ sym total) (λ k d h.
-    get_or_default zs k d 0 h ∙ same k (omega arith)
-    ∙ sym (slice_index-xor_bytes xs ys k (omega arith) (omega arith))
-    ∙ get_or_default (xor_bytes xs ys) k 0 d (omega arith))

@@ -2,7 +2,6 @@
 use Rattle.std.proofs.Common.{◌≡◌, ℕ, zero, suc, ◌+◌, ◌*◌, ◌/◌, ◌%◌, ◌^◌, ◌<◌, Bool, true, false, refl, sym, ap, ap₂, ◌∙◌, arith, lit<}
 use Rattle.std.specs.Prelude.{bit_xor, ◌==◌, if◌then◌else◌}
 use Rattle.std.specs.Int.{bit_at}
-use Rattle.std.specs.Int.Bits.{xor_zero_l, xor_zero_r}
 use Rattle.std.proofs.lemmas.Nat.{xor_block, xor_mod, xor_lt}
 use Rattle.std.proofs.lemmas.Nat.Bits.{bit_at_xor, bit_at-lt}
 use Rattle.aes_core.specs.Field.{xtime, product_bits, product, square, power_bits}
@@ -37,26 +36,12 @@ xtime-xor a b =
     ap₂ bit_xor shifted reduced
     ∙ xor_swap (2 * a % 256) (2 * b % 256) (reduction (bit_at a 7)) (reduction (bit_at b 7))
 
-pub xtime-zero : xtime 0 ≡ 0
-unfolding xtime
-xtime-zero = refl
-
 reduction-lt : (bit : ℕ) → bit < 2 → reduction bit < 2 ^ 8
 reduction-lt bit h = by_bit (λ x. reduction x < 2 ^ 8) (lit< tt) (lit< tt) bit h
 
 pub xtime-lt : (b : ℕ) → xtime b < 256
 unfolding xtime
 xtime-lt b = xor_lt 8 (2 * b % 256) (reduction (bit_at b 7)) (omega arith) (reduction-lt (bit_at b 7) (bit_at-lt b 7))
-
--- what the code computes for xtime
-pub xtime_by_shifts : (b : ℕ) → b < 256 → bit_xor (b * 2 % 256) (b / 128 * 27) ≡ xtime b
-unfolding xtime
-xtime_by_shifts b h =
-    let shifted : b * 2 % 256 ≡ 2 * b % 256 = omega arith in
-    let top : b / 128 < 2 = omega arith in
-    let same : b / 2 ^ 7 % 2 ≡ b / 128 = omega arith in
-    let added : b / 128 * 27 ≡ reduction (b / 128) = by_bit (λ x. x * 27 ≡ reduction x) refl refl (b / 128) top in
-    ap₂ bit_xor shifted (added ∙ ap reduction (sym same))
 
 if_xor : (t : Bool) (x y : ℕ) → (if t then bit_xor x y else 0) ≡ bit_xor (if t then x else 0) (if t then y else 0)
 if_xor true x y = refl
@@ -94,32 +79,3 @@ power_bits-lt zero b e = lit< tt
 power_bits-lt (suc n) b e =
     let half : ℕ = power_bits n b (e / 2) in
     product_bits-lt 8 (if e % 2 == 1 then b else 1) (square half) (product_bits-lt 8 half half (power_bits-lt n b (e / 2)))
-
--- products with the coefficients of the mixing, as sums of multiples by x
-pub product_1 : (b : ℕ) → product 1 b ≡ bit_xor b (xtime 0)
-unfolding product_bits
-product_1 b = simp (xtime-zero, xor_zero_r)
-
-pub product_2 : (b : ℕ) → product 2 b ≡ bit_xor 0 (xtime b)
-unfolding product_bits
-product_2 b = simp (xtime-zero, xor_zero_l, xor_zero_r)
-
-pub product_3 : (b : ℕ) → product 3 b ≡ bit_xor b (xtime b)
-unfolding product_bits
-product_3 b = simp (xtime-zero, xor_zero_r)
-
-pub product_9 : (b : ℕ) → product 9 b ≡ bit_xor b (xtime (bit_xor 0 (xtime (bit_xor 0 (xtime b)))))
-unfolding product_bits
-product_9 b = simp (xtime-zero, xor_zero_l, xor_zero_r)
-
-pub product_11 : (b : ℕ) → product 11 b ≡ bit_xor b (xtime (bit_xor b (xtime (bit_xor 0 (xtime b)))))
-unfolding product_bits
-product_11 b = simp (xtime-zero, xor_zero_l, xor_zero_r)
-
-pub product_13 : (b : ℕ) → product 13 b ≡ bit_xor b (xtime (bit_xor 0 (xtime (bit_xor b (xtime b)))))
-unfolding product_bits
-product_13 b = simp (xtime-zero, xor_zero_l, xor_zero_r)
-
-pub product_14 : (b : ℕ) → product 14 b ≡ bit_xor 0 (xtime (bit_xor b (xtime (bit_xor b (xtime b)))))
-unfolding product_bits
-product_14 b = simp (xtime-zero, xor_zero_l, xor_zero_r)

@@ -1,10 +1,14 @@
 pub mod TableTests
 pub mod XorLaws
 pub mod FieldLaws
-pub mod Mixing
+pub mod MixingLaws
 pub mod SubstitutionLaws
 pub mod ByteLists
+pub mod WordLaws
 pub mod StateLaws
 pub mod CipherLaws
 pub mod ScheduleLaws
 pub mod AesLaws
+pub mod ColumnLaws
+pub mod InverseSchedule
+pub mod Tables

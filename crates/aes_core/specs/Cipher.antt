@@ -1,7 +1,7 @@
 -- The cipher and its inverse (FIPS 197, 5.1 and 5.3), with 14 rounds. A state is a list of 16 bytes,
 -- column after column: the byte of row r and column c stands at place r + 4 c (3.4).
 use Rattle.std.specs.Prelude.{ℕ, zero, suc, ◌+◌, ◌-◌, ◌*◌, ◌%◌, List, [], ◌∷◌, ◌++◌, map, bit_xor, slice_index}
-use Rattle.aes_core.specs.Bytes.{xor_bytes}
+use Rattle.octets.specs.Bytes.{xor_bytes}
 use Rattle.aes_core.specs.Field.{product}
 use Rattle.aes_core.specs.SubstitutionBox.{sub_byte, inverse_sub_byte}
 use Rattle.aes_core.specs.KeySchedule.{key_schedule, round_key}

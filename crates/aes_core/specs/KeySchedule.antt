@@ -2,7 +2,7 @@
 -- rounds, and the schedule has 60 words. A word is a list of 4 bytes, and the schedule the list of
 -- the bytes of its words in turn.
 use Rattle.std.specs.Prelude.{ℕ, ◌≡◌, zero, suc, ◌+◌, ◌-◌, ◌*◌, ◌/◌, ◌%◌, ◌==◌, List, [], ◌∷◌, ◌++◌, map, take, drop, if◌then◌else◌}
-use Rattle.aes_core.specs.Bytes.{IsBytes, xor_bytes}
+use Rattle.octets.specs.Bytes.{HasBytes, xor_bytes}
 use Rattle.aes_core.specs.Field.{power}
 use Rattle.aes_core.specs.SubstitutionBox.{sub_byte}
 
@@ -52,5 +52,5 @@ round_key schedule r = take 16 (drop (16 * r) schedule)
 
 -- a list that is the schedule of its own first 32 bytes, which are a key
 pub record IsExpansion (bytes : List ℕ) : Type 0 where
-  pub key_bytes : IsBytes 32 (take 32 bytes)
+  pub key_bytes : HasBytes 32 (take 32 bytes)
   pub schedule : bytes ≡ key_schedule (take 32 bytes)

@@ -1,7 +1,7 @@
 //! Laws of the definitions, each the contract of a function that does nothing.
 
 ghost use Rattle.std.specs.Prelude.{◌≡◌, ℕ, ◌<◌, List};
-ghost use Rattle.aes_core.specs.Bytes.{IsBytes};
+ghost use Rattle.octets.specs.Bytes.{HasBytes};
 ghost use Rattle.aes_core.specs.Field.{product, inverse};
 ghost use Rattle.aes_core.specs.Cipher.{aes, inverse_aes};
 
@@ -13,20 +13,20 @@ pub fn inverse_is_multiplicative()
 
 /// The inverse cipher undoes the cipher, for every key and block.
 pub fn deciphering_undoes_enciphering()
-    ensures { (key block : List ℕ) → IsBytes 32 key → IsBytes 16 block
+    ensures { (key block : List ℕ) → HasBytes 32 key → HasBytes 16 block
         → inverse_aes key (aes key block) ≡ block }
 {}
 
 /// The cipher undoes the inverse cipher, for every key and block.
 pub fn enciphering_undoes_deciphering()
-    ensures { (key block : List ℕ) → IsBytes 32 key → IsBytes 16 block
+    ensures { (key block : List ℕ) → HasBytes 32 key → HasBytes 16 block
         → aes key (inverse_aes key block) ≡ block }
 {}
 
 /// A block enciphered or deciphered is a block of bytes.
 pub fn blocks_are_bytes()
-    ensures enciphered { (key block : List ℕ) → IsBytes 32 key → IsBytes 16 block
-        → IsBytes 16 (aes key block) }
-    ensures deciphered { (key block : List ℕ) → IsBytes 32 key → IsBytes 16 block
-        → IsBytes 16 (inverse_aes key block) }
+    ensures enciphered { (key block : List ℕ) → HasBytes 32 key → HasBytes 16 block
+        → HasBytes 16 (aes key block) }
+    ensures deciphered { (key block : List ℕ) → HasBytes 32 key → HasBytes 16 block
+        → HasBytes 16 (inverse_aes key block) }
 {}

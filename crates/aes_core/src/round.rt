@@ -1,172 +1,97 @@
-//! The steps of a round on a state, and the cipher and its inverse under a schedule (FIPS 197, 5.1
-//! and 5.3).
+//! The rounds on a state, and the cipher and its inverse under a schedule (FIPS 197, 5.1 and 5.3.5).
 
-ghost use Rattle.std.specs.Prelude.{◌≡◌, ◌<◌};
-ghost use Rattle.aes_core.specs.Field.{xtime};
-ghost use Rattle.aes_core.specs.Cipher.{combination, column, sub_bytes, inverse_sub_bytes, shift_rows, inverse_shift_rows, mix_columns, inverse_mix_columns, add_round_key, cipher, inverse_cipher};
+ghost use Rattle.std.specs.Prelude.{◌≡◌, List, ℕ};
+ghost use Rattle.octets.specs.Bytes.{xor_bytes};
+ghost use Rattle.aes_core.specs.Cipher.{sub_bytes, inverse_sub_bytes, shift_rows, inverse_shift_rows, mix_columns, inverse_mix_columns, cipher, inverse_cipher};
+ghost use Rattle.aes_core.specs.Words.{bytes_of, IsInverseSchedule};
 
-use crate::schedule::{SCHEDULE_BYTES, round_key};
-use crate::table::{inverse_sub_byte, sub_byte};
+use crate::inverse_mixing::inverse_mixed_column;
+use crate::mixing::mixed_column;
+use crate::schedule::{Schedule, round_key};
+use crate::table::{inverse_sub_word, sub_word};
+use crate::words::{State, block_of, state_of, xor_states};
 
 /// The rounds of the cipher, Nr.
 const ROUNDS: usize = 14;
 
-/// A block of the cipher: the state, column after column.
-type State = [u8; 16];
-
-/// The cipher, under the schedule of a key.
-pub fn cipher(schedule: &[u8; SCHEDULE_BYTES], block: State) -> State
-    ensures { result ≡ cipher schedule.now block }
+/// The cipher, under the schedule of a key (5.1).
+#[inline(always)]
+pub fn cipher(schedule: &Schedule, block: &[u8; 16]) -> [u8; 16]
+    ensures { result ≡ cipher (bytes_of schedule.now) block.now }
 {
-    let mut state = add_round_key(schedule, 0, block);
+    let mut state = xor_states(state_of(block), round_key(schedule, 0));
     'rounds: for round in 1..ROUNDS {
-        state = add_round_key(schedule, round, mix_columns(shift_rows(sub_bytes(state))));
+        state = xor_states(mixed_rows(state), round_key(schedule, round));
     }
-    add_round_key(schedule, ROUNDS, shift_rows(sub_bytes(state)))
+    block_of(xor_states(last_rows(state), round_key(schedule, ROUNDS)))
 }
 
-/// The inverse cipher, under the schedule of a key.
-pub fn inverse_cipher(schedule: &[u8; SCHEDULE_BYTES], block: State) -> State
-    ensures { result ≡ inverse_cipher schedule.now block }
+/// The inverse cipher, under the schedule of the equivalent inverse cipher (5.3.5).
+#[inline(always)]
+pub fn inverse_cipher(inverse: &Schedule, block: &[u8; 16]) -> [u8; 16]
+    ensures { (schedule : List ℕ) → IsInverseSchedule inverse.now schedule
+        → result ≡ inverse_cipher (bytes_of schedule) block.now }
 {
-    let mut state = add_round_key(schedule, ROUNDS, block);
+    let mut state = xor_states(state_of(block), round_key(inverse, ROUNDS));
     'rounds: for rounds_done in 1..ROUNDS {
-        let bytes = inverse_sub_bytes(inverse_shift_rows(state));
-        state = inverse_mix_columns(add_round_key(schedule, ROUNDS - rounds_done, bytes));
+        let key = round_key(inverse, ROUNDS - rounds_done);
+        state = xor_states(inverse_mixed_rows(state), key);
     }
-    add_round_key(schedule, 0, inverse_sub_bytes(inverse_shift_rows(state)))
+    block_of(xor_states(inverse_last_rows(state), round_key(inverse, 0)))
 }
 
-// SubBytes (5.1.1).
+// SubBytes, ShiftRows and MixColumns (5.1.1 to 5.1.3).
 #[inline(always)]
-fn sub_bytes(mut state: State) -> State
-    ensures { result ≡ sub_bytes state }
+fn mixed_rows(state: State) -> State
+    ensures { bytes_of result ≡ mix_columns (shift_rows (sub_bytes (bytes_of state))) }
 {
-    for byte in state.iter_mut() {
-        *byte = sub_byte(*byte);
-    }
-    state
-}
-
-// InvSubBytes (5.3.2).
-#[inline(always)]
-fn inverse_sub_bytes(mut state: State) -> State
-    ensures { result ≡ inverse_sub_bytes state }
-{
-    for byte in state.iter_mut() {
-        *byte = inverse_sub_byte(*byte);
-    }
-    state
-}
-
-// ShiftRows (5.1.2).
-#[inline(always)]
-fn shift_rows(state: State) -> State
-    ensures { result ≡ shift_rows state }
-{
+    let s = block_of(state);
     [
-        state[0], state[5], state[10], state[15], state[4], state[9], state[14], state[3],
-        state[8], state[13], state[2], state[7], state[12], state[1], state[6], state[11],
+        mixed_column(s[0], s[5], s[10], s[15]),
+        mixed_column(s[4], s[9], s[14], s[3]),
+        mixed_column(s[8], s[13], s[2], s[7]),
+        mixed_column(s[12], s[1], s[6], s[11]),
     ]
 }
 
-// InvShiftRows (5.3.1).
+// SubBytes and ShiftRows, of the last round.
 #[inline(always)]
-fn inverse_shift_rows(state: State) -> State
-    ensures { result ≡ inverse_shift_rows state }
+fn last_rows(state: State) -> State
+    ensures { bytes_of result ≡ shift_rows (sub_bytes (bytes_of state)) }
 {
+    let s = block_of(state);
     [
-        state[0], state[13], state[10], state[7], state[4], state[1], state[14], state[11],
-        state[8], state[5], state[2], state[15], state[12], state[9], state[6], state[3],
+        sub_word(s[0], s[5], s[10], s[15]),
+        sub_word(s[4], s[9], s[14], s[3]),
+        sub_word(s[8], s[13], s[2], s[7]),
+        sub_word(s[12], s[1], s[6], s[11]),
     ]
 }
 
-// Multiplication by x (4.2).
+// InvShiftRows, InvSubBytes and InvMixColumns (5.3.1 to 5.3.3).
 #[inline(always)]
-fn xtime(byte: u8) -> u8
-    ensures { result ≡ xtime byte }
+fn inverse_mixed_rows(state: State) -> State
+    ensures { bytes_of result ≡ inverse_mix_columns (inverse_sub_bytes (inverse_shift_rows (bytes_of state))) }
 {
-    (byte << 1) ^ ((byte >> 7) * 0x1b)
-}
-
-// A byte of a mixed column, from the column's bytes from its row on.
-#[inline(always)]
-fn mixed_byte(a: u8, b: u8, c: u8, d: u8) -> u8
-    ensures { result ≡ combination 0x02 0x03 0x01 0x01 a b c d }
-{
-    (b ^ c ^ d) ^ xtime(a ^ b)
-}
-
-// The same of the inverse, by the bits of the coefficients: 14 = 8 + 4 + 2, 11 = 8 + 2 + 1,
-// 13 = 8 + 4 + 1 and 9 = 8 + 1.
-#[inline(always)]
-fn inverse_mixed_byte(a: u8, b: u8, c: u8, d: u8) -> u8
-    ensures { result ≡ combination 0x0e 0x0b 0x0d 0x09 a b c d }
-{
-    (b ^ c ^ d) ^ xtime((a ^ b) ^ xtime((a ^ c) ^ xtime(a ^ b ^ c ^ d)))
-}
-
-#[inline(always)]
-fn mix_column(a: u8, b: u8, c: u8, d: u8) -> [u8; 4]
-    ensures { result ≡ column 0x02 0x03 0x01 0x01 a b c d }
-{
+    let s = block_of(state);
     [
-        mixed_byte(a, b, c, d),
-        mixed_byte(b, c, d, a),
-        mixed_byte(c, d, a, b),
-        mixed_byte(d, a, b, c),
+        inverse_mixed_column(s[0], s[13], s[10], s[7]),
+        inverse_mixed_column(s[4], s[1], s[14], s[11]),
+        inverse_mixed_column(s[8], s[5], s[2], s[15]),
+        inverse_mixed_column(s[12], s[9], s[6], s[3]),
     ]
 }
 
+// InvShiftRows and InvSubBytes, of the last round.
 #[inline(always)]
-fn inverse_mix_column(a: u8, b: u8, c: u8, d: u8) -> [u8; 4]
-    ensures { result ≡ column 0x0e 0x0b 0x0d 0x09 a b c d }
+fn inverse_last_rows(state: State) -> State
+    ensures { bytes_of result ≡ inverse_sub_bytes (inverse_shift_rows (bytes_of state)) }
 {
+    let s = block_of(state);
     [
-        inverse_mixed_byte(a, b, c, d),
-        inverse_mixed_byte(b, c, d, a),
-        inverse_mixed_byte(c, d, a, b),
-        inverse_mixed_byte(d, a, b, c),
+        inverse_sub_word(s[0], s[13], s[10], s[7]),
+        inverse_sub_word(s[4], s[1], s[14], s[11]),
+        inverse_sub_word(s[8], s[5], s[2], s[15]),
+        inverse_sub_word(s[12], s[9], s[6], s[3]),
     ]
-}
-
-// MixColumns (5.1.3).
-#[inline(always)]
-fn mix_columns(state: State) -> State
-    ensures { result ≡ mix_columns state }
-{
-    let [m0, m1, m2, m3] = mix_column(state[0], state[1], state[2], state[3]);
-    let [m4, m5, m6, m7] = mix_column(state[4], state[5], state[6], state[7]);
-    let [m8, m9, m10, m11] = mix_column(state[8], state[9], state[10], state[11]);
-    let [m12, m13, m14, m15] = mix_column(state[12], state[13], state[14], state[15]);
-    [
-        m0, m1, m2, m3, m4, m5, m6, m7, m8, m9, m10, m11, m12, m13, m14, m15,
-    ]
-}
-
-// InvMixColumns (5.3.3).
-#[inline(always)]
-fn inverse_mix_columns(state: State) -> State
-    ensures { result ≡ inverse_mix_columns state }
-{
-    let [m0, m1, m2, m3] = inverse_mix_column(state[0], state[1], state[2], state[3]);
-    let [m4, m5, m6, m7] = inverse_mix_column(state[4], state[5], state[6], state[7]);
-    let [m8, m9, m10, m11] = inverse_mix_column(state[8], state[9], state[10], state[11]);
-    let [m12, m13, m14, m15] = inverse_mix_column(state[12], state[13], state[14], state[15]);
-    [
-        m0, m1, m2, m3, m4, m5, m6, m7, m8, m9, m10, m11, m12, m13, m14, m15,
-    ]
-}
-
-// AddRoundKey (5.1.4).
-#[inline(always)]
-fn add_round_key(schedule: &[u8; SCHEDULE_BYTES], round: usize, mut state: State) -> State
-    requires { round < 15 }
-    ensures { result ≡ add_round_key schedule.now round state }
-{
-    let key = round_key(schedule, round);
-    'bytes: for i in 0..16 {
-        state[i] ^= key[i];
-    }
-    state
 }

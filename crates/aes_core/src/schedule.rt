@@ -1,10 +1,13 @@
-//! The key expansion (FIPS 197, 5.2).
+//! The key expansion (FIPS 197, 5.2), and that of the equivalent inverse cipher (5.3.5).
 
 ghost use Rattle.std.specs.Prelude.{◌≡◌, ◌<◌, ◌≤◌};
-ghost use Rattle.aes_core.specs.Bytes.{xor_bytes};
-ghost use Rattle.aes_core.specs.KeySchedule.{word, rot_word, sub_word, change, next_word, key_schedule, round_key};
+ghost use Rattle.std.specs.Int.{w32, to_le_bytes};
+ghost use Rattle.aes_core.specs.KeySchedule.{change, key_schedule, round_key};
+ghost use Rattle.aes_core.specs.Words.{bytes_of, inverse_mixed_word, IsInverseSchedule};
 
-use crate::table::sub_byte;
+use crate::inverse_mixing::inverse_mixed_column;
+use crate::table::{sub_byte, sub_word};
+use crate::words::{State, word_at};
 
 /// The words of a key, Nk.
 const KEY_WORDS: usize = 8;
@@ -12,91 +15,80 @@ const KEY_WORDS: usize = 8;
 /// The words of a schedule, 4 (Nr + 1).
 const SCHEDULE_WORDS: usize = 60;
 
-/// The bytes of a schedule.
-pub const SCHEDULE_BYTES: usize = 240;
+/// The words of a schedule, four for each round key.
+pub type Schedule = [u32; SCHEDULE_WORDS];
 
-// The first bytes of Rcon[1] to Rcon[7]; the others are 0.
-const ROUND_CONSTANTS: [u8; 7] = [0x01, 0x02, 0x04, 0x08, 0x10, 0x20, 0x40];
+// The first bytes of Rcon[1] to Rcon[7], which are the lowest of their words; the others are 0.
+const ROUND_CONSTANTS: [u32; 7] = [0x01, 0x02, 0x04, 0x08, 0x10, 0x20, 0x40];
 
 /// The schedule of a key.
-pub fn key_schedule(key: &[u8; 32]) -> [u8; SCHEDULE_BYTES]
-    ensures { result ≡ key_schedule key.now }
+pub fn key_schedule(key: &[u8; 32]) -> Schedule
+    ensures { bytes_of result ≡ key_schedule key.now }
 {
-    let mut schedule = [0; SCHEDULE_BYTES];
-    schedule[..32].copy_from_slice(key);
+    let mut schedule = [0; SCHEDULE_WORDS];
+    schedule[..KEY_WORDS].copy_from_slice(&key_words(key));
     'words: for i in KEY_WORDS..SCHEDULE_WORDS {
-        let next = next_word(&schedule, i);
-        schedule[4 * i..4 * i + 4].copy_from_slice(&next);
+        schedule[i] = schedule[i - KEY_WORDS] ^ change(i, schedule[i - 1]);
     }
     schedule
 }
 
-/// The round key of a round.
-#[inline(always)]
-pub fn round_key(schedule: &[u8; SCHEDULE_BYTES], round: usize) -> [u8; 16]
-    requires { round < 15 }
-    ensures { result ≡ round_key schedule.now round }
+/// The schedule of the equivalent inverse cipher, from that of a key.
+pub fn inverse_schedule(schedule: &Schedule) -> Schedule
+    ensures { IsInverseSchedule result schedule.now }
 {
-    let mut key = [0; 16];
-    key.copy_from_slice(&schedule[16 * round..16 * round + 16]);
-    key
+    let mut inverse = *schedule;
+    'words: for i in 4..SCHEDULE_WORDS - 4 {
+        inverse[i] = inverse_mixed_word(schedule[i]);
+    }
+    inverse
 }
 
-// Word i, from the words before it.
-fn next_word(schedule: &[u8; SCHEDULE_BYTES], i: usize) -> [u8; 4]
-    requires after_key { 8 ≤ i }
-    requires in_schedule { i < 60 }
-    ensures { result ≡ next_word schedule.now i }
+/// The round key of a round, a word for each column.
+#[inline(always)]
+pub fn round_key(schedule: &Schedule, round: usize) -> State
+    requires { round < 15 }
+    ensures { bytes_of result ≡ round_key (bytes_of schedule.now) round }
 {
-    xor_words(
-        word(schedule, i - KEY_WORDS),
-        change(i, word(schedule, i - 1)),
-    )
+    [
+        schedule[4 * round],
+        schedule[4 * round + 1],
+        schedule[4 * round + 2],
+        schedule[4 * round + 3],
+    ]
+}
+
+fn key_words(key: &[u8; 32]) -> [u32; KEY_WORDS]
+    ensures { bytes_of result ≡ key.now }
+{
+    let mut words = [0; KEY_WORDS];
+    'words: for i in 0..KEY_WORDS {
+        words[i] = word_at(key, 4 * i);
+    }
+    words
 }
 
 // What is added to word i - 8, made from word i - 1.
-fn change(i: usize, before: [u8; 4]) -> [u8; 4]
+fn change(i: usize, before: u32) -> u32
     requires after_key { 8 ≤ i }
     requires in_schedule { i < 60 }
-    ensures { result ≡ change i before }
+    ensures { to_le_bytes w32 result ≡ change i (to_le_bytes w32 before) }
 {
+    let [a, b, c, d] = before.to_le_bytes();
     if i % KEY_WORDS == 0 {
-        let constant = [ROUND_CONSTANTS[i / KEY_WORDS - 1], 0, 0, 0];
-        xor_words(sub_word(rot_word(before)), constant)
+        sub_word(b, c, d, a) ^ ROUND_CONSTANTS[i / KEY_WORDS - 1]
     } else if i % KEY_WORDS == 4 {
-        sub_word(before)
+        sub_word(a, b, c, d)
     } else {
         before
     }
 }
 
-fn word(schedule: &[u8; SCHEDULE_BYTES], i: usize) -> [u8; 4]
-    requires { i < 60 }
-    ensures { result ≡ word schedule.now i }
+// A word as a column of InvMixColumns (5.3.3): the table that undoes the substitution is looked up at
+// what is substituted.
+fn inverse_mixed_word(word: u32) -> u32
+    ensures { to_le_bytes w32 result ≡ inverse_mixed_word word }
 {
-    let mut bytes = [0; 4];
-    bytes.copy_from_slice(&schedule[4 * i..4 * i + 4]);
-    bytes
-}
-
-fn rot_word(word: [u8; 4]) -> [u8; 4]
-    ensures { result ≡ rot_word word }
-{
-    let [a, b, c, d] = word;
-    [b, c, d, a]
-}
-
-fn sub_word(word: [u8; 4]) -> [u8; 4]
-    ensures { result ≡ sub_word word }
-{
-    let [a, b, c, d] = word;
-    [sub_byte(a), sub_byte(b), sub_byte(c), sub_byte(d)]
-}
-
-fn xor_words(x: [u8; 4], y: [u8; 4]) -> [u8; 4]
-    ensures { result ≡ xor_bytes x y }
-{
-    let [x0, x1, x2, x3] = x;
-    let [y0, y1, y2, y3] = y;
-    [x0 ^ y0, x1 ^ y1, x2 ^ y2, x3 ^ y3]
+    let [a, b, c, d] = word.to_le_bytes();
+    inverse_mixed_column(sub_byte(a), sub_byte(b), sub_byte(c), sub_byte(d))
 }

@@ -1,6 +1,7 @@
 //! The S-box and its inverse, each as a table of 256 bytes.
 
-ghost use Rattle.std.specs.Prelude.{◌≡◌};
+ghost use Rattle.std.specs.Prelude.{◌≡◌, [], ◌∷◌};
+ghost use Rattle.std.specs.Int.{w32, to_le_bytes};
 ghost use Rattle.aes_core.specs.SubstitutionBox.{sub_byte, inverse_sub_byte};
 
 // The S-box (FIPS 197, table 4).
@@ -57,4 +58,25 @@ pub fn inverse_sub_byte(byte: u8) -> u8
     ensures { result ≡ inverse_sub_byte byte }
 {
     INVERSE_SUBSTITUTION[byte as usize]
+}
+
+/// The word of four bytes, the lowest first, each put through SubBytes.
+#[inline(always)]
+pub fn sub_word(a: u8, b: u8, c: u8, d: u8) -> u32
+    ensures { to_le_bytes w32 result ≡ sub_byte a ∷ sub_byte b ∷ sub_byte c ∷ sub_byte d ∷ [] }
+{
+    u32::from_le_bytes([sub_byte(a), sub_byte(b), sub_byte(c), sub_byte(d)])
+}
+
+/// The word of four bytes, the lowest first, each put through InvSubBytes.
+#[inline(always)]
+pub fn inverse_sub_word(a: u8, b: u8, c: u8, d: u8) -> u32
+    ensures { to_le_bytes w32 result ≡ inverse_sub_byte a ∷ inverse_sub_byte b ∷ inverse_sub_byte c ∷ inverse_sub_byte d ∷ [] }
+{
+    u32::from_le_bytes([
+        inverse_sub_byte(a),
+        inverse_sub_byte(b),
+        inverse_sub_byte(c),
+        inverse_sub_byte(d),
+    ])
 }

@@ -1,3 +1,5 @@
+ghost use Rattle.std.specs.Prelude.{◌≡◌};
+
 use super::Key256;
 use std::test::Fail;
 
@@ -8,7 +10,7 @@ struct Row {
 }
 
 const ROWS: [Row; 2] = [
-    // FIPS 197 (2001), appendix C.3.
+    // FIPS 197, first edition (2001), appendix C.3.
     Row {
         key: [
             0x00, 0x01, 0x02, 0x03, 0x04, 0x05, 0x06, 0x07, 0x08, 0x09, 0x0a, 0x0b, 0x0c, 0x0d,
@@ -52,5 +54,59 @@ fn blocks_of_the_standards(rt: HostRuntime) -> Result<(), Fail> {
         key.decrypt_block(&mut block);
         assert_eq!(rt; block, row.plain);
     }
+    Ok(())
+}
+
+// 1,000 blocks in turn from the first row on, each under the key of the two outputs before it. Both
+// answers were computed with OpenSSL 3.0.19.
+#[test]
+fn blocks_under_keys_of_their_outputs(rt: HostRuntime) -> Result<(), Fail> {
+    let first = &ROWS[0];
+    let (mut key, mut block) = (first.key, first.plain);
+    for _ in 0..1000 {
+        Key256::new(&key).encrypt_block(&mut block);
+        key = next_key(&key, &block);
+    }
+    assert_eq!(rt; block, CHAIN_ENCIPHERED);
+    (key, block) = (first.key, first.plain);
+    for _ in 0..1000 {
+        Key256::new(&key).decrypt_block(&mut block);
+        key = next_key(&key, &block);
+    }
+    assert_eq!(rt; block, CHAIN_DECIPHERED);
+    Ok(())
+}
+
+const CHAIN_ENCIPHERED: [u8; 16] = [
+    0xa9, 0x89, 0x93, 0x2b, 0xad, 0xb8, 0xec, 0x3c, 0x1d, 0x21, 0x9d, 0xec, 0x85, 0xac, 0x31, 0xa0,
+];
+
+const CHAIN_DECIPHERED: [u8; 16] = [
+    0x16, 0xfb, 0xe6, 0xa7, 0x43, 0x5c, 0xc9, 0x4d, 0x20, 0x79, 0x0e, 0xc6, 0x61, 0x49, 0x63, 0x05,
+];
+
+fn next_key(key: &[u8; 32], block: &[u8; 16]) -> [u8; 32] {
+    let mut next = [0; 32];
+    next[..16].copy_from_slice(&key[16..]);
+    next[16..].copy_from_slice(block);
+    next
+}
+
+// A caller that has a block back needs no lemma.
+fn there_and_back(key: &Key256, block: &mut [u8; 16])
+    ensures { block.new ≡ block.old }
+{
+    key.encrypt_block(block);
+    key.decrypt_block(block);
+}
+
+#[test]
+fn a_key_does_not_show(rt: HostRuntime) -> Result<(), Fail> {
+    let row = &ROWS[0];
+    let key = Key256::new(&row.key);
+    let mut block = row.plain;
+    there_and_back(&key, &mut block);
+    let shown = format!(in rt.alloc(); "{key:?}")?;
+    assert_eq!(rt; shown.as_str(), "Key256 { .. }");
     Ok(())
 }

@@ -1,13 +1,16 @@
 -- Counter mode: the stream repeats, a text is xored byte by byte, and pieces are as the whole.
-use Rattle.std.proofs.Common.{◌≡◌, ℕ, suc, ◌<◌, ◌+◌, ◌*◌, ◌/◌, ◌%◌, ◌^◌, List, [], ◌∷◌, ◌++◌, take, drop, set, length, slice_index, get_or, refl, sym, ap, ap₂, ◌∙◌, arith}
+use Rattle.std.proofs.Common.{◌≡◌, ℕ, suc, ◌<◌, ◌≤◌, ◌+◌, ◌*◌, ◌/◌, ◌%◌, ◌^◌, List, [], ◌∷◌, ◌++◌, take, drop, set, length, slice_index, get_or, refl, sym, ap, ap₂, ◌∙◌, arith}
 use Rattle.std.specs.Prelude.{bit_xor}
+use Rattle.std.specs.Int.Bits.{xor_assoc, xor_self, xor_zero_r}
 use Rattle.std.specs.Int.{w128, from_be_bytes, to_be_bytes}
 use Rattle.std.specs.List.{concat}
 use Rattle.std.proofs.Math.Nat.{add-mod-mod, mod-add-mod}
 use Rattle.std.proofs.lemmas.Nat.{field_of, mod-pow-add, mod_low}
-use Rattle.std.proofs.lemmas.List.{take_more, drop_more, get_or_at, set_at, length-take-le, append_assoc}
+use Rattle.std.proofs.lemmas.List.{take_more, drop_more, take_at, drop_at, drop-drop, drop-take, take-take, take-append-drop, get_or_at, set_at, length-take-le, length-append, append_assoc}
+use borrow.Rule.Slice.PartMut.{put_mid}
+use Rattle.octets.specs.Bytes.{xor_bytes}
 use Rattle.aes_core.specs.Cipher.{aes}
-use Rattle.aes_core.proofs.XorLaws.{xor_twice}
+use Rattle.cipher_modes.specs.Ige.{block}
 use Rattle.cipher_modes.specs.CounterMode.{counter_block, ctr_stream, xor_stream, CtrState, applied, advanced, applied_in_turn}
 
 -- ---- the stream at a place
@@ -64,12 +67,26 @@ one_more_byte stream k old text i s within so_far byte =
     ∙ sym (append_assoc done (bit_xor (get_or old i 0) (stream (k + i)) ∷ []) (drop (i + 1) old))
     ∙ ap (λ (t : List ℕ). t ++ drop (i + 1) old) (sym next)
 
--- ---- the place
+-- ---- a text block by block
 
-pub advanced-zero : (s : CtrState) → s.place < 2 ^ 132 → s ≡ advanced s 0
-advanced-zero s below =
-    let same : (s.place + 0) % 2 ^ 132 ≡ s.place = omega arith in
-    ap (λ (p : ℕ). record s { place = p }) (sym same)
+xor_stream-bytes : (stream : ℕ → ℕ) (k : ℕ) (xs ys : List ℕ) → length xs ≤ length ys
+    → ((j : ℕ) → j < length xs → slice_index ys j ≡ stream (k + j)) → xor_bytes xs ys ≡ xor_stream stream k xs
+xor_stream-bytes stream k [] ys fits same = refl
+xor_stream-bytes stream k (x ∷ xs) [] fits same = absurd (omega arith)
+xor_stream-bytes stream k (x ∷ xs) (y ∷ ys) fits same =
+    let here : y ≡ stream k = same 0 (omega arith) ∙ ap stream (omega arith) in
+    ap₂ (λ (b : ℕ) (zs : List ℕ). bit_xor x b ∷ zs) here
+    (xor_stream-bytes stream (k + 1) xs ys (omega arith) (λ j h. same (suc j) (omega arith) ∙ ap stream (omega arith)))
+
+-- a block of text, xored with the block of the stream at whose start the stream stands
+pub block_applied : (s : CtrState) (xs ys : List ℕ) → length xs ≡ 16 → length ys ≡ 16 → s.place % 16 ≡ 0
+    → ys ≡ aes s.key (counter_block s.iv (s.place / 16)) → xor_bytes xs ys ≡ applied s xs
+block_applied s xs ys long same_long start is =
+    let begins : 16 * (s.place / 16) ≡ s.place = omega arith in
+    xor_stream-bytes (ctr_stream s.key s.iv) s.place xs ys (omega arith)
+    (λ j h. stream_at s.key s.iv ys (s.place / 16) j (omega arith) is ∙ ap (λ (p : ℕ). ctr_stream s.key s.iv (p + j)) begins)
+
+-- ---- the place
 
 pub advanced-advanced : (s : CtrState) (m n : ℕ) → advanced (advanced s m) n ≡ advanced s (m + n)
 advanced-advanced s m n =
@@ -104,9 +121,55 @@ applied_in_turn-concat s (piece ∷ pieces) =
     ap (λ (t : List ℕ). applied s piece ++ t) (applied_in_turn-concat (advanced s (length piece)) pieces)
     ∙ sym (applied-append s piece (concat pieces))
 
+xor_twice : (a b : ℕ) → bit_xor (bit_xor a b) b ≡ a
+xor_twice a b = rw (xor_assoc a b b, xor_self b, xor_zero_r a) refl
+
 xor_stream_twice : (stream : ℕ → ℕ) (k : ℕ) (xs : List ℕ) → xor_stream stream k (xor_stream stream k xs) ≡ xs
 xor_stream_twice stream k [] = refl
 xor_stream_twice stream k (x ∷ xs) = ap₂ (λ (y : ℕ) (ys : List ℕ). y ∷ ys) (xor_twice x (stream k)) (xor_stream_twice stream (k + 1) xs)
 
 pub applied_twice : (s : CtrState) (text : List ℕ) → applied s (applied s text) ≡ text
 applied_twice s text = xor_stream_twice (ctr_stream s.key s.iv) s.place text
+
+-- one more block of a loop
+pub one_more_block : (s : CtrState) (old text out : List ℕ) (i k : ℕ) → 16 * i + 16 ≤ length old → k ≡ 16
+    → text ≡ applied s (take (16 * i) old) ++ drop (16 * i) old
+    → (block text i ≡ block old i → out ≡ applied (advanced s (16 * i)) (block old i)) → length out ≡ 16
+    → put_mid (16 * i) k text out ≡ applied s (take (16 * (i + 1)) old) ++ drop (16 * (i + 1)) old
+one_more_block s old text out i k fits width so_far made long =
+    let done : List ℕ = applied s (take (16 * i) old) in
+    let taken : length (take (16 * i) old) ≡ 16 * i = length-take-le (16 * i) old (omega arith) in
+    let done_long : length done ≡ 16 * i = length-xor_stream (ctr_stream s.key s.iv) s.place (take (16 * i) old) ∙ taken in
+    let front : take (16 * i) text ≡ done = ap (take (16 * i)) so_far ∙ take_at done (drop (16 * i) old) (16 * i) done_long in
+    let rest : drop (16 * i) text ≡ drop (16 * i) old = ap (drop (16 * i)) so_far ∙ drop_at done (drop (16 * i) old) (16 * i) done_long in
+    let place : 16 * (i + 1) ≡ 16 * i + 16 = omega arith in
+    let next : take (16 * (i + 1)) old ≡ take (16 * i) old ++ block old i =
+    ap (λ (n : ℕ). take n old) place
+    ∙ sym (take-append-drop (16 * i) (take (16 * i + 16) old))
+    ∙ ap₂ (λ (x : List ℕ) (y : List ℕ). x ++ y) (take-take (16 * i) (16 * i + 16) old (omega arith)) (drop-take (16 * i) 16 old) in
+    let here : out ≡ applied (advanced s (length (take (16 * i) old))) (block old i) =
+    made (ap (take 16) rest) ∙ ap (λ (n : ℕ). applied (advanced s n) (block old i)) (sym taken) in
+    let whole : applied s (take (16 * (i + 1)) old) ≡ done ++ out =
+    ap (applied s) next ∙ applied-append s (take (16 * i) old) (block old i) ∙ ap (λ (x : List ℕ). done ++ x) (sym here) in
+    let back : drop k (drop (16 * i) text) ≡ drop (16 * (i + 1)) old =
+    ap₂ drop width rest ∙ drop-drop 16 (16 * i) old ∙ ap (λ (n : ℕ). drop n old) (sym place) in
+    rw (front, back, whole, append_assoc) refl
+
+-- a text in three parts, each from where the part before it left the stream
+pub three_parts : (s t u v : CtrState) (text others a b c x y z : List ℕ)
+    → text ≡ a ++ others → others ≡ b ++ c
+    → x ≡ applied s a → t ≡ advanced s (length a) → y ≡ applied t b → u ≡ advanced t (length b)
+    → z ≡ applied u c → v ≡ advanced u (length c)
+    → (x ++ (y ++ z) ≡ applied s text) × (v ≡ advanced s (length text))
+three_parts s t u v text others a b c x y z text_is others_are x_is t_is y_is u_is z_is v_is =
+    let rest : y ++ z ≡ applied t others =
+    ap₂ (λ (p : List ℕ) (q : List ℕ). p ++ q) y_is (z_is ∙ ap (λ (w : CtrState). applied w c) u_is)
+    ∙ sym (applied-append t b c) ∙ ap (applied t) (sym others_are) in
+    let end : v ≡ advanced t (length others) =
+    v_is ∙ ap (λ (w : CtrState). advanced w (length c)) u_is ∙ advanced-advanced t (length b) (length c)
+    ∙ ap (advanced t) (sym (length-append b c) ∙ ap length (sym others_are)) in (
+      ap₂ (λ (p : List ℕ) (q : List ℕ). p ++ q) x_is (rest ∙ ap (λ (w : CtrState). applied w others) t_is)
+          ∙ sym (applied-append s a others) ∙ ap (applied s) (sym text_is),
+      end ∙ ap (λ (w : CtrState). advanced w (length others)) t_is ∙ advanced-advanced s (length a) (length others)
+          ∙ ap (advanced s) (sym (length-append a others) ∙ ap length (sym text_is)),
+    )

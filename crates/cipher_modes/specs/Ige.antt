@@ -3,7 +3,7 @@
 --   c_i = aes(p_i xor c_(i-1)) xor p_(i-1)
 -- where c_0 is the first and p_0 the last half of the initialisation vector of 32 bytes.
 use Rattle.std.specs.Prelude.{ℕ, zero, suc, ◌≡◌, ◌≤◌, ◌+◌, ◌*◌, ◌/◌, List, [], ◌++◌, length, take, drop}
-use Rattle.aes_core.specs.Bytes.{xor_bytes}
+use Rattle.octets.specs.Bytes.{xor_bytes}
 use Rattle.aes_core.specs.Cipher.{aes, inverse_aes}
 
 -- block i of a text, counted from 0

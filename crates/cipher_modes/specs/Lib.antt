@@ -1,2 +1,3 @@
 pub mod Ige
 pub mod CounterMode
+pub mod Below

@@ -1,8 +1,12 @@
 //! Blocks of 16 bytes.
 
 ghost use Rattle.std.specs.Prelude.{◌≡◌, ◌≤◌, ◌+◌, ◌*◌, length};
-ghost use Rattle.aes_core.specs.Bytes.{xor_bytes};
+ghost use Rattle.octets.specs.Bytes.{xor_bytes};
 ghost use Rattle.cipher_modes.specs.Ige.{block};
+ghost use Rattle.cipher_modes.specs.Below.{BlockLaws};
+
+use aes_core::laws as of_blocks;
+use octets::laws as of_bytes;
 
 /// The bytes of a block of AES.
 pub const BLOCK_BYTES: usize = 16;
@@ -26,8 +30,21 @@ pub fn block_at(text: &[u8], i: usize) -> Block
 pub fn xor_blocks(mut x: Block, y: Block) -> Block
     ensures { result ≡ xor_bytes x y }
 {
+    of_bytes::xor_by_places();
     'bytes: for i in 0..BLOCK_BYTES {
         x[i] ^= y[i];
     }
     x
+}
+
+/// What the crates below promise of lists of bytes and of blocks, for the proofs.
+#[inline(always)]
+pub fn block_laws()
+    ensures { BlockLaws }
+{
+    of_bytes::counts_of_bytes();
+    of_bytes::xor_is_a_sum();
+    of_blocks::blocks_are_bytes();
+    of_blocks::deciphering_undoes_enciphering();
+    of_blocks::enciphering_undoes_deciphering();
 }

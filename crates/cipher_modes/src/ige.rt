@@ -1,10 +1,10 @@
 //! Infinite garble extension (core.telegram.org/mtproto/description).
 
 ghost use Rattle.std.specs.Prelude.{◌≡◌, ◌%◌, length, take, drop};
-ghost use Rattle.aes_core.specs.Bytes.{IsBytes};
+ghost use Rattle.octets.specs.Bytes.{HasBytes};
 ghost use Rattle.cipher_modes.specs.Ige.{ige, inverse_ige, ige_block, inverse_ige_block, MeetsIgeEquations};
 
-use crate::block::{BLOCK_BYTES, Block, block_at, xor_blocks};
+use crate::block::{BLOCK_BYTES, Block, block_at, block_laws, xor_blocks};
 use aes_core::Key256;
 
 /// Enciphers a text of whole blocks in place: each block is
@@ -16,6 +16,7 @@ pub fn ige_encrypt(key: &Key256, iv: &[u8; 32], text: &mut [u8])
     ensures meets_equations { MeetsIgeEquations key.now iv.now text.old text.new }
     ensures undone_by_decrypting { inverse_ige key.now iv.now text.new ≡ text.old }
 {
+    block_laws();
     let (mut cipher_before, mut plain_before) = halves(iv);
     'each_block: for i in 0..text.len() / BLOCK_BYTES {
         let plain = block_at(text, i);
@@ -34,6 +35,7 @@ pub fn ige_decrypt(key: &Key256, iv: &[u8; 32], text: &mut [u8])
     ensures meets_equations { MeetsIgeEquations key.now iv.now text.new text.old }
     ensures undone_by_encrypting { ige key.now iv.now text.new ≡ text.old }
 {
+    block_laws();
     let (mut cipher_before, mut plain_before) = halves(iv);
     'each_block: for i in 0..text.len() / BLOCK_BYTES {
         let cipher = block_at(text, i);
@@ -48,7 +50,7 @@ pub fn ige_decrypt(key: &Key256, iv: &[u8; 32], text: &mut [u8])
 #[inline(always)]
 fn encrypted(key: &Key256, cipher_before: Block, plain_before: Block, plain: Block) -> Block
     ensures block { result ≡ ige_block key.now cipher_before plain_before plain }
-    ensures key_of_bytes { IsBytes 32 key.now }
+    ensures key_of_bytes { HasBytes 32 key.now }
 {
     let mut block = xor_blocks(plain, cipher_before);
     key.encrypt_block(&mut block);
@@ -58,7 +60,7 @@ fn encrypted(key: &Key256, cipher_before: Block, plain_before: Block, plain: Blo
 #[inline(always)]
 fn decrypted(key: &Key256, cipher_before: Block, plain_before: Block, cipher: Block) -> Block
     ensures block { result ≡ inverse_ige_block key.now cipher_before plain_before cipher }
-    ensures key_of_bytes { IsBytes 32 key.now }
+    ensures key_of_bytes { HasBytes 32 key.now }
 {
     let mut block = xor_blocks(cipher, plain_before);
     key.decrypt_block(&mut block);

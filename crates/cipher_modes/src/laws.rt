@@ -2,27 +2,35 @@
 
 ghost use Rattle.std.specs.Prelude.{◌≡◌, ◌*◌, ℕ, List};
 ghost use Rattle.std.specs.List.{concat};
-ghost use Rattle.aes_core.specs.Bytes.{IsBytes};
+ghost use Rattle.octets.specs.Bytes.{HasBytes};
 ghost use Rattle.cipher_modes.specs.Ige.{ige, inverse_ige, MeetsIgeEquations};
 ghost use Rattle.cipher_modes.specs.CounterMode.{CtrState, applied, applied_in_turn};
 
+use crate::block::block_laws;
+
 /// A text enciphered in infinite garble extension meets the equations of the mode.
 pub fn ige_meets_its_equations()
-    ensures { (key iv text : List ℕ) (n : ℕ) → IsBytes 32 key → IsBytes 32 iv → IsBytes (16 * n) text
+    ensures { (key iv text : List ℕ) (n : ℕ) → HasBytes 32 key → HasBytes 32 iv → HasBytes (16 * n) text
         → MeetsIgeEquations key iv text (ige key iv text) }
-{}
+{
+    block_laws();
+}
 
 /// Deciphering in infinite garble extension undoes enciphering.
 pub fn ige_deciphering_undoes_enciphering()
-    ensures { (key iv text : List ℕ) (n : ℕ) → IsBytes 32 key → IsBytes 32 iv → IsBytes (16 * n) text
+    ensures { (key iv text : List ℕ) (n : ℕ) → HasBytes 32 key → HasBytes 32 iv → HasBytes (16 * n) text
         → inverse_ige key iv (ige key iv text) ≡ text }
-{}
+{
+    block_laws();
+}
 
 /// Enciphering in infinite garble extension undoes deciphering.
 pub fn ige_enciphering_undoes_deciphering()
-    ensures { (key iv text : List ℕ) (n : ℕ) → IsBytes 32 key → IsBytes 32 iv → IsBytes (16 * n) text
+    ensures { (key iv text : List ℕ) (n : ℕ) → HasBytes 32 key → HasBytes 32 iv → HasBytes (16 * n) text
         → ige key iv (inverse_ige key iv text) ≡ text }
-{}
+{
+    block_laws();
+}
 
 /// In counter mode, pieces in turn are the same as one call over all of them, whatever their lengths.
 pub fn ctr_pieces_equal_the_whole()

@@ -1,5 +1,5 @@
 use Rattle.std.proofs.Common.{◌≡◌, ◌<◌, ◌-◌, ◌/◌, ◌*◌, length, arith, rules, ◌∙◌, ap, refl}
-use Rattle.aes_core.specs.Bytes.{IsBytes}
+use Rattle.octets.specs.Bytes.{HasBytes}
 use Rattle.cipher_modes.specs.Ige.{ige_block}
 use Rattle.cipher_modes.proofs.IgeLaws.{ige_next, ige_done, inverse_ige-ige, ige-MeetsIgeEquations}
 use Rattle.cipher_modes.proofs.ige.ige_encrypt.Goals as goal
@@ -30,14 +30,14 @@ pub returns : goal.returns
 returns c =
     let count : length c.args.text.now ≡ 16 * (length c.args.text.now / 16) = omega arith in
     let last : c.each_block.i ≡ length c.args.text.now / 16 = omega arith in
-    let key_bytes : 0 < length c.args.text.now / 16 → IsBytes 32 c.args.key.now = λ h. c.each_block.invariant.key_bytes (omega arith) in
-    let iv_bytes : IsBytes 32 c.args.iv.now = record { count = c.told-iv; in_range = c.fits-iv } in
-    let text_bytes : IsBytes (16 * (length c.args.text.now / 16)) c.args.text.now =
+    let key_bytes : 0 < length c.args.text.now / 16 → HasBytes 32 c.args.key.now = λ h. c.each_block.invariant.key_bytes (omega arith) in
+    let iv_bytes : HasBytes 32 c.args.iv.now = record { count = c.told-iv; in_range = c.fits-iv } in
+    let text_bytes : HasBytes (16 * (length c.args.text.now / 16)) c.args.text.now =
     record { count = count; in_range = c.each_block.invariant.text_bytes } in
     let made = ige_done c.args.key.now c.each_block.cipher_before c.each_block.plain_before c.each_block.text _
     c.each_block.i (length c.args.text.now / 16) last (omega arith) c.each_block.invariant.whole_text in
     record {
       enciphered = made;
-      meets_equations = rw made (ige-MeetsIgeEquations c.args.key.now c.args.iv.now c.args.text.now _ key_bytes iv_bytes text_bytes);
-      undone_by_decrypting = rw made (inverse_ige-ige c.args.key.now c.args.iv.now c.args.text.now _ key_bytes iv_bytes text_bytes);
+      meets_equations = rw made (ige-MeetsIgeEquations c.block_laws.ensures c.args.key.now c.args.iv.now c.args.text.now _ key_bytes iv_bytes text_bytes);
+      undone_by_decrypting = rw made (inverse_ige-ige c.block_laws.ensures c.args.key.now c.args.iv.now c.args.text.now _ key_bytes iv_bytes text_bytes);
     }

@@ -1,14 +1,10 @@
-use Rattle.std.proofs.Common.{◌∙◌, ap}
-use Rattle.cipher_modes.specs.CounterMode.{CtrState, ctr_stream, advanced}
-use Rattle.cipher_modes.proofs.CtrLaws.{one_more_byte, byte_at, advanced-advanced}
+use Rattle.cipher_modes.proofs.CtrLaws.{three_parts}
 use Rattle.cipher_modes.proofs.ctr.Ctr.apply.Goals as goal
 
-pub loop-byte-preserved : goal.loop-byte-preserved
-loop-byte-preserved c =
-    let before = c.args.self.now in
-    let moved = c.loop-byte.invariant.1 in
-    let byte = byte_at before c.loop-byte.self c.loop-byte.byte-index c.next_byte.result moved c.next_byte.ensures.byte in (
-      one_more_byte (ctr_stream before.key before.iv) before.place c.args.text.now c.loop-byte.text c.loop-byte.byte-index
-          c.next_byte.result c.loop-byte-test.true c.loop-byte.invariant.0 byte,
-      c.next_byte.ensures.advanced ∙ ap (λ (s : CtrState). advanced s 1) moved ∙ advanced-advanced before c.loop-byte.byte-index 1,
-    )
+pub returns-then-to_block_end-text : goal.returns-then-to_block_end-text
+returns-then-to_block_end-text c =
+    let whole = three_parts c.args.self.now c.apply_bytes.new.self c.apply_blocks.new.self _ _ _ _ _ _ _ _ _
+    c.split_at_mut-first.ensures.value c.split_at_mut-blocks.ensures.value
+    c.apply_bytes.ensures.applied c.apply_bytes.ensures.advanced c.apply_blocks.ensures.applied c.apply_blocks.ensures.advanced
+    c.apply_bytes-then-to_block_end-text.ensures.applied c.apply_bytes-then-to_block_end-text.ensures.advanced in
+    record { applied = whole.0; advanced = whole.1 }

@@ -1,0 +1,10 @@
+use Rattle.std.proofs.Common.{arith, refl}
+use Rattle.aes_core.specs.Field.{xtime, product_bits}
+use Rattle.aes_core.specs.declared.inverse_mixing.TheConstants.{ROW_0}
+use Rattle.aes_core.proofs.TableTests.{passes_below}
+use Rattle.aes_core.proofs.Tables.{inverse_row_at}
+use Rattle.aes_core.proofs.inverse_mixing.row_0.Goals as goal
+
+pub returns : goal.returns
+unfolding xtime product_bits passes_below
+returns c = inverse_row_at ROW_0 14 9 13 11 refl c.args.byte (omega arith)

@@ -1,6 +1,0 @@
-use Rattle.std.proofs.Common.{◌≡◌, map, take, drop, ◌++◌}
-use Rattle.aes_core.specs.SubstitutionBox.{inverse_sub_byte}
-use Rattle.aes_core.proofs.round.inverse_sub_bytes.Given as goal
-
-abbrev pub invariant-loop-byte : goal.invariant-loop-byte
-invariant-loop-byte l = l.byte-items ≡ map inverse_sub_byte (take l.byte-index l.fn.state) ++ drop l.byte-index l.fn.state

@@ -1,0 +1,65 @@
+//! `mtp_bench WORD BYTES TIMES` does the work of a word TIMES times over BYTES bytes in memory, and
+//! prints the word, the two numbers and a checksum of the last output.
+#![tactic(auto)]
+
+mod ciphers;
+mod request;
+mod text;
+
+use crate::request::{Asked, Request, read};
+use crate::text::{checksum, text_of};
+use std::alloc::AllocError;
+use std::process::ExitCode;
+use std::{env, io};
+
+const USAGE: &str =
+    "usage: mtp_bench ige-encrypt|ige-decrypt|ctr|key BYTES TIMES (BYTES a multiple of 16)";
+
+/// The statuses of a faulty command line, of a failed write, and of memory that ran out.
+const FAULTY: u8 = 2;
+
+const WRITE: u8 = 4;
+
+const MEMORY: u8 = 9;
+
+fn main(rt: HostRuntime) -> ExitCode {
+    let answered = match words(&rt) {
+        Ok(words) => answer(&rt, read(&words)),
+        Err(AllocError) => Ok(MEMORY),
+    };
+    match answered {
+        Ok(status) => ExitCode::from(status),
+        Err(error) if error.kind() == io::ErrorKind::OutOfMemory => ExitCode::from(MEMORY),
+        Err(_) => ExitCode::from(WRITE),
+    }
+}
+
+// The words after the program's name; none where one isn't UTF-8.
+fn words(rt: &HostRuntime) -> Result<Vec<String>, AllocError> {
+    match env::args(rt) {
+        Ok(words) => words.skip(1).collect(rt.alloc()),
+        Err(error) if error.kind() == io::ErrorKind::OutOfMemory => Err(AllocError),
+        Err(_) => Ok(Vec::new(rt.alloc())),
+    }
+}
+
+// Does what is asked for, and answers the status.
+fn answer(rt: &HostRuntime, request: Option<Request>) -> io::Result<u8> {
+    match request {
+        Some(Request::Work(asked)) => timed(rt, asked)?,
+        Some(Request::Help) => println!(rt; "{USAGE}")?,
+        Some(Request::Version) => println!(rt; "mtp_bench 1")?,
+        None => {
+            eprintln!(rt; "{USAGE}")?;
+            return Ok(FAULTY);
+        }
+    }
+    Ok(0)
+}
+
+fn timed(rt: &HostRuntime, asked: Asked) -> io::Result<()> {
+    let mut text = text_of(rt.alloc(), asked.bytes)?;
+    asked.work.run(&mut text, asked.times);
+    let Asked { work, bytes, times } = asked;
+    println!(rt; "{work} {bytes} {times} {:016x}", checksum(&text))
+}
