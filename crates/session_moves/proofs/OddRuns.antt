@@ -1,6 +1,6 @@
 -- Each odd run is lawful but for its one move, and breaks the law.
 use Rattle.std.proofs.Common.{◌≡◌, ◌≢◌, ◌<◌, List, [], ◌∷◌, take, inl, inr, sym, refl, ap, ◌∙◌, arith}
-use Rattle.session_moves.specs.Among.{Among}
+use Rattle.std.specs.List.{Contains}
 use Rattle.session_moves.specs.Table.{Message, Name, Judged, Entry}
 use Rattle.session_moves.specs.Table.Item.{NewSession, Notice, WrongSalt}
 use Rattle.session_moves.specs.World.{World, start}
@@ -160,7 +160,7 @@ two_at_once_breaks = (
       (λ h. omega arith),
       (λ message none. absurd none),
       λ other among.
-          elim (choice_of (λ list. Among 22 list) other 11 (21 ∷ []) [] among) [
+          elim (choice_of (λ list. Contains list 22) other 11 (21 ∷ []) [] among) [
             | inl here ↦ elim here.1 [ inl is ↦ omega arith | inr none ↦ none ]
             | inr there ↦ there.1
           ],

@@ -1,6 +1,6 @@
 -- Each move of the two runs is lawful in its turn.
 use Rattle.std.proofs.Common.{◌≡◌, ℕ, ◌<◌, ◌==◌, if◌then◌else◌, List, [], ◌∷◌, take, inl, inr, sym, refl, subst, arith}
-use Rattle.session_moves.specs.Among.{Among}
+use Rattle.std.specs.List.{Contains}
 use Rattle.session_moves.specs.Table.{Status, Message, Judged}
 use Rattle.session_moves.specs.Table.Item.{NewSession}
 use Rattle.session_moves.specs.Table.Status.{Unmade, Standing, Lost}
@@ -13,11 +13,11 @@ use Rattle.session_moves.specs.Witness.{told, opened, ran, replaced, resending, 
 use Rattle.session_moves.proofs.Basics.{choice_of}
 
 -- one thing in a list of one
-pub only : {A : Type 0} (P : A → Type 0) (x : A) → P x → (y : A) → Among y (x ∷ []) → P y
+pub only : {A : Type 0} (P : A → Type 0) (x : A) → P x → (y : A) → Contains (x ∷ []) y → P y
 only P x holds y among = elim among [ inl is ↦ subst P (sym is) holds | inr none ↦ absurd none ]
 
 -- one of two things
-pub either : {A : Type 0} (P : A → Type 0) (x z : A) → P x → P z → (y : A) → Among y (x ∷ z ∷ []) → P y
+pub either : {A : Type 0} (P : A → Type 0) (x z : A) → P x → P z → (y : A) → Contains (x ∷ z ∷ []) y → P y
 either P x z first second y among = elim among [ inl is ↦ subst P (sym is) first | inr later ↦ only P z second y later ]
 
 pub opened_lawful : (rest : List Move) → AreLawful (after_all start (opened [])) rest → AreLawful start (opened rest)
@@ -50,7 +50,7 @@ resent_lawful =
             (λ h. omega arith),
             only (λ (m : Message). m.salt ≡ 22 → ⊥) _ (λ h. omega arith),
             λ other among.
-                elim (choice_of (λ list. Among 22 list) other 11 (21 ∷ []) [] among) [
+                elim (choice_of (λ list. Contains list 22) other 11 (21 ∷ []) [] among) [
                   | inl here ↦ elim here.1 [ inl is ↦ omega arith | inr none ↦ none ]
                   | inr there ↦ there.1
                 ],
@@ -129,7 +129,7 @@ second_salt = (
   (λ h. omega arith),
   only (λ (m : Message). m.salt ≡ 22 → ⊥) _ (λ h. omega arith),
   λ other among.
-      elim (choice_of (λ list. Among 22 list) other 11 (21 ∷ []) [] among) [
+      elim (choice_of (λ list. Contains list 22) other 11 (21 ∷ []) [] among) [
         | inl here ↦ elim here.1 [ inl is ↦ omega arith | inr none ↦ none ]
         | inr there ↦ there.1
       ],

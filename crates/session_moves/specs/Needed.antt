@@ -1,7 +1,6 @@
 -- Runs of which one move isn't lawful, and which break the law.
-use Rattle.std.specs.Prelude.{ℕ, ◌==◌, if◌then◌else◌, true, false, List, [], ◌∷◌, Some, None}
-use Rattle.session_moves.specs.Among.{AtMostOne}
-use Rattle.session_moves.specs.Table.{Message}
+use Rattle.std.specs.Prelude.{ℕ, if◌then◌else◌, true, false, List, [], ◌∷◌, Some, None}
+use Rattle.session_moves.specs.Table.{Message, call_at, same_call}
 use Rattle.session_moves.specs.Table.State.{Queued}
 use Rattle.session_moves.specs.Table.Item.{NewSession, Result, Notice, WrongSalt}
 use Rattle.session_moves.specs.Table.Outcome.{AcceptedCall, Noticed}
@@ -12,7 +11,7 @@ use Rattle.session_moves.specs.Move.Part.{First, Again, Other}
 use Rattle.session_moves.specs.Move.Move.{Own, Send, Make, Draw, Judge, Answer, Speak, Hear}
 use Rattle.session_moves.specs.After.{after}
 use Rattle.session_moves.specs.Reached.{AreLawful, after_all}
-use Rattle.session_moves.specs.Once.{Once, IsOfCall}
+use Rattle.session_moves.specs.Once.{AtMostOne, Once, IsOfCall}
 use Rattle.session_moves.specs.Witness.{question, reply, told, opened, asked, ran, replaced, lost}
 
 -- lawful moves, one move that lacks one condition, and lawful moves after it
@@ -173,7 +172,7 @@ two_at_once =
 abbrev pub requeued : World
 requeued =
     let w : World = after_all start lost in
-    record w { calls = λ call. record (w.calls call) { state = if call == 0 then Queued else (w.calls call).state } }
+    record w { calls = λ call. record (w.calls call) { state = if same_call call (call_at 0 0) then Queued else (w.calls call).state } }
 
 -- the call gets a new number, and runs at the second server session
 abbrev pub rerun : List Move
@@ -185,4 +184,4 @@ rerun =
 
 -- all of that is lawful but for the queueing, and the call runs twice
 abbrev pub RunsTwice : Type 0
-RunsTwice = AreLawful requeued rerun × (AtMostOne (IsOfCall (after_all requeued rerun) 0) (after_all requeued rerun).entries → ⊥)
+RunsTwice = AreLawful requeued rerun × (AtMostOne (IsOfCall (after_all requeued rerun) (call_at 0 0)) (after_all requeued rerun).entries → ⊥)

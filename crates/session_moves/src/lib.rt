@@ -8,10 +8,10 @@
 #![tactic(auto)]
 
 ghost use Rattle.std.specs.Prelude.{◌≡◌, ℕ, ◌<◌, List, [], ◌∷◌, map};
-ghost use Rattle.session_moves.specs.Among.{Among};
+ghost use Rattle.std.specs.List.{Contains};
 ghost use Rattle.session_moves.specs.Table.State.{Done, Unknown};
-ghost use Rattle.session_moves.specs.Table.Cause.{Session};
-ghost use Rattle.session_moves.specs.Table.{Entry};
+ghost use Rattle.session_moves.specs.Table.Cause.{ServerSessionLost};
+ghost use Rattle.session_moves.specs.Table.{CallId, Entry, call_at};
 ghost use Rattle.session_moves.specs.World.{World, start};
 ghost use Rattle.session_moves.specs.Move.{Move};
 ghost use Rattle.session_moves.specs.Reached.{Reached, AreLawful, after_all};
@@ -37,25 +37,25 @@ pub fn moves_go_on()
 /// What was decided or done stays so: a call that is done, refused or unknown keeps its state whatever moves come, and
 /// an entry is never taken away.
 pub fn decisions_stay()
-    ensures decided { (w : World) (moves : List Move) (call : ℕ) → AreLawful w moves → call < w.submitted
+    ensures decided { (w : World) (moves : List Move) (call : CallId) → AreLawful w moves → call.place < w.submitted call.client
         → IsDecided (w.calls call).state → ((after_all w moves).calls call).state ≡ (w.calls call).state }
     ensures executed { (w : World) (moves : List Move) (entry : Entry) → AreLawful w moves
-        → Among entry w.entries → Among entry (after_all w moves).entries }
+        → Contains w.entries entry → Contains (after_all w moves).entries entry }
 {}
 
 /// Lawful moves may lead a call that was refused for its salt to its one execution, and its client to the result.
 pub fn calls_can_be_done()
     ensures lawful { AreLawful start resent }
-    ensures refused_first { Among refusal ((after_all start resent).servers 11).judged }
-    ensures renumbered { map (λ name. name.number) ((after_all start resent).calls 0).names ≡ 8 ∷ 4 ∷ [] }
-    ensures done { ((after_all start resent).calls 0).state ≡ Done reply }
+    ensures refused_first { Contains ((after_all start resent).servers 11).judged refusal }
+    ensures renumbered { map (λ name. name.number) ((after_all start resent).calls (call_at 0 0)).names ≡ 8 ∷ 4 ∷ [] }
+    ensures done { ((after_all start resent).calls (call_at 0 0)).state ≡ Done reply }
 {}
 
 /// Lawful moves may lose a call's server session after its execution, and its client can't know then.
 pub fn calls_can_be_unknown()
     ensures lawful { AreLawful start lost }
     ensures executed { (after_all start lost).entries ≡ lost_entry ∷ [] }
-    ensures unknown { ((after_all start lost).calls 0).state ≡ Unknown Session }
+    ensures unknown { ((after_all start lost).calls (call_at 0 0)).state ≡ Unknown ServerSessionLost }
 {}
 
 /// Runs of which one move lacks one condition of a lawful move. Each ends in a world where `Once` doesn't hold, so the law
