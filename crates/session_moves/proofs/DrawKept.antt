@@ -1,6 +1,5 @@
 -- A drawn salt keeps all: no message has it, and no server session.
 use Rattle.std.proofs.Common.{◌≡◌, ◌≢◌, ℕ, ◌∷◌, inl, inr, sym, refl, ◌∙◌, subst}
-use Rattle.std.proofs.lemmas.List.Elements.{All-contains}
 use Rattle.std.specs.List.{Contains}
 use Rattle.session_moves.specs.Table.{Name, Message}
 use Rattle.session_moves.specs.Table.Status.{Unmade}
@@ -25,10 +24,19 @@ draw_grows w unique salt =
       forgotten = λ other number h. h;
     }
 
-dead : (w : World) (unique salt : ℕ) → IsLawful w (Draw unique salt) → (name : Name)
+-- no message has a salt that no server session has, but 0
+not_sent : {now : ℕ} {w : World} (k : Kept now w) (unique salt : ℕ)
+    → IsLawful w (Draw unique salt) → (message : Message) → Contains w.ups message → message.salt ≢ salt
+not_sent {w = w} k unique salt lawful message among is =
+    elim (k.messages message among) [
+      | inl none ↦ lawful.1 (sym is ∙ none.1)
+      | inr of ↦ lawful.2 of.0 (subst (Contains (w.servers of.0).salts) is of.1)
+    ]
+
+dead : {now : ℕ} {w : World} (k : Kept now w) (unique salt : ℕ) → IsLawful w (Draw unique salt) → (name : Name)
     → Dead w.servers w.ups name
     → Dead (effect w (Draw unique salt)).servers w.ups name
-dead w unique salt lawful name h other session = (
+dead {w = w} k unique salt lawful name h other session = (
   (h other session).0,
   λ standing.
       elim ((h other session).1 standing) [
@@ -37,7 +45,7 @@ dead w unique salt lawful name h other session = (
             inr (
             λ message among under of.
             elim (added_cases message.salt salt (w.servers other).salts other unique of) [
-              | inl new ↦ All-contains (λ (m : Message). m.salt ≢ salt) w.ups message lawful.2 among new.1
+              | inl new ↦ not_sent k unique salt lawful message among new.1
               | inr old ↦ no_salt message among under old
             ]
             )
@@ -70,11 +78,11 @@ kept_after_draw now w unique salt k lawful =
                   | inl new ↦
                       elim (added_cases both salt (w.servers other).salts other unique at_other) [
                         | inl too ↦ new.0 ∙ sym too.0
-                        | inr old ↦ absurd (lawful.3 other (subst (λ s. Contains (w.servers other).salts s) new.1 old))
+                        | inr old ↦ absurd (lawful.2 other (subst (λ s. Contains (w.servers other).salts s) new.1 old))
                       ]
                   | inr old ↦
                       elim (added_cases both salt (w.servers other).salts other unique at_other) [
-                        | inl new ↦ absurd (lawful.3 one (subst (λ s. Contains (w.servers one).salts s) new.1 old))
+                        | inl new ↦ absurd (lawful.2 one (subst (λ s. Contains (w.servers one).salts s) new.1 old))
                         | inr too ↦ k.servers.salts_apart one other both old too
                       ]
                 ];
@@ -97,8 +105,8 @@ kept_after_draw now w unique salt k lawful =
             known = k.takers.known;
             judged = k.takers.judged;
             forgotten = k.takers.forgotten;
-            replaced = λ call name among. dead w unique salt lawful name (k.takers.replaced call name among);
+            replaced = λ call name among. dead k unique salt lawful name (k.takers.replaced call name among);
           };
-      calls = calls_grow k g w.entries (λ entry h. h) (dead w unique salt lawful);
+      calls = calls_grow k g w.entries (λ entry h. h) (dead k unique salt lawful);
       packets = packets_same k later.servers g;
     }

@@ -32,7 +32,7 @@ IsNewItem (Result number reply) = ⊥
 IsNewItem (Notice number code) = ⊥
 IsNewItem (WrongSalt number salt) = ⊥
 
-not_among : (n : ℕ) (list : List ℕ) → list_any (λ m. m == n) list ≡ false → Contains list n → ⊥
+pub not_among : (n : ℕ) (list : List ℕ) → list_any (λ m. m == n) list ≡ false → Contains list n → ⊥
 not_among n [] h among = contains_none n among
 not_among n (m ∷ list) h among =
     let parts = or_parts (m == n) (list_any (λ m. m == n) list) h in

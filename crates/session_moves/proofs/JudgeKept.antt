@@ -70,7 +70,7 @@ dead w unique message outcome lawful name h other session =
             | inl is ↦
                 let mine : outcome ≡ judged.outcome = ap (λ (j : Judged). j.outcome) (sym is.1) in
                 let salt : Contains (w.servers unique).salts message.salt =
-                has_salt w unique message outcome lawful.5 (subst IsAccepted (sym mine) accepted) in
+                has_salt w unique message outcome lawful.4 (subst IsAccepted (sym mine) accepted) in
                 let under : IsUnder name message =
                 (lawful.2 ∙ ap (λ u. (w.servers u).session) (sym is.0) ∙ session, ap (λ (j : Judged). j.number) (sym is.1) ∙ number) in
                 elim ((h unique (ap (λ u. (w.servers u).session) (sym is.0) ∙ session)).1 lawful.0) [
@@ -121,7 +121,7 @@ kept_after_judge now w unique message outcome k lawful =
                     ap (λ (j : Judged). j.number) (sym is.1),
                     backs_grows g message other judged.outcome (
                         subst₂ (λ u o. Backs message u (w.servers u) o) (sym is.0) (ap (λ (j : Judged). j.outcome) (sym is.1)) (
-                        backs now w unique message outcome k lawful.1 lawful.5
+                        backs now w unique message outcome k lawful.1 lawful.4
                         )
                         ),
                   )

@@ -23,6 +23,13 @@ pub mod AfterAll
 mod Extended
 pub mod OnceKept
 pub mod SafeKept
+mod Given
+mod Unless
+mod Left
+mod Equal
+mod ClientTests
+mod ServerTests
+mod Tests
 mod Runs
 mod Stays
 mod OddRuns

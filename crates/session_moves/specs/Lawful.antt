@@ -105,19 +105,17 @@ IsLawful w (Make unique session) =
     × ((w.servers unique).status ≡ Unmade)
     × ((client : ℕ) × Owns (w.clients client) session)
     × ((other : ℕ) → (w.servers other).session ≡ session → (w.servers other).status ≡ Standing → ⊥)
--- a salt that isn't 0 and that no packet and no server session has
+-- a salt that isn't 0 and that no server session has, so no packet has it either
 IsLawful w (Draw unique salt) =
     ((w.servers unique).status ≡ Standing)
     × (salt ≢ 0)
-    × All (λ message. message.salt ≢ salt) w.ups
     × ((other : ℕ) → Contains (w.servers other).salts salt → ⊥)
--- a message under its session number that has no outcome there and isn't forgotten there
+-- a message under its session number that has no outcome there
 IsLawful w (Judge unique message outcome) =
     ((w.servers unique).status ≡ Standing)
     × Contains w.ups message
     × (message.session ≡ (w.servers unique).session)
     × All (λ judged. judged.number ≢ message.number) (w.servers unique).judged
-    × (Contains (w.servers unique).forgotten message.number → ⊥)
     × MayDecide (w.servers unique) message outcome
 -- a number that isn't above all that were given under its session number
 IsLawful w (Forget unique number) =

@@ -8,4 +8,5 @@ pub mod Extends
 pub mod Once
 pub mod Safe
 pub mod Witness
+pub mod LawfulBut
 pub mod Needed

@@ -1,6 +1,6 @@
 use Rattle.session_moves.proofs.Stays.{decided_stays}
 use Rattle.session_moves.proofs.Extended.{all_extend}
-use Rattle.session_moves.proofs.decisions_stay.Goals as goal
+use Rattle.session_moves.proofs.laws.decisions_stay.Goals as goal
 
 pub returns-clause-decided : goal.returns-clause-decided
 returns-clause-decided c = λ w moves call lawful submitted decided. decided_stays w moves call lawful submitted decided
