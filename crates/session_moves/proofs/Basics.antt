@@ -1,7 +1,7 @@
 -- Lists and choices: what a list with one more thing holds, and what a change at one number or call leaves elsewhere.
-use Rattle.std.proofs.Common.{◌≡◌, ℕ, zero, suc, ◌<◌, ◌==◌, if◌then◌else◌, Bool, true, false, List, [], ◌∷◌, length, ◌⊎◌, inl, inr, sym, refl, ap, subst, subst₂, eq-eqb, ne_eqb, arith}
-use Rattle.std.proofs.lemmas.Bool.{cases_eq, cases_Bool, cond_both, and_parts, eqb-true}
-use Rattle.std.specs.List.{Contains, All, slice_index_or}
+use Rattle.std.proofs.Common.{◌≡◌, ℕ, zero, suc, ◌<◌, ◌==◌, if◌then◌else◌, true, false, List, [], ◌∷◌, length, ◌⊎◌, inl, inr, sym, refl, ap, subst, subst₂, eq-eqb, ne_eqb, arith}
+use Rattle.std.proofs.lemmas.Bool.{cases_eq, cases_Bool, and_parts, eqb-true}
+use Rattle.std.specs.List.{Contains, slice_index_or}
 use Rattle.session_moves.specs.Table.{CallId, same_call}
 
 -- Lists

@@ -1,28 +1,22 @@
 -- Tests that compute whether a client's moves are lawful but for one condition.
-use Rattle.std.proofs.Common.{◌≡◌, ◌≢◌, ℕ, ◌<◌, ◌≤◌, ◌==◌, nat_lt, nat_le, Bool, true, false, not, ◌&&◌, ◌||◌, List, [], ◌∷◌, Option, Some, None, ◌⊎◌, inl, inr, refl, sym, ap, ◌∙◌, subst, subst₂, eq-eqb}
-use Rattle.std.proofs.lemmas.Bool.{cases_Bool, and_parts, or_cases, or_parts, eqb-true, eqb-false, ltb-true, leb-true, not-true, both_ways}
-use Rattle.std.proofs.lemmas.List.Elements.{All-cons, All-nil, All-contains}
-use Rattle.std.specs.Bool.{OnFalse}
-use Rattle.std.specs.List.{Contains, All, list_any, list_all}
-use Rattle.session_moves.specs.Table.{CallId, Text, State, Status, Name, Client, Message, Outcome, Judged, ServerSession, Item, Packet, Entry, call_at}
+use Rattle.std.proofs.Common.{◌≡◌, ◌≢◌, ℕ, ◌==◌, nat_lt, Bool, true, false, not, ◌&&◌, ◌||◌, List, [], ◌∷◌, None, inl, inr, refl, subst}
+use Rattle.std.proofs.lemmas.Bool.{cases_Bool, and_parts, or_cases, or_parts, eqb-true, eqb-false, ltb-true}
+use Rattle.std.proofs.lemmas.List.Elements.{All-contains}
+use Rattle.std.specs.List.{Contains, list_any, list_all}
+use Rattle.session_moves.specs.Table.{State, Status, Name, Client, Message, call_at}
 use Rattle.session_moves.specs.Table.State.{Queued, Sent, Held, Done, Refused, Unknown}
 use Rattle.session_moves.specs.Table.Status.{Unmade, Standing, Lost}
-use Rattle.session_moves.specs.Table.Outcome.{AcceptedCall, AcceptedOther, Noticed}
-use Rattle.session_moves.specs.Table.Item.{NewSession, Result, Notice, WrongSalt}
-use Rattle.session_moves.specs.World.{World, Owns, IsAccepted, HasAccepted, WasGiven, no_client, no_server}
-use Rattle.session_moves.specs.Move.{OwnAct, Part, Move}
+use Rattle.session_moves.specs.World.{World, Owns, no_client, no_server}
+use Rattle.session_moves.specs.Move.{OwnAct, Part}
 use Rattle.session_moves.specs.Move.OwnAct.{NewClient, Renew, Submit, GiveUp, End}
 use Rattle.session_moves.specs.Move.Part.{First, Again, Other, OtherAgain}
-use Rattle.session_moves.specs.Move.Move.{Own, Send, Make, Draw, Judge, Forget, Answer, Speak, Hear, Lose}
-use Rattle.session_moves.specs.After.{is_sent, after_part, after}
-use Rattle.session_moves.specs.Lawful.{IsNewNumber, IsBelow, IsNewest, WasNoCall, HasReply, BeginsNew}
-use Rattle.session_moves.specs.LawfulBut.{At, IsOwnLawfulBut, IsPartLawfulBut, ArePartsLawfulBut, MayDecideBut, MaySayBut, IsLawfulBut, NO_PLACE}
-use Rattle.session_moves.specs.Reached.{AreLawful}
-use Rattle.session_moves.proofs.Basics.{contains_first, contains_rest, contains_none}
+use Rattle.session_moves.specs.After.{is_sent, after_part}
+use Rattle.session_moves.specs.Lawful.{IsNewNumber, IsBelow, IsNewest, WasNoCall}
+use Rattle.session_moves.specs.LawfulBut.{IsOwnLawfulBut, IsPartLawfulBut, ArePartsLawfulBut}
+use Rattle.session_moves.proofs.Basics.{contains_none}
 use Rattle.session_moves.proofs.Heard.{sent_if}
 use Rattle.session_moves.proofs.HearKept.{not_among}
-use Rattle.session_moves.proofs.Unless.{lawful_whole}
-use Rattle.session_moves.proofs.Equal.{found, each, unless, is_false, differs, same_texts, texts_same, same_calls, calls_same, same_outcomes, outcomes_same, same_items, items_same, all_items, all_items_same, has, contains_if, same_numbers, numbers_same, same_judged, judged_same, same_packets, packets_same, same_messages, messages_same}
+use Rattle.session_moves.proofs.Equal.{found, each, unless, is_false, differs, same_calls, calls_same}
 
 -- Numbers of clients and server sessions beside those in a list are blank
 

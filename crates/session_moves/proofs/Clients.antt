@@ -1,5 +1,5 @@
 -- What stays of a call where its client changes.
-use Rattle.std.proofs.Common.{◌≡◌, ℕ, true, List, [], ◌∷◌, refl, ◌∙◌}
+use Rattle.std.proofs.Common.{◌≡◌, ℕ, true, List, [], ◌∷◌, ◌∙◌}
 use Rattle.std.specs.List.{Contains}
 use Rattle.session_moves.specs.Table.{Cause, State, Name, Client, Message, ServerSession, Entry}
 use Rattle.session_moves.specs.Table.Cause.{ServerSessionLost, Renewed, Ended, Forgotten}

@@ -1,8 +1,8 @@
 -- What was made is there later.
-use Rattle.std.proofs.Common.{ℕ, suc, ◌≤◌, ◌==◌, nat_lt, Bool, if◌then◌else◌, false, List, [], ◌∷◌, Some, None, length, arith, ◌∙◌}
+use Rattle.std.proofs.Common.{ℕ, suc, ◌≤◌, ◌==◌, nat_lt, Bool, false, List, [], ◌∷◌, Some, None, length, arith, ◌∙◌}
 use Rattle.std.proofs.lemmas.Bool.{cond_both}
-use Rattle.std.specs.List.{Contains, list_any}
-use Rattle.session_moves.specs.Table.{CallId, State, Name, Client, Message, Item, ServerSession, call_at}
+use Rattle.std.specs.List.{list_any}
+use Rattle.session_moves.specs.Table.{CallId, State, Client, Message, Item, ServerSession, call_at}
 use Rattle.session_moves.specs.Table.Item.{NewSession, Result, Notice, WrongSalt}
 use Rattle.session_moves.specs.World.{World}
 use Rattle.session_moves.specs.Move.{OwnAct, Part, Move}

@@ -1,5 +1,5 @@
 -- A call that is sent under a new number keeps all: no message, outcome or name was there before it under that number.
-use Rattle.std.proofs.Common.{◌≡◌, ◌≢◌, ℕ, ◌<◌, ◌≤◌, List, ◌∷◌, Some, ◌⊎◌, inl, inr, sym, refl, ap, ◌∙◌, subst, subst₂, arith}
+use Rattle.std.proofs.Common.{◌≡◌, ◌≢◌, ℕ, ◌<◌, ◌≤◌, ◌∷◌, Some, ◌⊎◌, inl, inr, sym, refl, ap, ◌∙◌, subst, subst₂, arith}
 use Rattle.std.specs.List.{Contains}
 use Rattle.session_moves.specs.Table.{CallId, State, Name, Message, call_at}
 use Rattle.session_moves.specs.Table.State.{Queued, Sent, Refused}

@@ -7,8 +7,8 @@ use Rattle.session_moves.specs.Table.State.{Queued, Sent, Held, Done, Refused, U
 use Rattle.session_moves.specs.Table.Status.{Unmade, Standing, Lost}
 use Rattle.session_moves.specs.Table.Outcome.{AcceptedCall, AcceptedOther, Noticed}
 use Rattle.session_moves.specs.Table.Item.{NewSession, Result, Notice, WrongSalt}
-use Rattle.session_moves.specs.World.{World, HasAccepted, WasGiven, IsName}
-use Rattle.session_moves.specs.Lawful.{MaySay, BeginsNew}
+use Rattle.session_moves.specs.World.{World, WasGiven, IsName}
+use Rattle.session_moves.specs.Lawful.{MaySay}
 use Rattle.session_moves.specs.Once.{OnLast, HadTwo, WasForgotten}
 use Rattle.session_moves.specs.Extends.{Grows}
 use Rattle.session_moves.proofs.Kept.{Kept, SaltAmong, Backs, IsBacked, Dead, Fits, HasCause, Messages, Names, Clients, Calls, Packets}

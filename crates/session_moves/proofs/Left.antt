@@ -1,5 +1,5 @@
 -- What a move leaves as it was.
-use Rattle.std.proofs.Common.{◌≡◌, ◌≢◌, ℕ, suc, ◌==◌, nat_lt, Bool, false, List, [], ◌∷◌, length, refl, ap, ◌∙◌, ne_eqb}
+use Rattle.std.proofs.Common.{◌≡◌, ◌≢◌, ℕ, ◌==◌, nat_lt, Bool, false, List, [], ◌∷◌, length, refl, ap, ◌∙◌, ne_eqb}
 use Rattle.std.proofs.lemmas.Bool.{cond_both}
 use Rattle.std.proofs.lemmas.List.Elements.{All-head, All-tail}
 use Rattle.std.specs.List.{All, list_any}
@@ -37,6 +37,7 @@ items_leave {A = A} part client each w items takes = go w items takes
     heard : (w : World) (item : Item) (takes : Bool) → part (after_heard w client item takes) ≡ part w
     heard w item takes =
         cond_both (w.clients client).ended w (after_item w client item takes) (λ later. part later ≡ part w) (λ ended. refl) (λ still. each w item takes)
+
     go : (w : World) (items : List Item) (takes : List Bool) → part (after_items w client items takes) ≡ part w
     go w [] takes = refl
     go w (item ∷ items) [] = go (after_heard w client item false) items [] ∙ heard w item false

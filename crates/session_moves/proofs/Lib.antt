@@ -24,6 +24,7 @@ mod Extended
 pub mod OnceKept
 pub mod SafeKept
 mod Given
+mod Rising
 mod Unless
 mod Left
 mod Equal

@@ -1,16 +1,16 @@
 -- Each odd run is lawful but for its one move, and breaks the law.
-use Rattle.std.proofs.Common.{◌≡◌, ◌≢◌, ℕ, ◌<◌, List, [], ◌∷◌, inl, inr, refl, sym, ap, ◌∙◌, subst, arith}
+use Rattle.std.proofs.Common.{◌≡◌, ℕ, ◌<◌, List, [], ◌∷◌, inl, inr, refl, sym, ap, ◌∙◌, subst, arith}
 use Rattle.std.specs.List.{Contains}
 use Rattle.session_moves.specs.Table.{CallId, Text, Name, Status, Packet, Entry, call_at}
 use Rattle.session_moves.specs.Table.Item.{NewSession, Notice}
-use Rattle.session_moves.specs.Table.State.{Queued, Done, Refused, Unknown}
+use Rattle.session_moves.specs.Table.State.{Queued, Done, Refused}
 use Rattle.session_moves.specs.Table.Status.{Unmade, Standing, Lost}
 use Rattle.session_moves.specs.World.{World, start}
-use Rattle.session_moves.specs.Reached.{AreLawful, Reached, after_all}
+use Rattle.session_moves.specs.Reached.{Reached}
 use Rattle.session_moves.specs.Once.{AtMostOne, Once, IsOfName, IsOfCall, older_names}
 use Rattle.session_moves.specs.Safe.{OneTaker}
 use Rattle.session_moves.specs.Witness.{question, reply, entry_of, lost}
-use Rattle.session_moves.specs.Needed.{OddRun, Breaks, BreaksOneTaker, world_before, world_after, RunsTwice, requeued, rerun, taken_session, given_up_sent, given_again, not_queued, two_at_once, salt_of_zero, drawn_again, invented_message, judged_again, other_body, foreign_salt, outcome_of_twenty, early_forget, other_request, answered_again, names_another, invented_result, early_result, invented_notice, invented_wrong_salt, foreign_new_salt, silent, invented_packet}
+use Rattle.session_moves.specs.Needed.{Breaks, BreaksOneTaker, world_before, world_after, RunsTwice, requeued, rerun, taken_session, given_up_sent, given_again, not_queued, two_at_once, salt_of_zero, drawn_again, invented_message, judged_again, other_body, foreign_salt, outcome_of_twenty, early_forget, other_request, answered_again, names_another, invented_result, early_result, invented_notice, invented_wrong_salt, foreign_new_salt, silent, invented_packet}
 use Rattle.session_moves.proofs.Basics.{contains_first, contains_rest, contains_none, choice_of}
 use Rattle.session_moves.proofs.AfterAll.{kept_if_reached}
 use Rattle.session_moves.proofs.OnceKept.{once_if_kept}
@@ -265,7 +265,7 @@ invented_packet_breaks =
 pub runs_twice : RunsTwice
 runs_twice = (
   let bounded = bounded_after_all [] [] start lost bounded_start in
-  lawful_if_tested (all_clients lost []) (all_servers lost []) requeued rerun
+      lawful_if_tested (all_clients lost []) (all_servers lost []) requeued rerun
       (record { blank_clients = bounded.blank_clients; blank_servers = bounded.blank_servers }) refl,
   λ most.
       let newer : Name = name_at 8 14 (12 ∷ 11 ∷ []) in

@@ -1,10 +1,10 @@
 -- Runs are lawful where their tests pass, and an odd run breaks the law where they pass but for its one condition.
-use Rattle.std.proofs.Common.{◌≡◌, ◌≢◌, ℕ, ◌==◌, Bool, true, false, ◌&&◌, List, [], ◌∷◌, ◌++◌, refl, sym, ap, ◌∙◌, subst}
+use Rattle.std.proofs.Common.{◌≡◌, ◌≢◌, ℕ, ◌==◌, Bool, true, false, ◌&&◌, List, [], ◌∷◌, ◌++◌, refl, sym, ap, ◌∙◌}
 use Rattle.std.proofs.lemmas.Bool.{and_parts, or_parts, eqb-false}
 use Rattle.std.specs.List.{list_any}
 use Rattle.session_moves.specs.Table.{Client, ServerSession}
 use Rattle.session_moves.specs.World.{World, start, no_client, no_server}
-use Rattle.session_moves.specs.Move.{OwnAct, Move}
+use Rattle.session_moves.specs.Move.{Move}
 use Rattle.session_moves.specs.Move.OwnAct.{NewClient, Renew, Submit, GiveUp, End}
 use Rattle.session_moves.specs.Move.Move.{Own, Send, Make, Draw, Judge, Forget, Answer, Speak, Hear, Lose}
 use Rattle.session_moves.specs.After.{after}

@@ -1,29 +1,14 @@
 -- Tests that compute whether a server session may decide and say something but for one condition.
-use Rattle.std.proofs.Common.{◌≡◌, ◌≢◌, ℕ, ◌<◌, ◌≤◌, ◌==◌, nat_lt, nat_le, Bool, true, false, not, ◌&&◌, ◌||◌, List, [], ◌∷◌, Option, Some, None, ◌⊎◌, inl, inr, refl, sym, ap, ◌∙◌, subst, subst₂, eq-eqb}
-use Rattle.std.proofs.lemmas.Bool.{cases_Bool, and_parts, or_cases, or_parts, eqb-true, eqb-false, ltb-true, leb-true, not-true, both_ways}
-use Rattle.std.proofs.lemmas.List.Elements.{All-cons, All-nil, All-contains}
-use Rattle.std.specs.Bool.{OnFalse}
-use Rattle.std.specs.List.{Contains, All, list_any, list_all}
-use Rattle.session_moves.specs.Table.{CallId, Text, State, Status, Name, Client, Message, Outcome, Judged, ServerSession, Item, Packet, Entry, call_at}
-use Rattle.session_moves.specs.Table.State.{Queued, Sent, Held, Done, Refused, Unknown}
-use Rattle.session_moves.specs.Table.Status.{Unmade, Standing, Lost}
+use Rattle.std.proofs.Common.{◌≡◌, ℕ, ◌==◌, Bool, true, false, not, ◌&&◌, ◌||◌, List, [], ◌∷◌, Some, inl, inr}
+use Rattle.std.proofs.lemmas.Bool.{and_parts, or_cases, eqb-true}
+use Rattle.std.specs.List.{list_any}
+use Rattle.session_moves.specs.Table.{Text, Message, Outcome, Judged, ServerSession, Item, Entry}
 use Rattle.session_moves.specs.Table.Outcome.{AcceptedCall, AcceptedOther, Noticed}
 use Rattle.session_moves.specs.Table.Item.{NewSession, Result, Notice, WrongSalt}
-use Rattle.session_moves.specs.World.{World, Owns, IsAccepted, HasAccepted, WasGiven, no_client, no_server}
-use Rattle.session_moves.specs.Move.{OwnAct, Part, Move}
-use Rattle.session_moves.specs.Move.OwnAct.{NewClient, Renew, Submit, GiveUp, End}
-use Rattle.session_moves.specs.Move.Part.{First, Again, Other, OtherAgain}
-use Rattle.session_moves.specs.Move.Move.{Own, Send, Make, Draw, Judge, Forget, Answer, Speak, Hear, Lose}
-use Rattle.session_moves.specs.After.{is_sent, after_part, after}
-use Rattle.session_moves.specs.Lawful.{IsNewNumber, IsBelow, IsNewest, WasNoCall, HasReply, BeginsNew}
-use Rattle.session_moves.specs.LawfulBut.{At, IsOwnLawfulBut, IsPartLawfulBut, ArePartsLawfulBut, MayDecideBut, MaySayBut, IsLawfulBut, NO_PLACE}
-use Rattle.session_moves.specs.Reached.{AreLawful}
-use Rattle.session_moves.proofs.Basics.{contains_first, contains_rest, contains_none}
-use Rattle.session_moves.proofs.Heard.{sent_if}
-use Rattle.session_moves.proofs.HearKept.{not_among}
-use Rattle.session_moves.proofs.Unless.{lawful_whole}
-use Rattle.session_moves.proofs.Equal.{found, each, unless, is_false, differs, same_texts, texts_same, same_calls, calls_same, same_outcomes, outcomes_same, same_items, items_same, all_items, all_items_same, has, contains_if, same_numbers, numbers_same, same_judged, judged_same, same_packets, packets_same, same_messages, messages_same}
-use Rattle.session_moves.proofs.ClientTests.{Bounded, every_one, owns, owner_if, any_of, no_owner, none_owns, is_queued, queued_if, is_standing, standing_if, not_standing, is_unmade, unmade_if, own_test, own_if, is_below, below_if, is_new_number, new_number_if, is_newest, newest_if, is_no_call, no_call_if, part_test, part_if, parts_test, parts_if}
+use Rattle.session_moves.specs.World.{World, IsAccepted, HasAccepted}
+use Rattle.session_moves.specs.Lawful.{HasReply, BeginsNew}
+use Rattle.session_moves.specs.LawfulBut.{MayDecideBut, MaySayBut}
+use Rattle.session_moves.proofs.Equal.{found, unless, differs, same_texts, texts_same, same_calls, calls_same, has, contains_if, same_numbers, numbers_same, same_judged, judged_same}
 
 -- A server session judges and speaks
 

@@ -16,7 +16,7 @@ use Rattle.std.specs.Prelude.{◌++◌}
 use Rattle.std.proofs.lemmas.Bool.{cond_both}
 use Rattle.session_moves.specs.World.{start}
 use Rattle.session_moves.specs.Move.Move.{Own, Send, Make, Draw, Judge, Forget, Answer, Speak, Hear, Lose}
-use Rattle.session_moves.specs.After.{effect, after}
+use Rattle.session_moves.specs.After.{after}
 use Rattle.session_moves.specs.Lawful.{IsLawful}
 use Rattle.session_moves.specs.Reached.{after_all, AreLawful, Reached}
 use Rattle.session_moves.specs.Once.{IsDecided}

@@ -1,30 +1,19 @@
 -- Tests that compute whether a move is lawful but for one condition.
-use Rattle.std.proofs.Common.{◌≡◌, ◌≢◌, ℕ, ◌<◌, ◌≤◌, ◌==◌, nat_lt, nat_le, Bool, true, false, not, ◌&&◌, ◌||◌, List, [], ◌∷◌, Option, Some, None, ◌⊎◌, inl, inr, refl, sym, ap, ◌∙◌, subst, subst₂, eq-eqb}
-use Rattle.std.proofs.lemmas.Bool.{cases_Bool, and_parts, or_cases, or_parts, eqb-true, eqb-false, ltb-true, leb-true, not-true, both_ways}
-use Rattle.std.proofs.lemmas.List.Elements.{All-cons, All-nil, All-contains}
-use Rattle.std.specs.Bool.{OnFalse}
-use Rattle.std.specs.List.{Contains, All, list_any, list_all}
-use Rattle.session_moves.specs.Table.{CallId, Text, State, Status, Name, Client, Message, Outcome, Judged, ServerSession, Item, Packet, Entry, call_at}
-use Rattle.session_moves.specs.Table.State.{Queued, Sent, Held, Done, Refused, Unknown}
-use Rattle.session_moves.specs.Table.Status.{Unmade, Standing, Lost}
-use Rattle.session_moves.specs.Table.Outcome.{AcceptedCall, AcceptedOther, Noticed}
-use Rattle.session_moves.specs.Table.Item.{NewSession, Result, Notice, WrongSalt}
-use Rattle.session_moves.specs.World.{World, Owns, IsAccepted, HasAccepted, WasGiven, no_client, no_server}
-use Rattle.session_moves.specs.Move.{OwnAct, Part, Move}
-use Rattle.session_moves.specs.Move.OwnAct.{NewClient, Renew, Submit, GiveUp, End}
-use Rattle.session_moves.specs.Move.Part.{First, Again, Other, OtherAgain}
+use Rattle.std.proofs.Common.{◌≡◌, ◌≢◌, ℕ, ◌==◌, nat_le, Bool, true, not, ◌&&◌, ◌||◌, List, inl, inr, sym, ap, ◌∙◌, subst}
+use Rattle.std.proofs.lemmas.Bool.{and_parts, or_cases, eqb-true, leb-true}
+use Rattle.std.specs.List.{Contains, list_any, list_all}
+use Rattle.session_moves.specs.Table.{Message, Judged, ServerSession, Entry}
+use Rattle.session_moves.specs.Table.Status.{Unmade, Standing}
+use Rattle.session_moves.specs.Table.Outcome.{AcceptedCall}
+use Rattle.session_moves.specs.World.{World, Owns, WasGiven}
+use Rattle.session_moves.specs.Move.{Move}
 use Rattle.session_moves.specs.Move.Move.{Own, Send, Make, Draw, Judge, Forget, Answer, Speak, Hear, Lose}
-use Rattle.session_moves.specs.After.{is_sent, after_part, after}
-use Rattle.session_moves.specs.Lawful.{IsNewNumber, IsBelow, IsNewest, WasNoCall, HasReply, BeginsNew}
-use Rattle.session_moves.specs.LawfulBut.{At, IsOwnLawfulBut, IsPartLawfulBut, ArePartsLawfulBut, MayDecideBut, MaySayBut, IsLawfulBut, NO_PLACE}
-use Rattle.session_moves.specs.Reached.{AreLawful}
-use Rattle.session_moves.proofs.Basics.{contains_first, contains_rest, contains_none}
-use Rattle.session_moves.proofs.Heard.{sent_if}
+use Rattle.session_moves.specs.LawfulBut.{MaySayBut, IsLawfulBut}
+use Rattle.session_moves.proofs.Basics.{contains_none}
 use Rattle.session_moves.proofs.HearKept.{not_among}
-use Rattle.session_moves.proofs.Unless.{lawful_whole}
-use Rattle.session_moves.proofs.Equal.{found, each, unless, is_false, differs, same_texts, texts_same, same_calls, calls_same, same_outcomes, outcomes_same, same_items, items_same, all_items, all_items_same, has, contains_if, same_numbers, numbers_same, same_judged, judged_same, same_packets, packets_same, same_messages, messages_same}
-use Rattle.session_moves.proofs.ClientTests.{Bounded, every_one, owns, owner_if, any_of, no_owner, none_owns, is_queued, queued_if, is_standing, standing_if, not_standing, is_unmade, unmade_if, own_test, own_if, is_below, below_if, is_new_number, new_number_if, is_newest, newest_if, is_no_call, no_call_if, part_test, part_if, parts_test, parts_if}
-use Rattle.session_moves.proofs.ServerTests.{decide_test, decide_if, is_reply, reply_if, noticed, say_test, say_if, is_accepted, accepted_if, has_accepted, has_accepted_if, begins_new, begins_if}
+use Rattle.session_moves.proofs.Equal.{found, each, unless, is_false, differs, has, contains_if, same_judged, judged_same, same_packets, packets_same, same_messages, messages_same}
+use Rattle.session_moves.proofs.ClientTests.{Bounded, every_one, owns, owner_if, is_standing, standing_if, not_standing, is_unmade, unmade_if, own_test, own_if, parts_test, parts_if}
+use Rattle.session_moves.proofs.ServerTests.{decide_test, decide_if, say_test, say_if, has_accepted, has_accepted_if, begins_new, begins_if}
 
 -- All moves
 

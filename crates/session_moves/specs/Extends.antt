@@ -1,10 +1,10 @@
 -- What moves only add to, and what they leave as it was.
-use Rattle.std.specs.Prelude.{ℕ, ◌≡◌, ◌≢◌, ◌≤◌, List}
+use Rattle.std.specs.Prelude.{ℕ, ◌≡◌, ◌≢◌, ◌≤◌}
 use Rattle.std.specs.List.{Contains}
 use Rattle.session_moves.specs.Table.{CallId, Name, Message, Judged, ServerSession, Packet, Entry}
 use Rattle.session_moves.specs.Table.Status.{Unmade, Lost}
 use Rattle.session_moves.specs.World.{World}
-use Rattle.session_moves.specs.Move.{OwnAct, Move}
+use Rattle.session_moves.specs.Move.{Move}
 use Rattle.session_moves.specs.Move.OwnAct.{NewClient, Renew, Submit, GiveUp, End}
 use Rattle.session_moves.specs.Move.Move.{Own, Send, Make, Draw, Judge, Forget, Answer, Speak, Hear, Lose}
 

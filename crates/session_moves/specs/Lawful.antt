@@ -1,7 +1,7 @@
 -- Which moves are lawful in a world.
 use Rattle.std.specs.Prelude.{ℕ, ◌≡◌, ◌≢◌, ◌<◌, List, [], ◌∷◌, Some, None, ◌⊎◌}
 use Rattle.std.specs.List.{Contains, All}
-use Rattle.session_moves.specs.Table.{Text, Name, Message, Item, Judged, ServerSession, Entry, Outcome, call_at}
+use Rattle.session_moves.specs.Table.{Text, Name, Message, Item, ServerSession, Entry, Outcome, call_at}
 use Rattle.session_moves.specs.Table.State.{Queued, Sent}
 use Rattle.session_moves.specs.Table.Status.{Unmade, Standing}
 use Rattle.session_moves.specs.Table.Outcome.{AcceptedCall, AcceptedOther, Noticed}

@@ -5,6 +5,7 @@ pub mod After
 pub mod Lawful
 pub mod Reached
 pub mod Extends
+pub mod Given
 pub mod Once
 pub mod Safe
 pub mod Witness

@@ -1,7 +1,7 @@
 //! What holds of every list of lawful moves, what a list of moves leaves as it was, and runs.
 
 ghost use Rattle.std.specs.Prelude.{◌≡◌, ◌≢◌, ℕ, suc, ◌^◌, ◌<◌, List, [], ◌∷◌, ◌++◌, ◌⊎◌, map, None, true, false};
-ghost use Rattle.std.specs.List.{Contains, All};
+ghost use Rattle.std.specs.List.{Contains, All, AllPairs};
 ghost use Rattle.session_moves.specs.Table.State.{Queued, Done, Refused, Unknown};
 ghost use Rattle.session_moves.specs.Table.Status.{Unmade, Standing, Lost};
 ghost use Rattle.session_moves.specs.Table.Cause.{ServerSessionLost, Ended, Forgotten};
@@ -17,6 +17,7 @@ ghost use Rattle.session_moves.specs.Lawful.{IsLawful, MaySay};
 ghost use Rattle.session_moves.specs.LawfulBut.{IsLawfulBut, NO_PLACE};
 ghost use Rattle.session_moves.specs.Reached.{Reached, AreLawful, after_all};
 ghost use Rattle.session_moves.specs.Extends.{Extends, LeavesServers, LeavesClients, LeavesCalls, LeavesSubmitted, LeavesMessages, LeavesPackets, LeavesEntries, IsOfServer, IsOfClient};
+ghost use Rattle.session_moves.specs.Given.{given, Rises};
 ghost use Rattle.session_moves.specs.Once.{Once, IsDecided};
 ghost use Rattle.session_moves.specs.Safe.{Salts, Numbers, OneTaker};
 ghost use Rattle.session_moves.specs.Needed.{Breaks, BreaksOneTaker, RunsTwice, taken_session, given_up_sent, given_again, not_queued, two_at_once, salt_of_zero, drawn_again, invented_message, judged_again, other_body, foreign_salt, outcome_of_twenty, early_forget, other_request, answered_again, names_another, invented_result, early_result, invented_notice, invented_wrong_salt, foreign_new_salt, silent, invented_packet};
@@ -116,9 +117,10 @@ pub fn salts_are_drawn()
         → All (λ message. message.salt ≢ salt) w.ups }
 {}
 
-/// A client gives no number twice under one session number: what was sent under a number is one call, or no call at
-/// all. Where it is no call, any result may be said for the number.
+/// A client gives no number twice under one session number: the numbers that it gives rise, and what was sent under a
+/// number is one call, or no call at all. Where it is no call, any result may be said for the number.
 pub fn numbers_are_given_once()
+    ensures rising { (w : World) (moves : List Move) → AreLawful w moves → AllPairs Rises (given w moves) }
     ensures once { (w : World) (one other : Message) → Reached w → Contains w.ups one → Contains w.ups other
         → one.session ≡ other.session → one.number ≡ other.number → one.call ≡ other.call }
     ensures no_name { (w : World) (message : Message) → Reached w → Contains w.ups message → message.call ≡ None
