@@ -23,6 +23,7 @@ pub mod AfterAll
 mod Extended
 pub mod OnceKept
 pub mod SafeKept
+mod Makes
 mod Given
 mod Rising
 mod Unless

@@ -1,18 +1,19 @@
 //! What holds of every list of lawful moves, what a list of moves leaves as it was, and runs.
 
-ghost use Rattle.std.specs.Prelude.{◌≡◌, ◌≢◌, ℕ, suc, ◌^◌, ◌<◌, List, [], ◌∷◌, ◌++◌, ◌⊎◌, map, None, true, false};
+ghost use Rattle.std.specs.Prelude.{◌≡◌, ◌≢◌, ℕ, suc, ◌^◌, ◌<◌, ◌≤◌, Bool, length, List, [], ◌∷◌, ◌++◌, ◌⊎◌, map, Some, None, true, false};
 ghost use Rattle.std.specs.List.{Contains, All, AllPairs};
-ghost use Rattle.session_moves.specs.Table.State.{Queued, Done, Refused, Unknown};
+ghost use Rattle.session_moves.specs.Table.State.{Queued, Sent, Done, Refused, Unknown};
 ghost use Rattle.session_moves.specs.Table.Status.{Unmade, Standing, Lost};
 ghost use Rattle.session_moves.specs.Table.Cause.{ServerSessionLost, Ended, Forgotten};
 ghost use Rattle.session_moves.specs.Table.Outcome.{AcceptedOther};
 ghost use Rattle.session_moves.specs.Table.Item.{Result};
-ghost use Rattle.session_moves.specs.Table.{CallId, Text, Message, Outcome, Item, Entry, call_at};
+ghost use Rattle.session_moves.specs.Table.{CallId, Text, State, Name, Message, Outcome, Item, Entry, call_at};
 ghost use Rattle.session_moves.specs.World.{World, IsName, start};
 ghost use Rattle.session_moves.specs.Move.{Move};
 ghost use Rattle.session_moves.specs.Move.OwnAct.{NewClient, Renew, Submit, GiveUp, End};
+ghost use Rattle.session_moves.specs.Move.Part.{First, Again, Other, OtherAgain};
 ghost use Rattle.session_moves.specs.Move.Move.{Own, Make, Draw, Judge, Forget, Answer, Speak, Lose};
-ghost use Rattle.session_moves.specs.After.{after, state_renewed, state_ended};
+ghost use Rattle.session_moves.specs.After.{after, after_part, message_of, name_of, after_settled, after_learnt, end_client, learn, after_items, state_renewed, state_ended, LEARNT_MAX};
 ghost use Rattle.session_moves.specs.Lawful.{IsLawful, MaySay};
 ghost use Rattle.session_moves.specs.LawfulBut.{IsLawfulBut, NO_PLACE};
 ghost use Rattle.session_moves.specs.Reached.{Reached, AreLawful, after_all};
@@ -106,6 +107,45 @@ pub fn own_acts_make()
     ensures ended { (w : World) (client : ℕ) → (after w (Own (End client))).clients client ≡ record (w.clients client) { ended = true } }
     ensures ended_calls { (w : World) (client place : ℕ) → (after w (Own (End client))).calls (call_at client place)
         ≡ record (w.calls (call_at client place)) { state = state_ended (w.calls (call_at client place)).state } }
+{}
+
+/// What one message of a packet up makes of the messages and of its client's calls.
+pub fn parts_make()
+    ensures first_message { (w : World) (client place number : ℕ) → (after_part w client (First place number)).ups
+        ≡ message_of (w.clients client) number (Some (w.calls (call_at client place)).body) ∷ w.ups }
+    ensures first_call { (w : World) (client place number : ℕ) → (after_part w client (First place number)).calls (call_at client place)
+        ≡ record (w.calls (call_at client place)) { state = Sent; names = name_of w (w.clients client) number ∷ (w.calls (call_at client place)).names } }
+    ensures first_others { (w : World) (client place number : ℕ) (call : CallId) → call ≢ call_at client place
+        → (after_part w client (First place number)).calls call ≡ w.calls call }
+    ensures again { (w : World) (client place number : ℕ) → (after_part w client (Again place number)).ups
+        ≡ message_of (w.clients client) number (Some (w.calls (call_at client place)).body) ∷ w.ups }
+    ensures again_calls { (w : World) (client place number : ℕ) → (after_part w client (Again place number)).calls ≡ w.calls }
+    ensures other { (w : World) (client number : ℕ) → after_part w client (Other number)
+        ≡ record w { ups = message_of (w.clients client) number None ∷ w.ups } }
+    ensures other_again { (w : World) (client number : ℕ) → after_part w client (OtherAgain number)
+        ≡ record w { ups = message_of (w.clients client) number None ∷ w.ups } }
+{}
+
+/// What an item that is heard makes of a client and of its calls.
+pub fn items_make()
+    // A unique number: one that was learnt, a new one, and one more than there is room for.
+    ensures known { (w : World) (client unique salt : ℕ) → Contains (w.clients client).learnt unique → learn w client unique salt ≡ w }
+    ensures new { (w : World) (client unique salt : ℕ) → (Contains (w.clients client).learnt unique → ⊥)
+        → length (w.clients client).learnt < LEARNT_MAX → learn w client unique salt ≡ after_learnt w client unique salt }
+    ensures full { (w : World) (client unique salt : ℕ) → (Contains (w.clients client).learnt unique → ⊥)
+        → LEARNT_MAX ≤ length (w.clients client).learnt → learn w client unique salt ≡ end_client w client }
+
+    // A client that has ended leaves a packet.
+    ensures ended { (w : World) (client : ℕ) (items : List Item) (takes : List Bool) → (w.clients client).ended ≡ true
+        → after_items w client items takes ≡ w }
+
+    // A result or a notice: the call whose living name it is about gets the state, and what isn't sent stays.
+    ensures settled { (w : World) (client number : ℕ) (state : State) (call : CallId) (name : Name) (older : List Name)
+        → call.client ≡ client → (w.calls call).state ≡ Sent → (w.calls call).names ≡ name ∷ older
+        → name.session ≡ (w.clients client).present → name.number ≡ number
+        → (after_settled w client number state).calls call ≡ record (w.calls call) { state = state } }
+    ensures unsent { (w : World) (client number : ℕ) (state : State) (call : CallId) → (w.calls call).state ≢ Sent
+        → (after_settled w client number state).calls call ≡ w.calls call }
 {}
 
 /// The salt of a message is 0, or belongs to a server session that was made. So what is no server session's salt, and
