@@ -1,8 +1,8 @@
 -- What a part of a packet up, and an item that is heard, make of a world.
-use Rattle.std.proofs.Common.{◌≡◌, ◌≢◌, ℕ, ◌<◌, ◌≤◌, ◌==◌, nat_lt, Bool, true, false, List, [], ◌∷◌, length, inl, inr, refl, sym, ap, ◌∙◌, eq-eqb, ne_eqb}
+use Rattle.std.proofs.Common.{◌≡◌, ◌≢◌, ℕ, ◌<◌, ◌≤◌, ◌==◌, Bool, true, false, List, [], ◌∷◌, length, inl, inr, refl, ap, ◌∙◌, eq-eqb, ne_eqb}
 use Rattle.std.proofs.lemmas.Bool.{cases_Bool, cases_eq, lt-ltb, le-ltb}
 use Rattle.std.specs.List.{Contains, list_any}
-use Rattle.session_moves.specs.Table.{CallId, State, Name, Item, call_at, same_call}
+use Rattle.session_moves.specs.Table.{CallId, State, Name, Item, call_at}
 use Rattle.session_moves.specs.Table.State.{Queued, Sent, Held, Done, Refused, Unknown}
 use Rattle.session_moves.specs.World.{World}
 use Rattle.session_moves.specs.Move.Part.{First}
@@ -62,11 +62,11 @@ pub settles : (w : World) (client number : ℕ) (state : State) (call : CallId) 
     → (after_settled w client number state).calls call ≡ record (w.calls call) { state = state }
 settles w client number state call name older mine sent names session is =
     rw (
-    eq-eqb call.client client mine,
-    sent,
-    names,
-    eq-eqb name.session (w.clients client).present session,
-    eq-eqb name.number number is
+      eq-eqb call.client client mine,
+      sent,
+      names,
+      eq-eqb name.session (w.clients client).present session,
+      eq-eqb name.number number is,
     ) refl
 
 not_sent : (state : State) → state ≢ Sent → is_sent state ≡ false

@@ -2,7 +2,7 @@
 use Rattle.std.proofs.Common.{◌≡◌, ℕ, ◌<◌, List, [], ◌∷◌, ◌++◌, Option, Some, None, arith}
 use Rattle.std.proofs.lemmas.List.Elements.{All-contains_itself, All-weaker}
 use Rattle.std.proofs.lemmas.List.Kept.{AllPairs-cons}
-use Rattle.std.specs.List.{Contains, All, AllPairs}
+use Rattle.std.specs.List.{Contains, AllPairs}
 use Rattle.session_moves.specs.Table.{Message, call_at}
 use Rattle.session_moves.specs.World.{World}
 use Rattle.session_moves.specs.Move.{Part, Move}
