@@ -3,7 +3,8 @@ use Rattle.std.proofs.Common.{ℕ, suc, ◌<◌, List, [], ◌∷◌, inl, inr, 
 use Rattle.session_moves.specs.World.{World}
 use Rattle.session_moves.specs.Move.{Move}
 use Rattle.session_moves.proofs.Kept.{Kept}
-use Rattle.session_moves.proofs.Grows.{unchanged, says_grows}
+use Rattle.session_moves.proofs.Basics.{contains_none}
+use Rattle.session_moves.proofs.Grows.{unchanged, names_later, packets_stay}
 use Rattle.session_moves.specs.World.{start}
 use Rattle.session_moves.specs.Move.Move.{Own, Send, Make, Draw, Judge, Forget, Answer, Speak, Hear, Lose}
 use Rattle.session_moves.specs.After.{effect, after}
@@ -24,92 +25,48 @@ use Rattle.session_moves.proofs.LoseKept.{kept_after_lose}
 later : (now : ℕ) (w : World) → Kept now w → Kept (suc now) w
 later now w k =
     record {
-      made_before = λ unique made. let before : (w.servers unique).made < now = k.made_before unique made in omega arith;
-      session_nonzero = k.session_nonzero;
-      lost_before = λ unique at lost. let before : ((w.servers unique).made < at) × (at < now) = k.lost_before unique at lost in (before.0, omega arith);
-      following = k.following;
-      unmade = k.unmade;
-      salts_nonzero = k.salts_nonzero;
-      salts_apart = k.salts_apart;
-      judged_backed = k.judged_backed;
-      judged_once = k.judged_once;
-      forgotten_given = k.forgotten_given;
-      entry_judged = k.entry_judged;
-      entry_once = k.entry_once;
-      message_salted = k.message_salted;
-      message_owned = k.message_owned;
-      message_known = k.message_known;
-      message_named = k.message_named;
-      client_salted = k.client_salted;
-      client_learnt = k.client_learnt;
-      learnt_bounded = k.learnt_bounded;
-      owned_once = k.owned_once;
-      no_client = k.no_client;
-      unsubmitted = k.unsubmitted;
-      name_sent = k.name_sent;
-      name_owned = k.name_owned;
-      name_first = λ call name among. let before : name.first < now = k.name_first call name among in omega arith;
-      name_known = k.name_known;
-      name_messages = k.name_messages;
-      name_judged = k.name_judged;
-      name_forgotten = k.name_forgotten;
-      names_of_one = k.names_of_one;
-      names_apart = k.names_apart;
-      replaced = k.replaced;
-      fits = k.fits;
-      packet_says = k.packet_says;
-      packet_made = k.packet_made;
-      packet_begins = k.packet_begins;
+      servers =
+          record {
+            made_before = λ unique made. let before : (w.servers unique).made < now = k.servers.made_before unique made in omega arith;
+            session_nonzero = k.servers.session_nonzero;
+            lost_before = λ unique at lost. let before : ((w.servers unique).made < at) × (at < now) = k.servers.lost_before unique at lost in (before.0, omega arith);
+            following = k.servers.following;
+            unmade = k.servers.unmade;
+            salts_nonzero = k.servers.salts_nonzero;
+            salts_apart = k.servers.salts_apart;
+          };
+      outcomes = k.outcomes;
+      messages = k.messages;
+      owners = k.owners;
+      clients = k.clients;
+      names = names_later now w.ups (λ call. (w.calls call).names) k.names;
+      bodies = k.bodies;
+      takers = k.takers;
+      calls = k.calls;
+      packets = k.packets;
     }
 
 -- the time that a world tells is in no other part of it
 ticked : (now time : ℕ) (w : World) → Kept now w → Kept now (record w { time = time })
 ticked now time w k =
     record {
-      made_before = k.made_before;
-      session_nonzero = k.session_nonzero;
-      lost_before = k.lost_before;
-      following = k.following;
-      unmade = k.unmade;
-      salts_nonzero = k.salts_nonzero;
-      salts_apart = k.salts_apart;
-      judged_backed = k.judged_backed;
-      judged_once = k.judged_once;
-      forgotten_given = k.forgotten_given;
-      entry_judged = k.entry_judged;
-      entry_once = k.entry_once;
-      message_salted = k.message_salted;
-      message_owned = k.message_owned;
-      message_known = k.message_known;
-      message_named = k.message_named;
-      client_salted = k.client_salted;
-      client_learnt = k.client_learnt;
-      learnt_bounded = k.learnt_bounded;
-      owned_once = k.owned_once;
-      no_client = k.no_client;
-      unsubmitted = k.unsubmitted;
-      name_sent = k.name_sent;
-      name_owned = k.name_owned;
-      name_first = k.name_first;
-      name_known = k.name_known;
-      name_messages = k.name_messages;
-      name_judged = k.name_judged;
-      name_forgotten = k.name_forgotten;
-      names_of_one = k.names_of_one;
-      names_apart = k.names_apart;
-      replaced = k.replaced;
-      fits = k.fits;
-      packet_says = λ packet item among within.
-          says_grows w (record w { time = time }) packet.server (unchanged w.servers) (k.packet_made packet among) (λ entry h. h)
-          (λ session number h. h) (λ session number given h. h) item (k.packet_says packet item among within);
-      packet_made = k.packet_made;
-      packet_begins = k.packet_begins;
+      servers = k.servers;
+      outcomes = k.outcomes;
+      messages = k.messages;
+      owners = k.owners;
+      clients = k.clients;
+      names = k.names;
+      bodies = k.bodies;
+      takers = k.takers;
+      calls = k.calls;
+      packets =
+          packets_stay k (record w { time = time }) (unchanged w.servers) refl (λ entry h. h) (λ session number h. h) (λ session number given h. h);
     }
 
 kept_effect : (w : World) (move : Move) → Kept w.time w → IsLawful w move → Kept (suc w.time) (effect w move)
 kept_effect w (Own act) k lawful = kept_after_own (suc w.time) w act (later w.time w k) lawful
 kept_effect w (Send client parts) k lawful =
-    kept_after_parts (suc w.time) w client parts (later w.time w k) (omega arith) k.made_before lawful.0 lawful.1
+    kept_after_parts (suc w.time) w client parts (later w.time w k) (omega arith) k.servers.made_before lawful.0 lawful.1
 kept_effect w (Make unique session) k lawful = kept_after_make w unique session k lawful
 kept_effect w (Draw unique salt) k lawful = kept_after_draw (suc w.time) w unique salt (later w.time w k) lawful
 kept_effect w (Judge unique message outcome) k lawful =
@@ -129,42 +86,67 @@ kept_after w move k lawful = ticked (suc w.time) (suc w.time) (effect w move) (k
 pub kept_start : Kept 0 start
 kept_start =
     record {
-      made_before = λ unique made. absurd (made refl);
-      session_nonzero = λ unique made. absurd (made refl);
-      lost_before = λ unique at lost. absurd cc;
-      following = λ one other differ made. absurd (made refl);
-      unmade = λ unique none. (refl, refl, refl);
-      salts_nonzero = λ unique none. none;
-      salts_apart = λ one other salt none. absurd none;
-      judged_backed = λ unique judged none. absurd none;
-      judged_once = λ unique one other none. absurd none;
-      forgotten_given = λ unique number none. absurd none;
-      entry_judged = λ entry none. absurd none;
-      entry_once = λ unique number. tt;
-      message_salted = λ message none. absurd none;
-      message_owned = λ message none. absurd none;
-      message_known = λ message client unique none. absurd none;
-      message_named = λ message body none. absurd none;
-      client_salted = λ client. inl (refl, refl);
-      client_learnt = λ client unique none. absurd none;
-      learnt_bounded = λ client. zero-le;
-      owned_once = λ one other session owns. absurd (elim owns.1 [ inl none ↦ owns.0 none | inr never ↦ never ]);
-      no_client = λ client none. (refl, refl);
-      unsubmitted = λ call not_yet. (refl, refl);
-      name_sent = λ call name none. absurd none;
-      name_owned = λ call name none. absurd none;
-      name_first = λ call name none. absurd none;
-      name_known = λ call name unique none. absurd none;
-      name_messages = λ call name message none. absurd none;
-      name_judged = λ call name unique judged none. absurd none;
-      name_forgotten = λ call name unique none. absurd none;
-      names_of_one = λ one other name same none. absurd none;
-      names_apart = λ call. tt;
-      replaced = λ call name none. absurd none;
-      fits = λ call name none. absurd none;
-      packet_says = λ packet item none. absurd none;
-      packet_made = λ packet none. absurd none;
-      packet_begins = λ packet none. absurd none;
+      servers =
+          record {
+            made_before = λ unique made. absurd (made refl);
+            session_nonzero = λ unique made. absurd (made refl);
+            lost_before = λ unique at lost. absurd cc;
+            following = λ one other differ made. absurd (made refl);
+            unmade = λ unique none. (refl, refl, refl);
+            salts_nonzero = λ unique. contains_none 0;
+            salts_apart = λ one other salt none. absurd (contains_none salt none);
+          };
+      outcomes =
+          record {
+            backed = λ unique judged none. absurd (contains_none judged none);
+            judged_once = λ unique one other none. absurd (contains_none one none);
+            forgotten_given = λ unique number none. absurd (contains_none number none);
+            entry_judged = λ entry none. absurd (contains_none entry none);
+            entry_once = λ unique number. tt;
+          };
+      messages = λ message none. absurd (contains_none message none);
+      owners =
+          record {
+            once = λ one other session owns.
+                absurd (elim owns.1 [ inl none ↦ owns.0 none | inr never ↦ contains_none session never ]);
+            of_message = λ message none. absurd (contains_none message none);
+            of_name = λ call name none. absurd (contains_none name none);
+          };
+      clients =
+          record {
+            salted = λ client. inl (refl, refl);
+            learnt = λ client unique none. absurd (contains_none unique none);
+            bounded = λ client. zero-le;
+            knows = λ message client unique none. absurd (contains_none message none);
+            unmade = λ client none. (refl, refl);
+          };
+      names =
+          record {
+            sent = λ call name none. absurd (contains_none name none);
+            first = λ call name none. absurd (contains_none name none);
+            known = λ call name message none. absurd (contains_none name none);
+            of_one = λ one other name same none. absurd (contains_none name none);
+            apart = λ call. tt;
+          };
+      bodies =
+          record {
+            of_name = λ call name message none. absurd (contains_none name none);
+            of_message = λ message body none. absurd (contains_none message none);
+          };
+      takers =
+          record {
+            known = λ call name unique none. absurd (contains_none name none);
+            judged = λ call name unique judged none. absurd (contains_none name none);
+            forgotten = λ call name unique none. absurd (contains_none name none);
+            replaced = λ call name none. absurd (contains_none name none);
+          };
+      calls = record { unsubmitted = λ call not_yet. (refl, refl); fits = λ call name none. absurd (contains_none name none) };
+      packets =
+          record {
+            says = λ packet item none. absurd (contains_none packet none);
+            made = λ packet none. absurd (contains_none packet none);
+            begins = λ packet none. absurd (contains_none packet none);
+          };
     }
 
 kept_after_all : (w : World) (moves : List Move)

@@ -1,8 +1,8 @@
 -- What stays when server sessions only grow: salts, outcomes and forgotten numbers are added, and a session number is set once.
-use Rattle.std.proofs.Common.{◌≡◌, ◌≢◌, ℕ, ◌<◌, List, [], ◌∷◌, inl, inr, sym, refl, ◌∙◌, subst}
-use Rattle.session_moves.specs.Among.{Among}
-use Rattle.session_moves.specs.Table.{Cause, State, Name, Client, Message, Item, Judged, ServerSession, Entry, Outcome}
-use Rattle.session_moves.specs.Table.Cause.{Session, Renewed, Ended, Forgotten}
+use Rattle.std.proofs.Common.{◌≡◌, ◌≢◌, ℕ, suc, ◌<◌, List, [], ◌∷◌, inl, inr, sym, refl, ◌∙◌, subst, arith}
+use Rattle.std.specs.List.{Contains}
+use Rattle.session_moves.specs.Table.{CallId, Cause, State, Name, Client, Message, Item, Judged, ServerSession, Packet, Entry, Outcome}
+use Rattle.session_moves.specs.Table.Cause.{ServerSessionLost, Renewed, Ended, Forgotten}
 use Rattle.session_moves.specs.Table.State.{Queued, Sent, Held, Done, Refused, Unknown}
 use Rattle.session_moves.specs.Table.Status.{Unmade, Standing, Lost}
 use Rattle.session_moves.specs.Table.Outcome.{AcceptedCall, AcceptedOther, Noticed}
@@ -10,17 +10,9 @@ use Rattle.session_moves.specs.Table.Item.{NewSession, Result, Notice, WrongSalt
 use Rattle.session_moves.specs.World.{World, WasGiven, IsName}
 use Rattle.session_moves.specs.Lawful.{MaySay}
 use Rattle.session_moves.specs.Once.{OnLast, HadTwo, WasForgotten}
-use Rattle.session_moves.proofs.Kept.{Kept, SaltAmong, Backs, IsBacked, Dead, Fits, HasCause}
+use Rattle.session_moves.specs.Extends.{Grows}
+use Rattle.session_moves.proofs.Kept.{Kept, SaltAmong, Backs, IsBacked, Dead, Fits, HasCause, Messages, Names, Clients, Calls, Packets}
 use Rattle.session_moves.proofs.Basics.{empty}
-
-pub record Grows (old new : ℕ → ServerSession) : Type 0 where
-  pub session : (unique : ℕ) → (old unique).status ≢ Unmade → (new unique).session ≡ (old unique).session
-  pub made : (unique : ℕ) → (old unique).status ≢ Unmade → (new unique).status ≢ Unmade
-  pub since : (unique : ℕ) → (old unique).status ≢ Unmade → (new unique).made ≡ (old unique).made
-  pub lost : (unique at : ℕ) → (old unique).status ≡ Lost at → (new unique).status ≡ Lost at
-  pub salts : (unique salt : ℕ) → Among salt (old unique).salts → Among salt (new unique).salts
-  pub judged : (unique : ℕ) (judged : Judged) → Among judged (old unique).judged → Among judged (new unique).judged
-  pub forgotten : (unique number : ℕ) → Among number (old unique).forgotten → Among number (new unique).forgotten
 
 -- nothing changed
 pub unchanged : (servers : ℕ → ServerSession) → Grows servers servers
@@ -37,16 +29,16 @@ unchanged servers =
 
 -- a server session with an outcome, a forgotten number or a loss was made
 pub made_if_judged : {now : ℕ} {w : World} (k : Kept now w) (unique : ℕ) (judged : Judged)
-    → Among judged (w.servers unique).judged → (w.servers unique).status ≢ Unmade
-made_if_judged {w = w} k unique judged h none = empty judged (w.servers unique).judged (k.unmade unique none).1 h
+    → Contains (w.servers unique).judged judged → (w.servers unique).status ≢ Unmade
+made_if_judged {w = w} k unique judged h none = empty judged (w.servers unique).judged (k.servers.unmade unique none).1 h
 
 pub made_if_forgotten : {now : ℕ} {w : World} (k : Kept now w) (unique number : ℕ)
-    → Among number (w.servers unique).forgotten → (w.servers unique).status ≢ Unmade
-made_if_forgotten {w = w} k unique number h none = empty number (w.servers unique).forgotten (k.unmade unique none).2 h
+    → Contains (w.servers unique).forgotten number → (w.servers unique).status ≢ Unmade
+made_if_forgotten {w = w} k unique number h none = empty number (w.servers unique).forgotten (k.servers.unmade unique none).2 h
 
 pub made_if_salted : {now : ℕ} {w : World} (k : Kept now w) (unique salt : ℕ)
-    → Among salt (w.servers unique).salts → (w.servers unique).status ≢ Unmade
-made_if_salted {w = w} k unique salt h none = empty salt (w.servers unique).salts (k.unmade unique none).0 h
+    → Contains (w.servers unique).salts salt → (w.servers unique).status ≢ Unmade
+made_if_salted {w = w} k unique salt h none = empty salt (w.servers unique).salts (k.servers.unmade unique none).0 h
 
 pub made_if_lost : (server : ServerSession) (at : ℕ) → server.status ≡ Lost at → server.status ≢ Unmade
 made_if_lost server at lost unmade = cc
@@ -96,23 +88,23 @@ forgotten_grows k g name h =
 
 pub cause_grows : {now : ℕ} {w : World} {new : ℕ → ServerSession} (k : Kept now w) (g : Grows w.servers new) (client : Client) (names : List Name) (cause : Cause)
     → HasCause client w.servers names cause → HasCause client new names cause
-cause_grows k g client names Session h = on_last names (had_two_grows g) h
+cause_grows k g client names ServerSessionLost h = on_last names (had_two_grows g) h
 cause_grows k g client names Renewed h = h
 cause_grows k g client names Ended h = h
 cause_grows k g client names Forgotten h = on_last names (forgotten_grows k g) h
 
 -- a call fits its state after server sessions grew and entries were added, where its dead names stay dead
 pub fits_grows : {now : ℕ} {w : World} {new : ℕ → ServerSession} (k : Kept now w) (g : Grows w.servers new) (ups : List Message) (entries : List Entry)
-    → ((entry : Entry) → Among entry w.entries → Among entry entries)
+    → ((entry : Entry) → Contains w.entries entry → Contains entries entry)
     → (client : Client) (names : List Name) (state : State)
-    → ((name : Name) → Among name names → Dead w.servers w.ups name → Dead new ups name)
+    → ((name : Name) → Contains names name → Dead w.servers w.ups name → Dead new ups name)
     → Fits client w.servers w.ups w.entries names state
     → Fits client new ups entries names state
 fits_grows k g ups entries more client names Queued dead h = λ name among. dead name among (h name among)
 fits_grows k g ups entries more client names Sent dead h = h
 fits_grows k g ups entries more client names Held dead h = λ name among. dead name among (h name among)
 fits_grows {w = w} k g ups entries more client names (Done reply) dead h =
-    let judged = k.entry_judged h.0 h.1 in
+    let judged = k.outcomes.entry_judged h.0 h.1 in
     let made = made_if_judged k h.0.server _ judged in
     (h.0, more h.0 h.1, (h.2.0, h.2.1, (g.session h.0.server made ∙ h.2.2.0, h.2.2.1)), h.3)
 fits_grows k g ups entries more client names (Refused code) dead h = λ name among. dead name among (h name among)
@@ -122,7 +114,7 @@ fits_grows k g ups entries more client names (Unknown cause) dead h = cause_grow
 pub says_grows : (w later : World) (unique : ℕ)
     → Grows w.servers later.servers
     → (w.servers unique).status ≢ Unmade
-    → ((entry : Entry) → Among entry w.entries → Among entry later.entries)
+    → ((entry : Entry) → Contains w.entries entry → Contains later.entries entry)
     → ((session number : ℕ) → WasGiven w.ups session number → WasGiven later.ups session number)
     → ((session number : ℕ) → WasGiven w.ups session number → IsName later.calls session number → IsName w.calls session number)
     → (item : Item)
@@ -142,3 +134,86 @@ says_grows w later unique g made more given named (Notice number code) (inl h) =
 says_grows w later unique g made more given named (Notice number code) (inr h) = inr (h.0, g.forgotten unique number h.1)
 says_grows w later unique g made more given named (WrongSalt number salt) h =
     (g.judged unique (record { number = number; outcome = Noticed 48 }) h.0, g.salts unique salt h.1)
+
+-- Whole groups
+
+-- what was before a time was before a later one
+pub names_later : (now : ℕ) (ups : List Message) (names : CallId → List Name) → Names now ups names → Names (suc now) ups names
+names_later now ups names k =
+    record {
+      sent = k.sent;
+      first = λ call name among. let before : name.first < now = k.first call name among in omega arith;
+      known = k.known;
+      of_one = k.of_one;
+      apart = k.apart;
+    }
+
+pub messages_grow : {now : ℕ} {w : World} {new : ℕ → ServerSession} (k : Kept now w) (g : Grows w.servers new) → Messages new w.ups
+messages_grow k g message among =
+    elim (k.messages message among) [
+      | inl zero_salt ↦ inl zero_salt
+      | inr of ↦ inr (salted_grows g message.known message.salt of)
+    ]
+
+pub clients_grow : {now : ℕ} {w : World} {new : ℕ → ServerSession} (k : Kept now w) (g : Grows w.servers new)
+    → Clients w.clients new w.ups
+clients_grow {w = w} k g =
+    record {
+      salted = λ client.
+          elim (k.clients.salted client) [
+            | inl none ↦ inl none
+            | inr of ↦ inr (salted_grows g (w.clients client).learnt (w.clients client).salt of)
+          ];
+      learnt = λ client unique among.
+          let old = k.clients.learnt client unique among in
+          (g.session unique old.1 ∙ old.0, g.made unique old.1);
+      bounded = k.clients.bounded;
+      knows = k.clients.knows;
+      unmade = k.clients.unmade;
+    }
+
+-- what was backed is backed still
+pub backed_still : {now : ℕ} {w : World} {new : ℕ → ServerSession} (k : Kept now w) (g : Grows w.servers new) (unique : ℕ) (judged : Judged)
+    → Contains (w.servers unique).judged judged → IsBacked w.ups unique (new unique) judged
+backed_still {w = w} k g unique judged h =
+    backed_grows g w.ups unique judged (made_if_judged k unique judged h) (k.outcomes.backed unique judged h)
+
+pub calls_grow : {now : ℕ} {w : World} {new : ℕ → ServerSession} (k : Kept now w) (g : Grows w.servers new) (entries : List Entry)
+    → ((entry : Entry) → Contains w.entries entry → Contains entries entry)
+    → ((name : Name) → Dead w.servers w.ups name → Dead new w.ups name)
+    → Calls w.clients new w.ups entries w.submitted w.calls
+calls_grow {w = w} k g entries more dead =
+    record {
+      unsubmitted = k.calls.unsubmitted;
+      fits = λ call.
+          fits_grows k g w.ups entries more (w.clients call.client) (w.calls call).names (w.calls call).state (λ name among. dead name) (k.calls.fits call);
+    }
+
+-- packets down that were made before
+pub packets_stay : {now : ℕ} {w : World} (k : Kept now w) (later : World)
+    → Grows w.servers later.servers
+    → later.downs ≡ w.downs
+    → ((entry : Entry) → Contains w.entries entry → Contains later.entries entry)
+    → ((session number : ℕ) → WasGiven w.ups session number → WasGiven later.ups session number)
+    → ((session number : ℕ) → WasGiven w.ups session number → IsName later.calls session number → IsName w.calls session number)
+    → Packets later
+packets_stay {w = w} k later g downs more given named =
+    let was : (packet : Packet) → Contains later.downs packet → Contains w.downs packet =
+    λ packet among. subst (λ list. Contains list packet) downs among in
+    record {
+      says = λ packet item among within.
+          let old = was packet among in
+          says_grows w later packet.server g (k.packets.made packet old) more given named item (k.packets.says packet item old within);
+      made = λ packet among. g.made packet.server (k.packets.made packet (was packet among));
+      begins = λ packet among.
+          elim (k.packets.begins packet (was packet among)) [
+            | inl has ↦ inl (has.0, g.judged packet.server has.0 has.1, has.2)
+            | inr begins ↦ inr begins
+          ];
+    }
+
+-- the same where no message, name, entry or packet is new
+pub packets_same : {now : ℕ} {w : World} (k : Kept now w) (new : ℕ → ServerSession)
+    → Grows w.servers new → Packets (record w { servers = new })
+packets_same {w = w} k new g =
+    packets_stay k (record w { servers = new }) g refl (λ entry h. h) (λ session number h. h) (λ session number given h. h)

@@ -1,13 +1,13 @@
 -- Each item of a packet that is heard keeps all, and so does the packet.
 use Rattle.std.proofs.Common.{◌≡◌, ℕ, ◌==◌, nat_lt, Bool, true, false, List, [], ◌∷◌, length, ◌⊎◌, inl, inr, sym, refl, ap, ◌∙◌, subst}
-use Rattle.session_moves.specs.Among.{Among, is_among}
+use Rattle.std.specs.List.{Contains, list_any}
 use Rattle.session_moves.specs.Table.{Item, ServerSession, Packet}
 use Rattle.session_moves.specs.Table.Item.{NewSession, Result, Notice, WrongSalt}
 use Rattle.session_moves.specs.World.{World, HasAccepted}
 use Rattle.session_moves.specs.After.{end_client, after_settled, state_noticed, after_learnt, learn, after_item, after_heard, after_items, LEARNT_MAX}
 use Rattle.session_moves.specs.Lawful.{IsMadeClient, BeginsNew, MaySay}
 use Rattle.session_moves.proofs.Kept.{Kept}
-use Rattle.session_moves.proofs.Basics.{chosen}
+use Rattle.session_moves.proofs.Basics.{contains_first, contains_rest, contains_cases, contains_none, chosen}
 use Rattle.std.proofs.lemmas.Bool.{both_ways, cond_both, or_parts, eqb-false, ltb-true}
 use Rattle.session_moves.proofs.OwnKept.{kept_after_end}
 use Rattle.session_moves.proofs.Taker.{accepted_knows}
@@ -16,7 +16,7 @@ use Rattle.session_moves.proofs.Learnt.{kept_after_learnt}
 
 -- the client has learnt the packet's server session, or leaves the rest of the packet
 abbrev pub IsKnown : World → ℕ → ℕ → Type 0
-IsKnown w client unique = Among unique (w.clients client).learnt ⊎ ((w.clients client).ended ≡ true)
+IsKnown w client unique = Contains (w.clients client).learnt unique ⊎ ((w.clients client).ended ≡ true)
 
 -- what stays while a packet is heard
 pub record Hears (now : ℕ) (w later : World) (client unique : ℕ) : Type 0 where
@@ -32,26 +32,26 @@ IsNewItem (Result number reply) = ⊥
 IsNewItem (Notice number code) = ⊥
 IsNewItem (WrongSalt number salt) = ⊥
 
-not_among : (n : ℕ) (list : List ℕ) → is_among n list ≡ false → Among n list → ⊥
-not_among n [] h among = among
+pub not_among : (n : ℕ) (list : List ℕ) → list_any (λ m. m == n) list ≡ false → Contains list n → ⊥
+not_among n [] h among = contains_none n among
 not_among n (m ∷ list) h among =
-    let parts = or_parts (n == m) (is_among n list) h in
-    elim among [
-      | inl same ↦ eqb-false n m parts.0 same
+    let parts = or_parts (m == n) (list_any (λ m. m == n) list) h in
+    elim (contains_cases n m list among) [
+      | inl same ↦ eqb-false m n parts.0 (sym same)
       | inr later ↦ not_among n list parts.1 later
     ]
 
 -- a client under whose session number a packet was made was made itself
 client_made : (now : ℕ) (w : World) (client unique : ℕ) → Takes now w client unique → IsMadeClient w client
-client_made now w client unique t none = t.kept.session_nonzero unique t.made (t.session ∙ none)
+client_made now w client unique t none = t.kept.servers.session_nonzero unique t.made (t.session ∙ none)
 
 learnt_by : (now : ℕ) (w : World) (client unique salt : ℕ)
     → Takes now w client unique
-    → Among salt (w.servers unique).salts
+    → Contains (w.servers unique).salts salt
     → Hears now w (learn w client unique salt) client unique
 learnt_by now w client unique salt t of =
     let Holds : World → Type 0 = λ later. Hears now w later client unique in
-    cond_both (is_among unique (w.clients client).learnt) w _ Holds
+    cond_both (list_any (λ known. known == unique) (w.clients client).learnt) w _ Holds
     (
     λ already.
     record { kept = t.kept; downs = refl; servers = refl; present = refl; known = inl (among_if unique (w.clients client).learnt already) }
@@ -66,7 +66,7 @@ learnt_by now w client unique salt t of =
       downs = refl;
       servers = refl;
       present = refl;
-      known = inl (subst (Among unique) (sym (chosen client client (unique ∷ (w.clients client).learnt) (w.clients client).learnt refl)) (inl refl));
+      known = inl (subst (λ list. Contains list unique) (sym (chosen client client (unique ∷ (w.clients client).learnt) (w.clients client).learnt refl)) (contains_first unique (w.clients client).learnt));
     }
     )
     (
@@ -85,7 +85,7 @@ learnt_by now w client unique salt t of =
 item_heard : (now : ℕ) (w : World) (client unique : ℕ) (item : Item) (takes : Bool)
     → Takes now w client unique
     → MaySay w unique item
-    → Among unique (w.clients client).learnt ⊎ IsNewItem item
+    → Contains (w.clients client).learnt unique ⊎ IsNewItem item
     → Hears now w (after_item w client item takes) client unique
 item_heard now w client unique (NewSession named salt) takes t says known =
     subst (λ u. Hears now w (learn w client u salt) client unique) (sym says.0) (learnt_by now w client unique salt t says.1)
@@ -139,14 +139,14 @@ onward now w mid later client unique one two =
 -- a packet and the items of it that are heard
 pub record Hearing (now : ℕ) (w : World) (client : ℕ) (packet : Packet) (items : List Item) : Type 0 where
   pub kept : Kept now w
-  pub made : Among packet w.downs
+  pub made : Contains w.downs packet
   pub session : (w.servers packet.server).session ≡ (w.clients client).present
-  pub within : (item : Item) → Among item items → Among item packet.items
+  pub within : (item : Item) → Contains items item → Contains packet.items item
 
 takes_of : (now : ℕ) (w : World) (client : ℕ) (packet : Packet) (items : List Item)
     → Hearing now w client packet items → Takes now w client packet.server
 takes_of now w client packet items h =
-    record { kept = h.kept; session = h.session; made = h.kept.packet_made packet h.made }
+    record { kept = h.kept; session = h.session; made = h.kept.packets.made packet h.made }
 
 -- the rest of the packet after one item
 rest_of : (now : ℕ) (w later : World) (client : ℕ) (packet : Packet) (item : Item) (items : List Item)
@@ -156,9 +156,9 @@ rest_of : (now : ℕ) (w later : World) (client : ℕ) (packet : Packet) (item :
 rest_of now w later client packet item items h one =
     record {
       kept = one.kept;
-      made = subst (Among packet) (sym one.downs) h.made;
+      made = subst (λ list. Contains list packet) (sym one.downs) h.made;
       session = ap (λ (s : ℕ → ServerSession). (s packet.server).session) one.servers ∙ h.session ∙ sym one.present;
-      within = λ some among. h.within some (inr among);
+      within = λ some among. h.within some (contains_rest some item items among);
     }
 
 first_heard : (now : ℕ) (w : World) (client : ℕ) (packet : Packet) (item : Item) (items : List Item) (takes : Bool)
@@ -167,7 +167,7 @@ first_heard : (now : ℕ) (w : World) (client : ℕ) (packet : Packet) (item : I
     → Hears now w (after_heard w client item takes) client packet.server
 first_heard now w client packet item items takes h known =
     heard now w client packet.server item takes (takes_of now w client packet (item ∷ items) h)
-    (h.kept.packet_says packet item h.made (h.within item (inl refl))) known
+    (h.kept.packets.says packet item h.made (h.within item (contains_first item items))) known
 
 items_heard : (now : ℕ) (w : World) (client : ℕ) (packet : Packet) (items : List Item) (takes : List Bool)
     → Hearing now w client packet items
@@ -217,10 +217,10 @@ pub known_if_accepted : (now : ℕ) (w : World) (client unique : ℕ)
     → Kept now w
     → (w.servers unique).session ≡ (w.clients client).present
     → HasAccepted (w.servers unique)
-    → Among unique (w.clients client).learnt
+    → Contains (w.clients client).learnt unique
 known_if_accepted now w client unique k session has =
     let back = accepted_knows now w unique has.0 k has.1 has.2 in
-    k.message_known back.0 client unique back.1 (back.2 ∙ session) back.5
+    k.clients.knows back.0 client unique back.1 (back.2 ∙ session) back.5
 
 -- a front of a packet's items
 pub front_heard : (now : ℕ) (w : World) (client : ℕ) (packet : Packet) (items : List Item) (takes : List Bool)
@@ -233,9 +233,9 @@ front_heard now w client packet items takes h (inr begins) = new_heard now w cli
 
 pub kept_after_hear : (now : ℕ) (w : World) (client : ℕ) (packet : Packet) (takes : List Bool)
     → Kept now w
-    → Among packet w.downs
+    → Contains w.downs packet
     → (w.servers packet.server).session ≡ (w.clients client).present
     → Kept now (after_items w client packet.items takes)
 kept_after_hear now w client packet takes k made session =
     (front_heard now w client packet packet.items takes
-    (record { kept = k; made = made; session = session; within = λ item among. among }) (k.packet_begins packet made)).kept
+    (record { kept = k; made = made; session = session; within = λ item among. among }) (k.packets.begins packet made)).kept

@@ -1,7 +1,7 @@
 -- A packet that is heard keeps all: what it says is so, and a notice in it is from the one that could have taken the name.
 use Rattle.std.proofs.Common.{◌≡◌, ◌≢◌, ℕ, ◌<◌, ◌==◌, ◌&&◌, Bool, true, if◌then◌else◌, List, [], ◌∷◌, ◌⊎◌, inl, inr, sym, refl, ap, ◌∙◌, subst, subst₂}
-use Rattle.session_moves.specs.Among.{Among, is_among}
-use Rattle.session_moves.specs.Table.{Text, State, Name, Client, Message, ServerSession, Entry}
+use Rattle.std.specs.List.{Contains, list_any}
+use Rattle.session_moves.specs.Table.{CallId, Text, State, Name, Client, Message, ServerSession, Entry}
 use Rattle.session_moves.specs.Table.Cause.{Forgotten}
 use Rattle.session_moves.specs.Table.State.{Queued, Sent, Held, Done, Refused, Unknown}
 use Rattle.session_moves.specs.Table.Status.{Unmade}
@@ -12,9 +12,10 @@ use Rattle.session_moves.specs.After.{is_sent, is_newest, after_settled, state_n
 use Rattle.session_moves.specs.Lawful.{MaySay}
 use Rattle.session_moves.specs.Once.{older_names, OnLast, WasForgotten}
 use Rattle.session_moves.proofs.Kept.{Kept, SaltAmong, Dead, AllDead, Lives, Fits}
-use Rattle.session_moves.proofs.Basics.{choice}
+use Rattle.session_moves.proofs.Basics.{contains_first, contains_rest, contains_cases, choice}
 use Rattle.std.proofs.lemmas.Bool.{and_parts, cond_both, or_cases, eqb-true}
-use Rattle.session_moves.proofs.Clients.{fits_client, says_stays}
+use Rattle.session_moves.proofs.Clients.{fits_client}
+use Rattle.session_moves.proofs.Restated.{kept_restated}
 use Rattle.session_moves.proofs.Taker.{dead_if_refused}
 
 -- The tests
@@ -47,15 +48,18 @@ newest_if (name ∷ older) session number h =
       is_number = eqb-true name.number number parts.1;
     }
 
-pub among_if : (n : ℕ) (list : List ℕ) → is_among n list ≡ true → Among n list
+pub among_if : (n : ℕ) (list : List ℕ) → list_any (λ m. m == n) list ≡ true → Contains list n
 among_if n [] h = absurd cc
 among_if n (m ∷ list) h =
-    elim (or_cases (n == m) (is_among n list) h) [ inl same ↦ inl (eqb-true n m same) | inr later ↦ inr (among_if n list later) ]
+    elim (or_cases (m == n) (list_any (λ m. m == n) list) h) [
+      | inl same ↦ subst (Contains (m ∷ list)) (eqb-true m n same) (contains_first m list)
+      | inr later ↦ contains_rest n m list (among_if n list later)
+    ]
 
 -- A call that gets a new state
 
-among_newest : (names : List Name) (name : Name) (older : List Name) → names ≡ name ∷ older → Among name names
-among_newest names name older is = subst (Among name) (sym is) (inl refl)
+among_newest : (names : List Name) (name : Name) (older : List Name) → names ≡ name ∷ older → Contains names name
+among_newest names name older is = subst (λ list. Contains list name) (sym is) (contains_first name older)
 
 older_is : (names : List Name) (name : Name) (older : List Name) → names ≡ name ∷ older → older_names names ≡ older
 older_is names name older is = ap older_names is
@@ -63,83 +67,49 @@ older_is names name older is = ap older_names is
 pub settled : (now : ℕ) (w : World) (client number : ℕ) (state : State)
     → Kept now w
     → (
-    (call : ℕ)
-    → (w.calls call).client ≡ client
+    (call : CallId)
+    → call.client ≡ client
     → (w.calls call).state ≡ Sent
     → Newest (w.calls call).names (w.clients client).present number
-    → Fits (w.clients (w.calls call).client) w.servers w.ups w.entries (w.calls call).names state
+    → Fits (w.clients call.client) w.servers w.ups w.entries (w.calls call).names state
     )
     → Kept now (after_settled w client number state)
 settled now w client number state k fits =
     let later : World = after_settled w client number state in
-    let test : ℕ → Bool = λ call. is_sent (w.calls call).state && is_newest (w.calls call).names (w.clients client).present number in
-    record {
-      made_before = k.made_before;
-      session_nonzero = k.session_nonzero;
-      lost_before = k.lost_before;
-      following = k.following;
-      unmade = k.unmade;
-      salts_nonzero = k.salts_nonzero;
-      salts_apart = k.salts_apart;
-      judged_backed = k.judged_backed;
-      judged_once = k.judged_once;
-      forgotten_given = k.forgotten_given;
-      entry_judged = k.entry_judged;
-      entry_once = k.entry_once;
-      message_salted = k.message_salted;
-      message_owned = k.message_owned;
-      message_known = k.message_known;
-      message_named = k.message_named;
-      client_salted = k.client_salted;
-      client_learnt = k.client_learnt;
-      learnt_bounded = k.learnt_bounded;
-      owned_once = k.owned_once;
-      no_client = k.no_client;
-      unsubmitted = λ call not_yet.
-          let old = k.unsubmitted call not_yet in (
-            old.0,
-            choice (λ (s : State). s ≡ Refused 0) (w.calls call).client client (if test call then state else (w.calls call).state) (w.calls call).state
-                (
-                λ same.
-                cond_both (test call) state (w.calls call).state (λ s. s ≡ Refused 0)
-                (
-                λ passes.
-                let sent : (w.calls call).state ≡ Sent = sent_if (w.calls call).state (and_parts (is_sent (w.calls call).state) _ passes).0 in
-                let never : Refused 0 ≡ Sent = sym old.1 ∙ sent in
-                absurd cc
-                )
-                (λ fails. old.1)
-                )
-                (λ differs. old.1),
-          );
-      name_sent = k.name_sent;
-      name_owned = k.name_owned;
-      name_first = k.name_first;
-      name_known = k.name_known;
-      name_messages = k.name_messages;
-      name_judged = k.name_judged;
-      name_forgotten = k.name_forgotten;
-      names_of_one = k.names_of_one;
-      names_apart = k.names_apart;
-      replaced = k.replaced;
-      fits = λ call.
-          choice (Fits (w.clients (w.calls call).client) w.servers w.ups w.entries (w.calls call).names) (w.calls call).client client
-          (if test call then state else (w.calls call).state) (w.calls call).state
-          (
-          λ same.
-          cond_both (test call) state (w.calls call).state (Fits (w.clients (w.calls call).client) w.servers w.ups w.entries (w.calls call).names)
-          (
-          λ passes.
-          let parts = and_parts (is_sent (w.calls call).state) (is_newest (w.calls call).names (w.clients client).present number) passes in
-          fits call same (sent_if (w.calls call).state parts.0) (newest_if (w.calls call).names (w.clients client).present number parts.1)
-          )
-          (λ fails. k.fits call)
-          )
-          (λ differs. k.fits call);
-      packet_says = says_stays k later refl (λ some given name. name) refl refl;
-      packet_made = k.packet_made;
-      packet_begins = k.packet_begins;
-    }
+    let test : CallId → Bool = λ call. is_sent (w.calls call).state && is_newest (w.calls call).names (w.clients client).present number in
+    kept_restated now w w.clients (λ call. (later.calls call).state) k k.owners k.clients
+    (
+    λ call is.
+    choice (λ (s : State). s ≡ Refused 0) call.client client (if test call then state else (w.calls call).state) (w.calls call).state
+    (
+    λ same.
+    cond_both (test call) state (w.calls call).state (λ s. s ≡ Refused 0)
+    (
+    λ passes.
+    let sent : (w.calls call).state ≡ Sent = sent_if (w.calls call).state (and_parts (is_sent (w.calls call).state) _ passes).0 in
+    let never : Refused 0 ≡ Sent = sym is ∙ sent in
+    absurd cc
+    )
+    (λ fails. is)
+    )
+    (λ differs. is)
+    )
+    (
+    λ call.
+    choice (Fits (w.clients call.client) w.servers w.ups w.entries (w.calls call).names) call.client client
+    (if test call then state else (w.calls call).state) (w.calls call).state
+    (
+    λ same.
+    cond_both (test call) state (w.calls call).state (Fits (w.clients call.client) w.servers w.ups w.entries (w.calls call).names)
+    (
+    λ passes.
+    let parts = and_parts (is_sent (w.calls call).state) (is_newest (w.calls call).names (w.clients client).present number) passes in
+    fits call same (sent_if (w.calls call).state parts.0) (newest_if (w.calls call).names (w.clients client).present number parts.1)
+    )
+    (λ fails. k.calls.fits call)
+    )
+    (λ differs. k.calls.fits call)
+    )
 
 -- what is known of a packet's server session when an item is taken
 pub record Takes (now : ℕ) (w : World) (client unique : ℕ) : Type 0 where
@@ -180,9 +150,9 @@ resulted now w client unique number reply t (inr none) =
     )
 
 -- the living name of a call of the client, whose server session is learnt, was sent first while that one stood
-pub lives : (now : ℕ) (w : World) (client call : ℕ)
+pub lives : (now : ℕ) (w : World) (client : ℕ) (call : CallId)
     → Kept now w
-    → (w.calls call).client ≡ client
+    → call.client ≡ client
     → (w.calls call).state ≡ Sent
     → (name : Name) (older : List Name)
     → (w.calls call).names ≡ name ∷ older
@@ -190,46 +160,46 @@ pub lives : (now : ℕ) (w : World) (client call : ℕ)
 lives now w client call k mine sent name older is =
     let fits : Fits (w.clients client) w.servers w.ups w.entries (name ∷ older) Sent =
     subst (λ list. Fits (w.clients client) w.servers w.ups w.entries list Sent) is (
-    subst₂ (λ c s. Fits (w.clients c) w.servers w.ups w.entries (w.calls call).names s) mine sent (k.fits call)
+    subst₂ (λ c (s : State). Fits (w.clients c) w.servers w.ups w.entries (w.calls call).names s) mine sent (k.calls.fits call)
     ) in
     fits
 
-pub made_before_living : (now : ℕ) (w : World) (client call unique : ℕ)
+pub made_before_living : (now : ℕ) (w : World) (client : ℕ) (call : CallId) (unique : ℕ)
     → Kept now w
-    → (w.calls call).client ≡ client
+    → call.client ≡ client
     → (w.calls call).state ≡ Sent
     → (name : Name) (older : List Name)
     → (w.calls call).names ≡ name ∷ older
-    → Among unique (w.clients client).learnt
+    → Contains (w.clients client).learnt unique
     → (w.servers unique).made < name.first
 made_before_living now w client call unique k mine sent name older is learnt =
     let live = lives now w client call k mine sent name older is in
-    (k.name_known call name unique (among_newest (w.calls call).names name older is) (subst (Among unique) (sym live.1) learnt)).0
+    (k.takers.known call name unique (among_newest (w.calls call).names name older is) (subst (λ list. Contains list unique) (sym live.1) learnt)).0
 
 -- a name that its learnt server session has noticed is dead, and so are all names of the call
 noticed_dead : (now : ℕ) (w : World) (client unique number code : ℕ)
     → Takes now w client unique
-    → Among unique (w.clients client).learnt
-    → Among (record { number = number; outcome = Noticed code }) (w.servers unique).judged
-    → (call : ℕ)
-    → (w.calls call).client ≡ client
+    → Contains (w.clients client).learnt unique
+    → Contains (w.servers unique).judged (record { number = number; outcome = Noticed code })
+    → (call : CallId)
+    → call.client ≡ client
     → (w.calls call).state ≡ Sent
     → Newest (w.calls call).names (w.clients client).present number
     → AllDead w.servers w.ups (w.calls call).names
 noticed_dead now w client unique number code t learnt noticed call mine sent newest name among =
     let k = t.kept in
-    elim (subst (Among name) newest.is among) [
+    elim (contains_cases name newest.name newest.older (subst (λ list. Contains list name) newest.is among)) [
       | inl same ↦
-          let here : Among newest.name (w.calls call).names = among_newest (w.calls call).names newest.name newest.older newest.is in
+          let here : Contains (w.calls call).names newest.name = among_newest (w.calls call).names newest.name newest.older newest.is in
           let of : (w.servers unique).session ≡ newest.name.session = t.session ∙ sym newest.of_session in
           subst (Dead w.servers w.ups) (sym same) (
           dead_if_refused now w call newest.name unique (record { number = number; outcome = Noticed code }) k here of (
             made_before_living now w client call unique k mine sent newest.name newest.older newest.is learnt,
-            k.name_judged call newest.name unique (record { number = number; outcome = Noticed code }) here of noticed (sym newest.is_number),
+            k.takers.judged call newest.name unique (record { number = number; outcome = Noticed code }) here of noticed (sym newest.is_number),
           ) noticed (sym newest.is_number) (λ accepted. accepted)
           )
       | inr old ↦
-          k.replaced call name (subst (Among name) (sym (older_is (w.calls call).names newest.name newest.older newest.is)) old)
+          k.takers.replaced call name (subst (λ list. Contains list name) (sym (older_is (w.calls call).names newest.name newest.older newest.is)) old)
     ]
 
 -- what a notice other than 20 makes of a call whose names are dead
@@ -248,25 +218,25 @@ fits_noticed client servers ups entries names code differs dead =
 
 pub noticed : (now : ℕ) (w : World) (client unique number code : ℕ)
     → Takes now w client unique
-    → Among unique (w.clients client).learnt
+    → Contains (w.clients client).learnt unique
     → MaySay w unique (Notice number code)
     → Kept now (after_settled w client number (state_noticed code))
 noticed now w client unique number code t learnt (inl judged) =
-    let back = t.kept.judged_backed unique (record { number = number; outcome = Noticed code }) judged in
+    let back = t.kept.outcomes.backed unique (record { number = number; outcome = Noticed code }) judged in
     settled now w client number (state_noticed code) t.kept (
     λ call mine sent newest.
-    fits_noticed (w.clients (w.calls call).client) w.servers w.ups w.entries (w.calls call).names code back.4 (
+    fits_noticed (w.clients call.client) w.servers w.ups w.entries (w.calls call).names code back.4 (
     noticed_dead now w client unique number code t learnt judged call mine sent newest
     )
     )
 noticed now w client unique number code t learnt (inr forgotten) =
     settled now w client number (state_noticed code) t.kept (
     λ call mine sent newest.
-    subst (λ c. Fits (w.clients (w.calls call).client) w.servers w.ups w.entries (w.calls call).names (state_noticed c)) (sym forgotten.0) (
+    subst (λ c. Fits (w.clients call.client) w.servers w.ups w.entries (w.calls call).names (state_noticed c)) (sym forgotten.0) (
     subst (OnLast (WasForgotten w.servers)) (sym newest.is) (
       unique,
       t.session ∙ sym newest.of_session,
-      subst (λ n. Among n (w.servers unique).forgotten) (sym newest.is_number) forgotten.1,
+      subst (λ n. Contains (w.servers unique).forgotten n) (sym newest.is_number) forgotten.1,
     )
     )
     )
@@ -274,56 +244,32 @@ noticed now w client unique number code t learnt (inr forgotten) =
 -- a salt that is taken over
 pub salt_taken : (now : ℕ) (w : World) (client unique salt : ℕ) (takes : Bool)
     → Kept now w
-    → Among unique (w.clients client).learnt
-    → Among salt (w.servers unique).salts
+    → Contains (w.clients client).learnt unique
+    → Contains (w.servers unique).salts salt
     → Kept now (after_salt w client salt takes)
 salt_taken now w client unique salt takes k learnt of =
     let later : World = after_salt w client salt takes in
+    kept_restated now w later.clients (λ call. (w.calls call).state) k k.owners
+    (
     record {
-      made_before = k.made_before;
-      session_nonzero = k.session_nonzero;
-      lost_before = k.lost_before;
-      following = k.following;
-      unmade = k.unmade;
-      salts_nonzero = k.salts_nonzero;
-      salts_apart = k.salts_apart;
-      judged_backed = k.judged_backed;
-      judged_once = k.judged_once;
-      forgotten_given = k.forgotten_given;
-      entry_judged = k.entry_judged;
-      entry_once = k.entry_once;
-      message_salted = k.message_salted;
-      message_owned = k.message_owned;
-      message_known = k.message_known;
-      message_named = k.message_named;
-      client_salted = λ other.
+      salted = λ other.
           cond_both ((other == client) && takes) salt (w.clients other).salt
           (λ s. (((w.clients other).learnt ≡ []) × (s ≡ 0)) ⊎ SaltAmong w.servers (w.clients other).learnt s)
           (
           λ passes.
           let same : other ≡ client = eqb-true other client (and_parts (other == client) takes passes).0 in
-          inr (unique, of, subst (λ c. Among unique (w.clients c).learnt) (sym same) learnt)
+          inr (unique, of, subst (λ c. Contains (w.clients c).learnt unique) (sym same) learnt)
           )
-          (λ fails. k.client_salted other);
-      client_learnt = k.client_learnt;
-      learnt_bounded = k.learnt_bounded;
-      owned_once = k.owned_once;
-      no_client = k.no_client;
-      unsubmitted = k.unsubmitted;
-      name_sent = k.name_sent;
-      name_owned = k.name_owned;
-      name_first = k.name_first;
-      name_known = k.name_known;
-      name_messages = k.name_messages;
-      name_judged = k.name_judged;
-      name_forgotten = k.name_forgotten;
-      names_of_one = k.names_of_one;
-      names_apart = k.names_apart;
-      replaced = k.replaced;
-      fits = λ call.
-          fits_client (w.clients (w.calls call).client) (later.clients (w.calls call).client) w.servers w.ups w.entries (w.calls call).names
-          refl refl (λ some among. among) (λ ended. ended) (w.calls call).state (k.fits call);
-      packet_says = says_stays k later refl (λ some given name. name) refl refl;
-      packet_made = k.packet_made;
-      packet_begins = k.packet_begins;
+          (λ fails. k.clients.salted other);
+      learnt = k.clients.learnt;
+      bounded = k.clients.bounded;
+      knows = k.clients.knows;
+      unmade = k.clients.unmade;
     }
+    )
+    (λ call is. is)
+    (
+    λ call.
+    fits_client (w.clients call.client) (later.clients call.client) w.servers w.ups w.entries (w.calls call).names
+    refl refl (λ some among. among) (λ ended. ended) (w.calls call).state (k.calls.fits call)
+    )

@@ -3,6 +3,7 @@ pub mod Basics
 pub mod Grows
 pub mod Clients
 pub mod NewSession
+pub mod Restated
 pub mod OwnKept
 pub mod MakeKept
 pub mod DrawKept
@@ -11,14 +12,26 @@ pub mod ForgetKept
 pub mod AnswerKept
 pub mod SpeakKept
 pub mod LoseKept
+pub mod Sends
+pub mod FirstKept
 pub mod SendKept
 pub mod Taker
 pub mod Heard
 pub mod Learnt
 pub mod HearKept
 pub mod AfterAll
+mod Extended
 pub mod OnceKept
 pub mod SafeKept
+mod Makes
+mod Given
+mod Rising
+mod Unless
+mod Left
+mod Equal
+mod ClientTests
+mod ServerTests
+mod Tests
 mod Runs
 mod Stays
 mod OddRuns

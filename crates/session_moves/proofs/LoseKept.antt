@@ -7,12 +7,13 @@ use Rattle.session_moves.specs.World.{World, StandsAfter}
 use Rattle.session_moves.specs.Move.Move.{Lose}
 use Rattle.session_moves.specs.After.{effect}
 use Rattle.session_moves.specs.Lawful.{IsLawful}
+use Rattle.session_moves.specs.Extends.{Grows}
 use Rattle.session_moves.proofs.Kept.{Kept, Dead}
 use Rattle.session_moves.proofs.Basics.{choice, choice_of, chosen, unchosen}
-use Rattle.session_moves.proofs.Grows.{Grows, backed_grows, fits_grows, says_grows, made_if_judged, made_if_standing, lost_at}
+use Rattle.session_moves.proofs.Grows.{names_later, clients_grow, backed_still, calls_grow, packets_same, made_if_standing, lost_at}
 
-grows : (w : World) (unique : ℕ) → IsLawful w (Lose unique) → Grows w.servers (effect w (Lose unique)).servers
-grows w unique lawful =
+pub lose_grows : (w : World) (unique : ℕ) → IsLawful w (Lose unique) → Grows w.servers (effect w (Lose unique)).servers
+lose_grows w unique lawful =
     record {
       session = λ other made. refl;
       made = λ other made.
@@ -51,7 +52,7 @@ stands w unique lawful other time before (inl standing) =
       | inr differs ↦ inl (unchosen other unique (Lost w.time) (w.servers other).status differs ∙ standing)
     ]
 stands w unique lawful other time before (inr lost) =
-    inr (lost.0, (grows w unique lawful).lost other lost.0 lost.1, lost.2)
+    inr (lost.0, (lose_grows w unique lawful).lost other lost.0 lost.1, lost.2)
 
 dead : (w : World) (unique : ℕ) (name : Name)
     → Dead w.servers w.ups name
@@ -68,75 +69,64 @@ dead w unique name h other session = (
 pub kept_after_lose : (w : World) (unique : ℕ)
     → Kept w.time w → IsLawful w (Lose unique) → Kept (suc w.time) (effect w (Lose unique))
 kept_after_lose w unique k lawful =
-    let g = grows w unique lawful in
+    let g = lose_grows w unique lawful in
+    let later : World = effect w (Lose unique) in
     record {
-      made_before = λ other made.
-          let before : (w.servers other).made < w.time = k.made_before other (was_made w unique lawful other made) in
-          omega arith;
-      session_nonzero = λ other made. k.session_nonzero other (was_made w unique lawful other made);
-      lost_before = λ other at lost.
-          elim (choice_of (λ (s : Status). s ≡ Lost at) other unique (Lost w.time) (w.servers other).status lost) [
-            | inl new ↦
-                let is : at ≡ w.time = sym (lost_at w.time at new.1) in
-                let standing : (w.servers other).status ≡ Standing = ap (λ u. (w.servers u).status) new.0 ∙ lawful in
-                let before : (w.servers other).made < w.time = k.made_before other (made_if_standing (w.servers other) standing) in
-                (omega arith, omega arith)
-            | inr old ↦
-                let before : ((w.servers other).made < at) × (at < w.time) = k.lost_before other at old.1 in
-                (before.0, omega arith)
-          ];
-      following = λ one other differ made_one made_other session.
-          elim (
-          k.following one other differ (was_made w unique lawful one made_one) (was_made w unique lawful other made_other) session
-          ) [
-            | inl lost ↦ inl (lost.0, g.lost one lost.0 lost.1, lost.2)
-            | inr lost ↦ inr (lost.0, g.lost other lost.0 lost.1, lost.2)
-          ];
-      unmade = λ other none.
-          elim (choice_of (λ (s : Status). s ≡ Unmade) other unique (Lost w.time) (w.servers other).status none) [
-            | inl lost ↦ let never : Lost w.time ≡ Unmade = lost.1 in absurd cc
-            | inr old ↦ k.unmade other old.1
-          ];
-      salts_nonzero = k.salts_nonzero;
-      salts_apart = k.salts_apart;
-      judged_backed = λ other judged h.
-          backed_grows g w.ups other judged (made_if_judged k other judged h) (k.judged_backed other judged h);
-      judged_once = k.judged_once;
-      forgotten_given = k.forgotten_given;
-      entry_judged = k.entry_judged;
-      entry_once = k.entry_once;
-      message_salted = k.message_salted;
-      message_owned = k.message_owned;
-      message_known = k.message_known;
-      message_named = k.message_named;
-      client_salted = k.client_salted;
-      client_learnt = λ client other among.
-          ((k.client_learnt client other among).0, g.made other (k.client_learnt client other among).1);
-      learnt_bounded = k.learnt_bounded;
-      owned_once = k.owned_once;
-      no_client = k.no_client;
-      unsubmitted = k.unsubmitted;
-      name_sent = k.name_sent;
-      name_owned = k.name_owned;
-      name_first = λ call name among.
-          let before : name.first < w.time = k.name_first call name among in
-          omega arith;
-      name_known = λ call name other among known.
-          ((k.name_known call name other among known).0, g.made other (k.name_known call name other among known).1);
-      name_messages = k.name_messages;
-      name_judged = λ call name other judged among session h number.
-          stands w unique lawful other name.first (k.name_first call name among) (k.name_judged call name other judged among session h number);
-      name_forgotten = λ call name other among session h.
-          stands w unique lawful other name.first (k.name_first call name among) (k.name_forgotten call name other among session h);
-      names_of_one = k.names_of_one;
-      names_apart = k.names_apart;
-      replaced = λ call name among. dead w unique name (k.replaced call name among);
-      fits = λ call.
-          fits_grows k g w.ups w.entries (λ entry h. h) (w.clients (w.calls call).client) (w.calls call).names (w.calls call).state
-          (λ name among. dead w unique name) (k.fits call);
-      packet_says = λ packet item among within.
-          says_grows w (effect w (Lose unique)) packet.server g (k.packet_made packet among) (λ entry h. h)
-          (λ session given h. h) (λ session some given h. h) item (k.packet_says packet item among within);
-      packet_made = λ packet among. g.made packet.server (k.packet_made packet among);
-      packet_begins = k.packet_begins;
+      servers =
+          record {
+            made_before = λ other made.
+                let before : (w.servers other).made < w.time = k.servers.made_before other (was_made w unique lawful other made) in
+                omega arith;
+            session_nonzero = λ other made. k.servers.session_nonzero other (was_made w unique lawful other made);
+            lost_before = λ other at lost.
+                elim (choice_of (λ (s : Status). s ≡ Lost at) other unique (Lost w.time) (w.servers other).status lost) [
+                  | inl new ↦
+                      let is : at ≡ w.time = sym (lost_at w.time at new.1) in
+                      let standing : (w.servers other).status ≡ Standing = ap (λ u. (w.servers u).status) new.0 ∙ lawful in
+                      let before : (w.servers other).made < w.time = k.servers.made_before other (made_if_standing (w.servers other) standing) in
+                      (omega arith, omega arith)
+                  | inr old ↦
+                      let before : ((w.servers other).made < at) × (at < w.time) = k.servers.lost_before other at old.1 in
+                      (before.0, omega arith)
+                ];
+            following = λ one other differ made_one made_other session.
+                elim (
+                k.servers.following one other differ (was_made w unique lawful one made_one) (was_made w unique lawful other made_other) session
+                ) [
+                  | inl lost ↦ inl (lost.0, g.lost one lost.0 lost.1, lost.2)
+                  | inr lost ↦ inr (lost.0, g.lost other lost.0 lost.1, lost.2)
+                ];
+            unmade = λ other none.
+                elim (choice_of (λ (s : Status). s ≡ Unmade) other unique (Lost w.time) (w.servers other).status none) [
+                  | inl lost ↦ let never : Lost w.time ≡ Unmade = lost.1 in absurd cc
+                  | inr old ↦ k.servers.unmade other old.1
+                ];
+            salts_nonzero = k.servers.salts_nonzero;
+            salts_apart = k.servers.salts_apart;
+          };
+      outcomes =
+          record {
+            backed = λ other judged h. backed_still k g other judged h;
+            judged_once = k.outcomes.judged_once;
+            forgotten_given = k.outcomes.forgotten_given;
+            entry_judged = k.outcomes.entry_judged;
+            entry_once = k.outcomes.entry_once;
+          };
+      messages = k.messages;
+      owners = k.owners;
+      clients = clients_grow k g;
+      names = names_later w.time w.ups (λ call. (w.calls call).names) k.names;
+      bodies = k.bodies;
+      takers =
+          record {
+            known = λ call name other among known.
+                ((k.takers.known call name other among known).0, g.made other (k.takers.known call name other among known).1);
+            judged = λ call name other judged among session h number.
+                stands w unique lawful other name.first (k.names.first call name among) (k.takers.judged call name other judged among session h number);
+            forgotten = λ call name other among session h.
+                stands w unique lawful other name.first (k.names.first call name among) (k.takers.forgotten call name other among session h);
+            replaced = λ call name among. dead w unique name (k.takers.replaced call name among);
+          };
+      calls = calls_grow k g w.entries (λ entry h. h) (dead w unique);
+      packets = packets_same k later.servers g;
     }

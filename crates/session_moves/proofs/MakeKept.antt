@@ -7,9 +7,10 @@ use Rattle.session_moves.specs.World.{World, LostBefore, StandsAfter, WasGiven}
 use Rattle.session_moves.specs.Move.Move.{Make}
 use Rattle.session_moves.specs.After.{effect}
 use Rattle.session_moves.specs.Lawful.{IsLawful}
+use Rattle.session_moves.specs.Extends.{Grows}
 use Rattle.session_moves.proofs.Kept.{Kept, IsShut, Dead}
 use Rattle.session_moves.proofs.Basics.{choice_of, chosen, empty}
-use Rattle.session_moves.proofs.Grows.{Grows, backed_grows, fits_grows, says_grows, made_if_judged, made_if_forgotten, made_if_lost}
+use Rattle.session_moves.proofs.Grows.{names_later, clients_grow, backed_still, calls_grow, packets_same, made_if_judged, made_if_forgotten, made_if_lost}
 
 other_than : (w : World) (unique session : ℕ) → IsLawful w (Make unique session) → (other : ℕ)
     → (w.servers other).status ≢ Unmade
@@ -22,9 +23,9 @@ there : (w : World) (unique session other : ℕ)
     → (other ≡ unique → ⊥) → (effect w (Make unique session)).servers other ≡ w.servers other
 there w unique session other differs = rw (ne_eqb other unique differs)
 
-grows : (w : World) (unique session : ℕ)
+pub make_grows : (w : World) (unique session : ℕ)
     → IsLawful w (Make unique session) → Grows w.servers (effect w (Make unique session)).servers
-grows w unique session lawful =
+make_grows w unique session lawful =
     record {
       session = λ other made. ap (λ (s : ServerSession). s.session) (there w unique session other (other_than w unique session lawful other made));
       made = λ other made.
@@ -48,7 +49,7 @@ dead : (now : ℕ) (w : World) (unique session : ℕ)
 dead now w unique session k lawful name h other of =
     elim (cases_eq other unique) [
       | inl same ↦
-          let none = k.unmade other (ap (λ u. (w.servers u).status) same ∙ lawful.1) in (
+          let none = k.servers.unmade other (ap (λ u. (w.servers u).status) same ∙ lawful.1) in (
             λ judged among number accepted. empty judged (w.servers other).judged none.1 among,
             λ standing. inr (λ message among under salt. empty message.salt (w.servers other).salts none.0 salt),
           )
@@ -71,7 +72,7 @@ lost_before_new w unique session k lawful other made of = by_status (w.servers o
     by_status : (status : Status) → (w.servers other).status ≡ status → LostBefore (w.servers other) w.time
     by_status Unmade is = absurd (made is)
     by_status Standing is = absurd (lawful.3 other of is)
-    by_status (Lost at) is = (at, is, (k.lost_before other at is).1)
+    by_status (Lost at) is = (at, is, (k.servers.lost_before other at is).1)
 
 Follow : ServerSession → ServerSession → Type 0
 Follow one other =
@@ -118,7 +119,7 @@ following w unique session k lawful one other differ =
                 )
             | inr apart ↦
                 subst (λ (s : ServerSession). Follow (w.servers one) s) (sym (there w unique session other apart)) (
-                k.following one other differ
+                k.servers.following one other differ
                 )
           ]
           )
@@ -128,92 +129,80 @@ pub kept_after_make : (w : World) (unique session : ℕ)
     → Kept w.time w → IsLawful w (Make unique session) → Kept (suc w.time) (effect w (Make unique session))
 unfolding Follow
 kept_after_make w unique session k lawful =
-    let g = grows w unique session lawful in
+    let g = make_grows w unique session lawful in
+    let later : World = effect w (Make unique session) in
     record {
-      made_before = λ other made.
-          elim (cases_eq other unique) [
-            | inl same ↦ let is = chosen other unique w.time (w.servers other).made same in omega arith
-            | inr differs ↦
-                let same = there w unique session other differs in
-                let before : (w.servers other).made < w.time =
-                k.made_before other (subst (λ (s : ServerSession). s.status ≢ Unmade) same made) in
-                let is = ap (λ (s : ServerSession). s.made) same in
-                omega arith
-          ];
-      session_nonzero = λ other made none.
-          elim (cases_eq other unique) [
-            | inl same ↦ lawful.2.1.0 (sym (chosen other unique session (w.servers other).session same) ∙ none)
-            | inr differs ↦
-                let same = there w unique session other differs in
-                k.session_nonzero other (subst (λ (s : ServerSession). s.status ≢ Unmade) same made) (sym (ap (λ (s : ServerSession). s.session) same) ∙ none)
-          ];
-      lost_before = λ other at lost.
-          elim (cases_eq other unique) [
-            | inl same ↦
-                let never : Standing ≡ Lost at = sym (chosen other unique Standing (w.servers other).status same) ∙ lost in
-                absurd cc
-            | inr differs ↦
-                let same = there w unique session other differs in
-                let before : ((w.servers other).made < at) × (at < w.time) =
-                k.lost_before other at (sym (ap (λ (s : ServerSession). s.status) same) ∙ lost) in
-                let is = ap (λ (s : ServerSession). s.made) same in
-                (omega arith, omega arith)
-          ];
-      following = following w unique session k lawful;
-      unmade = λ other none.
-          elim (choice_of (λ (s : Status). s ≡ Unmade) other unique Standing (w.servers other).status none) [
-            | inl new ↦ let never : Standing ≡ Unmade = new.1 in absurd cc
-            | inr old ↦ k.unmade other old.1
-          ];
-      salts_nonzero = k.salts_nonzero;
-      salts_apart = k.salts_apart;
-      judged_backed = λ other judged h.
-          backed_grows g w.ups other judged (made_if_judged k other judged h) (k.judged_backed other judged h);
-      judged_once = k.judged_once;
-      forgotten_given = λ other number h.
-          subst (λ s. WasGiven w.ups s number) (sym (g.session other (made_if_forgotten k other number h))) (k.forgotten_given other number h);
-      entry_judged = k.entry_judged;
-      entry_once = k.entry_once;
-      message_salted = k.message_salted;
-      message_owned = k.message_owned;
-      message_known = k.message_known;
-      message_named = k.message_named;
-      client_salted = k.client_salted;
-      client_learnt = λ client other among.
-          let old = k.client_learnt client other among in
-          (g.session other old.1 ∙ old.0, g.made other old.1);
-      learnt_bounded = k.learnt_bounded;
-      owned_once = k.owned_once;
-      no_client = k.no_client;
-      unsubmitted = k.unsubmitted;
-      name_sent = k.name_sent;
-      name_owned = k.name_owned;
-      name_first = λ call name among.
-          let before : name.first < w.time = k.name_first call name among in
-          omega arith;
-      name_known = λ call name other among known.
-          let old = k.name_known call name other among known in
-          (subst (λ t. t < name.first) (sym (g.since other old.1)) old.0, g.made other old.1);
-      name_messages = k.name_messages;
-      name_judged = λ call name other judged among of h number.
-          let made = made_if_judged k other judged h in
-          subst (λ (s : ServerSession). StandsAfter s name.first) (sym (there w unique session other (other_than w unique session lawful other made))) (
-          k.name_judged call name other judged among (sym (g.session other made) ∙ of) h number
-          );
-      name_forgotten = λ call name other among of h.
-          let made = made_if_forgotten k other name.number h in
-          subst (λ (s : ServerSession). StandsAfter s name.first) (sym (there w unique session other (other_than w unique session lawful other made))) (
-          k.name_forgotten call name other among (sym (g.session other made) ∙ of) h
-          );
-      names_of_one = k.names_of_one;
-      names_apart = k.names_apart;
-      replaced = λ call name among. dead w.time w unique session k lawful name (k.replaced call name among);
-      fits = λ call.
-          fits_grows k g w.ups w.entries (λ entry h. h) (w.clients (w.calls call).client) (w.calls call).names (w.calls call).state
-          (λ name among. dead w.time w unique session k lawful name) (k.fits call);
-      packet_says = λ packet item among within.
-          says_grows w (effect w (Make unique session)) packet.server g (k.packet_made packet among) (λ entry h. h)
-          (λ session given h. h) (λ session some given h. h) item (k.packet_says packet item among within);
-      packet_made = λ packet among. g.made packet.server (k.packet_made packet among);
-      packet_begins = k.packet_begins;
+      servers =
+          record {
+            made_before = λ other made.
+                elim (cases_eq other unique) [
+                  | inl same ↦ let is = chosen other unique w.time (w.servers other).made same in omega arith
+                  | inr differs ↦
+                      let same = there w unique session other differs in
+                      let before : (w.servers other).made < w.time =
+                      k.servers.made_before other (subst (λ (s : ServerSession). s.status ≢ Unmade) same made) in
+                      let is = ap (λ (s : ServerSession). s.made) same in
+                      omega arith
+                ];
+            session_nonzero = λ other made none.
+                elim (cases_eq other unique) [
+                  | inl same ↦ lawful.2.1.0 (sym (chosen other unique session (w.servers other).session same) ∙ none)
+                  | inr differs ↦
+                      let same = there w unique session other differs in
+                      k.servers.session_nonzero other (subst (λ (s : ServerSession). s.status ≢ Unmade) same made) (sym (ap (λ (s : ServerSession). s.session) same) ∙ none)
+                ];
+            lost_before = λ other at lost.
+                elim (cases_eq other unique) [
+                  | inl same ↦
+                      let never : Standing ≡ Lost at = sym (chosen other unique Standing (w.servers other).status same) ∙ lost in
+                      absurd cc
+                  | inr differs ↦
+                      let same = there w unique session other differs in
+                      let before : ((w.servers other).made < at) × (at < w.time) =
+                      k.servers.lost_before other at (sym (ap (λ (s : ServerSession). s.status) same) ∙ lost) in
+                      let is = ap (λ (s : ServerSession). s.made) same in
+                      (omega arith, omega arith)
+                ];
+            following = following w unique session k lawful;
+            unmade = λ other none.
+                elim (choice_of (λ (s : Status). s ≡ Unmade) other unique Standing (w.servers other).status none) [
+                  | inl new ↦ let never : Standing ≡ Unmade = new.1 in absurd cc
+                  | inr old ↦ k.servers.unmade other old.1
+                ];
+            salts_nonzero = k.servers.salts_nonzero;
+            salts_apart = k.servers.salts_apart;
+          };
+      outcomes =
+          record {
+            backed = λ other judged h. backed_still k g other judged h;
+            judged_once = k.outcomes.judged_once;
+            forgotten_given = λ other number h.
+                subst (λ s. WasGiven w.ups s number) (sym (g.session other (made_if_forgotten k other number h))) (k.outcomes.forgotten_given other number h);
+            entry_judged = k.outcomes.entry_judged;
+            entry_once = k.outcomes.entry_once;
+          };
+      messages = k.messages;
+      owners = k.owners;
+      clients = clients_grow k g;
+      names = names_later w.time w.ups (λ call. (w.calls call).names) k.names;
+      bodies = k.bodies;
+      takers =
+          record {
+            known = λ call name other among known.
+                let old = k.takers.known call name other among known in
+                (subst (λ t. t < name.first) (sym (g.since other old.1)) old.0, g.made other old.1);
+            judged = λ call name other judged among of h number.
+                let made = made_if_judged k other judged h in
+                subst (λ (s : ServerSession). StandsAfter s name.first) (sym (there w unique session other (other_than w unique session lawful other made))) (
+                k.takers.judged call name other judged among (sym (g.session other made) ∙ of) h number
+                );
+            forgotten = λ call name other among of h.
+                let made = made_if_forgotten k other name.number h in
+                subst (λ (s : ServerSession). StandsAfter s name.first) (sym (there w unique session other (other_than w unique session lawful other made))) (
+                k.takers.forgotten call name other among (sym (g.session other made) ∙ of) h
+                );
+            replaced = λ call name among. dead w.time w unique session k lawful name (k.takers.replaced call name among);
+          };
+      calls = calls_grow k g w.entries (λ entry h. h) (dead w.time w unique session k lawful);
+      packets = packets_same k later.servers g;
     }

@@ -1,265 +1,277 @@
 -- Each odd run is lawful but for its one move, and breaks the law.
-use Rattle.std.proofs.Common.{◌≡◌, ◌≢◌, ◌<◌, List, [], ◌∷◌, take, inl, inr, sym, refl, ap, ◌∙◌, arith}
-use Rattle.session_moves.specs.Among.{Among}
-use Rattle.session_moves.specs.Table.{Message, Name, Judged, Entry}
-use Rattle.session_moves.specs.Table.Item.{NewSession, Notice, WrongSalt}
+use Rattle.std.proofs.Common.{◌≡◌, ℕ, ◌<◌, List, [], ◌∷◌, inl, inr, refl, sym, ap, ◌∙◌, subst, arith}
+use Rattle.std.specs.List.{Contains}
+use Rattle.session_moves.specs.Table.{CallId, Text, Name, Status, Packet, Entry, call_at}
+use Rattle.session_moves.specs.Table.Item.{NewSession, Notice}
+use Rattle.session_moves.specs.Table.State.{Queued, Done, Refused}
+use Rattle.session_moves.specs.Table.Status.{Unmade, Standing, Lost}
 use Rattle.session_moves.specs.World.{World, start}
-use Rattle.session_moves.specs.Table.Outcome.{AcceptedCall, Noticed}
-use Rattle.session_moves.specs.Move.{Move}
-use Rattle.session_moves.specs.Move.OwnAct.{Submit}
-use Rattle.session_moves.specs.Move.Part.{First}
-use Rattle.session_moves.specs.Move.Move.{Own, Send, Draw, Judge}
-use Rattle.session_moves.specs.After.{after}
-use Rattle.session_moves.specs.Lawful.{MaySay}
-use Rattle.session_moves.specs.Reached.{after_all}
-use Rattle.session_moves.specs.Witness.{question, reply, told, asked}
-use Rattle.session_moves.specs.Needed.{RunsTwice, outcome_of_twenty, early_result, OddRun, Breaks, foreign_salt, drawn_again, salt_of_zero, silent, judged_again, answered_again, other_request, given_again, not_queued, invented_result, invented_notice, two_at_once}
-use Rattle.session_moves.proofs.Basics.{choice_of}
-use Rattle.session_moves.proofs.Runs.{only, either, opened_lawful, ran_lawful, replaced_lawful, second_salt}
+use Rattle.session_moves.specs.Reached.{Reached}
+use Rattle.session_moves.specs.Once.{AtMostOne, Once, IsOfName, IsOfCall, older_names}
+use Rattle.session_moves.specs.Safe.{OneTaker}
+use Rattle.session_moves.specs.Witness.{question, reply, entry_of, lost}
+use Rattle.session_moves.specs.Needed.{Breaks, BreaksOneTaker, world_before, world_after, RunsTwice, requeued, rerun, taken_session, given_up_sent, given_again, not_queued, two_at_once, salt_of_zero, drawn_again, invented_message, judged_again, other_body, foreign_salt, outcome_of_twenty, early_forget, other_request, answered_again, names_another, invented_result, early_result, invented_notice, invented_wrong_salt, foreign_new_salt, silent, invented_packet}
+use Rattle.session_moves.proofs.Basics.{contains_first, contains_rest, contains_none, choice_of}
+use Rattle.session_moves.proofs.AfterAll.{kept_if_reached}
+use Rattle.session_moves.proofs.OnceKept.{once_if_kept}
+use Rattle.session_moves.proofs.SafeKept.{one_taker_if_kept}
+use Rattle.session_moves.proofs.Runs.{breaks, all_clients, all_servers, bounded_start, bounded_after_all, lawful_if_tested}
 
--- the world after the odd move and some of the rest
-abbrev odd_world : OddRun → List Move → World
-odd_world run rest = after_all (after (after_all start run.before) run.odd) rest
+once_holds : (w : World) → Reached w → Once w
+once_holds w reached = once_if_kept w.time w (kept_if_reached w reached)
 
--- the call's name, first sent at the time of the seventh move
+-- Ways to break the law
+
+listed : {A : Type 0} (xs : List A) (x : A) (more : List A) → xs ≡ x ∷ more → Contains xs x
+listed xs x more is = subst (λ list. Contains list x) (sym is) (contains_first x more)
+
+ran_twice : (w : World) (call : CallId) (name : Name) (older : List Name) (one other : Entry) (more : List Entry)
+    → (w.calls call).names ≡ name ∷ older
+    → w.entries ≡ one ∷ other ∷ more
+    → IsOfName w name one
+    → IsOfName w name other
+    → Once w
+    → ⊥
+ran_twice w call name older one other more names entries of_one of_other once =
+    let at = listed (w.calls call).names name older names in
+    let most = subst (AtMostOne (IsOfCall w call)) entries (once.once call) in
+    most.0 (name, at, of_one) other (contains_first other more) (name, at, of_other)
+
+queued_ran : (w : World) (call : CallId) (name : Name) (older : List Name) (entry : Entry) (more : List Entry)
+    → (w.calls call).state ≡ Queued
+    → (w.calls call).names ≡ name ∷ older
+    → w.entries ≡ entry ∷ more
+    → IsOfName w name entry
+    → Once w
+    → ⊥
+queued_ran w call name older entry more queued names entries of once =
+    once.queued call queued entry (listed w.entries entry more entries) (name, listed (w.calls call).names name older names, of)
+
+refused_ran : (w : World) (call : CallId) (code : ℕ) (name : Name) (older : List Name) (entry : Entry) (more : List Entry)
+    → (w.calls call).state ≡ Refused code
+    → (w.calls call).names ≡ name ∷ older
+    → w.entries ≡ entry ∷ more
+    → IsOfName w name entry
+    → Once w
+    → ⊥
+refused_ran w call code name older entry more refused names entries of once =
+    once.refused call code refused entry (listed w.entries entry more entries) (name, listed (w.calls call).names name older names, of)
+
+old_ran : (w : World) (call : CallId) (newest name : Name) (older : List Name) (entry : Entry) (more : List Entry)
+    → (w.calls call).names ≡ newest ∷ name ∷ older
+    → w.entries ≡ entry ∷ more
+    → IsOfName w name entry
+    → Once w
+    → ⊥
+old_ran w call newest name older entry more names entries of once =
+    once.replaced call name entry
+    (listed (older_names (w.calls call).names) name older (ap older_names names))
+    (listed w.entries entry more entries) of
+
+done_unrun : (w : World) (call : CallId) (answer : Text) → (w.calls call).state ≡ Done answer → w.entries ≡ [] → Once w → ⊥
+done_unrun w call answer done entries once =
+    let entry = once.done call answer done in contains_none entry.0 (subst (λ list. Contains list entry.0) entries entry.1)
+
+wrong_request : (w : World) (call : CallId) (name : Name) (older : List Name) (entry : Entry) (more : List Entry)
+    → (w.calls call).names ≡ name ∷ older
+    → w.entries ≡ entry ∷ more
+    → IsOfName w name entry
+    → (entry.request ≡ (w.calls call).body → ⊥)
+    → Once w
+    → ⊥
+wrong_request w call name older entry more names entries of differs once =
+    let sent = once.as_sent entry (listed w.entries entry more entries) in
+    let is : call ≡ sent.0 = sent.4 call (name, listed (w.calls call).names name older names, of) in
+    differs (sent.2 ∙ ap (λ c. (w.calls c).body) (sym is))
+
+of_two : (w : World) (one other : CallId) (name same : Name) (older elder : List Name) (entry : Entry) (more : List Entry)
+    → (w.calls one).names ≡ name ∷ older
+    → (w.calls other).names ≡ same ∷ elder
+    → w.entries ≡ entry ∷ more
+    → IsOfName w name entry
+    → IsOfName w same entry
+    → (one ≡ other → ⊥)
+    → Once w
+    → ⊥
+of_two w one other name same older elder entry more names too entries of of_too differ once =
+    let sent = once.as_sent entry (listed w.entries entry more entries) in
+    let is : one ≡ sent.0 = sent.4 one (name, listed (w.calls one).names name older names, of) in
+    let also : other ≡ sent.0 = sent.4 other (same, listed (w.calls other).names same elder too, of_too) in
+    differ (is ∙ sym also)
+
+-- the call, and its name in most runs: first sent at the time of the seventh move
+abbrev call : CallId
+call = call_at 0 0
+
+abbrev name_at : ℕ → ℕ → List ℕ → Name
+name_at number time known = record { session = 1; number = number; first = time; known = known }
+
 abbrev name : Name
-name = record { session = 1; number = 4; first = 6; known = 11 ∷ [] }
+name = name_at 4 6 (11 ∷ [])
 
-pub foreign_salt_breaks : Breaks foreign_salt
-foreign_salt_breaks = (
-  replaced_lawful (Draw 12 22 ∷ []) (second_salt, tt),
-  ((refl, inl refl, only (λ (e : Entry). e.server ≡ 12 → e.number ≢ 4) _ (λ h number. omega arith)), tt),
-  λ once. (once.once 0).0 (name, inl refl, (refl, refl)) _ (inl refl) (name, inl refl, (refl, refl)),
-)
+-- The runs
 
-pub drawn_again_breaks : Breaks drawn_again
-drawn_again_breaks = (
-  replaced_lawful [] tt,
-  (
-    (refl, inl refl, refl, (λ judged none. absurd none), (λ none. none), (refl, inl refl)),
-    ((refl, inl refl, only (λ (e : Entry). e.server ≡ 12 → e.number ≢ 4) _ (λ h number. omega arith)), tt),
-  ),
-  λ once. (once.once 0).0 (name, inl refl, (refl, refl)) _ (inl refl) (name, inl refl, (refl, refl)),
-)
+pub taken_session_breaks : Breaks taken_session
+taken_session_breaks =
+    breaks Once taken_session once_holds refl refl refl (
+    queued_ran (world_after taken_session) (call_at 1 0) (name_at 4 9 (11 ∷ [])) [] (entry_of 11 4) [] refl refl refl (refl, refl)
+    )
 
-pub salt_of_zero_breaks : Breaks salt_of_zero
-salt_of_zero_breaks = (
-  (
-    (refl, ((λ h. omega arith), λ client owns. elim owns.1 [ inl is ↦ owns.0 is | inr none ↦ none ])),
-    (
-      λ h. omega arith,
-      (
-        ((λ h. omega arith), ((refl, refl, λ message none. absurd none), tt)),
-        (((λ h. omega arith), refl, (0, ((λ h. omega arith), inl refl)), λ other of standing. omega (arith, of)), tt),
-      ),
-    ),
-  ),
-  (
-    (refl, inl refl, refl, (λ judged none. absurd none), (λ none. none), (refl, inl refl)),
-    (
-      (refl, inl refl, λ entry none. absurd none),
-      (
-        (refl, only (MaySay (odd_world salt_of_zero (take 2 salt_of_zero.rest)) 11) (NewSession 11 0) (refl, inl refl), inr tt),
-        ((inl refl, refl), tt),
-      ),
-    ),
-  ),
-  λ once. once.queued 0 refl _ (inl refl) (record { session = 1; number = 4; first = 2; known = [] }, inl refl, (refl, refl)),
-)
-
-pub silent_breaks : Breaks silent
-silent_breaks = (
-  replaced_lawful (Draw 12 22 ∷ Judge 12 (asked 21 4) (Noticed 48) ∷ []) (
-    second_salt,
-    ((refl, inl refl, refl, (λ judged none. absurd none), (λ none. none), λ h. omega arith), tt),
-  ),
-  ((inl refl, refl), tt),
-  λ once. once.queued 0 refl _ (inl refl) (name, inl refl, (refl, refl)),
-)
-
-pub judged_again_breaks : Breaks judged_again
-judged_again_breaks = (
-  opened_lawful (
-      Send 0 (First 0 4 ∷ [])
-      ∷ Judge 11 (asked 21 4) (Noticed 48)
-      ∷ told 11 (NewSession 11 21 ∷ WrongSalt 4 21 ∷ []) [] []
-      ) (
-        ((λ h. omega arith), ((refl, refl, λ message none. absurd none), tt)),
-        (
-          (refl, inl refl, refl, (λ judged none. absurd none), (λ none. none), λ h. omega arith),
-          (
-            (
-              refl,
-              either (MaySay (after_all start (take 8 judged_again.before)) 11) (NewSession 11 21) (WrongSalt 4 21) (refl, inl refl) (inl refl, inl refl),
-              inr tt,
-            ),
-            ((inl refl, refl), tt),
-          ),
-        ),
-      ),
-  ((refl, inl refl, λ entry none. absurd none), tt),
-  λ once. once.queued 0 refl _ (inl refl) (name, inl refl, (refl, refl)),
-)
-
-pub answered_again_breaks : Breaks answered_again
-answered_again_breaks = (
-  ran_lawful [] tt,
-  tt,
-  λ once. (once.once 0).0 (name, inl refl, (refl, refl)) _ (inl refl) (name, inl refl, (refl, refl)),
-)
-
-pub other_request_breaks : Breaks other_request
-other_request_breaks = (
-  opened_lawful (Send 0 (First 0 4 ∷ []) ∷ Judge 11 (asked 21 4) (AcceptedCall question) ∷ []) (
-    ((λ h. omega arith), ((refl, refl, λ message none. absurd none), tt)),
-    ((refl, inl refl, refl, (λ judged none. absurd none), (λ none. none), (refl, inl refl)), tt),
-  ),
-  tt,
-  λ once.
-      let sent = once.as_sent (record { server = 11; number = 4; request = []; reply = reply }) (inl refl) in
-      let is : 0 ≡ sent.0 = sent.4 0 (name, inl refl, (refl, refl)) in
-      let never : [] ≡ question = sent.2 ∙ ap (λ call. ((odd_world other_request []).calls call).body) (sym is) in
-      cc,
-)
+pub given_up_sent_breaks : Breaks given_up_sent
+given_up_sent_breaks =
+    breaks Once given_up_sent once_holds refl refl refl (
+    refused_ran (world_after given_up_sent) call 0 name [] (entry_of 11 4) [] refl refl refl (refl, refl)
+    )
 
 pub given_again_breaks : Breaks given_again
-given_again_breaks = (
-  opened_lawful (Send 0 (First 0 4 ∷ []) ∷ Own (Submit 0 question) ∷ []) (
-    ((λ h. omega arith), ((refl, refl, λ message none. absurd none), tt)),
-    ((λ h. omega arith), tt),
-  ),
-  ((refl, inl refl, refl, (λ judged none. absurd none), (λ none. none), (refl, inl refl)), ((refl, inl refl, λ entry none. absurd none), tt)),
-  λ once.
-      let sent = once.as_sent (record { server = 11; number = 4; request = question; reply = reply }) (inl refl) in
-      let is : 0 ≡ sent.0 = sent.4 0 (name, inl refl, (refl, refl)) in
-      let too : 1 ≡ sent.0 = sent.4 1 (record { session = 1; number = 4; first = 8; known = 11 ∷ [] }, inl refl, (refl, refl)) in
-      omega arith,
-)
+given_again_breaks =
+    breaks Once given_again once_holds refl refl refl (
+    of_two (world_after given_again) call (call_at 0 1) name (name_at 4 8 (11 ∷ [])) [] [] (entry_of 11 4) [] refl refl refl (refl, refl) (refl, refl) (
+    λ same. let never : 0 ≡ 1 = ap (λ (c : CallId). c.place) same in omega arith
+    )
+    )
 
 pub not_queued_breaks : Breaks not_queued
 not_queued_breaks =
-    (ran_lawful [] tt, tt, λ once. once.replaced 0 name _ (inl refl) (inl refl) (refl, refl))
+    breaks Once not_queued once_holds refl refl refl (
+    old_ran (world_after not_queued) call (name_at 8 9 (11 ∷ [])) name [] (entry_of 11 4) [] refl refl (refl, refl)
+    )
+
+pub two_at_once_breaks : Breaks two_at_once
+two_at_once_breaks =
+    breaks Once two_at_once once_holds refl refl refl (
+    ran_twice (world_after two_at_once) call (name_at 4 10 (12 ∷ 11 ∷ [])) [] (entry_of 11 4) (entry_of 12 4) [] refl refl (refl, refl) (refl, refl)
+    )
+
+pub salt_of_zero_breaks : Breaks salt_of_zero
+salt_of_zero_breaks =
+    breaks Once salt_of_zero once_holds refl refl refl (
+    queued_ran (world_after salt_of_zero) call (name_at 4 4 []) [] (entry_of 11 4) [] refl refl refl (refl, refl)
+    )
+
+pub drawn_again_breaks : Breaks drawn_again
+drawn_again_breaks =
+    breaks Once drawn_again once_holds refl refl refl (
+    ran_twice (world_after drawn_again) call name [] (entry_of 12 4) (entry_of 11 4) [] refl refl (refl, refl) (refl, refl)
+    )
+
+pub invented_message_breaks : Breaks invented_message
+invented_message_breaks =
+    breaks Once invented_message once_holds refl refl refl (
+    λ once. let sent = once.as_sent (entry_of 11 4) (contains_first (entry_of 11 4) []) in contains_none sent.1.0 sent.1.1
+    )
+
+pub judged_again_breaks : Breaks judged_again
+judged_again_breaks =
+    breaks Once judged_again once_holds refl refl refl (
+    queued_ran (world_after judged_again) call name [] (entry_of 11 4) [] refl refl refl (refl, refl)
+    )
+
+-- an execution of nothing
+abbrev empty_entry : Entry
+empty_entry = record { server = 11; number = 4; request = []; reply = reply }
+
+pub other_body_breaks : Breaks other_body
+other_body_breaks =
+    breaks Once other_body once_holds refl refl refl (
+    wrong_request (world_after other_body) call name [] empty_entry [] refl refl (refl, refl) (λ same. let never : [] ≡ question = same in cc)
+    )
+
+pub foreign_salt_breaks : Breaks foreign_salt
+foreign_salt_breaks =
+    breaks Once foreign_salt once_holds refl refl refl (
+    ran_twice (world_after foreign_salt) call name [] (entry_of 12 4) (entry_of 11 4) [] refl refl (refl, refl) (refl, refl)
+    )
+
+pub outcome_of_twenty_breaks : Breaks outcome_of_twenty
+outcome_of_twenty_breaks =
+    breaks Once outcome_of_twenty once_holds refl refl refl (λ once. contains_none 4 (once.forgotten call refl).2)
+
+pub early_forget_breaks : BreaksOneTaker early_forget
+early_forget_breaks =
+    breaks OneTaker early_forget (λ w reached. one_taker_if_kept w.time w (kept_if_reached w reached)) refl refl refl (
+    λ taker.
+    let packet : Packet = record { server = 11; items = NewSession 11 21 ∷ Notice 4 20 ∷ [] } in
+    let stood = taker.noticed 0 call (name_at 4 9 (11 ∷ [])) [] packet (NewSession 11 21 ∷ []) [] (Notice 4 20) [] (contains_first packet (world_before early_forget).downs) refl refl refl refl refl refl refl in
+    elim stood.1 [
+      | inl standing ↦ let never : Lost 8 ≡ Standing = standing in cc
+      | inr lost_at ↦
+          let is : Lost 8 ≡ Lost lost_at.0 = lost_at.1 in
+          let at : 8 ≡ lost_at.0 = cc in
+          let after : 9 < lost_at.0 = lost_at.2 in
+          omega arith
+    ]
+    )
+
+pub other_request_breaks : Breaks other_request
+other_request_breaks =
+    breaks Once other_request once_holds refl refl refl (
+    wrong_request (world_after other_request) call name [] empty_entry [] refl refl (refl, refl) (λ same. let never : [] ≡ question = same in cc)
+    )
+
+pub answered_again_breaks : Breaks answered_again
+answered_again_breaks =
+    breaks Once answered_again once_holds refl refl refl (
+    ran_twice (world_after answered_again) call name [] (entry_of 11 4) (entry_of 11 4) [] refl refl (refl, refl) (refl, refl)
+    )
+
+pub names_another_breaks : Breaks names_another
+names_another_breaks =
+    breaks Once names_another once_holds refl refl refl (
+    λ once.
+    let two = once.session_lost call refl in
+    elim (choice_of (λ (s : Status). s ≡ Lost two.5.0) two.0 11 Standing Unmade two.5.1) [
+      | inl here ↦ let never : Standing ≡ Lost two.5.0 = here.1 in cc
+      | inr there ↦ let never : Unmade ≡ Lost two.5.0 = there.1 in cc
+    ]
+    )
 
 pub invented_result_breaks : Breaks invented_result
-invented_result_breaks = (
-  opened_lawful (Send 0 (First 0 4 ∷ []) ∷ []) (((λ h. omega arith), ((refl, refl, λ message none. absurd none), tt)), tt),
-  ((inl refl, refl), tt),
-  λ once. (once.done 0 reply refl).1,
-)
+invented_result_breaks =
+    breaks Once invented_result once_holds refl refl refl (done_unrun (world_after invented_result) call reply refl refl)
+
+pub early_result_breaks : Breaks early_result
+early_result_breaks =
+    breaks Once early_result once_holds refl refl refl (done_unrun (world_after early_result) call reply refl refl)
 
 pub invented_notice_breaks : Breaks invented_notice
 invented_notice_breaks =
-    (ran_lawful [] tt, ((inl refl, refl), tt), λ once. once.queued 0 refl _ (inl refl) (name, inl refl, (refl, refl)))
+    breaks Once invented_notice once_holds refl refl refl (
+    queued_ran (world_after invented_notice) call name [] (entry_of 11 4) [] refl refl refl (refl, refl)
+    )
 
-pub two_at_once_breaks : Breaks two_at_once
-two_at_once_breaks = (
-  opened_lawful [] tt,
-  (
-    (
-      refl,
-      (λ h. omega arith),
-      (λ message none. absurd none),
-      λ other among.
-          elim (choice_of (λ list. Among 22 list) other 11 (21 ∷ []) [] among) [
-            | inl here ↦ elim here.1 [ inl is ↦ omega arith | inr none ↦ none ]
-            | inr there ↦ there.1
-          ],
-    ),
-    (
-      (refl, only (MaySay (odd_world two_at_once (take 1 two_at_once.rest)) 12) (NewSession 12 22) (refl, inl refl), inr tt),
-      (
-        (inl refl, refl),
-        (
-          ((λ h. omega arith), ((refl, refl, λ message none. absurd none), tt)),
-          (
-            (refl, inl refl, refl, (λ judged none. absurd none), (λ none. none), (refl, inl refl)),
-            (
-              (refl, inl refl, λ entry none. absurd none),
-              (
-                (refl, only (MaySay (odd_world two_at_once (take 6 two_at_once.rest)) 11) (NewSession 11 21) (refl, inl refl), inr tt),
-                (
-                  (inl refl, refl),
-                  (
-                    ((λ h. omega arith), (only (λ (m : Message). m.session ≡ 1 → m.number < 8) _ (λ h. omega arith), tt)),
-                    (
-                      (refl, inl refl, refl, (λ judged none. absurd none), (λ none. none), λ h. omega arith),
-                      (
-                        (
-                          refl,
-                          either (MaySay (odd_world two_at_once (take 10 two_at_once.rest)) 11) (NewSession 11 21) (WrongSalt 8 21)
-                              (refl, inl refl) (inl refl, inl refl),
-                          inr tt,
-                        ),
-                        (
-                          (inl refl, refl),
-                          (
-                            ((λ h. omega arith), ((refl, refl, refl), tt)),
-                            (
-                              (
-                                refl,
-                                inl refl,
-                                refl,
-                                only (λ (j : Judged). j.number ≡ 4 → ⊥) _ (λ h. omega arith),
-                                (λ none. none),
-                                (refl, inl refl),
-                              ),
-                              (
-                                (refl, inl refl, only (λ (e : Entry). e.server ≡ 11 → e.number ≢ 4) _ (λ h number. omega arith)),
-                                tt,
-                              ),
-                            ),
-                          ),
-                        ),
-                      ),
-                    ),
-                  ),
-                ),
-              ),
-            ),
-          ),
-        ),
-      ),
-    ),
-  ),
-  λ once.
-      let twice : Name = record { session = 1; number = 4; first = 10; known = 12 ∷ 11 ∷ [] } in
-      (once.once 0).0 (twice, inl refl, (refl, refl)) _ (inl refl) (twice, inl refl, (refl, refl)),
-)
+pub invented_wrong_salt_breaks : Breaks invented_wrong_salt
+invented_wrong_salt_breaks =
+    breaks Once invented_wrong_salt once_holds refl refl refl (
+    queued_ran (world_after invented_wrong_salt) call name [] (entry_of 11 4) [] refl refl refl (refl, refl)
+    )
+
+pub foreign_new_salt_breaks : Breaks foreign_new_salt
+foreign_new_salt_breaks =
+    breaks Once foreign_new_salt once_holds refl refl refl (
+    ran_twice (world_after foreign_new_salt) call name [] (entry_of 12 4) (entry_of 11 4) [] refl refl (refl, refl) (refl, refl)
+    )
+
+pub silent_breaks : Breaks silent
+silent_breaks =
+    breaks Once silent once_holds refl refl refl (
+    queued_ran (world_after silent) call name [] (entry_of 11 4) [] refl refl refl (refl, refl)
+    )
+
+pub invented_packet_breaks : Breaks invented_packet
+invented_packet_breaks =
+    breaks Once invented_packet once_holds refl refl refl (done_unrun (world_after invented_packet) call reply refl refl)
 
 pub runs_twice : RunsTwice
 runs_twice = (
-  (
-    ((λ h. omega arith), ((refl, refl, only (λ (m : Message). m.session ≡ 1 → m.number < 8) _ (λ h. omega arith)), tt)),
-    (
-      (refl, inl refl, refl, (λ judged none. absurd none), (λ none. none), (refl, inl refl)),
-      ((refl, inl refl, only (λ (e : Entry). e.server ≡ 12 → e.number ≢ 8) _ (λ h number. omega arith)), tt),
-    ),
-  ),
-  λ once.
-      once.0 (record { session = 1; number = 8; first = 14; known = 12 ∷ 11 ∷ [] }, inl refl, (refl, refl)) _ (inl refl) (
+  let bounded = bounded_after_all [] [] start lost bounded_start in
+      lawful_if_tested (all_clients lost []) (all_servers lost []) requeued rerun
+      (record { blank_clients = bounded.blank_clients; blank_servers = bounded.blank_servers }) refl,
+  λ most.
+      let newer : Name = name_at 8 14 (12 ∷ 11 ∷ []) in
+      most.0 (newer, contains_first newer (name ∷ []), (refl, refl)) (entry_of 11 4) (contains_first (entry_of 11 4) []) (
         name,
-        inr (inl refl),
+        contains_rest name newer (name ∷ []) (contains_first name []),
         (refl, refl),
       ),
-)
-
-pub outcome_of_twenty_breaks : Breaks outcome_of_twenty
-outcome_of_twenty_breaks = (
-  opened_lawful (Send 0 (First 0 4 ∷ []) ∷ []) (((λ h. omega arith), ((refl, refl, λ message none. absurd none), tt)), tt),
-  (
-    (
-      refl,
-      either (MaySay (odd_world outcome_of_twenty []) 11) (NewSession 11 21) (Notice 4 20) (refl, inl refl) (inl (inl refl)),
-      inr tt,
-    ),
-    ((inl refl, refl), tt),
-  ),
-  λ once. (once.forgotten 0 refl).2,
-)
-
-pub early_result_breaks : Breaks early_result
-early_result_breaks = (
-  opened_lawful [] tt,
-  (((λ h. omega arith), ((refl, refl, λ message none. absurd none), tt)), ((inl refl, refl), tt)),
-  λ once. (once.done 0 reply refl).1,
 )

@@ -1,21 +1,22 @@
 -- What was decided or done stays so, and lists of lawful moves go on.
-use Rattle.std.proofs.Common.{◌≡◌, ℕ, ◌<◌, ◌≤◌, nat_lt, Bool, false, List, [], ◌∷◌, length, inr, sym, refl, ap, ◌∙◌, subst, arith}
-use Rattle.session_moves.specs.Among.{Among, is_among}
-use Rattle.session_moves.specs.Table.{State, Call, Item, Entry}
+use Rattle.std.proofs.Common.{◌≡◌, ℕ, ◌<◌, ◌≤◌, ◌==◌, nat_lt, Bool, false, List, [], ◌∷◌, length, sym, refl, ap, ◌∙◌, subst, arith}
+use Rattle.std.specs.List.{list_any}
+use Rattle.session_moves.specs.Table.{CallId, State, Item, call_at}
 use Rattle.session_moves.specs.Table.State.{Queued, Sent, Held, Done, Refused, Unknown}
 use Rattle.session_moves.specs.Table.Item.{NewSession, Result, Notice, WrongSalt}
 use Rattle.session_moves.specs.World.{World}
 use Rattle.session_moves.specs.Move.{OwnAct, Part, Move}
 use Rattle.session_moves.specs.Move.OwnAct.{NewClient, Renew, Submit, GiveUp, End}
-use Rattle.session_moves.specs.Move.Part.{First, Again, Other}
+use Rattle.session_moves.specs.Move.Part.{First, Again, Other, OtherAgain}
 use Rattle.session_moves.specs.After.{after_own, after_part, after_parts, end_client, state_renewed, state_ended, is_sent, after_settled, state_noticed, after_learnt, learn, after_item, after_heard, after_items, LEARNT_MAX}
 use Rattle.session_moves.specs.Lawful.{IsOwnLawful, IsPartLawful, ArePartsLawful}
-use Rattle.session_moves.proofs.Basics.{choice, unchosen}
+use Rattle.session_moves.proofs.Basics.{choice, call_unchosen}
+use Rattle.session_moves.proofs.Extended.{effect_extends}
 use Rattle.std.specs.Prelude.{◌++◌}
 use Rattle.std.proofs.lemmas.Bool.{cond_both}
 use Rattle.session_moves.specs.World.{start}
 use Rattle.session_moves.specs.Move.Move.{Own, Send, Make, Draw, Judge, Forget, Answer, Speak, Hear, Lose}
-use Rattle.session_moves.specs.After.{effect, after}
+use Rattle.session_moves.specs.After.{after}
 use Rattle.session_moves.specs.Lawful.{IsLawful}
 use Rattle.session_moves.specs.Reached.{after_all, AreLawful, Reached}
 use Rattle.session_moves.specs.Once.{IsDecided}
@@ -47,37 +48,41 @@ not_sent (Refused code) h = refl
 not_sent (Unknown cause) h = refl
 
 -- the call has the state that it had
-Same : World → World → ℕ → Type 0
+Same : World → World → CallId → Type 0
 Same w later call = (later.calls call).state ≡ (w.calls call).state
 
-own_decided : (w : World) (act : OwnAct) (call : ℕ)
-    → IsOwnLawful w act → call < w.submitted → IsDecided (w.calls call).state → Same w (after_own w act) call
+own_decided : (w : World) (act : OwnAct) (call : CallId)
+    → IsOwnLawful w act → call.place < w.submitted call.client → IsDecided (w.calls call).state → Same w (after_own w act) call
 unfolding Same
 own_decided w (NewClient client session) call lawful submitted decided = refl
 own_decided w (Renew client session) call lawful submitted decided =
-    choice (λ (s : State). s ≡ (w.calls call).state) (w.calls call).client client (state_renewed (w.calls call).state) (w.calls call).state
+    choice (λ (s : State). s ≡ (w.calls call).state) call.client client (state_renewed (w.calls call).state) (w.calls call).state
     (λ same. renewed_decided (w.calls call).state decided) (λ differs. refl)
 own_decided w (Submit client body) call lawful submitted decided =
-    ap (λ (c : Call). c.state) (
-    unchosen call w.submitted (record { client = client; body = body; state = Queued; names = [] }) (w.calls call) (λ same. omega arith)
+    call_unchosen call (call_at client (w.submitted client)) Queued (w.calls call).state (
+    λ same.
+    let place : call.place ≡ w.submitted client = ap (λ (c : CallId). c.place) same in
+    let is : w.submitted call.client ≡ w.submitted client = ap (λ (c : CallId). w.submitted c.client) same in
+    omega arith
     )
 own_decided w (GiveUp given_up) call lawful submitted decided =
-    unchosen call given_up (Refused 0) (w.calls call).state (
+    call_unchosen call given_up (Refused 0) (w.calls call).state (
     λ same. subst IsDecided (ap (λ c. (w.calls c).state) same ∙ lawful) decided
     )
 own_decided w (End client) call lawful submitted decided =
-    choice (λ (s : State). s ≡ (w.calls call).state) (w.calls call).client client (state_ended (w.calls call).state) (w.calls call).state
+    choice (λ (s : State). s ≡ (w.calls call).state) call.client client (state_ended (w.calls call).state) (w.calls call).state
     (λ same. ended_decided (w.calls call).state decided) (λ differs. refl)
 
-part_decided : (w : World) (client : ℕ) (each : Part) (call : ℕ)
+part_decided : (w : World) (client : ℕ) (each : Part) (call : CallId)
     → IsPartLawful w client each → IsDecided (w.calls call).state → Same w (after_part w client each) call
 unfolding Same
-part_decided w client (First first number) call lawful decided =
-    unchosen call first Sent (w.calls call).state (λ same. subst IsDecided (ap (λ c. (w.calls c).state) same ∙ lawful.1) decided)
-part_decided w client (Again other number) call lawful decided = refl
+part_decided w client (First place number) call lawful decided =
+    call_unchosen call (call_at client place) Sent (w.calls call).state (λ same. subst IsDecided (ap (λ c. (w.calls c).state) same ∙ lawful.0) decided)
+part_decided w client (Again place number) call lawful decided = refl
 part_decided w client (Other number) call lawful decided = refl
+part_decided w client (OtherAgain number) call lawful decided = refl
 
-parts_decided : (w : World) (client : ℕ) (parts : List Part) (call : ℕ)
+parts_decided : (w : World) (client : ℕ) (parts : List Part) (call : CallId)
     → ArePartsLawful w client parts → IsDecided (w.calls call).state → Same w (after_parts w client parts) call
 unfolding Same
 parts_decided w client [] call lawful decided = refl
@@ -85,34 +90,34 @@ parts_decided w client (each ∷ parts) call lawful decided =
     let one = part_decided w client each call lawful.0 decided in
     parts_decided (after_part w client each) client parts call lawful.1 (subst IsDecided (sym one) decided) ∙ one
 
-settled_decided : (w : World) (client number : ℕ) (state : State) (call : ℕ)
+settled_decided : (w : World) (client number : ℕ) (state : State) (call : CallId)
     → IsDecided (w.calls call).state → Same w (after_settled w client number state) call
 unfolding Same
 settled_decided w client number state call decided =
-    choice (λ (s : State). s ≡ (w.calls call).state) (w.calls call).client client _ (w.calls call).state
+    choice (λ (s : State). s ≡ (w.calls call).state) call.client client _ (w.calls call).state
     (λ same. rw (not_sent (w.calls call).state decided) refl) (λ differs. refl)
 
-learn_decided : (w : World) (client unique salt call : ℕ)
+learn_decided : (w : World) (client unique salt : ℕ) (call : CallId)
     → IsDecided (w.calls call).state → Same w (learn w client unique salt) call
 unfolding Same
 learn_decided w client unique salt call decided =
     let Holds : World → Type 0 = λ later. (later.calls call).state ≡ (w.calls call).state in
-    cond_both (is_among unique (w.clients client).learnt) w _ Holds (λ already. refl) (
+    cond_both (list_any (λ known. known == unique) (w.clients client).learnt) w _ Holds (λ already. refl) (
     λ fresh.
     cond_both (nat_lt (length (w.clients client).learnt) LEARNT_MAX) (after_learnt w client unique salt) (end_client w client) Holds
     (
     λ room.
-    choice (λ (s : State). s ≡ (w.calls call).state) (w.calls call).client client _ (w.calls call).state
+    choice (λ (s : State). s ≡ (w.calls call).state) call.client client _ (w.calls call).state
     (λ same. rw (not_sent (w.calls call).state decided) refl) (λ differs. refl)
     )
     (
     λ full.
-    choice (λ (s : State). s ≡ (w.calls call).state) (w.calls call).client client (state_ended (w.calls call).state) (w.calls call).state
+    choice (λ (s : State). s ≡ (w.calls call).state) call.client client (state_ended (w.calls call).state) (w.calls call).state
     (λ same. ended_decided (w.calls call).state decided) (λ differs. refl)
     )
     )
 
-item_decided : (w : World) (client : ℕ) (item : Item) (takes : Bool) (call : ℕ)
+item_decided : (w : World) (client : ℕ) (item : Item) (takes : Bool) (call : CallId)
     → IsDecided (w.calls call).state → Same w (after_item w client item takes) call
 unfolding Same
 item_decided w client (NewSession unique salt) takes call decided = learn_decided w client unique salt call decided
@@ -120,14 +125,14 @@ item_decided w client (Result number reply) takes call decided = settled_decided
 item_decided w client (Notice number code) takes call decided = settled_decided w client number (state_noticed code) call decided
 item_decided w client (WrongSalt number salt) takes call decided = settled_decided w client number (state_noticed 48) call decided
 
-heard_decided : (w : World) (client : ℕ) (item : Item) (takes : Bool) (call : ℕ)
+heard_decided : (w : World) (client : ℕ) (item : Item) (takes : Bool) (call : CallId)
     → IsDecided (w.calls call).state → Same w (after_heard w client item takes) call
 unfolding Same
 heard_decided w client item takes call decided =
     cond_both (w.clients client).ended w (after_item w client item takes) (λ (later : World). (later.calls call).state ≡ (w.calls call).state)
     (λ ended. refl) (λ still. item_decided w client item takes call decided)
 
-items_decided : (w : World) (client : ℕ) (items : List Item) (takes : List Bool) (call : ℕ)
+items_decided : (w : World) (client : ℕ) (items : List Item) (takes : List Bool) (call : CallId)
     → IsDecided (w.calls call).state → Same w (after_items w client items takes) call
 unfolding Same
 items_decided w client [] takes call decided = refl
@@ -138,8 +143,8 @@ items_decided w client (item ∷ items) (take ∷ takes) call decided =
     let one = heard_decided w client item take call decided in
     items_decided (after_heard w client item take) client items takes call (subst IsDecided (sym one) decided) ∙ one
 
-move_decided : (w : World) (move : Move) (call : ℕ)
-    → IsLawful w move → call < w.submitted → IsDecided (w.calls call).state → Same w (after w move) call
+move_decided : (w : World) (move : Move) (call : CallId)
+    → IsLawful w move → call.place < w.submitted call.client → IsDecided (w.calls call).state → Same w (after w move) call
 unfolding Same
 move_decided w (Own act) call lawful submitted decided = own_decided w act call lawful submitted decided
 move_decided w (Send client parts) call lawful submitted decided = parts_decided w client parts call lawful.1 decided
@@ -152,99 +157,26 @@ move_decided w (Speak unique items) call lawful submitted decided = refl
 move_decided w (Hear client packet takes) call lawful submitted decided = items_decided w client packet.items takes call decided
 move_decided w (Lose unique) call lawful submitted decided = refl
 
--- What is submitted, and what is executed
-
--- calls are only ever added, and so are entries
-record Adds (w later : World) : Type 0 where
-  submitted : w.submitted ≤ later.submitted
-  entries : (entry : Entry) → Among entry w.entries → Among entry later.entries
-
-itself : (w : World) → Adds w w
-itself w = record { submitted = omega arith; entries = λ entry h. h }
-
-join : (w mid later : World) → Adds w mid → Adds mid later → Adds w later
-join w mid later one two =
-    let early : w.submitted ≤ mid.submitted = one.submitted in
-    let late : mid.submitted ≤ later.submitted = two.submitted in
-    record { submitted = omega arith; entries = λ entry h. two.entries entry (one.entries entry h) }
-
-parts_add : (w : World) (client : ℕ) (parts : List Part) → Adds w (after_parts w client parts)
-parts_add w client [] = itself w
-parts_add w client (First call number ∷ parts) =
-    join w (after_part w client (First call number)) _ (record { submitted = omega arith; entries = λ entry h. h })
-    (parts_add (after_part w client (First call number)) client parts)
-parts_add w client (Again call number ∷ parts) =
-    join w (after_part w client (Again call number)) _ (record { submitted = omega arith; entries = λ entry h. h })
-    (parts_add (after_part w client (Again call number)) client parts)
-parts_add w client (Other number ∷ parts) =
-    join w (after_part w client (Other number)) _ (record { submitted = omega arith; entries = λ entry h. h })
-    (parts_add (after_part w client (Other number)) client parts)
-
-item_adds : (w : World) (client : ℕ) (item : Item) (takes : Bool) → Adds w (after_item w client item takes)
-item_adds w client (NewSession unique salt) takes =
-    cond_both (is_among unique (w.clients client).learnt) w _ (Adds w) (λ already. itself w) (
-    λ fresh.
-    cond_both (nat_lt (length (w.clients client).learnt) LEARNT_MAX) (after_learnt w client unique salt) (end_client w client) (Adds w)
-    (λ room. record { submitted = omega arith; entries = λ entry h. h }) (λ full. record { submitted = omega arith; entries = λ entry h. h })
-    )
-item_adds w client (Result number reply) takes = record { submitted = omega arith; entries = λ entry h. h }
-item_adds w client (Notice number code) takes = record { submitted = omega arith; entries = λ entry h. h }
-item_adds w client (WrongSalt number salt) takes = record { submitted = omega arith; entries = λ entry h. h }
-
-heard_adds : (w : World) (client : ℕ) (item : Item) (takes : Bool) → Adds w (after_heard w client item takes)
-heard_adds w client item takes =
-    cond_both (w.clients client).ended w (after_item w client item takes) (Adds w) (λ ended. itself w) (λ still. item_adds w client item takes)
-
-items_add : (w : World) (client : ℕ) (items : List Item) (takes : List Bool) → Adds w (after_items w client items takes)
-items_add w client [] takes = itself w
-items_add w client (item ∷ items) [] =
-    join w (after_heard w client item false) _ (heard_adds w client item false) (items_add (after_heard w client item false) client items [])
-items_add w client (item ∷ items) (take ∷ takes) =
-    join w (after_heard w client item take) _ (heard_adds w client item take) (items_add (after_heard w client item take) client items takes)
-
-own_adds : (w : World) (act : OwnAct) → Adds w (after_own w act)
-own_adds w (NewClient client session) = record { submitted = omega arith; entries = λ entry h. h }
-own_adds w (Renew client session) = record { submitted = omega arith; entries = λ entry h. h }
-own_adds w (Submit client body) = record { submitted = omega arith; entries = λ entry h. h }
-own_adds w (GiveUp call) = record { submitted = omega arith; entries = λ entry h. h }
-own_adds w (End client) = record { submitted = omega arith; entries = λ entry h. h }
-
-effect_adds : (w : World) (move : Move) → Adds w (effect w move)
-effect_adds w (Own act) = own_adds w act
-effect_adds w (Send client parts) = parts_add w client parts
-effect_adds w (Make unique session) = record { submitted = omega arith; entries = λ entry h. h }
-effect_adds w (Draw unique salt) = record { submitted = omega arith; entries = λ entry h. h }
-effect_adds w (Judge unique message outcome) = record { submitted = omega arith; entries = λ entry h. h }
-effect_adds w (Forget unique number) = record { submitted = omega arith; entries = λ entry h. h }
-effect_adds w (Answer unique number body reply) = record { submitted = omega arith; entries = λ entry h. inr h }
-effect_adds w (Speak unique items) = record { submitted = omega arith; entries = λ entry h. h }
-effect_adds w (Hear client packet takes) = items_add w client packet.items takes
-effect_adds w (Lose unique) = record { submitted = omega arith; entries = λ entry h. h }
-
 -- Lists of moves
 
-pub decided_stays : (w : World) (moves : List Move) (call : ℕ)
+pub decided_stays : (w : World) (moves : List Move) (call : CallId)
     → AreLawful w moves
-    → call < w.submitted
+    → call.place < w.submitted call.client
     → IsDecided (w.calls call).state
     → ((after_all w moves).calls call).state ≡ (w.calls call).state
 unfolding Same
 decided_stays w [] call lawful submitted decided = refl
 decided_stays w (move ∷ moves) call lawful submitted decided =
     let one = move_decided w move call lawful.0 submitted decided in
-    let more : w.submitted ≤ (after w move).submitted = (effect_adds w move).submitted in
+    let more : w.submitted call.client ≤ (after w move).submitted call.client = (effect_extends w move lawful.0).submitted call.client in
     decided_stays (after w move) moves call lawful.1 (omega arith) (subst IsDecided (sym one) decided) ∙ one
 
-pub entry_stays : (w : World) (moves : List Move) (entry : Entry) → Among entry w.entries → Among entry (after_all w moves).entries
-entry_stays w [] entry among = among
-entry_stays w (move ∷ moves) entry among = entry_stays (after w move) moves entry ((effect_adds w move).entries entry among)
-
-lawful_on : (w : World) (before moves : List Move)
+pub lawful_on : (w : World) (before moves : List Move)
     → AreLawful w before → AreLawful (after_all w before) moves → AreLawful w (before ++ moves)
 lawful_on w [] moves one two = two
 lawful_on w (move ∷ before) moves one two = (one.0, lawful_on (after w move) before moves one.1 two)
 
-after_on : (w : World) (before moves : List Move) → after_all w (before ++ moves) ≡ after_all (after_all w before) moves
+pub after_on : (w : World) (before moves : List Move) → after_all w (before ++ moves) ≡ after_all (after_all w before) moves
 after_on w [] moves = refl
 after_on w (move ∷ before) moves = after_on (after w move) before moves
 

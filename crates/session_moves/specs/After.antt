@@ -1,18 +1,18 @@
 -- The world after a move.
 use Rattle.std.specs.Prelude.{ℕ, suc, ◌==◌, nat_lt, Bool, true, false, ◌&&◌, ◌||◌, if◌then◌else◌, List, [], ◌∷◌, length, Option, Some, None}
-use Rattle.session_moves.specs.Among.{is_among, is_each}
-use Rattle.session_moves.specs.Table.{Text, State, Name, Call, Client, Message, Item}
-use Rattle.session_moves.specs.Table.Cause.{Session, Renewed, Ended, Forgotten}
+use Rattle.std.specs.List.{list_any, list_all}
+use Rattle.session_moves.specs.Table.{CallId, Text, State, Name, Call, Client, Message, Item, call_at, same_call}
+use Rattle.session_moves.specs.Table.Cause.{ServerSessionLost, Renewed, Ended, Forgotten}
 use Rattle.session_moves.specs.Table.State.{Queued, Sent, Held, Done, Refused, Unknown}
 use Rattle.session_moves.specs.Table.Status.{Standing, Lost}
 use Rattle.session_moves.specs.Table.Item.{NewSession, Result, Notice, WrongSalt}
 use Rattle.session_moves.specs.World.{World}
 use Rattle.session_moves.specs.Move.{OwnAct, Part, Move}
 use Rattle.session_moves.specs.Move.OwnAct.{NewClient, Renew, Submit, GiveUp, End}
-use Rattle.session_moves.specs.Move.Part.{First, Again, Other}
+use Rattle.session_moves.specs.Move.Part.{First, Again, Other, OtherAgain}
 use Rattle.session_moves.specs.Move.Move.{Own, Send, Make, Draw, Judge, Forget, Answer, Speak, Hear, Lose}
 
--- what a client ends with the one new unique number that it has no room for
+-- A client learns at most this many unique numbers under one session number. One more ends it
 abbrev pub LEARNT_MAX : ℕ
 LEARNT_MAX = 1024
 
@@ -35,9 +35,9 @@ state_ended (Refused code) = Refused code
 state_ended (Unknown cause) = Unknown cause
 
 -- the calls of one client, each with a new state
-abbrev pub with_states : ℕ → (Call → State) → (ℕ → Call) → ℕ → Call
+abbrev pub with_states : ℕ → (Call → State) → (CallId → Call) → CallId → Call
 with_states client state calls =
-    λ call. record (calls call) { state = if (calls call).client == client then state (calls call) else (calls call).state }
+    λ call. record (calls call) { state = if call.client == client then state (calls call) else (calls call).state }
 
 abbrev pub end_client : World → ℕ → World
 end_client w client =
@@ -66,13 +66,17 @@ after_own w (Renew client session) =
     }
 after_own w (Submit client body) =
     record w {
-      submitted = suc w.submitted;
+      submitted = λ other. if other == client then suc (w.submitted other) else w.submitted other;
       calls =
-          λ call. if call == w.submitted then record { client = client; body = body; state = Queued; names = [] } else w.calls call;
+          λ call.
+          record (w.calls call) {
+            body = if same_call call (call_at client (w.submitted client)) then body else (w.calls call).body;
+            state = if same_call call (call_at client (w.submitted client)) then Queued else (w.calls call).state;
+          };
     }
 after_own w (GiveUp given_up) =
     record w {
-      calls = λ call. record (w.calls call) { state = if call == given_up then Refused 0 else (w.calls call).state };
+      calls = λ call. record (w.calls call) { state = if same_call call given_up then Refused 0 else (w.calls call).state };
     }
 after_own w (End client) = end_client w client
 
@@ -87,19 +91,23 @@ abbrev pub name_of : World → Client → ℕ → Name
 name_of w client number = record { session = client.present; number = number; first = w.time; known = client.learnt }
 
 abbrev pub after_part : World → ℕ → Part → World
-after_part w client (First first number) =
+after_part w client (First place number) =
     record w {
-      ups = message_of (w.clients client) number (Some (w.calls first).body) ∷ w.ups;
+      ups = message_of (w.clients client) number (Some (w.calls (call_at client place)).body) ∷ w.ups;
       calls =
           λ call.
           record (w.calls call) {
-            state = if call == first then Sent else (w.calls call).state;
+            state = if same_call call (call_at client place) then Sent else (w.calls call).state;
             names =
-                if call == first then name_of w (w.clients client) number ∷ (w.calls call).names else (w.calls call).names;
+                if same_call call (call_at client place)
+                then name_of w (w.clients client) number ∷ (w.calls call).names
+                else (w.calls call).names;
           };
     }
-after_part w client (Again call number) = record w { ups = message_of (w.clients client) number (Some (w.calls call).body) ∷ w.ups }
+after_part w client (Again place number) =
+    record w { ups = message_of (w.clients client) number (Some (w.calls (call_at client place)).body) ∷ w.ups }
 after_part w client (Other number) = record w { ups = message_of (w.clients client) number None ∷ w.ups }
+after_part w client (OtherAgain number) = record w { ups = message_of (w.clients client) number None ∷ w.ups }
 
 abbrev pub after_parts : World → ℕ → List Part → World
 after_parts w client [] = w
@@ -160,9 +168,9 @@ is_nil (n ∷ ns) = false
 -- that was sent under the new server session's salt may run there, where this is the first that is learnt
 abbrev pub state_learnt : List ℕ → ℕ → List ℕ → State
 state_learnt learnt salt salts =
-    if is_each (λ under. under == 0) salts
+    if list_all (λ under. under == 0) salts
     then Queued
-    else if is_nil learnt && is_each (λ under. (under == 0) || (under == salt)) salts then Sent else Unknown Session
+    else if is_nil learnt && list_all (λ under. (under == 0) || (under == salt)) salts then Sent else Unknown ServerSessionLost
 
 abbrev pub after_learnt : World → ℕ → ℕ → ℕ → World
 after_learnt w client unique salt =
@@ -185,7 +193,7 @@ after_learnt w client unique salt =
 -- A unique number that was learnt already changes nothing. One that there is no room for ends the client, and does nothing else
 abbrev pub learn : World → ℕ → ℕ → ℕ → World
 learn w client unique salt =
-    if is_among unique (w.clients client).learnt
+    if list_any (λ known. known == unique) (w.clients client).learnt
     then w
     else if nat_lt (length (w.clients client).learnt) LEARNT_MAX then after_learnt w client unique salt else end_client w client
 

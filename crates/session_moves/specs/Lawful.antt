@@ -1,7 +1,7 @@
 -- Which moves are lawful in a world.
-use Rattle.std.specs.Prelude.{ℕ, ◌≡◌, ◌≢◌, ◌<◌, List, [], ◌∷◌, Some, ◌⊎◌}
-use Rattle.session_moves.specs.Among.{Among}
-use Rattle.session_moves.specs.Table.{Text, Name, Message, Item, Judged, ServerSession, Entry, Outcome}
+use Rattle.std.specs.Prelude.{ℕ, ◌≡◌, ◌≢◌, ◌<◌, List, [], ◌∷◌, Some, None, ◌⊎◌}
+use Rattle.std.specs.List.{Contains, All}
+use Rattle.session_moves.specs.Table.{Text, Name, Message, Item, ServerSession, Entry, Outcome, call_at}
 use Rattle.session_moves.specs.Table.State.{Queued, Sent}
 use Rattle.session_moves.specs.Table.Status.{Unmade, Standing}
 use Rattle.session_moves.specs.Table.Outcome.{AcceptedCall, AcceptedOther, Noticed}
@@ -9,7 +9,7 @@ use Rattle.session_moves.specs.Table.Item.{NewSession, Result, Notice, WrongSalt
 use Rattle.session_moves.specs.World.{World, Owns, HasAccepted, WasGiven, IsName}
 use Rattle.session_moves.specs.Move.{OwnAct, Part, Move}
 use Rattle.session_moves.specs.Move.OwnAct.{NewClient, Renew, Submit, GiveUp, End}
-use Rattle.session_moves.specs.Move.Part.{First, Again, Other}
+use Rattle.session_moves.specs.Move.Part.{First, Again, Other, OtherAgain}
 use Rattle.session_moves.specs.Move.Move.{Own, Send, Make, Draw, Judge, Forget, Answer, Speak, Hear, Lose}
 use Rattle.session_moves.specs.After.{after_part}
 
@@ -27,10 +27,22 @@ IsOwnLawful w (Submit client body) = IsMadeClient w client
 IsOwnLawful w (GiveUp call) = (w.calls call).state ≡ Queued
 IsOwnLawful w (End client) = IsMadeClient w client
 
+-- the message's number is below this one, if it is of this session number
+abbrev pub IsBelow : ℕ → ℕ → Message → Type 0
+IsBelow session number message = message.session ≡ session → message.number < number
+
 -- the number is above all that the client gave under its present session number
 abbrev pub IsNewNumber : World → ℕ → ℕ → Type 0
-IsNewNumber w client number =
-    (message : Message) → Among message w.ups → message.session ≡ (w.clients client).present → message.number < number
+IsNewNumber w client number = All (IsBelow (w.clients client).present number) w.ups
+
+-- the number was given under this session number to a message that is no call
+abbrev pub WasNoCall : List Message → ℕ → ℕ → Type 0
+WasNoCall ups session number =
+    (message : Message)
+    × Contains ups message
+    × (message.session ≡ session)
+    × (message.number ≡ number)
+    × (message.call ≡ None)
 
 -- the newest of these names has this number
 abbrev pub IsNewest : List Name → ℕ → Type 0
@@ -38,11 +50,11 @@ IsNewest [] number = ⊥
 IsNewest (name ∷ older) number = name.number ≡ number
 
 abbrev pub IsPartLawful : World → ℕ → Part → Type 0
-IsPartLawful w client (First call number) =
-    ((w.calls call).client ≡ client) × ((w.calls call).state ≡ Queued) × IsNewNumber w client number
-IsPartLawful w client (Again call number) =
-    ((w.calls call).client ≡ client) × ((w.calls call).state ≡ Sent) × IsNewest (w.calls call).names number
+IsPartLawful w client (First place number) = ((w.calls (call_at client place)).state ≡ Queued) × IsNewNumber w client number
+IsPartLawful w client (Again place number) =
+    ((w.calls (call_at client place)).state ≡ Sent) × IsNewest (w.calls (call_at client place)).names number
 IsPartLawful w client (Other number) = IsNewNumber w client number
+IsPartLawful w client (OtherAgain number) = WasNoCall w.ups (w.clients client).present number
 
 -- each message of the packet in its turn
 abbrev pub ArePartsLawful : World → ℕ → List Part → Type 0
@@ -52,27 +64,27 @@ ArePartsLawful w client (part ∷ parts) = IsPartLawful w client part × ArePart
 -- The session may have this outcome for the message: it accepts only under a salt of its own, and what it accepts as a call is the call. Notice 20
 -- is for forgotten numbers, and is never an outcome
 abbrev pub MayDecide : ServerSession → Message → Outcome → Type 0
-MayDecide server message (AcceptedCall body) = (message.call ≡ Some body) × Among message.salt server.salts
-MayDecide server message AcceptedOther = Among message.salt server.salts
+MayDecide server message (AcceptedCall body) = (message.call ≡ Some body) × Contains server.salts message.salt
+MayDecide server message AcceptedOther = Contains server.salts message.salt
 MayDecide server message (Noticed code) = code ≢ 20
 
 -- there is such an entry
 abbrev pub HasReply : List Entry → ℕ → ℕ → Text → Type 0
 HasReply entries unique number reply =
-    (entry : Entry) × Among entry entries × (entry.server ≡ unique) × (entry.number ≡ number) × (entry.reply ≡ reply)
+    (entry : Entry) × Contains entries entry × (entry.server ≡ unique) × (entry.number ≡ number) × (entry.reply ≡ reply)
 
 -- A server session may say this: the salts and unique number that it names are its own, a notice is its outcome, or is 20 for a number that it
 -- forgot, and a result is the reply of its entry, or is for a number that was given to no call
 abbrev pub MaySay : World → ℕ → Item → Type 0
-MaySay w unique (NewSession named salt) = (named ≡ unique) × Among salt (w.servers unique).salts
+MaySay w unique (NewSession named salt) = (named ≡ unique) × Contains (w.servers unique).salts salt
 MaySay w unique (Result number reply) =
     HasReply w.entries unique number reply
     ⊎ (WasGiven w.ups (w.servers unique).session number × (IsName w.calls (w.servers unique).session number → ⊥))
 MaySay w unique (Notice number code) =
-    Among (record { number = number; outcome = Noticed code }) (w.servers unique).judged
-    ⊎ ((code ≡ 20) × Among number (w.servers unique).forgotten)
+    Contains (w.servers unique).judged (record { number = number; outcome = Noticed code })
+    ⊎ ((code ≡ 20) × Contains (w.servers unique).forgotten number)
 MaySay w unique (WrongSalt number salt) =
-    Among (record { number = number; outcome = Noticed 48 }) (w.servers unique).judged × Among salt (w.servers unique).salts
+    Contains (w.servers unique).judged (record { number = number; outcome = Noticed 48 }) × Contains (w.servers unique).salts salt
 
 -- the items begin with a `new_session_created`
 abbrev pub BeginsNew : List Item → Type 0
@@ -84,7 +96,8 @@ BeginsNew (WrongSalt number salt ∷ items) = ⊥
 
 abbrev pub IsLawful : World → Move → Type 0
 IsLawful w (Own act) = IsOwnLawful w act
--- each new number is above all before it; a call in the packet was queued and gets a new number, or was sent and keeps its number
+-- each new number is above all before it; a call in the packet was queued and gets a new number, or was sent and keeps its number; what is
+-- no call gets a new number, or keeps its number
 IsLawful w (Send client parts) = IsMadeClient w client × ArePartsLawful w client parts
 -- under a session number of some client, where none stands under it
 IsLawful w (Make unique session) =
@@ -92,19 +105,17 @@ IsLawful w (Make unique session) =
     × ((w.servers unique).status ≡ Unmade)
     × ((client : ℕ) × Owns (w.clients client) session)
     × ((other : ℕ) → (w.servers other).session ≡ session → (w.servers other).status ≡ Standing → ⊥)
--- a salt that isn't 0 and that no packet and no server session has
+-- a salt that isn't 0 and that no server session has, so no packet has it either
 IsLawful w (Draw unique salt) =
     ((w.servers unique).status ≡ Standing)
     × (salt ≢ 0)
-    × ((message : Message) → Among message w.ups → message.salt ≢ salt)
-    × ((other : ℕ) → Among salt (w.servers other).salts → ⊥)
--- a message under its session number that has no outcome there and isn't forgotten there
+    × ((other : ℕ) → Contains (w.servers other).salts salt → ⊥)
+-- a message under its session number that has no outcome there
 IsLawful w (Judge unique message outcome) =
     ((w.servers unique).status ≡ Standing)
-    × Among message w.ups
+    × Contains w.ups message
     × (message.session ≡ (w.servers unique).session)
-    × ((judged : Judged) → Among judged (w.servers unique).judged → judged.number ≢ message.number)
-    × (Among message.number (w.servers unique).forgotten → ⊥)
+    × All (λ judged. judged.number ≢ message.number) (w.servers unique).judged
     × MayDecide (w.servers unique) message outcome
 -- a number that isn't above all that were given under its session number
 IsLawful w (Forget unique number) =
@@ -112,14 +123,14 @@ IsLawful w (Forget unique number) =
 -- the one entry of a call that it accepted
 IsLawful w (Answer unique number body reply) =
     ((w.servers unique).status ≡ Standing)
-    × Among (record { number = number; outcome = AcceptedCall body }) (w.servers unique).judged
-    × ((entry : Entry) → Among entry w.entries → entry.server ≡ unique → entry.number ≢ number)
+    × Contains (w.servers unique).judged (record { number = number; outcome = AcceptedCall body })
+    × All (λ entry. entry.server ≡ unique → entry.number ≢ number) w.entries
 -- what it may say; while it has accepted nothing, its `new_session_created` first
 IsLawful w (Speak unique items) =
     ((w.servers unique).status ≡ Standing)
-    × ((item : Item) → Among item items → MaySay w unique item)
+    × All (MaySay w unique) items
     × (HasAccepted (w.servers unique) ⊎ BeginsNew items)
 -- a packet that was made under its present session number
 IsLawful w (Hear client packet takes) =
-    Among packet w.downs × ((w.servers packet.server).session ≡ (w.clients client).present)
+    Contains w.downs packet × ((w.servers packet.server).session ≡ (w.clients client).present)
 IsLawful w (Lose unique) = (w.servers unique).status ≡ Standing

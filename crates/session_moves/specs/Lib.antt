@@ -1,11 +1,13 @@
-pub mod Among
 pub mod Table
 pub mod World
 pub mod Move
 pub mod After
 pub mod Lawful
 pub mod Reached
+pub mod Extends
+pub mod Given
 pub mod Once
 pub mod Safe
 pub mod Witness
+pub mod LawfulBut
 pub mod Needed

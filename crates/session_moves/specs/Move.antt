@@ -1,20 +1,22 @@
 -- The ten moves, of which every event of a client and of a server is made.
 use Rattle.std.specs.Prelude.{ℕ, Bool, List}
-use Rattle.session_moves.specs.Table.{Text, Message, Outcome, Item, Packet}
+use Rattle.session_moves.specs.Table.{CallId, Text, Message, Outcome, Item, Packet}
 
 -- what a client does by itself: it is made, it renews, a call is submitted or given up, it ends
 pub data OwnAct : Type 0 where
   NewClient : (client session : ℕ) → OwnAct
   Renew : (client session : ℕ) → OwnAct
   Submit : (client : ℕ) (body : Text) → OwnAct
-  GiveUp : (call : ℕ) → OwnAct
+  GiveUp : (call : CallId) → OwnAct
   End : (client : ℕ) → OwnAct
 
--- a message of a packet that a client makes: a call under a new number, a call again under the number of its living name, or no call
+-- A message of a packet that a client makes: its call of this place under a new number, or again under the number of its living name; no
+-- call, under a new number, or again under the number that it was sent under. A container is no call
 pub data Part : Type 0 where
-  First : (call number : ℕ) → Part
-  Again : (call number : ℕ) → Part
+  First : (place number : ℕ) → Part
+  Again : (place number : ℕ) → Part
   Other : (number : ℕ) → Part
+  OtherAgain : (number : ℕ) → Part
 
 -- `takes` says of each item in order whether its salt is taken over, where it is a `bad_server_salt`
 pub data Move : Type 0 where

@@ -1,98 +1,85 @@
 -- Runs of which one move isn't lawful, and which break the law.
-use Rattle.std.specs.Prelude.{ℕ, ◌==◌, if◌then◌else◌, true, false, List, [], ◌∷◌, Some, None}
-use Rattle.session_moves.specs.Among.{AtMostOne}
-use Rattle.session_moves.specs.Table.{Message}
+use Rattle.std.specs.Prelude.{ℕ, if◌then◌else◌, true, false, List, [], ◌∷◌, Some, None}
+use Rattle.session_moves.specs.Table.{Message, call_at, same_call}
 use Rattle.session_moves.specs.Table.State.{Queued}
 use Rattle.session_moves.specs.Table.Item.{NewSession, Result, Notice, WrongSalt}
-use Rattle.session_moves.specs.Table.Outcome.{AcceptedCall, Noticed}
+use Rattle.session_moves.specs.Table.Outcome.{AcceptedCall, AcceptedOther, Noticed}
 use Rattle.session_moves.specs.World.{World, start}
 use Rattle.session_moves.specs.Move.{Move}
-use Rattle.session_moves.specs.Move.OwnAct.{NewClient, Submit}
+use Rattle.session_moves.specs.Move.OwnAct.{NewClient, Submit, GiveUp}
 use Rattle.session_moves.specs.Move.Part.{First, Again, Other}
-use Rattle.session_moves.specs.Move.Move.{Own, Send, Make, Draw, Judge, Answer, Speak, Hear}
+use Rattle.session_moves.specs.Move.Move.{Own, Send, Make, Draw, Judge, Forget, Answer, Speak, Hear, Lose}
 use Rattle.session_moves.specs.After.{after}
+use Rattle.session_moves.specs.Lawful.{IsLawful}
+use Rattle.session_moves.specs.LawfulBut.{IsLawfulBut}
 use Rattle.session_moves.specs.Reached.{AreLawful, after_all}
-use Rattle.session_moves.specs.Once.{Once, IsOfCall}
-use Rattle.session_moves.specs.Witness.{question, reply, told, opened, asked, ran, replaced, lost}
+use Rattle.session_moves.specs.Once.{AtMostOne, Once, IsOfCall}
+use Rattle.session_moves.specs.Safe.{OneTaker}
+use Rattle.session_moves.specs.Witness.{question, reply, told, opened, asked, no_call_of, ran, replaced, lost}
 
--- lawful moves, one move that lacks one condition, and lawful moves after it
+-- lawful moves, one move that lacks the condition at one place, and lawful moves after it
 pub record OddRun : Type 0 where
   pub before : List Move
   pub odd : Move
+  pub lacks : ℕ
   pub rest : List Move
 
--- all moves of the run but the odd one are lawful, and the world at its end isn't as the law says
-abbrev pub Breaks : OddRun → Type 0
-Breaks run =
+-- the world in which the odd move comes, and the one at the end
+abbrev pub world_before : OddRun → World
+world_before run = after_all start run.before
+
+abbrev pub world_after : OddRun → World
+world_after run = after_all (after (world_before run) run.odd) run.rest
+
+-- all moves of the run but the odd one are lawful, the odd one lacks one condition alone, and at the end the law doesn't hold
+abbrev pub BreaksLaw : (World → Type 0) → OddRun → Type 0
+BreaksLaw Law run =
     AreLawful start run.before
-    × AreLawful (after (after_all start run.before) run.odd) run.rest
-    × (Once (after_all (after (after_all start run.before) run.odd) run.rest) → ⊥)
+    × IsLawfulBut run.lacks (world_before run) run.odd
+    × (IsLawful (world_before run) run.odd → ⊥)
+    × AreLawful (after (world_before run) run.odd) run.rest
+    × (Law (world_after run) → ⊥)
 
--- a message is accepted under the salt of another server session: its call runs twice
-abbrev pub foreign_salt : OddRun
-foreign_salt =
-    record {
-      before = opened (ran (replaced (Draw 12 22 ∷ [])));
-      odd = Judge 12 (asked 21 4) (AcceptedCall question);
-      rest = Answer 12 4 question reply ∷ [];
-    }
+abbrev pub Breaks : OddRun → Type 0
+Breaks = BreaksLaw Once
 
--- a salt is drawn again: the same
-abbrev pub drawn_again : OddRun
-drawn_again =
-    record {
-      before = opened (ran (replaced []));
-      odd = Draw 12 21;
-      rest = Judge 12 (asked 21 4) (AcceptedCall question) ∷ Answer 12 4 question reply ∷ [];
-    }
+-- the same of the law that one server session alone takes a name
+abbrev pub BreaksOneTaker : OddRun → Type 0
+BreaksOneTaker = BreaksLaw OneTaker
 
--- a server session has salt 0: a call that was sent by a client that has learnt nothing runs, and is queued
-abbrev pub salt_of_zero : OddRun
-salt_of_zero =
+-- A client by itself
+
+-- a client is made under a session number that another one has: a call that ran is queued, by a notice of a server session that it hasn't learnt
+abbrev pub taken_session : OddRun
+taken_session =
     record {
-      before = Own (NewClient 0 1) ∷ Own (Submit 0 question) ∷ Send 0 (First 0 4 ∷ []) ∷ Make 11 1 ∷ [];
-      odd = Draw 11 0;
+      before = opened [];
+      odd = Own (NewClient 1 1);
+      lacks = 2;
       rest =
-          Judge 11 (record { session = 1; salt = 0; number = 4; call = Some question; known = [] }) (AcceptedCall question)
+          Own (Submit 1 question)
+          ∷ Hear 1 (record { server = 11; items = NewSession 11 21 ∷ [] }) []
+          ∷ Send 1 (First 0 4 ∷ [])
+          ∷ Judge 11 (asked 21 4) (AcceptedCall question)
           ∷ Answer 11 4 question reply
-          ∷ told 11 (NewSession 11 0 ∷ []) [] [];
-    }
-
--- a server session that has accepted nothing doesn't begin its packet with `new_session_created`: a call that ran is queued
-abbrev pub silent : OddRun
-silent =
-    record {
-      before = opened (ran (replaced (Draw 12 22 ∷ Judge 12 (asked 21 4) (Noticed 48) ∷ [])));
-      odd = Speak 12 (WrongSalt 4 22 ∷ []);
-      rest = Hear 0 (record { server = 12; items = WrongSalt 4 22 ∷ [] }) (true ∷ []) ∷ [];
-    }
-
--- a message that was refused is judged again: a call that is queued runs
-abbrev pub judged_again : OddRun
-judged_again =
-    record {
-      before =
-          opened (
-          Send 0 (First 0 4 ∷ [])
-          ∷ Judge 11 (asked 21 4) (Noticed 48)
-          ∷ told 11 (NewSession 11 21 ∷ WrongSalt 4 21 ∷ []) [] []
+          ∷ Lose 11
+          ∷ Make 12 1
+          ∷ Draw 12 22
+          ∷ told 12 (NewSession 12 22 ∷ []) [] (
+          Send 0 (Other 8 ∷ [])
+          ∷ Judge 12 (record { session = 1; salt = 22; number = 8; call = None; known = 12 ∷ 11 ∷ [] }) AcceptedOther
+          ∷ Judge 12 (asked 21 4) (Noticed 48)
+          ∷ Speak 12 (WrongSalt 4 22 ∷ [])
+          ∷ Hear 1 (record { server = 12; items = WrongSalt 4 22 ∷ [] }) (true ∷ [])
+          ∷ []
           );
-      odd = Judge 11 (asked 21 4) (AcceptedCall question);
-      rest = Answer 11 4 question reply ∷ [];
     }
 
--- a call is answered again: it runs twice
-abbrev pub answered_again : OddRun
-answered_again = record { before = opened (ran []); odd = Answer 11 4 question reply; rest = [] }
+-- a call that was sent, and ran, is given up
+abbrev pub given_up_sent : OddRun
+given_up_sent = record { before = opened (ran []); odd = Own (GiveUp (call_at 0 0)); lacks = 0; rest = [] }
 
--- what is run isn't what was sent
-abbrev pub other_request : OddRun
-other_request =
-    record {
-      before = opened (Send 0 (First 0 4 ∷ []) ∷ Judge 11 (asked 21 4) (AcceptedCall question) ∷ []);
-      odd = Answer 11 4 [] reply;
-      rest = [];
-    }
+-- A client sends
 
 -- a number is given to two calls: one entry is of both
 abbrev pub given_again : OddRun
@@ -100,48 +87,15 @@ given_again =
     record {
       before = opened (Send 0 (First 0 4 ∷ []) ∷ Own (Submit 0 question) ∷ []);
       odd = Send 0 (First 1 4 ∷ []);
+      lacks = 2;
       rest = Judge 11 (asked 21 4) (AcceptedCall question) ∷ Answer 11 4 question reply ∷ [];
     }
 
 -- a call that was sent gets a new number: its replaced name ran
 abbrev pub not_queued : OddRun
-not_queued = record { before = opened (ran []); odd = Send 0 (First 0 8 ∷ []); rest = [] }
+not_queued = record { before = opened (ran []); odd = Send 0 (First 0 8 ∷ []); lacks = 1; rest = [] }
 
--- a result that is no entry's reply: a call is done that never ran
-abbrev pub invented_result : OddRun
-invented_result =
-    record {
-      before = opened (Send 0 (First 0 4 ∷ []) ∷ []);
-      odd = Speak 11 (NewSession 11 21 ∷ Result 4 reply ∷ []);
-      rest = Hear 0 (record { server = 11; items = NewSession 11 21 ∷ Result 4 reply ∷ [] }) [] ∷ [];
-    }
-
--- a notice that is no outcome: a call that ran is queued
-abbrev pub invented_notice : OddRun
-invented_notice =
-    record {
-      before = opened (ran []);
-      odd = Speak 11 (Notice 4 48 ∷ []);
-      rest = Hear 0 (record { server = 11; items = Notice 4 48 ∷ [] }) [] ∷ [];
-    }
-
--- notice 20 as an outcome: a call counts as forgotten, and nothing was
-abbrev pub outcome_of_twenty : OddRun
-outcome_of_twenty =
-    record {
-      before = opened (Send 0 (First 0 4 ∷ []) ∷ []);
-      odd = Judge 11 (asked 21 4) (Noticed 20);
-      rest = told 11 (NewSession 11 21 ∷ Notice 4 20 ∷ []) [] [];
-    }
-
--- a result for a number that wasn't given yet: the call that gets it is done, and never ran
-abbrev pub early_result : OddRun
-early_result =
-    record {
-      before = opened [];
-      odd = Speak 11 (NewSession 11 21 ∷ Result 4 reply ∷ []);
-      rest = Send 0 (First 0 4 ∷ []) ∷ Hear 0 (record { server = 11; items = NewSession 11 21 ∷ Result 4 reply ∷ [] }) [] ∷ [];
-    }
+-- A server session is made, and draws salts
 
 -- a message that the client sends when it knows both server sessions of the run below
 abbrev pub known_to_both : ℕ → Message
@@ -153,6 +107,7 @@ two_at_once =
     record {
       before = opened [];
       odd = Make 12 1;
+      lacks = 3;
       rest =
           Draw 12 22
           ∷ told 12 (NewSession 12 22 ∷ []) [] (
@@ -169,11 +124,218 @@ two_at_once =
           );
     }
 
+-- a server session has salt 0: a call that was sent by a client that has learnt nothing runs, and is queued
+abbrev pub salt_of_zero : OddRun
+salt_of_zero =
+    record {
+      before = Own (NewClient 0 1) ∷ Own (Submit 0 question) ∷ Make 11 1 ∷ [];
+      odd = Draw 11 0;
+      lacks = 1;
+      rest =
+          Send 0 (First 0 4 ∷ [])
+          ∷ Judge 11 (record { session = 1; salt = 0; number = 4; call = Some question; known = [] }) (AcceptedCall question)
+          ∷ Answer 11 4 question reply
+          ∷ told 11 (NewSession 11 0 ∷ []) [] [];
+    }
+
+-- the client has a new salt, under which it has sent nothing yet, and a later server session draws it again: a call that ran runs once more
+abbrev pub drawn_again : OddRun
+drawn_again =
+    record {
+      before =
+          opened (
+          ran (
+          Send 0 (Other 8 ∷ [])
+          ∷ Judge 11 (no_call_of 21 8) (Noticed 48)
+          ∷ Draw 11 22
+          ∷ told 11 (WrongSalt 8 22 ∷ []) (true ∷ []) (replaced [])
+          )
+          );
+      odd = Draw 12 22;
+      lacks = 2;
+      rest =
+          Send 0 (Again 0 4 ∷ []) ∷ Judge 12 (asked 22 4) (AcceptedCall question) ∷ Answer 12 4 question reply ∷ [];
+    }
+
+-- A server session judges and forgets
+
+-- a message that nobody sent is accepted: its entry is of no call
+abbrev pub invented_message : OddRun
+invented_message =
+    record {
+      before = opened [];
+      odd = Judge 11 (asked 21 4) (AcceptedCall question);
+      lacks = 1;
+      rest = Answer 11 4 question reply ∷ [];
+    }
+
+-- a message that was refused is judged again: a call that is queued runs
+abbrev pub judged_again : OddRun
+judged_again =
+    record {
+      before =
+          opened (
+          Send 0 (First 0 4 ∷ [])
+          ∷ Judge 11 (asked 21 4) (Noticed 48)
+          ∷ told 11 (NewSession 11 21 ∷ WrongSalt 4 21 ∷ []) [] []
+          );
+      odd = Judge 11 (asked 21 4) (AcceptedCall question);
+      lacks = 3;
+      rest = Answer 11 4 question reply ∷ [];
+    }
+
+-- what is accepted isn't what was sent
+abbrev pub other_body : OddRun
+other_body =
+    record {
+      before = opened (Send 0 (First 0 4 ∷ []) ∷ []);
+      odd = Judge 11 (asked 21 4) (AcceptedCall []);
+      lacks = 4;
+      rest = Answer 11 4 [] reply ∷ [];
+    }
+
+-- a message is accepted under the salt of another server session: its call runs twice
+abbrev pub foreign_salt : OddRun
+foreign_salt =
+    record {
+      before = opened (ran (replaced (Draw 12 22 ∷ [])));
+      odd = Judge 12 (asked 21 4) (AcceptedCall question);
+      lacks = 5;
+      rest = Answer 12 4 question reply ∷ [];
+    }
+
+-- notice 20 as an outcome: a call counts as forgotten, and nothing was
+abbrev pub outcome_of_twenty : OddRun
+outcome_of_twenty =
+    record {
+      before = opened (Send 0 (First 0 4 ∷ []) ∷ []);
+      odd = Judge 11 (asked 21 4) (Noticed 20);
+      lacks = 6;
+      rest = told 11 (NewSession 11 21 ∷ Notice 4 20 ∷ []) [] [];
+    }
+
+-- A number is forgotten before it is given: the server session says so and is lost, and then the number is given. A notice on the name comes from
+-- a server session that didn't stand when the name was first sent
+abbrev pub early_forget : OddRun
+early_forget =
+    record {
+      before = opened [];
+      odd = Forget 11 4;
+      lacks = 1;
+      rest = Speak 11 (NewSession 11 21 ∷ Notice 4 20 ∷ []) ∷ Lose 11 ∷ Send 0 (First 0 4 ∷ []) ∷ [];
+    }
+
+-- A server session answers and speaks
+
+-- what is run isn't what was sent
+abbrev pub other_request : OddRun
+other_request =
+    record {
+      before = opened (Send 0 (First 0 4 ∷ []) ∷ Judge 11 (asked 21 4) (AcceptedCall question) ∷ []);
+      odd = Answer 11 4 [] reply;
+      lacks = 1;
+      rest = [];
+    }
+
+-- a call is answered again: it runs twice
+abbrev pub answered_again : OddRun
+answered_again = record { before = opened (ran []); odd = Answer 11 4 question reply; lacks = 2; rest = [] }
+
+-- another unique number than its own: a call is unknown, and no server session was lost
+abbrev pub names_another : OddRun
+names_another =
+    record {
+      before = opened (ran []);
+      odd = Speak 11 (NewSession 12 21 ∷ []);
+      lacks = 1;
+      rest = Hear 0 (record { server = 11; items = NewSession 12 21 ∷ [] }) [] ∷ [];
+    }
+
+-- a result that is no entry's reply: a call is done that never ran
+abbrev pub invented_result : OddRun
+invented_result =
+    record {
+      before = opened (Send 0 (First 0 4 ∷ []) ∷ []);
+      odd = Speak 11 (NewSession 11 21 ∷ Result 4 reply ∷ []);
+      lacks = 3;
+      rest = Hear 0 (record { server = 11; items = NewSession 11 21 ∷ Result 4 reply ∷ [] }) [] ∷ [];
+    }
+
+-- a result for a number that wasn't given yet: the call that gets it is done, and never ran
+abbrev pub early_result : OddRun
+early_result =
+    record {
+      before = opened [];
+      odd = Speak 11 (NewSession 11 21 ∷ Result 4 reply ∷ []);
+      lacks = 3;
+      rest = Send 0 (First 0 4 ∷ []) ∷ Hear 0 (record { server = 11; items = NewSession 11 21 ∷ Result 4 reply ∷ [] }) [] ∷ [];
+    }
+
+-- a notice that is no outcome: a call that ran is queued
+abbrev pub invented_notice : OddRun
+invented_notice =
+    record {
+      before = opened (ran []);
+      odd = Speak 11 (Notice 4 16 ∷ []);
+      lacks = 4;
+      rest = Hear 0 (record { server = 11; items = Notice 4 16 ∷ [] }) [] ∷ [];
+    }
+
+-- the same by a wrong salt
+abbrev pub invented_wrong_salt : OddRun
+invented_wrong_salt =
+    record {
+      before = opened (ran []);
+      odd = Speak 11 (WrongSalt 4 21 ∷ []);
+      lacks = 5;
+      rest = Hear 0 (record { server = 11; items = WrongSalt 4 21 ∷ [] }) (true ∷ []) ∷ [];
+    }
+
+-- a wrong salt's new salt isn't the server session's own: a later one draws it, and a call that ran runs once more
+abbrev pub foreign_new_salt : OddRun
+foreign_new_salt =
+    record {
+      before = opened (ran (Send 0 (Other 8 ∷ []) ∷ Judge 11 (no_call_of 21 8) (Noticed 48) ∷ []));
+      odd = Speak 11 (WrongSalt 8 22 ∷ []);
+      lacks = 6;
+      rest =
+          Hear 0 (record { server = 11; items = WrongSalt 8 22 ∷ [] }) (true ∷ [])
+          ∷ replaced (
+          Draw 12 22 ∷ Send 0 (Again 0 4 ∷ []) ∷ Judge 12 (asked 22 4) (AcceptedCall question) ∷ Answer 12 4 question reply ∷ []
+          );
+    }
+
+-- a server session that has accepted nothing doesn't begin its packet with `new_session_created`: a call that ran is queued
+abbrev pub silent : OddRun
+silent =
+    record {
+      before = opened (ran (replaced (Draw 12 22 ∷ Judge 12 (asked 21 4) (Noticed 48) ∷ [])));
+      odd = Speak 12 (WrongSalt 4 22 ∷ []);
+      lacks = 7;
+      rest = Hear 0 (record { server = 12; items = WrongSalt 4 22 ∷ [] }) (true ∷ []) ∷ [];
+    }
+
+-- A client hears
+
+-- a packet that nobody made: a call is done that never ran
+abbrev pub invented_packet : OddRun
+invented_packet =
+    record {
+      before = opened (Send 0 (First 0 4 ∷ []) ∷ []);
+      odd = Hear 0 (record { server = 11; items = Result 4 reply ∷ [] }) [];
+      lacks = 0;
+      rest = [];
+    }
+
+-- A call that is queued again
+
 -- the world in which a client, told of a second server session, queues its call again in place of calling it unknown
 abbrev pub requeued : World
 requeued =
     let w : World = after_all start lost in
-    record w { calls = λ call. record (w.calls call) { state = if call == 0 then Queued else (w.calls call).state } }
+    record w {
+      calls = λ call. record (w.calls call) { state = if same_call call (call_at 0 0) then Queued else (w.calls call).state };
+    }
 
 -- the call gets a new number, and runs at the second server session
 abbrev pub rerun : List Move
@@ -185,4 +347,6 @@ rerun =
 
 -- all of that is lawful but for the queueing, and the call runs twice
 abbrev pub RunsTwice : Type 0
-RunsTwice = AreLawful requeued rerun × (AtMostOne (IsOfCall (after_all requeued rerun) 0) (after_all requeued rerun).entries → ⊥)
+RunsTwice =
+    AreLawful requeued rerun
+    × (AtMostOne (IsOfCall (after_all requeued rerun) (call_at 0 0)) (after_all requeued rerun).entries → ⊥)

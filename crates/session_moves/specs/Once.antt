@@ -1,22 +1,27 @@
 -- At most once: what calls and executions have to do with one another.
 use Rattle.std.specs.Prelude.{ℕ, ◌≡◌, ◌≢◌, true, List, [], ◌∷◌}
-use Rattle.session_moves.specs.Among.{Among, AtMostOne}
-use Rattle.session_moves.specs.Table.{Text, Name, Entry, ServerSession, State}
+use Rattle.std.specs.List.{Contains}
+use Rattle.session_moves.specs.Table.{CallId, Text, Name, Entry, ServerSession, State}
 use Rattle.session_moves.specs.Table.State.{Queued, Sent, Held, Done, Refused, Unknown}
-use Rattle.session_moves.specs.Table.Cause.{Session, Renewed, Ended, Forgotten}
+use Rattle.session_moves.specs.Table.Cause.{ServerSessionLost, Renewed, Ended, Forgotten}
 use Rattle.session_moves.specs.Table.Status.{Unmade}
 use Rattle.session_moves.specs.World.{World, Owns, LostBefore}
+
+-- at most one place of the list has something that is so
+abbrev pub AtMostOne : {A : Type 0} → (A → Type 0) → List A → Type 0
+AtMostOne IsSo [] = Unit {0}
+AtMostOne {A = A} IsSo (x ∷ xs) = (IsSo x → (y : A) → Contains xs y → IsSo y → ⊥) × AtMostOne IsSo xs
 
 -- the entry is of this name
 abbrev pub IsOfName : World → Name → Entry → Type 0
 IsOfName w name entry = ((w.servers entry.server).session ≡ name.session) × (entry.number ≡ name.number)
 
 -- the entry is of a name of the call
-abbrev pub IsOfCall : World → ℕ → Entry → Type 0
-IsOfCall w call entry = (name : Name) × Among name (w.calls call).names × IsOfName w name entry
+abbrev pub IsOfCall : World → CallId → Entry → Type 0
+IsOfCall w call entry = (name : Name) × Contains (w.calls call).names name × IsOfName w name entry
 
-abbrev pub HasNoEntry : World → ℕ → Type 0
-HasNoEntry w call = (entry : Entry) → Among entry w.entries → IsOfCall w call entry → ⊥
+abbrev pub HasNoEntry : World → CallId → Type 0
+HasNoEntry w call = (entry : Entry) → Contains w.entries entry → IsOfCall w call entry → ⊥
 
 -- the call is done, refused or unknown
 abbrev pub IsDecided : State → Type 0
@@ -49,38 +54,38 @@ HadTwo servers name =
 -- some server session of the session number has forgotten the number
 abbrev pub WasForgotten : (ℕ → ServerSession) → Name → Type 0
 WasForgotten servers name =
-    (unique : ℕ) × ((servers unique).session ≡ name.session) × Among name.number (servers unique).forgotten
+    (unique : ℕ) × ((servers unique).session ≡ name.session) × Contains (servers unique).forgotten name.number
 
 pub record Once (w : World) : Type 0 where
   -- over all names of a call there is at most one entry
-  pub once : (call : ℕ) → AtMostOne (IsOfCall w call) w.entries
+  pub once : (call : CallId) → AtMostOne (IsOfCall w call) w.entries
   -- each entry is of a name of one call of the client that has or had its session number, and its request is that call's body
   pub as_sent : (entry : Entry)
-      → Among entry w.entries
-      → (call : ℕ)
+      → Contains w.entries entry
+      → (call : CallId)
       × IsOfCall w call entry
       × (entry.request ≡ (w.calls call).body)
-      × Owns (w.clients (w.calls call).client) (w.servers entry.server).session
-      × ((other : ℕ) → IsOfCall w other entry → other ≡ call)
+      × Owns (w.clients call.client) (w.servers entry.server).session
+      × ((other : CallId) → IsOfCall w other entry → other ≡ call)
   -- a done call has exactly one entry, with its reply
-  pub done : (call : ℕ) (reply : Text)
+  pub done : (call : CallId) (reply : Text)
       → (w.calls call).state ≡ Done reply
       → (entry : Entry)
-      × Among entry w.entries
+      × Contains w.entries entry
       × IsOfCall w call entry
       × (entry.reply ≡ reply)
-      × ((other : Entry) → Among other w.entries → IsOfCall w call other → other ≡ entry)
+      × ((other : Entry) → Contains w.entries other → IsOfCall w call other → other ≡ entry)
   -- a replaced name has no entry
-  pub replaced : (call : ℕ) (name : Name) (entry : Entry)
-      → Among name (older_names (w.calls call).names) → Among entry w.entries → IsOfName w name entry → ⊥
+  pub replaced : (call : CallId) (name : Name) (entry : Entry)
+      → Contains (older_names (w.calls call).names) name → Contains w.entries entry → IsOfName w name entry → ⊥
   -- nor has any name of a queued, held or refused call
-  pub queued : (call : ℕ) → (w.calls call).state ≡ Queued → HasNoEntry w call
-  pub held : (call : ℕ) → (w.calls call).state ≡ Held → HasNoEntry w call
-  pub refused : (call code : ℕ) → (w.calls call).state ≡ Refused code → HasNoEntry w call
+  pub queued : (call : CallId) → (w.calls call).state ≡ Queued → HasNoEntry w call
+  pub held : (call : CallId) → (w.calls call).state ≡ Held → HasNoEntry w call
+  pub refused : (call : CallId) (code : ℕ) → (w.calls call).state ≡ Refused code → HasNoEntry w call
   -- each unknown call has its cause
-  pub session : (call : ℕ) → (w.calls call).state ≡ Unknown Session → OnLast (HadTwo w.servers) (w.calls call).names
-  pub renewed : (call : ℕ)
+  pub session_lost : (call : CallId) → (w.calls call).state ≡ Unknown ServerSessionLost → OnLast (HadTwo w.servers) (w.calls call).names
+  pub renewed : (call : CallId)
       → (w.calls call).state ≡ Unknown Renewed
-      → OnLast (λ name. Among name.session (w.clients (w.calls call).client).former) (w.calls call).names
-  pub ended : (call : ℕ) → (w.calls call).state ≡ Unknown Ended → (w.clients (w.calls call).client).ended ≡ true
-  pub forgotten : (call : ℕ) → (w.calls call).state ≡ Unknown Forgotten → OnLast (WasForgotten w.servers) (w.calls call).names
+      → OnLast (λ name. Contains (w.clients call.client).former name.session) (w.calls call).names
+  pub ended : (call : CallId) → (w.calls call).state ≡ Unknown Ended → (w.clients call.client).ended ≡ true
+  pub forgotten : (call : CallId) → (w.calls call).state ≡ Unknown Forgotten → OnLast (WasForgotten w.servers) (w.calls call).names

@@ -1,14 +1,25 @@
 -- What the two ends of all sessions keep, and what they made: the parts of a world. Sessions, salts and message identifiers are those of
 -- "Mobile Protocol: Detailed Description" (Terminology), items those of "Service Messages" and "Service Messages about Messages"
-use Rattle.std.specs.Prelude.{ℕ, Bool, List, Option}
+use Rattle.std.specs.Prelude.{ℕ, ◌==◌, Bool, ◌&&◌, List, Option}
 
 -- the bytes of a call, or of its result
 abbrev pub Text : Type 0
 Text = List ℕ
 
+-- which call: its client, and its place among that client's calls in the order of submission, from 0
+pub record CallId : Type 0 where
+  pub client : ℕ
+  pub place : ℕ
+
+abbrev pub call_at : ℕ → ℕ → CallId
+call_at client place = record { client = client; place = place }
+
+abbrev pub same_call : CallId → CallId → Bool
+same_call one other = (one.client == other.client) && (one.place == other.place)
+
 -- why it isn't known whether a call ran: its server session was lost, its client renewed or ended, or the server forgot its number
 pub data Cause : Type 0 where
-  Session : Cause
+  ServerSessionLost : Cause
   Renewed : Cause
   Ended : Cause
   Forgotten : Cause
@@ -29,9 +40,8 @@ pub record Name : Type 0 where
   pub first : ℕ
   pub known : List ℕ
 
--- a call of a client, its names from the newest to the oldest
+-- a call, its names from the newest to the oldest
 pub record Call : Type 0 where
-  pub client : ℕ
   pub body : Text
   pub state : State
   pub names : List Name

@@ -1,18 +1,19 @@
 -- A world: all clients, calls and server sessions, and all that was ever made.
 use Rattle.std.specs.Prelude.{ℕ, ◌≡◌, ◌≢◌, ◌<◌, ◌≤◌, false, List, [], ◌⊎◌}
-use Rattle.session_moves.specs.Among.{Among}
-use Rattle.session_moves.specs.Table.{Call, Client, ServerSession, Message, Packet, Entry, Name, Outcome, Judged}
+use Rattle.std.specs.List.{Contains}
+use Rattle.session_moves.specs.Table.{CallId, Call, Client, ServerSession, Message, Packet, Entry, Name, Outcome, Judged}
 use Rattle.session_moves.specs.Table.State.{Refused}
 use Rattle.session_moves.specs.Table.Status.{Unmade, Standing, Lost}
 use Rattle.session_moves.specs.Table.Outcome.{AcceptedCall, AcceptedOther, Noticed}
 
--- Clients and calls are told apart by numbers of their own, server sessions by their unique numbers. The messages of packets up and the
--- packets down are kept for good: a packet that is lost is one that nobody takes. The time is the count of moves so far
+-- Clients are told apart by numbers of their own, calls by their client and their place among its calls, server sessions by their unique
+-- numbers. The messages of packets up and the packets down are kept for good: a packet that is lost is one that nobody takes. The time is
+-- the count of moves so far. `submitted` says how many calls each client was given
 pub record World : Type 0 where
   pub time : ℕ
   pub clients : ℕ → Client
-  pub submitted : ℕ
-  pub calls : ℕ → Call
+  pub submitted : ℕ → ℕ
+  pub calls : CallId → Call
   pub servers : ℕ → ServerSession
   pub ups : List Message
   pub downs : List Packet
@@ -24,7 +25,7 @@ no_client = record { present = 0; former = []; salt = 0; learnt = []; ended = fa
 
 -- a call that wasn't submitted yet has no name, and is never sent
 abbrev pub no_call : Call
-no_call = record { client = 0; body = []; state = Refused 0; names = [] }
+no_call = record { body = []; state = Refused 0; names = [] }
 
 abbrev pub no_server : ServerSession
 no_server = record { session = 0; made = 0; status = Unmade; salts = []; judged = []; forgotten = [] }
@@ -35,7 +36,7 @@ start =
     record {
       time = 0;
       clients = λ client. no_client;
-      submitted = 0;
+      submitted = λ client. 0;
       calls = λ call. no_call;
       servers = λ unique. no_server;
       ups = [];
@@ -45,7 +46,7 @@ start =
 
 -- the session number is the client's present one or a former one
 abbrev pub Owns : Client → ℕ → Type 0
-Owns client session = (session ≢ 0) × ((session ≡ client.present) ⊎ Among session client.former)
+Owns client session = (session ≢ 0) × ((session ≡ client.present) ⊎ Contains client.former session)
 
 -- the message was sent under this name
 abbrev pub IsUnder : Name → Message → Type 0
@@ -71,13 +72,13 @@ IsAccepted (Noticed code) = ⊥
 
 -- the server session has accepted a message
 abbrev pub HasAccepted : ServerSession → Type 0
-HasAccepted server = (judged : Judged) × Among judged server.judged × IsAccepted judged.outcome
+HasAccepted server = (judged : Judged) × Contains server.judged judged × IsAccepted judged.outcome
 
 -- a number of this session number was given that isn't below this one
 abbrev pub WasGiven : List Message → ℕ → ℕ → Type 0
-WasGiven ups session number = (message : Message) × Among message ups × (message.session ≡ session) × (number ≤ message.number)
+WasGiven ups session number = (message : Message) × Contains ups message × (message.session ≡ session) × (number ≤ message.number)
 
 -- the name of some call has this session number and this number
-abbrev pub IsName : (ℕ → Call) → ℕ → ℕ → Type 0
+abbrev pub IsName : (CallId → Call) → ℕ → ℕ → Type 0
 IsName calls session number =
-    (call : ℕ) × (name : Name) × Among name (calls call).names × (name.session ≡ session) × (name.number ≡ number)
+    (call : CallId) × (name : Name) × Contains (calls call).names name × (name.session ≡ session) × (name.number ≡ number)

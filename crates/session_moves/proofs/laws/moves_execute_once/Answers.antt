@@ -1,7 +1,7 @@
 use Rattle.session_moves.proofs.AfterAll.{kept_if_reached}
 use Rattle.session_moves.proofs.OnceKept.{once_if_kept}
 use Rattle.session_moves.proofs.SafeKept.{salts_if_kept, numbers_if_kept, one_taker_if_kept}
-use Rattle.session_moves.proofs.moves_execute_once.Goals as goal
+use Rattle.session_moves.proofs.laws.moves_execute_once.Goals as goal
 
 pub returns-clause-once : goal.returns-clause-once
 returns-clause-once c = λ w reached. once_if_kept w.time w (kept_if_reached w reached)

@@ -1,0 +1,15 @@
+use Rattle.std.proofs.Common.{refl, eq-eqb}
+use Rattle.session_moves.proofs.Makes.{first_others}
+use Rattle.session_moves.proofs.laws.parts_make.Goals as goal
+
+pub returns : goal.returns
+returns c =
+    record {
+      first_message = λ w client place number. refl;
+      first_call = λ w client place number. rw (eq-eqb client client refl, eq-eqb place place refl) refl;
+      first_others = first_others;
+      again = λ w client place number. refl;
+      again_calls = λ w client place number. refl;
+      other = λ w client number. refl;
+      other_again = λ w client number. refl;
+    }
