@@ -21,7 +21,9 @@ pub fn cipher(schedule: &Schedule, block: &[u8; 16]) -> [u8; 16]
 {
     let mut state = xor_states(state_of(block), round_key(schedule, 0));
     'rounds: for round in 1..ROUNDS {
-        state = xor_states(mixed_rows(state), round_key(schedule, round));
+        // The key is read before the tables, so that each column is summed on its own.
+        let key = round_key(schedule, round);
+        state = xor_states(mixed_rows(state), key);
     }
     block_of(xor_states(last_rows(state), round_key(schedule, ROUNDS)))
 }

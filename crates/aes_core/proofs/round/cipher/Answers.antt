@@ -11,7 +11,7 @@ rounds-init c = rw (c.xor_states-state.ensures, c.state_of.ensures, c.round_key.
 pub rounds-preserved : goal.rounds-preserved
 unfolding add_round_key
 rounds-preserved c =
-    rw (c.xor_states-state-in-rounds.ensures, c.mixed_rows.ensures, c.round_key-in-rounds.ensures)
+    rw (c.xor_states-state-in-rounds.ensures, c.mixed_rows.ensures, c.round_key-key.ensures)
     (rounds_next (bytes_of c.args.schedule.now) _ (bytes_of c.rounds.state) c.rounds.round (omega arith) c.rounds.invariant)
 
 pub returns : goal.returns
