@@ -1,0 +1,5 @@
+pub mod TestLemmas
+pub mod NeededLemmas
+pub mod HeldLemmas
+pub mod StandsLemmas
+pub mod FutureLemmas
