@@ -3,3 +3,4 @@ pub mod NeededLemmas
 pub mod HeldLemmas
 pub mod StandsLemmas
 pub mod FutureLemmas
+pub mod LawLemmas

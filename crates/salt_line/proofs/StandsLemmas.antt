@@ -7,6 +7,8 @@ use Rattle.salt_line.specs.Needed.{word_in, needed_from}
 use Rattle.salt_line.specs.Line.{Line, Kept, Stands, line_after, draw_after_rows, drawn_rows, current_salt}
 use Rattle.salt_line.proofs.TestLemmas.{same_tests, filter-ext, filter-filter, any_from_filter, any_to_filter, any_weaker}
 use Rattle.salt_line.specs.Held.{IsIn}
+use Rattle.salt_line.specs.Future.{salt_rows_from, salt_rows}
+use Rattle.salt_line.proofs.FutureLemmas.{salt_rows_from-same}
 use Rattle.salt_line.proofs.NeededLemmas.{needed_from-filter, word_in-filter}
 
 -- at a later moment, what has not ended by then stands for the line
@@ -67,6 +69,14 @@ module _ {S : Type 0} (step : S → ℕ × S) (n now : ℕ) (kept : Kept) (line 
   salt-drawn q at =
       word-drawn q (omega arith)
       ∙ ap (λ r. word_in r (line_after step now n line draw).rows) (at ∙ ap (λ s. period_at s now) stands.start)
+
+  pub rows-drawn : (q m : ℕ) → q ≡ period_at kept.start now
+      → salt_rows_from record { start = kept.start; rows = rows } q m ≡ salt_rows (line_after step now n line draw) now m
+  rows-drawn q m at =
+      ap (λ (s : ℕ). salt_rows_from record { start = s; rows = rows } q m) stands.start
+      ∙ ap (λ p. salt_rows_from record { start = line.start; rows = rows } p m) (at ∙ ap (λ s. period_at s now) stands.start)
+      ∙ salt_rows_from-same line.start (line_after step now n line draw).rows rows (period_at line.start now) m
+        (λ r low high. word-drawn r (subst (λ s. period_at s now ≤ r) (sym stands.start) low))
 
 -- a salt of a kept row of this period or the one before is valid
 pub valid-from_kept : (kept : Kept) (line : Line) (now salt : ℕ) → kept.start ≤ now → Stands kept line
