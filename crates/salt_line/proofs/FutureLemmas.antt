@@ -21,7 +21,7 @@ salt_rows_from-same start xs ys period (suc n) same =
     let here : List SaltRow → ℕ → List SaltRow = λ l w. salt_row start period w ∷ l in
     ap (here (salt_rows_from record { start = start; rows = ys } (suc period) n)) (same period (omega arith) (omega arith))
     ∙ ap (λ l. here l (word_in period xs))
-      (salt_rows_from-same start xs ys (suc period) n (λ q low high. same q (omega arith) (omega arith)))
+    (salt_rows_from-same start xs ys (suc period) n (λ q low high. same q (omega arith) (omega arith)))
 
 -- one more row at the end
 pub salt_rows_from-more : (line : Line) (period n : ℕ)
@@ -36,7 +36,7 @@ salt_rows_from-more line period (suc n) =
     let first = salt_row line.start period (word_in period line.rows) in
     ap (salt_rows_from line period) f
     ∙ ap (λ l. first ∷ l) (salt_rows_from-more line (suc period) n
-      ∙ ap (λ q. salt_rows_from line (suc period) n ++ salt_row line.start q (word_in q line.rows) ∷ []) e)
+    ∙ ap (λ q. salt_rows_from line (suc period) n ++ salt_row line.start q (word_in q line.rows) ∷ []) e)
 
 -- rows that end early enough have times of 32 bits
 pub early-salt_rows_from : (line : Line) (period n : ℕ) → line.start + 1800 * (period + n) + 3600 ≤ 4294967295

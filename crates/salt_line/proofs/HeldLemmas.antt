@@ -14,17 +14,19 @@ pub row_at : (first k w : ℕ) (words : List ℕ) → slice_get words k ≡ Some
 row_at first k w [] h = cc
 row_at first zero w (v ∷ words) h =
     let same : nat_eq first (first + 0) ≡ true = eq-eqb first (first + 0) (omega arith) in
-    let is : v ≡ w = cc in
-    (ap (λ b. b || has_row (first + 0) (rows_of (suc first) words)) same,
-      ap (λ b. cond b v (word_in (first + 0) (rows_of (suc first) words))) same ∙ is)
+    let is : v ≡ w = cc in (
+      ap (λ b. b || has_row (first + 0) (rows_of (suc first) words)) same,
+      ap (λ b. cond b v (word_in (first + 0) (rows_of (suc first) words))) same ∙ is,
+    )
 row_at first (suc k) w (v ∷ words) h =
     let other : nat_eq first (first + suc k) ≡ false = ne_eqb first (first + suc k) (λ e. omega arith) in
     let e : suc first + k ≡ first + suc k = omega arith in
-    let rest = row_at (suc first) k w words h in
-    (ap (λ b. b || has_row (first + suc k) (rows_of (suc first) words)) other
-      ∙ ap (λ q. has_row q (rows_of (suc first) words)) (sym e) ∙ rest.0,
+    let rest = row_at (suc first) k w words h in (
+      ap (λ b. b || has_row (first + suc k) (rows_of (suc first) words)) other
+          ∙ ap (λ q. has_row q (rows_of (suc first) words)) (sym e) ∙ rest.0,
       ap (λ b. cond b v (word_in (first + suc k) (rows_of (suc first) words))) other
-      ∙ ap (λ q. word_in q (rows_of (suc first) words)) (sym e) ∙ rest.1)
+          ∙ ap (λ q. word_in q (rows_of (suc first) words)) (sym e) ∙ rest.1,
+    )
 
 -- past the last word there is no row
 pub no_row_past : (q first : ℕ) (words : List ℕ) → first + length words ≤ q → has_row q (rows_of first words) ≡ false
@@ -98,11 +100,11 @@ at_any P first [] some = absurd (not_any P some)
 at_any P first (v ∷ words) some =
     elim (any_cases P record { period = first; word = v } (rows_of (suc first) words) some) [
       | inl here ↦
-        let e : first ≡ first + 0 = omega arith in (0, v, refl, subst (λ q. P record { period = q; word = v }) e here)
+          let e : first ≡ first + 0 = omega arith in (0, v, refl, subst (λ q. P record { period = q; word = v }) e here)
       | inr there ↦
-        let rest = at_any P (suc first) words there in
-        let e : suc first + rest.0 ≡ first + suc rest.0 = omega arith in
-        (suc rest.0, rest.1, rest.2, subst (λ q. P record { period = q; word = rest.1 }) e rest.3)
+          let rest = at_any P (suc first) words there in
+          let e : suc first + rest.0 ≡ first + suc rest.0 = omega arith in
+          (suc rest.0, rest.1, rest.2, subst (λ q. P record { period = q; word = rest.1 }) e rest.3)
     ]
 
 pub none_past : (words : List ℕ) (k : ℕ) → slice_get words k ≡ None → length words ≤ k

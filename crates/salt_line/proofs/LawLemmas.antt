@@ -54,13 +54,14 @@ drew-go step q n both rest (inl holds) =
 drew-go step q n both rest (inr fails) =
     let e = needed-missing step q both fails in
     let words : List Row → List ℕ = map (λ row. row.word) in
-    let more = subst (λ b. Drew step b (needed_from step (suc q) n (needed step q both))) e rest in
-    (suc more.0,
+    let more = subst (λ b. Drew step b (needed_from step (suc q) n (needed step q both))) e rest in (
+      suc more.0,
       more.1
-      ∙ ap (λ l. l ++ next_words step more.0 (step both.1).1)
-        (map-append (λ (row : Row). row.word) both.0 (record { period = q; word = (step both.1).0 } ∷ []))
-      ∙ append_assoc (words both.0) ((step both.1).0 ∷ []) (next_words step more.0 (step both.1).1),
-      more.2)
+          ∙ ap (λ l. l ++ next_words step more.0 (step both.1).1)
+          (map-append (λ (row : Row). row.word) both.0 (record { period = q; word = (step both.1).0 } ∷ []))
+          ∙ append_assoc (words both.0) ((step both.1).0 ∷ []) (next_words step more.0 (step both.1).1),
+      more.2,
+    )
 
 pub drew-needed_from : {S : Type 0} (step : S → ℕ × S) (q n : ℕ) (both : List Row × S)
     → Drew step both (needed_from step q n both)
@@ -74,13 +75,13 @@ any-word_in q [] h = absurd (cc)
 any-word_in q (x ∷ xs) h =
     (elim (bool_cases (nat_eq x.period q)) [
       | inl holds ↦
-        any_here (λ row. (row.word ≡ word_in q (x ∷ xs)) × (row.period ≡ q)) x xs
-        (sym (ap (λ b. cond b x.word (word_in q xs)) holds), eqb-true x.period q holds)
+          any_here (λ row. (row.word ≡ word_in q (x ∷ xs)) × (row.period ≡ q)) x xs
+          (sym (ap (λ b. cond b x.word (word_in q xs)) holds), eqb-true x.period q holds)
       | inr fails ↦
-        let there = any-word_in q xs (sym (ap (λ b. b || has_row q xs) fails) ∙ h) in
-        subst (λ (w : ℕ). Any (λ row. (row.word ≡ w) × (row.period ≡ q)) (x ∷ xs))
-        (sym (ap (λ b. cond b x.word (word_in q xs)) fails))
-        (any_there (λ row. (row.word ≡ word_in q xs) × (row.period ≡ q)) x xs there)
+          let there = any-word_in q xs (sym (ap (λ b. b || has_row q xs) fails) ∙ h) in
+          subst (λ (w : ℕ). Any (λ row. (row.word ≡ w) × (row.period ≡ q)) (x ∷ xs))
+          (sym (ap (λ b. cond b x.word (word_in q xs)) fails))
+          (any_there (λ row. (row.word ≡ word_in q xs) × (row.period ≡ q)) x xs there)
     ])
 
 has-needed_from : {S : Type 0} (step : S → ℕ × S) (q n r : ℕ) (both : List Row × S) → has_row r both.0 ≡ true

@@ -14,7 +14,7 @@ pub word_in-append : (q : ℕ) (xs ys : List Row) → has_row q xs ≡ true → 
 word_in-append q [] ys h = cc
 word_in-append q (x ∷ xs) ys h =
     (elim (nat_eq x.period q) as (λ b. (b || has_row q xs) ≡ true
-        → cond b x.word (word_in q (xs ++ ys)) ≡ cond b x.word (word_in q xs)) [
+    → cond b x.word (word_in q (xs ++ ys)) ≡ cond b x.word (word_in q xs)) [
       | true ↦ λ _. refl
       | false ↦ λ t. word_in-append q xs ys t
     ]) h
@@ -25,7 +25,7 @@ pub word_in-push : (q w : ℕ) (xs : List Row) → has_row q xs ≡ false
 word_in-push q w [] h = ap (λ b. cond b w 0) (eq-eqb q q refl)
 word_in-push q w (x ∷ xs) h =
     (elim (nat_eq x.period q) as (λ b. (b || has_row q xs) ≡ false
-        → cond b x.word (word_in q (xs ++ record { period = q; word = w } ∷ [])) ≡ w) [
+    → cond b x.word (word_in q (xs ++ record { period = q; word = w } ∷ [])) ≡ w) [
       | true ↦ λ t. cc
       | false ↦ λ t. word_in-push q w xs t
     ]) h
@@ -109,7 +109,7 @@ module _ (kept : ℕ → Bool) where
       ap (word_in q) (filter_yes by_period x xs holds) ∙ ap (λ w. cond (nat_eq x.period q) x.word w) rest
   word_in-filter-go q k x xs rest (inr fails) =
       let other : nat_eq x.period q ≡ false =
-        ne_eqb x.period q (λ same. let e : true ≡ false = sym (ap kept same ∙ k) ∙ fails in cc) in
+      ne_eqb x.period q (λ same. let e : true ≡ false = sym (ap kept same ∙ k) ∙ fails in cc) in
       ap (word_in q) (filter_no by_period x xs fails) ∙ rest
       ∙ sym (ap (λ b. cond b x.word (word_in q xs)) other)
 
@@ -129,7 +129,7 @@ module _ (kept : ℕ → Bool) where
       let last : filter by_period (row ∷ []) ≡ row ∷ [] = filter_yes by_period row [] k in
       needed-missing step q (filter by_period xs, draw) (has_row-filter q k xs ∙ fails)
       ∙ ap (λ l. (l, (step draw).1))
-        (ap (λ l. filter by_period xs ++ l) (sym last) ∙ sym (filter-append by_period xs (row ∷ [])))
+      (ap (λ l. filter by_period xs ++ l) (sym last) ∙ sym (filter-append by_period xs (row ∷ [])))
       ∙ ap (λ b. (filter by_period b.0, b.1)) (sym (needed-missing step q (xs, draw) fails))
 
   -- what is needed of the rows that are kept is what is needed of all

@@ -18,17 +18,17 @@ pub Stands-later : (kept : Kept) (line : Line) (now : ℕ) (rows : List Row) →
 Stands-later kept line now rows started later left stands = record {
   start = stands.start;
   rows =
-    left
-    ∙ filter-ext (λ row. nat_lt (period_at kept.start now) (row.period + 2))
+      left
+      ∙ filter-ext (λ row. nat_lt (period_at kept.start now) (row.period + 2))
       (λ row. nat_lt now (until line.start row.period))
       (λ row. same_tests (period_at kept.start now) (row.period + 2) now (until kept.start row.period)
-          (λ h. omega arith) (λ h. omega arith)
-        ∙ ap (λ s. nat_lt now (until s row.period)) stands.start) kept.rows
-    ∙ ap (filter (λ row. nat_lt now (until line.start row.period))) stands.rows
-    ∙ filter-filter (λ row. nat_lt kept.latest (until line.start row.period))
+      (λ h. omega arith) (λ h. omega arith)
+      ∙ ap (λ s. nat_lt now (until s row.period)) stands.start) kept.rows
+      ∙ ap (filter (λ row. nat_lt now (until line.start row.period))) stands.rows
+      ∙ filter-filter (λ row. nat_lt kept.latest (until line.start row.period))
       (λ row. nat_lt now (until line.start row.period))
       (λ row h. let after = ltb-true now (until line.start row.period) h in
-        lt-ltb kept.latest (until line.start row.period) (omega arith)) line.rows;
+      lt-ltb kept.latest (until line.start row.period) (omega arith)) line.rows;
 }
 
 -- a period from the current one on has not ended
@@ -40,16 +40,16 @@ goes_on start now latest started later r above = lt-ltb latest (until start r) (
 module _ {S : Type 0} (step : S → ℕ × S) (n now : ℕ) (kept : Kept) (line : Line) (draw : S) (rows : List Row) (after : S)
     (stands : Stands kept line) (latest : kept.latest ≡ now) (started : kept.start ≤ now)
     (is : ◌≡◌ {A = List Row × S} (rows, after) (needed_from step (period_at kept.start now) n (kept.rows, draw))) where
-
-  all_of : ◌≡◌ {A = List Row × S} (rows, after)
-      (filter (λ row. nat_lt kept.latest (until line.start row.period)) (drawn_rows step now n line draw).0,
-        (drawn_rows step now n line draw).1)
+  all_of : ◌≡◌ {A = List Row × S} (rows, after) (
+    filter (λ row. nat_lt kept.latest (until line.start row.period)) (drawn_rows step now n line draw).0,
+    (drawn_rows step now n line draw).1,
+  )
   all_of =
       is
       ∙ ap (λ s. needed_from step (period_at s now) n (kept.rows, draw)) stands.start
       ∙ ap (λ rs. needed_from step (period_at line.start now) n (rs, draw)) stands.rows
       ∙ needed_from-filter (λ q. nat_lt kept.latest (until line.start q)) step (period_at line.start now) n
-        (goes_on line.start now kept.latest (subst (λ s. s ≤ now) stands.start started) (omega arith)) line.rows draw
+      (goes_on line.start now kept.latest (subst (λ s. s ≤ now) stands.start started) (omega arith)) line.rows draw
 
   pub Stands-drawn : Stands record { start = kept.start; latest = kept.latest; rows = rows } (line_after step now n line draw)
   Stands-drawn = record { start = stands.start; rows = ap (λ b. b.0) all_of }
@@ -61,8 +61,8 @@ module _ {S : Type 0} (step : S → ℕ × S) (n now : ℕ) (kept : Kept) (line 
   word-drawn q above =
       ap (λ b. word_in q b.0) all_of
       ∙ word_in-filter (λ r. nat_lt kept.latest (until line.start r)) q
-        (goes_on line.start now kept.latest (subst (λ s. s ≤ now) stands.start started) (omega arith) q
-          (subst (λ s. period_at s now ≤ q) stands.start above)) (drawn_rows step now n line draw).0
+      (goes_on line.start now kept.latest (subst (λ s. s ≤ now) stands.start started) (omega arith) q
+      (subst (λ s. period_at s now ≤ q) stands.start above)) (drawn_rows step now n line draw).0
 
   pub salt-drawn : (q : ℕ) → q ≡ period_at kept.start now
       → word_in q rows ≡ current_salt (line_after step now n line draw) now
@@ -76,7 +76,7 @@ module _ {S : Type 0} (step : S → ℕ × S) (n now : ℕ) (kept : Kept) (line 
       ap (λ (s : ℕ). salt_rows_from record { start = s; rows = rows } q m) stands.start
       ∙ ap (λ p. salt_rows_from record { start = line.start; rows = rows } p m) (at ∙ ap (λ s. period_at s now) stands.start)
       ∙ salt_rows_from-same line.start (line_after step now n line draw).rows rows (period_at line.start now) m
-        (λ r low high. word-drawn r (subst (λ s. period_at s now ≤ r) (sym stands.start) low))
+      (λ r low high. word-drawn r (subst (λ s. period_at s now ≤ r) (sym stands.start) low))
 
 -- a salt of a kept row of this period or the one before is valid
 pub valid-from_kept : (kept : Kept) (line : Line) (now salt : ℕ) → kept.start ≤ now → Stands kept line

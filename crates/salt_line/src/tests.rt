@@ -71,7 +71,10 @@ fn rows_drawn_ahead(rt: HostRuntime) -> Result<(), Fail> {
     assert_eq!(rt; rows[2].salt, WORDS[1]);
     assert_eq!(rt; line.current(Moment::new(3_600), &mut draw), WORDS[1]);
     assert_eq!(rt; line.current(Moment::new(100_000), &mut draw), WORDS[2]);
-    assert_eq!(rt; line.future(Moment::new(100_000), 100, &mut draw, &mut rows), 64);
+    assert_eq!(rt;
+        line.future(Moment::new(100_000), 100, &mut draw, &mut rows),
+        64
+    );
     assert_eq!(rt; rows[1].salt, WORDS[3]);
     Ok(())
 }

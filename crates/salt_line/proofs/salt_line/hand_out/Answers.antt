@@ -25,8 +25,8 @@ loop-k-preserved g c =
     let line : Line = record { start = c.args.start; rows = after } in
     let word = c.word-salt.ensures.word in
     let same : (q : ℕ) → period ≤ q → q < period + k → word_in q after ≡ word_in q rows =
-      λ q low high. ap (word_in q) after_is
-        ∙ (needed-keeps step q (period + k) (rows, c.loop-k.draw) (c.loop-k.invariant.there q low high)).1 in
+    λ q low high. ap (word_in q) after_is
+    ∙ (needed-keeps step q (period + k) (rows, c.loop-k.draw) (c.loop-k.invariant.there q low high)).1 in
     let count = c.word-salt.ensures.count in
     let kept_first = c.word-salt.ensures.first in
     let before = c.loop-k.invariant.count in
@@ -38,13 +38,13 @@ loop-k-preserved g c =
       count = omega arith;
       there = λ q low high. ap (has_row q) after_is ∙ (elim (eq-or-lt_of_le {n = q} {m = period + k} (omega arith)) [
         | inl this ↦ ap (λ r. has_row r (needed step (period + k) (rows, c.loop-k.draw)).0) this
-          ∙ needed-has step (period + k) (rows, c.loop-k.draw)
+            ∙ needed-has step (period + k) (rows, c.loop-k.draw)
         | inr before ↦
-          (needed-keeps step q (period + k) (rows, c.loop-k.draw) (c.loop-k.invariant.there q low before)).0
+            (needed-keeps step q (period + k) (rows, c.loop-k.draw) (c.loop-k.invariant.there q low before)).0
       ]);
       out = take-set_at c.loop-k.into k (k + 1) _ refl (omega arith)
           ∙ ap (λ l. l ++ salt_row c.args.start (period + k) c.word-salt.result ∷ [])
-            (c.loop-k.invariant.out ∙ sym (salt_rows_from-same c.args.start rows after period k same))
+          (c.loop-k.invariant.out ∙ sym (salt_rows_from-same c.args.start rows after period k same))
           ∙ ap (λ w. salt_rows_from line period k ++ salt_row c.args.start (period + k) w ∷ []) word
           ∙ sym (salt_rows_from-more line period k);
       others = drop-set-lt (k + 1) c.loop-k.into k _ (omega arith)

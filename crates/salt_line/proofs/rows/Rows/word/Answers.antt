@@ -16,7 +16,7 @@ returns-in-Some-clause-needed g c =
     let at = row_at first (c.args.period - first) c.in-Some.word items got in
     let place : first + (c.args.period - first) ≡ c.args.period = omega arith in
     sym (needed-there g.D.Draw.step c.args.period (rows_of first items, c.args.draw.now)
-      (ap (λ q. has_row q (rows_of first items)) (sym place) ∙ at.0))
+    (ap (λ q. has_row q (rows_of first items)) (sym place) ∙ at.0))
 
 pub returns-in-Some-clause-word : goal.returns-in-Some-clause-word
 returns-in-Some-clause-word g c =
@@ -44,13 +44,13 @@ returns-in-None-clause-needed g c =
     let room : length (items ++ w ∷ []) - c.args.self.now.words.capacity ≡ 0 = omega arith in
     let row : ℕ → ℕ → List Row = λ q v. record { period = q; word = v } ∷ [] in
     let held : c.push_back.new.self.items ≡ items ++ w ∷ [] =
-      ap (λ b. b.items) c.push_back.ensures.items ∙ ap (λ n. drop n (items ++ w ∷ [])) room in
+    ap (λ b. b.items) c.push_back.ensures.items ∙ ap (λ n. drop n (items ++ w ∷ [])) room in
     ap (λ l. (rows_of first l, c.word-word.new.self)) held
     ∙ ap (λ l. (l, c.word-word.new.self)) (rows_of-push first w items ∙ ap (λ q. rows_of first items ++ row q w) at)
     ∙ ap (λ v. (rows_of first items ++ row c.args.period v, c.word-word.new.self)) c.word-word.ensures.word
     ∙ ap (λ d. (rows_of first items ++ row c.args.period (g.D.Draw.step c.args.draw.now).0, d)) c.word-word.ensures.after
     ∙ sym (needed-missing g.D.Draw.step c.args.period (rows_of first items, c.args.draw.now)
-      (no_row_past c.args.period first items (omega arith)))
+    (no_row_past c.args.period first items (omega arith)))
 
 pub returns-in-None-clause-word : goal.returns-in-None-clause-word
 returns-in-None-clause-word g c =
@@ -63,10 +63,10 @@ returns-in-None-clause-word g c =
     let room : length (items ++ w ∷ []) - c.args.self.now.words.capacity ≡ 0 = omega arith in
     let row : ℕ → List Row = λ q. record { period = q; word = w } ∷ [] in
     let held : c.push_back.new.self.items ≡ items ++ w ∷ [] =
-      ap (λ b. b.items) c.push_back.ensures.items ∙ ap (λ n. drop n (items ++ w ∷ [])) room in
+    ap (λ b. b.items) c.push_back.ensures.items ∙ ap (λ n. drop n (items ++ w ∷ [])) room in
     sym (ap (λ l. word_in c.args.period (rows_of first l)) held
-      ∙ ap (word_in c.args.period) (rows_of-push first w items ∙ ap (λ q. rows_of first items ++ row q) at)
-      ∙ word_in-push c.args.period w (rows_of first items) (no_row_past c.args.period first items (omega arith)))
+    ∙ ap (word_in c.args.period) (rows_of-push first w items ∙ ap (λ q. rows_of first items ++ row q) at)
+    ∙ word_in-push c.args.period w (rows_of first items) (no_row_past c.args.period first items (omega arith)))
 
 pub returns-in-None-clause-count : goal.returns-in-None-clause-count
 returns-in-None-clause-count g c =
@@ -77,5 +77,5 @@ returns-in-None-clause-count g c =
     let long = length-append items (w ∷ []) in
     let room : length (items ++ w ∷ []) - c.args.self.now.words.capacity ≡ 0 = omega arith in
     let held : c.push_back.new.self.items ≡ items ++ w ∷ [] =
-      ap (λ b. b.items) c.push_back.ensures.items ∙ ap (λ n. drop n (items ++ w ∷ [])) room in
+    ap (λ b. b.items) c.push_back.ensures.items ∙ ap (λ n. drop n (items ++ w ∷ [])) room in
     ap length held ∙ omega arith

@@ -13,12 +13,12 @@ returns-clause-line g c = λ line stands.
     let after = rows_of c.word.new.self.first c.word.new.self.words.items in
     let there = subst (λ (k : Kept). Stands k line) (sym c.self.view_is) (c.come_to-period.ensures.line line stands) in
     let latest : c.self.inside.latest ≡ c.args.now =
-      ap (λ (k : Kept). k.latest) c.self.view_is ∙ c.come_to-period.ensures.latest ∙ c.seconds.ensures.value in
+    ap (λ (k : Kept). k.latest) c.self.view_is ∙ c.come_to-period.ensures.latest ∙ c.seconds.ensures.value in
     let start : c.self.inside.start ≡ c.args.self.now.start =
-      ap (λ (k : Kept). k.start) c.self.view_is ∙ c.come_to-period.ensures.start in
+    ap (λ (k : Kept). k.start) c.self.view_is ∙ c.come_to-period.ensures.start in
     let period : c.come_to-period.result ≡ period_at c.self.inside.start c.args.now =
-      c.come_to-period.ensures.period ∙ ap (λ s. period_at s c.seconds.result) (sym start)
-      ∙ ap (period_at c.self.inside.start) c.seconds.ensures.value in
+    c.come_to-period.ensures.period ∙ ap (λ s. period_at s c.seconds.result) (sym start)
+    ∙ ap (period_at c.self.inside.start) c.seconds.ensures.value in
     Stands-drawn g.D.Draw.step 1 c.args.now kept line c.args.draw.now after c.word.new.draw there latest (omega arith)
     (c.word.ensures.needed ∙ ap (λ q. needed g.D.Draw.step q (rows, c.args.draw.now)) period)
 
@@ -29,12 +29,12 @@ returns-clause-draw g c = λ line stands.
     let after = rows_of c.word.new.self.first c.word.new.self.words.items in
     let there = subst (λ (k : Kept). Stands k line) (sym c.self.view_is) (c.come_to-period.ensures.line line stands) in
     let latest : c.self.inside.latest ≡ c.args.now =
-      ap (λ (k : Kept). k.latest) c.self.view_is ∙ c.come_to-period.ensures.latest ∙ c.seconds.ensures.value in
+    ap (λ (k : Kept). k.latest) c.self.view_is ∙ c.come_to-period.ensures.latest ∙ c.seconds.ensures.value in
     let start : c.self.inside.start ≡ c.args.self.now.start =
-      ap (λ (k : Kept). k.start) c.self.view_is ∙ c.come_to-period.ensures.start in
+    ap (λ (k : Kept). k.start) c.self.view_is ∙ c.come_to-period.ensures.start in
     let period : c.come_to-period.result ≡ period_at c.self.inside.start c.args.now =
-      c.come_to-period.ensures.period ∙ ap (λ s. period_at s c.seconds.result) (sym start)
-      ∙ ap (period_at c.self.inside.start) c.seconds.ensures.value in
+    c.come_to-period.ensures.period ∙ ap (λ s. period_at s c.seconds.result) (sym start)
+    ∙ ap (period_at c.self.inside.start) c.seconds.ensures.value in
     draw-drawn g.D.Draw.step 1 c.args.now kept line c.args.draw.now after c.word.new.draw there latest (omega arith)
     (c.word.ensures.needed ∙ ap (λ q. needed g.D.Draw.step q (rows, c.args.draw.now)) period)
 
@@ -45,12 +45,12 @@ returns-clause-salt g c = λ line stands.
     let after = rows_of c.word.new.self.first c.word.new.self.words.items in
     let there = subst (λ (k : Kept). Stands k line) (sym c.self.view_is) (c.come_to-period.ensures.line line stands) in
     let latest : c.self.inside.latest ≡ c.args.now =
-      ap (λ (k : Kept). k.latest) c.self.view_is ∙ c.come_to-period.ensures.latest ∙ c.seconds.ensures.value in
+    ap (λ (k : Kept). k.latest) c.self.view_is ∙ c.come_to-period.ensures.latest ∙ c.seconds.ensures.value in
     let start : c.self.inside.start ≡ c.args.self.now.start =
-      ap (λ (k : Kept). k.start) c.self.view_is ∙ c.come_to-period.ensures.start in
+    ap (λ (k : Kept). k.start) c.self.view_is ∙ c.come_to-period.ensures.start in
     let period : c.come_to-period.result ≡ period_at c.self.inside.start c.args.now =
-      c.come_to-period.ensures.period ∙ ap (λ s. period_at s c.seconds.result) (sym start)
-      ∙ ap (period_at c.self.inside.start) c.seconds.ensures.value in
+    c.come_to-period.ensures.period ∙ ap (λ s. period_at s c.seconds.result) (sym start)
+    ∙ ap (period_at c.self.inside.start) c.seconds.ensures.value in
     c.word.ensures.word
     ∙ salt-drawn g.D.Draw.step 1 c.args.now kept line c.args.draw.now after c.word.new.draw there latest (omega arith)
     (c.word.ensures.needed ∙ ap (λ q. needed g.D.Draw.step q (rows, c.args.draw.now)) period) c.come_to-period.result period

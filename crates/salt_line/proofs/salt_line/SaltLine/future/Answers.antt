@@ -17,15 +17,15 @@ returns-clause-line g c = λ line stands.
     let after = rows_of c.hand_out.new.rows.first c.hand_out.new.rows.words.items in
     let there = subst (λ (k : Kept). Stands k line) (sym c.self.view_is) (c.come_to-period.ensures.line line stands) in
     let latest : c.self.inside.latest ≡ c.args.now =
-      ap (λ (k : Kept). k.latest) c.self.view_is ∙ c.come_to-period.ensures.latest ∙ c.seconds.ensures.value in
+    ap (λ (k : Kept). k.latest) c.self.view_is ∙ c.come_to-period.ensures.latest ∙ c.seconds.ensures.value in
     let start : c.self.inside.start ≡ c.args.self.now.start =
-      ap (λ (k : Kept). k.start) c.self.view_is ∙ c.come_to-period.ensures.start in
+    ap (λ (k : Kept). k.start) c.self.view_is ∙ c.come_to-period.ensures.start in
     let period : c.come_to-period.result ≡ period_at c.self.inside.start c.args.now =
-      c.come_to-period.ensures.period ∙ ap (λ s. period_at s c.seconds.result) (sym start)
-      ∙ ap (period_at c.self.inside.start) c.seconds.ensures.value in
+    c.come_to-period.ensures.period ∙ ap (λ s. period_at s c.seconds.result) (sym start)
+    ∙ ap (period_at c.self.inside.start) c.seconds.ensures.value in
     let is = c.hand_out.ensures.needed
-      ∙ ap (λ q. needed_from g.D.Draw.step q c.min-count.result (rows, c.args.draw.now)) period
-      ∙ ap (λ m. needed_from g.D.Draw.step (period_at c.self.inside.start c.args.now) m (rows, c.args.draw.now)) c.min-count.ensures in
+    ∙ ap (λ q. needed_from g.D.Draw.step q c.min-count.result (rows, c.args.draw.now)) period
+    ∙ ap (λ m. needed_from g.D.Draw.step (period_at c.self.inside.start c.args.now) m (rows, c.args.draw.now)) c.min-count.ensures in
     Stands-drawn g.D.Draw.step (min c.args.n 64) c.args.now kept line c.args.draw.now after c.hand_out.new.draw there latest
     (omega arith) is
 
@@ -36,15 +36,15 @@ returns-clause-draw g c = λ line stands.
     let after = rows_of c.hand_out.new.rows.first c.hand_out.new.rows.words.items in
     let there = subst (λ (k : Kept). Stands k line) (sym c.self.view_is) (c.come_to-period.ensures.line line stands) in
     let latest : c.self.inside.latest ≡ c.args.now =
-      ap (λ (k : Kept). k.latest) c.self.view_is ∙ c.come_to-period.ensures.latest ∙ c.seconds.ensures.value in
+    ap (λ (k : Kept). k.latest) c.self.view_is ∙ c.come_to-period.ensures.latest ∙ c.seconds.ensures.value in
     let start : c.self.inside.start ≡ c.args.self.now.start =
-      ap (λ (k : Kept). k.start) c.self.view_is ∙ c.come_to-period.ensures.start in
+    ap (λ (k : Kept). k.start) c.self.view_is ∙ c.come_to-period.ensures.start in
     let period : c.come_to-period.result ≡ period_at c.self.inside.start c.args.now =
-      c.come_to-period.ensures.period ∙ ap (λ s. period_at s c.seconds.result) (sym start)
-      ∙ ap (period_at c.self.inside.start) c.seconds.ensures.value in
+    c.come_to-period.ensures.period ∙ ap (λ s. period_at s c.seconds.result) (sym start)
+    ∙ ap (period_at c.self.inside.start) c.seconds.ensures.value in
     let is = c.hand_out.ensures.needed
-      ∙ ap (λ q. needed_from g.D.Draw.step q c.min-count.result (rows, c.args.draw.now)) period
-      ∙ ap (λ m. needed_from g.D.Draw.step (period_at c.self.inside.start c.args.now) m (rows, c.args.draw.now)) c.min-count.ensures in
+    ∙ ap (λ q. needed_from g.D.Draw.step q c.min-count.result (rows, c.args.draw.now)) period
+    ∙ ap (λ m. needed_from g.D.Draw.step (period_at c.self.inside.start c.args.now) m (rows, c.args.draw.now)) c.min-count.ensures in
     draw-drawn g.D.Draw.step (min c.args.n 64) c.args.now kept line c.args.draw.now after c.hand_out.new.draw there latest
     (omega arith) is
 
@@ -55,15 +55,15 @@ returns-clause-rows g c = λ line stands.
     let after = rows_of c.hand_out.new.rows.first c.hand_out.new.rows.words.items in
     let there = subst (λ (k : Kept). Stands k line) (sym c.self.view_is) (c.come_to-period.ensures.line line stands) in
     let latest : c.self.inside.latest ≡ c.args.now =
-      ap (λ (k : Kept). k.latest) c.self.view_is ∙ c.come_to-period.ensures.latest ∙ c.seconds.ensures.value in
+    ap (λ (k : Kept). k.latest) c.self.view_is ∙ c.come_to-period.ensures.latest ∙ c.seconds.ensures.value in
     let start : c.self.inside.start ≡ c.args.self.now.start =
-      ap (λ (k : Kept). k.start) c.self.view_is ∙ c.come_to-period.ensures.start in
+    ap (λ (k : Kept). k.start) c.self.view_is ∙ c.come_to-period.ensures.start in
     let period : c.come_to-period.result ≡ period_at c.self.inside.start c.args.now =
-      c.come_to-period.ensures.period ∙ ap (λ s. period_at s c.seconds.result) (sym start)
-      ∙ ap (period_at c.self.inside.start) c.seconds.ensures.value in
+    c.come_to-period.ensures.period ∙ ap (λ s. period_at s c.seconds.result) (sym start)
+    ∙ ap (period_at c.self.inside.start) c.seconds.ensures.value in
     let is = c.hand_out.ensures.needed
-      ∙ ap (λ q. needed_from g.D.Draw.step q c.min-count.result (rows, c.args.draw.now)) period
-      ∙ ap (λ m. needed_from g.D.Draw.step (period_at c.self.inside.start c.args.now) m (rows, c.args.draw.now)) c.min-count.ensures in
+    ∙ ap (λ q. needed_from g.D.Draw.step q c.min-count.result (rows, c.args.draw.now)) period
+    ∙ ap (λ m. needed_from g.D.Draw.step (period_at c.self.inside.start c.args.now) m (rows, c.args.draw.now)) c.min-count.ensures in
     ap (λ m. take m c.hand_out.new.into) (sym c.min-count.ensures) ∙ c.hand_out.ensures.rows
     ∙ ap (salt_rows_from record { start = c.self.inside.start; rows = after } c.come_to-period.result) c.min-count.ensures
     ∙ rows-drawn g.D.Draw.step (min c.args.n 64) c.args.now kept line c.args.draw.now after c.hand_out.new.draw there latest
@@ -74,12 +74,12 @@ returns-clause-early g c =
     let after = rows_of c.hand_out.new.rows.first c.hand_out.new.rows.words.items in
     let line : Line = record { start = c.self.inside.start; rows = after } in
     let latest : c.self.inside.latest ≡ c.args.now =
-      ap (λ (k : Kept). k.latest) c.self.view_is ∙ c.come_to-period.ensures.latest ∙ c.seconds.ensures.value in
+    ap (λ (k : Kept). k.latest) c.self.view_is ∙ c.come_to-period.ensures.latest ∙ c.seconds.ensures.value in
     let start : c.self.inside.start ≡ c.args.self.now.start =
-      ap (λ (k : Kept). k.start) c.self.view_is ∙ c.come_to-period.ensures.start in
+    ap (λ (k : Kept). k.start) c.self.view_is ∙ c.come_to-period.ensures.start in
     let period : c.come_to-period.result ≡ period_at c.self.inside.start c.args.now =
-      c.come_to-period.ensures.period ∙ ap (λ s. period_at s c.seconds.result) (sym start)
-      ∙ ap (period_at c.self.inside.start) c.seconds.ensures.value in
+    c.come_to-period.ensures.period ∙ ap (λ s. period_at s c.seconds.result) (sym start)
+    ∙ ap (period_at c.self.inside.start) c.seconds.ensures.value in
     let few = c.min-count.ensures in
     subst (All (λ (row : SaltRow). row.until < 2 ^ 32))
     (sym (ap (λ m. take m c.hand_out.new.into) (sym c.min-count.ensures) ∙ c.hand_out.ensures.rows))

@@ -13,10 +13,13 @@ returns-then-salt-ne0 c = λ line stands.
     let there = subst (λ (k : Kept). Stands k line) (sym c.self.view_is) stands in
     let later : c.self.inside.latest ≤ c.args.now = subst (λ (k : Kept). k.latest ≤ c.args.now) (sym c.self.view_is) c.requires in
     let period : (c.seconds.result - c.self.inside.start) / 1800 ≡ period_at c.self.inside.start c.args.now =
-      ap (period_at c.self.inside.start) c.seconds.ensures.value in
-    (λ t. (c.if-salt-ne0.true,
+    ap (period_at c.self.inside.start) c.seconds.ensures.value in (
+      λ t. (
+        c.if-salt-ne0.true,
         valid-from_kept kept line c.args.now c.args.salt (omega arith) there
-        (subst (λ (p : ℕ). Any (IsIn p c.args.salt) rows) period (c.has.ensures.0 t))),
+            (subst (λ (p : ℕ). Any (IsIn p c.args.salt) rows) period (c.has.ensures.0 t)),
+      ),
       λ valid. c.has.ensures.1
-        (subst (λ (p : ℕ). Any (IsIn p c.args.salt) rows) (sym period)
-        (kept-from_valid kept line c.args.now c.args.salt (omega arith) later there valid.1)))
+          (subst (λ (p : ℕ). Any (IsIn p c.args.salt) rows) (sym period)
+          (kept-from_valid kept line c.args.now c.args.salt (omega arith) later there valid.1)),
+    )
