@@ -1,8 +1,8 @@
 -- What is kept stands for a line.
-use Rattle.std.proofs.Common.{◌≡◌, ℕ, ◌+◌, ◌*◌, ◌-◌, ◌/◌, ◌<◌, ◌≤◌, Bool, true, List, ap, ◌∙◌, sym, refl, subst, arith}
+use Rattle.std.proofs.Common.{◌≡◌, ℕ, ◌+◌, ◌≤◌, true, List, ap, ◌∙◌, sym, subst, arith}
 use Rattle.std.proofs.lemmas.Bool.{ltb-true, lt-ltb}
 use Rattle.std.specs.Prelude.{Any, filter, nat_lt}
-use Rattle.salt_line.specs.Rows.{Row, since, until, IsValidAt, period_at}
+use Rattle.salt_line.specs.Rows.{Row, until, IsValidAt, period_at}
 use Rattle.salt_line.specs.Needed.{word_in, needed_from}
 use Rattle.salt_line.specs.Line.{Line, Kept, Stands, line_after, draw_after_rows, drawn_rows, current_salt}
 use Rattle.salt_line.proofs.TestLemmas.{same_tests, filter-ext, filter-filter, any_from_filter, any_to_filter, any_weaker}

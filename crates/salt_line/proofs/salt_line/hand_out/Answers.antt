@@ -1,9 +1,7 @@
-use Rattle.std.proofs.Common.{◌≡◌, ℕ, ◌∙◌, ◌+◌, ◌++◌, ◌∷◌, [], ◌<◌, ◌≤◌, true, List, ap, sym, refl, subst, arith, inl, inr, drop}
+use Rattle.std.proofs.Common.{◌≡◌, ℕ, ◌∙◌, ◌+◌, ◌++◌, ◌∷◌, [], ◌<◌, ◌≤◌, ap, sym, refl, arith, inl, inr, drop}
 use Rattle.std.proofs.Math.Nat.{eq-or-lt_of_le}
 use Rattle.std.proofs.lemmas.List.{drop-drop, drop-set-lt}
 use Rattle.std.proofs.lemmas.Grind.{take-set_at}
-use Rattle.salt_line.specs.declared.salt_line.SaltRow.{SaltRow}
-use Rattle.salt_line.specs.Rows.{Row}
 use Rattle.salt_line.specs.Needed.{has_row, word_in, needed}
 use Rattle.salt_line.specs.Held.{rows_of}
 use Rattle.salt_line.specs.Line.{Line}

@@ -1,6 +1,5 @@
-use Rattle.std.proofs.Common.{◌≡◌, ℕ, ◌∙◌, ◌-◌, ◌<◌, ◌≤◌, true, false, sym, arith, inl, inr}
+use Rattle.std.proofs.Common.{◌≡◌, ◌∙◌, ◌-◌, ◌<◌, true, false, sym, arith, inl, inr}
 use Rattle.std.proofs.lemmas.Bool.{ltb-true}
-use Rattle.salt_line.specs.Held.{rows_of}
 use Rattle.salt_line.proofs.HeldLemmas.{held-in, in-held}
 use Rattle.salt_line.proofs.rows.Rows.has.Goals as goal
 

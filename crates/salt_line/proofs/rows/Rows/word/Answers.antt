@@ -1,5 +1,4 @@
-use Rattle.std.proofs.Common.{◌≡◌, ℕ, ◌∙◌, ◌-◌, ◌+◌, ◌++◌, ◌∷◌, [], List, Some, None, true, false, ap, sym, arith, length, drop, length-append}
-use Rattle.std.specs.Prelude.{slice_get}
+use Rattle.std.proofs.Common.{◌≡◌, ℕ, ◌∙◌, ◌-◌, ◌+◌, ◌++◌, ◌∷◌, [], List, ap, sym, arith, length, drop, length-append}
 use Rattle.std.proofs.lemmas.Option.{slice_get_within}
 use Rattle.salt_line.specs.Rows.{Row}
 use Rattle.salt_line.specs.Needed.{has_row, word_in}

@@ -1,5 +1,5 @@
-use Rattle.std.proofs.Common.{◌≡◌, ◌≤◌, sym, subst, arith}
-use Rattle.salt_line.specs.Line.{Line, Kept, Stands}
+use Rattle.std.proofs.Common.{◌≤◌, sym, subst, arith}
+use Rattle.salt_line.specs.Line.{Kept, Stands}
 use Rattle.salt_line.proofs.StandsLemmas.{Stands-later}
 use Rattle.salt_line.proofs.salt_line.SaltLine.come_to.Goals as goal
 

@@ -1,8 +1,8 @@
-use Rattle.std.proofs.Common.{◌≡◌, ℕ, ◌∙◌, ◌≤◌, ap, sym, subst, arith, List}
-use Rattle.salt_line.specs.Rows.{Row, period_at}
-use Rattle.salt_line.specs.Needed.{needed, needed_from}
+use Rattle.std.proofs.Common.{◌≡◌, ◌∙◌, ap, sym, subst, arith}
+use Rattle.salt_line.specs.Rows.{period_at}
+use Rattle.salt_line.specs.Needed.{needed}
 use Rattle.salt_line.specs.Held.{rows_of}
-use Rattle.salt_line.specs.Line.{Line, Kept, Stands}
+use Rattle.salt_line.specs.Line.{Kept, Stands}
 use Rattle.salt_line.proofs.StandsLemmas.{Stands-drawn, draw-drawn, salt-drawn}
 use Rattle.salt_line.proofs.salt_line.SaltLine.current.Goals as goal
 

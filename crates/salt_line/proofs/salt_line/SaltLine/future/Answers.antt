@@ -1,7 +1,7 @@
-use Rattle.std.proofs.Common.{◌≡◌, ℕ, ◌∙◌, ◌+◌, ◌*◌, ◌^◌, ◌<◌, ◌≤◌, min, take, ap, sym, subst, arith, List}
+use Rattle.std.proofs.Common.{◌≡◌, ◌∙◌, ◌^◌, ◌<◌, min, take, ap, sym, subst, arith}
 use Rattle.std.specs.Prelude.{All}
 use Rattle.salt_line.specs.declared.salt_line.SaltRow.{SaltRow}
-use Rattle.salt_line.specs.Rows.{Row, period_at}
+use Rattle.salt_line.specs.Rows.{period_at}
 use Rattle.salt_line.specs.Needed.{needed_from}
 use Rattle.salt_line.specs.Held.{rows_of}
 use Rattle.salt_line.specs.Line.{Line, Kept, Stands}

@@ -1,8 +1,8 @@
-use Rattle.std.proofs.Common.{◌≡◌, ℕ, ◌∙◌, ◌-◌, ◌/◌, ◌≤◌, ap, sym, subst, arith}
+use Rattle.std.proofs.Common.{◌≡◌, ℕ, ◌-◌, ◌/◌, ◌≤◌, ap, sym, subst, arith}
 use Rattle.std.specs.Prelude.{Any}
 use Rattle.salt_line.specs.Rows.{period_at}
 use Rattle.salt_line.specs.Held.{rows_of, IsIn}
-use Rattle.salt_line.specs.Line.{Line, Kept, Stands}
+use Rattle.salt_line.specs.Line.{Kept, Stands}
 use Rattle.salt_line.proofs.StandsLemmas.{valid-from_kept, kept-from_valid}
 use Rattle.salt_line.proofs.salt_line.SaltLine.judge.Goals as goal
 
