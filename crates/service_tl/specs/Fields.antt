@@ -6,6 +6,7 @@ use Rattle.tl_codec.specs.Spelling.{Form, Int, Long, Raw, Of, Fits, spelling}
 use Rattle.tl_codec.specs.Reading.{◌>>=◌, read_at}
 use Rattle.service_tl.specs.declared.lists.FutureSalt.{FutureSalt}
 use Rattle.service_tl.specs.declared.lists.Message.{Message}
+use Rattle.service_tl.specs.Sizes.{SaltFits}
 
 -- a TL value, the rest of the body, a bare vector of bare salts, one of bare messages
 pub data Field : Type 0 where
@@ -38,9 +39,6 @@ field_spelling Salts rows = spelling Int (length rows) ++ flat_map salt_row rows
 field_spelling Bodies messages = spelling Int (length messages) ++ flat_map message_row messages
 
 -- ---- what has a spelling
-
-abbrev pub SaltFits : FutureSalt → Type 0
-SaltFits row = (row.valid_since < 2 ^ 32) × (row.valid_until < 2 ^ 32) × (row.salt < 2 ^ 64)
 
 abbrev pub MessageFits : Message → Type 0
 MessageFits message = (message.number < 2 ^ 64) × (message.seq < 2 ^ 32) × (length message.body < 2 ^ 32)

@@ -6,8 +6,7 @@ use Rattle.tl_codec.specs.Spelling.{Int}
 use Rattle.tl_codec.specs.Reading.{read_at}
 use Rattle.service_tl.specs.declared.item.Item.{Item}
 use Rattle.service_tl.specs.declared.item.Item.TheVariants.{Packed, Call, Broken}
-use Rattle.service_tl.specs.declared.numbers.TheConstants.{GZIP_PACKED}
-use Rattle.service_tl.specs.Schema.{schema, item_in}
+use Rattle.service_tl.specs.Schema.{schema, gzip_packed, item_in}
 
 -- What a read answered and what it left are what stands at the front of the text, unless memory ran out.
 -- After a failure nothing more is read, so nothing is said of what it left.
@@ -24,7 +23,7 @@ whole number (Ok (None, rest)) = Call
 whole number (Err fault) = Broken number
 
 abbrev pub item_behind : ℕ → List ℕ → Item
-item_behind number text = if number == GZIP_PACKED then Packed else whole number (item_in schema number text)
+item_behind number text = if number == gzip_packed then Packed else whole number (item_in schema number text)
 
 -- a body of fewer than 4 bytes is a call
 abbrev pub item_after : Result (ℕ × List ℕ) TlFault → Item

@@ -202,3 +202,15 @@ pub enum Item {
     /// A body that a service constructor begins and that isn't spelt right; its constructor.
     Broken(u32),
 }
+
+impl Item {
+    ghost use Rattle.std.specs.Prelude.{◌↔◌, IsTrue};
+    ghost use Rattle.service_tl.specs.Items.{IsOfSchema};
+
+    /// Whether it is an item of the schema, which has a spelling: not `Packed`, `Call` or `Broken`.
+    pub fn is_of_schema(&self) -> bool
+        ensures { IsTrue result ↔ IsOfSchema self.now }
+    {
+        !matches!(self, Item::Packed | Item::Call | Item::Broken(_))
+    }
+}

@@ -23,17 +23,22 @@ pub struct FutureSaltList {
 
 impl Model for FutureSaltList {
     ghost use Rattle.std.specs.Prelude.{List, length, ◌<◌, ◌^◌};
+    ghost use Rattle.std.specs.List.{AllByRecursion};
     ghost use Rattle.service_tl.specs.declared.lists.FutureSalt.{FutureSalt};
 
     ghost Value = { List FutureSalt };
 
+    ghost use Rattle.service_tl.specs.Sizes.{SaltFits};
+
     ghost view = { λ list. list.rows.items };
 
-    ghost invariant = { λ list. length list.rows.items < 2 ^ 32 };
+    ghost invariant = { λ list. (length list.rows.items < 2 ^ 32) × AllByRecursion SaltFits list.rows.items };
 }
 
 impl FutureSaltList {
     ghost use Rattle.std.specs.Prelude.{◌≡◌, ◌<◌, ◌^◌, ◌+◌, ◌++◌, ◌∷◌, [], length, OnOk, OnErr};
+    ghost use Rattle.std.specs.List.{AllByRecursion};
+    ghost use Rattle.service_tl.specs.Sizes.{SaltFits};
 
     /// No salt yet. Takes no memory.
     pub fn new(alloc: Global) -> FutureSaltList
@@ -58,6 +63,7 @@ impl FutureSaltList {
     pub fn as_slice(&self) -> &[FutureSalt]
         ensures value { result.now ≡ self.now }
         ensures length { length self.now < 2 ^ 32 }
+        ensures ranges { AllByRecursion SaltFits self.now }
     {
         self.rows.as_slice()
     }
@@ -87,16 +93,18 @@ impl Model for Messages {
 
     ghost Value = { List Message };
 
-    ghost use Rattle.service_tl.specs.Sizes.{AreSized};
+    ghost use Rattle.std.specs.List.{AllByRecursion};
+    ghost use Rattle.service_tl.specs.Sizes.{AreSized, IsInRange};
 
     ghost view = { λ list. list.messages.items };
 
-    ghost invariant = { λ list. AreSized list.messages.items };
+    ghost invariant = { λ list. AreSized list.messages.items × AllByRecursion IsInRange list.messages.items };
 }
 
 impl Messages {
     ghost use Rattle.std.specs.Prelude.{◌≡◌, ◌<◌, ◌^◌, ◌+◌, ◌++◌, ◌∷◌, [], length, OnOk, OnErr};
-    ghost use Rattle.service_tl.specs.Sizes.{AreSized};
+    ghost use Rattle.std.specs.List.{AllByRecursion};
+    ghost use Rattle.service_tl.specs.Sizes.{AreSized, IsInRange};
 
     /// No message yet. Takes no memory.
     pub fn new(alloc: Global) -> Messages
@@ -122,6 +130,7 @@ impl Messages {
     pub fn as_slice(&self) -> &[Message]
         ensures value { result.now ≡ self.now }
         ensures sizes { AreSized self.now }
+        ensures ranges { AllByRecursion IsInRange self.now }
     {
         self.messages.as_slice()
     }

@@ -1,16 +1,16 @@
 //! The parts of an item, written one after the other.
 
-ghost use Rattle.std.specs.Prelude.{◌≡◌, ◌++◌, map, All, OnOk, OnErr, IfOk};
-ghost use Rattle.service_tl.specs.Fields.{salt_row, message_row};
-ghost use Rattle.service_tl.specs.Sizes.{IsSized};
-ghost use Rattle.service_tl.specs.Items.{boxed, salt_rows, message_rows};
-ghost use Rattle.service_tl.specs.Parts.{part_spelling, PartFits};
+ghost use Rattle.std.specs.Prelude.{◌≡◌, ◌++◌, OnOk, OnErr, IfOk, length, ◌<◌, ◌^◌};
+ghost use Rattle.std.specs.List.{AllByRecursion};
+ghost use Rattle.service_tl.specs.Fields.{salt_row, message_row, field_spelling, Salts, Bodies};
+ghost use Rattle.service_tl.specs.Sizes.{AreSized, IsSized};
+ghost use Rattle.service_tl.specs.Parts.{part_spelling, parts_spelling, boxed, PartFits};
 
-use crate::lists::{FutureSalt, FutureSaltList, Message, Messages};
+use crate::lists::{FutureSalt, Message};
 use std::alloc::Global;
 use tl_codec::{Memory, Octets, Writer};
 
-/// A field as it is written.
+/// A field as it is written, or none.
 #[derive(Clone, Copy)]
 pub(crate) enum Part<'a> {
     Int(u32),
@@ -18,8 +18,9 @@ pub(crate) enum Part<'a> {
     Bytes(&'a [u8]),
     Longs(&'a [u64]),
     Rest(&'a [u8]),
-    Salts(&'a FutureSaltList),
-    Bodies(&'a Messages),
+    Salts(&'a [FutureSalt]),
+    Bodies(&'a [Message]),
+    End,
 }
 
 fn write_salt(alloc: Global, text: &mut Octets, row: &FutureSalt) -> Result<(), Memory>
@@ -44,10 +45,10 @@ fn write_message(alloc: Global, text: &mut Octets, message: &Message) -> Result<
     Ok(())
 }
 
-fn write_salts(alloc: Global, text: &mut Octets, list: &FutureSaltList) -> Result<(), Memory>
-    ensures { OnOk result (text.new ≡ text.old ++ salt_rows list.now) }
+fn write_salts(alloc: Global, text: &mut Octets, rows: &[FutureSalt]) -> Result<(), Memory>
+    requires { length rows.now < 2 ^ 32 }
+    ensures { OnOk result (text.new ≡ text.old ++ field_spelling Salts rows.now) }
 {
-    let rows = list.as_slice();
     let mut writer = Writer::new(text);
     writer.int(alloc, rows.len() as u32)?;
     for row in rows {
@@ -56,10 +57,10 @@ fn write_salts(alloc: Global, text: &mut Octets, list: &FutureSaltList) -> Resul
     Ok(())
 }
 
-fn write_messages(alloc: Global, text: &mut Octets, list: &Messages) -> Result<(), Memory>
-    ensures { OnOk result (text.new ≡ text.old ++ message_rows list.now) }
+fn write_messages(alloc: Global, text: &mut Octets, messages: &[Message]) -> Result<(), Memory>
+    requires { AreSized messages.now }
+    ensures { OnOk result (text.new ≡ text.old ++ field_spelling Bodies messages.now) }
 {
-    let messages = list.as_slice();
     let mut writer = Writer::new(text);
     writer.int(alloc, messages.len() as u32)?;
     for message in messages {
@@ -73,41 +74,29 @@ fn write_part(alloc: Global, text: &mut Octets, part: &Part<'_>) -> Result<(), M
     ensures { OnOk result (text.new ≡ text.old ++ part_spelling part.now) }
 {
     match part {
-        Part::Salts(list) => write_salts(alloc, text, list),
-        Part::Bodies(list) => write_messages(alloc, text, list),
+        Part::Salts(rows) => write_salts(alloc, text, rows),
+        Part::Bodies(messages) => write_messages(alloc, text, messages),
         Part::Rest(content) => text.push_all(alloc, content),
         Part::Int(value) => Writer::new(text).int(alloc, *value),
         Part::Long(value) => Writer::new(text).long(alloc, *value),
         Part::Bytes(content) => Writer::new(text).bytes(alloc, content),
         Part::Longs(numbers) => Writer::new(text).longs(alloc, numbers),
+        Part::End => Ok(()),
     }
 }
 
 // The constructor and the parts, one after the other, on their own.
-fn spelt(alloc: Global, number: u32, parts: &[Part<'_>]) -> Result<Octets, Memory>
-    requires { All PartFits parts.now }
-    ensures { IfOk result (λ text. text ≡ boxed number (map part_spelling parts.now)) }
+pub(crate) fn spelt(alloc: Global, number: u32, parts: &[Part<'_>; 4]) -> Result<Octets, Memory>
+    requires { AllByRecursion PartFits parts.now }
+    ensures { IfOk result (λ text. text ≡ boxed number parts.now) }
 {
+    let [a, b, c, d] = parts;
     let mut text = Octets::new(alloc);
     let mut writer = Writer::new(&mut text);
     writer.int(alloc, number)?;
-    for part in parts {
-        write_part(alloc, &mut text, part)?;
-    }
+    write_part(alloc, &mut text, a)?;
+    write_part(alloc, &mut text, b)?;
+    write_part(alloc, &mut text, c)?;
+    write_part(alloc, &mut text, d)?;
     Ok(text)
-}
-
-/// Puts the constructor and the parts at the end, all or none.
-pub(crate) fn put(
-    alloc: Global,
-    into: &mut Octets,
-    number: u32,
-    parts: &[Part<'_>],
-) -> Result<(), Memory>
-    requires { All PartFits parts.now }
-    ensures appended { OnOk result (into.new ≡ into.old ++ boxed number (map part_spelling parts.now)) }
-    ensures unchanged_on_memory { OnErr result (into.new ≡ into.old) }
-{
-    let text = spelt(alloc, number, parts)?;
-    into.push_all(alloc, text.as_slice())
 }
