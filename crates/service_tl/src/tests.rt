@@ -33,26 +33,20 @@ fn parsed_and_written(alloc: Global, body: &[u8]) -> Result<Octets, Memory>
     Ok(text)
 }
 
-// Whether an item is shown so, and written as the bytes that it was read of.
-fn agrees(alloc: Global, text: &str, want: &str) -> Result<bool, Memory> {
-    let bytes = hex::decode(alloc, text).map_err(|_| Memory)?;
-    let item = parse(alloc, &bytes)?;
+fn is_shown(alloc: Global, item: &Item, want: &str) -> Result<bool, Memory> {
     let shown = format!(in alloc; "{item:?}")?;
-    if !item.is_of_schema() {
-        return Ok(shown.as_str() == want);
+    Ok(shown.as_str() == want)
+}
+
+// Whether a body is read as the item that is shown so, and that item is written as the body.
+fn agrees(alloc: Global, body: &[u8], want: &str) -> Result<bool, Memory> {
+    let item = parse(alloc, body)?;
+    if !item.is_of_schema() || !is_shown(alloc, &item, want)? {
+        return Ok(false);
     }
     let mut written = Octets::new(alloc);
     write(alloc, &item, &mut written)?;
-    items_again();
-    let again = parsed_and_written(alloc, written.as_slice())?;
-    let read = written_and_parsed(alloc, &item)?;
-    let seen = format!(in alloc; "{read:?}")?;
-    Ok(
-        shown.as_str() == want
-            && seen.as_str() == want
-            && written.as_slice() == bytes.as_slice()
-            && again.as_slice() == bytes.as_slice(),
-    )
+    Ok(written.as_slice() == body)
 }
 
 #[test]
@@ -165,7 +159,8 @@ fn one_body_of_each_constructor(rt: HostRuntime) -> Result<(), Fail> {
         ),
     ];
     for (text, want) in rows {
-        assert!(rt; agrees(alloc, text, want)?, "{want}");
+        let body = hex::decode(alloc, text).ok().ok_or("hexadecimal digits")?;
+        assert!(rt; agrees(alloc, &body, want)?, "{want}");
     }
     Ok(())
 }

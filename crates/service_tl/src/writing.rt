@@ -29,6 +29,7 @@ pub fn write(alloc: Global, item: &Item, into: &mut Octets) -> Result<(), Memory
 }
 
 // An item's constructor and its fields in the schema's order.
+#[tactic(auto, unfolding(crate::specs::Items::filled))]
 fn parts_of(item: &Item) -> (u32, [Part<'_>; 4])
     requires { IsWritable item.now }
     ensures spelling { boxed result.0 result.1 ≡ spelling_of item.now }
