@@ -26,7 +26,7 @@ abbrev pub of : (row : Row) → Values row.fields → Option Filled
 of row values = Some (record { row = row; values = values })
 
 -- The row that an item is made by, and its values. What isn't read has none.
-unfoldable pub filled : Item → Option Filled
+abbrev pub filled : Item → Option Filled
 filled (RpcResult req_msg_id result) = of rpc_result (req_msg_id, (result, tt))
 filled (RpcError error_code error_message) = of rpc_error (error_code, (error_message, tt))
 filled (RpcDropAnswer req_msg_id) = of rpc_drop_answer (req_msg_id, tt)

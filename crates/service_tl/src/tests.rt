@@ -8,7 +8,7 @@ use super::*;
 use crate::laws::items_again;
 use std::alloc::Global;
 use std::test::*;
-use tl_codec::{Memory, Octets};
+use tl_codec::{IdList, Memory, Octets};
 
 // What is written of an item and parsed is that item.
 fn written_and_parsed(alloc: Global, item: &Item) -> Result<Item, Memory>
@@ -30,6 +30,16 @@ fn parsed_and_written(alloc: Global, body: &[u8]) -> Result<Octets, Memory>
     let item = parse(alloc, body)?;
     let mut text = Octets::new(alloc);
     write(alloc, &item, &mut text)?;
+    Ok(text)
+}
+
+// An item that the caller makes is written with no word of the schema.
+fn ack_and_pong(alloc: Global, number: u64, ping_id: u64) -> Result<Octets, Memory> {
+    let mut text = Octets::new(alloc);
+    let msg_ids = IdList::copy(alloc, &[number])?;
+    write(alloc, &Item::MsgsAck { msg_ids }, &mut text)?;
+    let msg_id = number;
+    write(alloc, &Item::Pong { msg_id, ping_id }, &mut text)?;
     Ok(text)
 }
 
