@@ -4,7 +4,7 @@ use Rattle.std.specs.List.{flat_map, AllByRecursion}
 use Rattle.std.proofs.lemmas.Bool.{ne_eqb, ltb-true}
 use Rattle.std.proofs.lemmas.List.{append-nil, drop_at, get_or-drop}
 use Rattle.tl_codec.specs.declared.fault.TlFault.{TlFault}
-use Rattle.tl_codec.specs.Bytes.{IsBytes}
+use Rattle.octets.specs.Bytes.{IsBytes}
 use Rattle.tl_codec.specs.Spelling.{Form, Int, Long, Raw, Bytes, Longs, Truth, Tag, Of, Fits, Spells, Reads, spelling}
 use Rattle.tl_codec.specs.Reading.{◌>>=◌, Takes, read_at}
 use Rattle.service_tl.specs.declared.item.Item.{Item}

@@ -1,6 +1,6 @@
 -- What a body is, said of the whole text and not field by field.
 use Rattle.std.specs.Prelude.{◌≡◌, ℕ, List, [], ◌∷◌, ◌++◌}
-use Rattle.tl_codec.specs.Bytes.{IsBytes}
+use Rattle.octets.specs.Bytes.{IsBytes}
 use Rattle.tl_codec.specs.Spelling.{Int, Reads, spelling}
 use Rattle.service_tl.specs.declared.item.Item.{Item}
 use Rattle.service_tl.specs.declared.item.Item.TheVariants.{Broken}

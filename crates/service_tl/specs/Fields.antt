@@ -66,7 +66,7 @@ message_at text = do
   body ← read_at (Raw bytes.0) bytes.1
   Ok (record { number = number.0; seq = seq.0; body = body.0 }, body.1)
 
--- so many items, one after the other
+-- `count` items, one after the other
 unfoldable pub items_at : {A : Type 0} → (List ℕ → Result (A × List ℕ) TlFault) → ℕ → List ℕ → Result (List A × List ℕ) TlFault
 items_at item_at zero text = Ok ([], text)
 items_at item_at (suc count) text = do

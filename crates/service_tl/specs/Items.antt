@@ -1,6 +1,6 @@
 -- How an item is spelt, and which items are written: all by the rows of the schema.
 use Rattle.std.specs.Prelude.{◌≤◌, ℕ, List, [], ◌∷◌, ◌++◌, length, Option, Some, None, ⊤}
-use Rattle.tl_codec.specs.declared.tags.TheConstants.{BYTES_MAX, LONGS_MAX}
+use Rattle.tl_codec.specs.Standard.{bytes_max, longs_max}
 use Rattle.tl_codec.specs.Spelling.{Int, Bytes, Longs, spelling}
 use Rattle.service_tl.specs.declared.item.Item.{Item}
 use Rattle.service_tl.specs.declared.item.Item.TheVariants.{RpcResult, RpcError, RpcDropAnswer, RpcAnswerUnknown, RpcAnswerDroppedRunning, RpcAnswerDropped, GetFutureSalts, FutureSalts, Ping, PingDelayDisconnect, Pong, DestroySession, DestroySessionOk, DestroySessionNone, NewSessionCreated, MsgContainer, MsgsAck, MsgsStateReq, MsgsStateInfo, MsgsAllInfo, MsgResendReq, MsgDetailedInfo, MsgNewDetailedInfo, BadMsgNotification, BadServerSalt, InvokeAfterMsg, InvokeAfterMsgs, AuthBindTempAuthKey, Packed, Call, Broken}
@@ -98,8 +98,8 @@ ItemFits item = FilledFits (filled item)
 -- ---- too long, since a program's numbers fit by their types
 
 abbrev pub IsShort : (field : Field) → Holds field → Type 0
-IsShort (Plain Bytes) content = length content ≤ BYTES_MAX
-IsShort (Plain Longs) numbers = length numbers ≤ LONGS_MAX
+IsShort (Plain Bytes) content = length content ≤ bytes_max
+IsShort (Plain Longs) numbers = length numbers ≤ longs_max
 IsShort other value = ⊤
 
 abbrev pub AreShort : (fields : List Field) → Values fields → Type 0

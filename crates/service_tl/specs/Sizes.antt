@@ -2,7 +2,7 @@
 -- and bytes there are, since both are counted by 4 bytes on the wire.
 use Rattle.std.specs.Prelude.{◌<◌, ◌^◌, List, length}
 use Rattle.std.specs.List.{AllByRecursion}
-use Rattle.tl_codec.specs.Bytes.{IsBytes}
+use Rattle.octets.specs.Bytes.{IsBytes}
 use Rattle.service_tl.specs.declared.lists.FutureSalt.{FutureSalt}
 use Rattle.service_tl.specs.declared.lists.Message.{Message}
 

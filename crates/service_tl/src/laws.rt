@@ -3,7 +3,7 @@
 
 ghost use Rattle.std.specs.Prelude.{◌≡◌, ◌<◌, ◌^◌, ℕ, List, [], ◌∷◌, length, Contains};
 ghost use Rattle.std.specs.List.{AllByRecursion};
-ghost use Rattle.tl_codec.specs.Bytes.{IsBytes};
+ghost use Rattle.octets.specs.Bytes.{IsBytes};
 ghost use Rattle.service_tl.specs.declared.item.Item.{Item};
 ghost use Rattle.service_tl.specs.declared.item.Item.TheVariants.{Packed, Call};
 ghost use Rattle.service_tl.specs.Items.{spelling_of, ItemFits, IsWritable, IsOfSchema};
@@ -12,7 +12,7 @@ ghost use Rattle.service_tl.specs.ItemOf.{item_of};
 ghost use Rattle.service_tl.specs.Exact.{behind, IsRead, IsBroken};
 
 use crate::numbers::*;
-use tl_codec::{exact_reading, written_again};
+use tl_codec::laws::{exact_reading, written_again};
 
 /// The constants of this crate are the standard's constructor numbers, in the order of the schema.
 #[tactic(auto, unfolding(crate::specs::Schema::schema, crate::specs::Schema::service_numbers))]

@@ -49,7 +49,11 @@ impl FutureSaltList {
         }
     }
 
-    /// Puts a salt at the end. Fails for want of memory alone, and then leaves the list as it was.
+    /// Puts a salt at the end.
+    ///
+    /// # Errors
+    ///
+    /// `Memory`, and then the list is as it was.
     pub fn push(&mut self, _alloc: Global, row: FutureSalt) -> Result<(), Memory>
         requires { length self.old + 1 < 2 ^ 32 }
         ensures pushed { OnOk result (self.new ≡ self.old ++ row ∷ []) }
@@ -115,7 +119,11 @@ impl Messages {
         }
     }
 
-    /// Puts a message at the end. Fails for want of memory alone, and then leaves the list as it was.
+    /// Puts a message at the end.
+    ///
+    /// # Errors
+    ///
+    /// `Memory`, and then the list is as it was.
     pub fn push(&mut self, _alloc: Global, message: Message) -> Result<(), Memory>
         requires few { length self.old + 1 < 2 ^ 32 }
         requires short { length message.body < 2 ^ 32 }

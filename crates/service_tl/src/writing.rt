@@ -12,7 +12,7 @@ use crate::parts::{Part, spelt};
 use std::alloc::Global;
 use tl_codec::{Memory, Octets};
 
-/// Writes an item at the end of the text.
+/// Writes an item at the end of the text. The room for it is taken once.
 ///
 /// # Errors
 ///
@@ -24,12 +24,14 @@ pub fn write(alloc: Global, item: &Item, into: &mut Octets) -> Result<(), Memory
     ensures unchanged_on_memory { OnErr result (into.new ≡ into.old) }
 {
     let (number, parts) = parts_of(item);
-    let text = spelt(alloc, number, &parts)?;
-    into.push_all(alloc, text.as_slice())
+    let room = size_of(&parts).ok_or(Memory)?;
+    let mut buffer = Buffer::after(alloc, into, room)?;
+    fill_boxed(&mut buffer, number, &parts);
+    *into = buffer.into_octets();
+    Ok(())
 }
 
 // An item's constructor and its fields in the schema's order.
-#[tactic(auto, unfolding(crate::specs::Items::filled))]
 fn parts_of(item: &Item) -> (u32, [Part<'_>; 4])
     requires { IsWritable item.now }
     ensures spelling { boxed result.0 result.1 ≡ spelling_of item.now }
