@@ -101,7 +101,7 @@ StandsIn item (Some of) = Stands item of
 StandsIn item None = ⊤
 
 pub stands : (item : Item) → StandsIn item (filled item)
-unfolding schema filled
+unfolding schema
 stands Packed = tt
 stands Call = tt
 stands (Broken number) = tt
@@ -112,5 +112,5 @@ abbrev pub MakesFit : Row → Type 0
 MakesFit row = (values : Values row.fields) → FieldsFit row.fields values → ItemFits (made row.fields row.item values)
 
 pub each_fit : AllByRecursion MakesFit schema
-unfolding schema filled
+unfolding schema
 each_fit = search rules

@@ -10,6 +10,7 @@ use octets::Buffer;
 use tl_codec::fill;
 
 const INT_BYTES: usize = 4;
+
 const LONG_BYTES: usize = 8;
 
 /// A field as it is written. `End` is no field, and fills up an array of them.
@@ -26,7 +27,7 @@ pub(crate) enum Part<'a> {
 }
 
 /// How many bytes a constructor and the parts behind it take; none where there are too many to count.
-pub(crate) fn size_of(parts: &[Part<'_>; 4]) -> Option<usize>
+pub(crate) fn size_of_parts(parts: &[Part<'_>; 4]) -> Option<usize>
     requires { AllByRecursion PartFits parts.now }
     ensures { IfSome result (λ size. size ≡ 4 + parts_size parts.now) }
 {

@@ -8,7 +8,8 @@ ghost use Rattle.service_tl.specs.Parts.{boxed, PartFits};
 use crate::item::Item;
 use crate::numbers::*;
 use crate::parts::Part::{Bodies, Bytes, End, Int, Long, Longs, Rest, Salts};
-use crate::parts::{Part, spelt};
+use crate::parts::{Part, fill_boxed, size_of_parts};
+use octets::Buffer;
 use std::alloc::Global;
 use tl_codec::{Memory, Octets};
 
@@ -24,7 +25,7 @@ pub fn write(alloc: Global, item: &Item, into: &mut Octets) -> Result<(), Memory
     ensures unchanged_on_memory { OnErr result (into.new ≡ into.old) }
 {
     let (number, parts) = parts_of(item);
-    let room = size_of(&parts).ok_or(Memory)?;
+    let room = size_of_parts(&parts).ok_or(Memory)?;
     let mut buffer = Buffer::after(alloc, into, room)?;
     fill_boxed(&mut buffer, number, &parts);
     *into = buffer.into_octets();
