@@ -3,5 +3,5 @@ pub mod Fields
 pub mod Schema
 pub mod Items
 pub mod ItemOf
-pub mod Parts
 pub mod Exact
+pub mod Parts
