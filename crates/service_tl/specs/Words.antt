@@ -2,7 +2,7 @@
 -- "Encrypted Message"): which items have such a spelling.
 use Rattle.std.specs.Prelude.{◌≡◌, ◌%◌, ℕ, List, [], ◌∷◌, length, Option, Some, None, ⊤}
 use Rattle.std.specs.List.{AllByRecursion}
-use Rattle.tl_codec.specs.Spelling.{Form, Int, Long, Raw, Bytes, Longs, Truth, Tag}
+use Rattle.tl_codec.specs.Spelling.{Raw}
 use Rattle.service_tl.specs.declared.item.Item.{Item}
 use Rattle.service_tl.specs.declared.lists.Message.{Message}
 use Rattle.service_tl.specs.Fields.{Field, Plain, Rest, Salts, Bodies, Holds}
