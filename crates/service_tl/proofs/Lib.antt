@@ -1,8 +1,9 @@
 pub mod Loop
 pub mod Rows
 pub mod Membership
-pub mod Written
+pub mod Table
 pub mod Again
 pub mod Exact
 pub mod Found
 pub mod Others
+pub mod WordsLemmas

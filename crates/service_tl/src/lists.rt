@@ -1,6 +1,6 @@
 //! The lists that stand in items.
 
-use std::alloc::Global;
+use std::alloc::{AllocError, Global};
 use std::marker::Model;
 use tl_codec::{Memory, Octets};
 
@@ -23,17 +23,22 @@ pub struct FutureSaltList {
 
 impl Model for FutureSaltList {
     ghost use Rattle.std.specs.Prelude.{List, length, ◌<◌, ◌^◌};
+    ghost use Rattle.std.specs.List.{AllByRecursion};
     ghost use Rattle.service_tl.specs.declared.lists.FutureSalt.{FutureSalt};
 
     ghost Value = { List FutureSalt };
 
+    ghost use Rattle.service_tl.specs.Sizes.{SaltFits};
+
     ghost view = { λ list. list.rows.items };
 
-    ghost invariant = { λ list. length list.rows.items < 2 ^ 32 };
+    ghost invariant = { λ list. (length list.rows.items < 2 ^ 32) × AllByRecursion SaltFits list.rows.items };
 }
 
 impl FutureSaltList {
     ghost use Rattle.std.specs.Prelude.{◌≡◌, ◌<◌, ◌^◌, ◌+◌, ◌++◌, ◌∷◌, [], length, OnOk, OnErr};
+    ghost use Rattle.std.specs.List.{AllByRecursion};
+    ghost use Rattle.service_tl.specs.Sizes.{SaltFits};
 
     /// No salt yet. Takes no memory.
     pub fn new(alloc: Global) -> FutureSaltList
@@ -44,7 +49,11 @@ impl FutureSaltList {
         }
     }
 
-    /// Puts a salt at the end. Fails for want of memory alone, and then leaves the list as it was.
+    /// Puts a salt at the end.
+    ///
+    /// # Errors
+    ///
+    /// `Memory`, and then the list is as it was.
     pub fn push(&mut self, _alloc: Global, row: FutureSalt) -> Result<(), Memory>
         requires { length self.old + 1 < 2 ^ 32 }
         ensures pushed { OnOk result (self.new ≡ self.old ++ row ∷ []) }
@@ -58,8 +67,21 @@ impl FutureSaltList {
     pub fn as_slice(&self) -> &[FutureSalt]
         ensures value { result.now ≡ self.now }
         ensures length { length self.now < 2 ^ 32 }
+        ensures ranges { AllByRecursion SaltFits self.now }
     {
         self.rows.as_slice()
+    }
+}
+
+impl Clone for FutureSaltList {
+    ghost use Rattle.std.specs.Prelude.{◌≡◌};
+
+    ghost is_clone = { λ list copy. copy ≡ list };
+
+    fn clone(&self) -> Result<FutureSaltList, AllocError> {
+        Ok(FutureSaltList {
+            rows: self.rows.clone()?,
+        })
     }
 }
 
@@ -72,6 +94,20 @@ pub struct Message {
     pub seq: u32,
     /// Its body, of fewer than `2^32` bytes.
     pub body: Octets,
+}
+
+impl Clone for Message {
+    ghost use Rattle.std.specs.Prelude.{◌≡◌};
+
+    ghost is_clone = { λ message copy. copy ≡ message };
+
+    fn clone(&self) -> Result<Message, AllocError> {
+        Ok(Message {
+            number: self.number,
+            seq: self.seq,
+            body: self.body.clone()?,
+        })
+    }
 }
 
 /// Messages in order, fewer than `2^32` of them and each of fewer than `2^32` bytes. Contracts see it as
@@ -87,16 +123,18 @@ impl Model for Messages {
 
     ghost Value = { List Message };
 
-    ghost use Rattle.service_tl.specs.Sizes.{AreSized};
+    ghost use Rattle.std.specs.List.{AllByRecursion};
+    ghost use Rattle.service_tl.specs.Sizes.{AreSized, IsInRange};
 
     ghost view = { λ list. list.messages.items };
 
-    ghost invariant = { λ list. AreSized list.messages.items };
+    ghost invariant = { λ list. AreSized list.messages.items × AllByRecursion IsInRange list.messages.items };
 }
 
 impl Messages {
     ghost use Rattle.std.specs.Prelude.{◌≡◌, ◌<◌, ◌^◌, ◌+◌, ◌++◌, ◌∷◌, [], length, OnOk, OnErr};
-    ghost use Rattle.service_tl.specs.Sizes.{AreSized};
+    ghost use Rattle.std.specs.List.{AllByRecursion};
+    ghost use Rattle.service_tl.specs.Sizes.{AreSized, IsInRange};
 
     /// No message yet. Takes no memory.
     pub fn new(alloc: Global) -> Messages
@@ -107,7 +145,11 @@ impl Messages {
         }
     }
 
-    /// Puts a message at the end. Fails for want of memory alone, and then leaves the list as it was.
+    /// Puts a message at the end.
+    ///
+    /// # Errors
+    ///
+    /// `Memory`, and then the list is as it was.
     pub fn push(&mut self, _alloc: Global, message: Message) -> Result<(), Memory>
         requires few { length self.old + 1 < 2 ^ 32 }
         requires short { length message.body < 2 ^ 32 }
@@ -122,7 +164,20 @@ impl Messages {
     pub fn as_slice(&self) -> &[Message]
         ensures value { result.now ≡ self.now }
         ensures sizes { AreSized self.now }
+        ensures ranges { AllByRecursion IsInRange self.now }
     {
         self.messages.as_slice()
+    }
+}
+
+impl Clone for Messages {
+    ghost use Rattle.std.specs.Prelude.{◌≡◌};
+
+    ghost is_clone = { λ list copy. copy ≡ list };
+
+    fn clone(&self) -> Result<Messages, AllocError> {
+        Ok(Messages {
+            messages: self.messages.clone()?,
+        })
     }
 }
