@@ -1,7 +1,7 @@
 -- What is put into ascending lists, and what stays in order.
-use Rattle.std.proofs.Common.{◌≡◌, ◌≢◌, ◌∙◌, ℕ, suc, ◌+◌, ◌<◌, ◌≤◌, Bool, true, false, ◌&&◌, ltb, eqb, cond, Option, Some, None, List, [], ◌∷◌, ◌++◌, map, length, drop, ap, subst, refl, sym, inl, inr, arith, IfSome}
+use Rattle.std.proofs.Common.{◌≡◌, ◌≢◌, ◌∙◌, ℕ, suc, ◌+◌, ◌-◌, ◌^◌, ◌<◌, ◌≤◌, Bool, true, false, ◌&&◌, ltb, leb, eqb, cond, Option, Some, None, List, [], ◌∷◌, ◌++◌, map, length, drop, get_or, ap, subst, refl, sym, inl, inr, arith, IfSome}
 use Rattle.std.specs.List.{list_any, filter_map, cons_option}
-use Rattle.std.proofs.lemmas.Bool.{cases_lt, cases_eq, cases_Bool, lt-ltb, le-ltb, ltb-true, ltb-false, eq-eqb, ne_eqb, or_parts, and_from}
+use Rattle.std.proofs.lemmas.Bool.{cases_lt, cases_eq, cases_Bool, lt-ltb, le-ltb, le-leb, lt-leb, ltb-true, ltb-false, eq-eqb, ne_eqb, or_parts, and_from}
 use Rattle.std.proofs.lemmas.List.{map-id, length-map}
 use Rattle.id_window.specs.declared.cross.Cross.TheVariants.{None as Apart}
 use Rattle.id_window.specs.declared.mark.Mark.{Mark}
@@ -10,7 +10,7 @@ use Rattle.id_window.specs.declared.rows.Accepted.{Accepted}
 use Rattle.id_window.specs.Marks.{is_accepted}
 use Rattle.id_window.specs.History.{inserted}
 use Rattle.id_window.specs.Crossing.{is_odd, is_past, is_short, makes_low, makes_high, crossing}
-use Rattle.id_window.specs.Window.{IsAbove, Rises, IsFrom, SeqsNeverFall, IsInOrder, accepted_number, mark_in, with_mark}
+use Rattle.id_window.specs.Window.{IsAbove, Rises, IsFrom, SeqsNeverFall, IsInOrder, accepted_number, mark_in, with_mark, room_in}
 use Rattle.id_window.proofs.CrossingLemmas.{none_low, none_high}
 use Rattle.id_window.proofs.PlaceLemmas.{row_number, accepted_key, above_lower}
 
@@ -280,3 +280,80 @@ order_marked floor number mark rows accepted order taken was =
       same_accepted = order.same_accepted ∙ sym (accepted-with_mark number mark rows taken was);
       seqs = order.seqs;
       size = omega (arith, order.size, length-map (with_mark number mark rows) row_number, length-map rows row_number, ap length numbers) }
+
+-- ---- room
+
+-- what has room for one more, and for all that are reserved without it
+pub room_for_one : (reserved capacity count : ℕ) → 0 < reserved → reserved ≤ room_in capacity count → count < 16384 → count < capacity
+room_for_one reserved capacity count some le size = elim (cases_lt capacity 16384) [
+    inl small ↦ let e : leb 16384 capacity ≡ false = lt-leb 16384 capacity small in let le' : reserved ≤ capacity - count = rw e at le in omega arith
+  | inr all ↦ omega arith ]
+
+pub room_left : (reserved capacity count capacity' count' : ℕ) → reserved < 2 ^ 64 → reserved ≤ room_in capacity count → capacity ≤ capacity' → count' ≤ suc count → reserved - 1 ≤ room_in capacity' count'
+room_left reserved capacity count capacity' count' fits le more counts = elim (cases_lt capacity' 16384) [
+    inl small ↦
+      let e : leb 16384 capacity ≡ false = lt-leb 16384 capacity (omega arith) in
+      let e' : leb 16384 capacity' ≡ false = lt-leb 16384 capacity' small in
+      let le' : reserved ≤ capacity - count = rw e at le in
+      rw e' (omega arith)
+  | inr all ↦ let e' : leb 16384 capacity' ≡ true = le-leb 16384 capacity' all in rw e' (omega arith) ]
+
+pub room_kept : (reserved capacity count capacity' count' : ℕ) → reserved ≤ room_in capacity count → capacity' ≡ capacity → count' ≤ count → reserved ≤ room_in capacity' count'
+room_kept reserved capacity count capacity' count' le same counts = elim (cases_lt capacity 16384) [
+    inl small ↦
+      let e : leb 16384 capacity ≡ false = lt-leb 16384 capacity small in
+      let e' : leb 16384 capacity' ≡ false = lt-leb 16384 capacity' (omega arith) in
+      let le' : reserved ≤ capacity - count = rw e at le in
+      rw e' (omega arith)
+  | inr all ↦
+      let e : leb 16384 capacity ≡ true = le-leb 16384 capacity all in
+      let e' : leb 16384 capacity' ≡ true = le-leb 16384 capacity' (omega arith) in
+      let le' : reserved ≤ 2 ^ 64 = rw e at le in
+      rw e' le' ]
+
+pub length_entered : (b : Bool) (one : Accepted) (xs : List Accepted) → length (cond b (inserted accepted_key one xs) xs) ≤ suc (length xs)
+length_entered true one xs = omega (arith, length-inserted accepted_key one xs)
+length_entered false one xs = omega arith
+
+pub length_taken : (b : Bool) (xs : List Accepted) → length (cond b (drop 1 xs) xs) ≤ length xs
+length_taken true [] = omega arith
+length_taken true (x ∷ xs) = omega arith
+length_taken false xs = omega arith
+
+-- ---- the least row out
+
+pub mark_in_others : (number : ℕ) (row : Row) (rows : List Row) → mark_in number (row ∷ rows) ≡ None → (row.number ≢ number) × (mark_in number rows ≡ None)
+mark_in_others number row rows none =
+    let other = (absent_from_mark number (row ∷ rows) none).0 in
+    let e : eqb row.number number ≡ false = ne_eqb row.number number other in
+    (other, rw e at none)
+
+pub apart_taken : (number seq : ℕ) (b : Bool) (xs : List Accepted) → crossing number seq xs ≡ Apart → crossing number seq (cond b (drop 1 xs) xs) ≡ Apart
+apart_taken number seq false xs apart = apart
+apart_taken number seq true [] apart = apart
+apart_taken number seq true (x ∷ xs) apart =
+    let low = (or_parts (makes_low number seq x) (list_any (makes_low number seq) xs) (none_low number seq (x ∷ xs) apart)).1 in
+    let high = (or_parts (makes_high number seq x) (list_any (makes_high number seq) xs) (none_high number seq (x ∷ xs) apart)).1 in
+    rw (low, high) refl
+
+-- the same window in other words
+pub order_as : (floor : ℕ) (rows rows' : List Row) (accepted accepted' : List Accepted) → rows' ≡ rows → accepted' ≡ accepted → IsInOrder floor rows accepted → IsInOrder floor rows' accepted'
+order_as floor rows rows' accepted accepted' e f order = rw (e, f) order
+
+-- a full window's least row, which is the first one, is below the number where the first one isn't above it
+pub least_below : (number : ℕ) (rows : List Row) (first least : Row) (others : List Row) → rows ≡ least ∷ others → first ≡ get_or rows 0 first → first.number ≤ number → mark_in number rows ≡ None → least.number < number
+least_below number rows first least others e read le none =
+    let same : first ≡ least = read ∙ ap (λ (xs : List Row). get_or xs 0 first) e in
+    let none' : mark_in number (least ∷ others) ≡ None = subst (λ (xs : List Row). mark_in number xs ≡ None) e none in
+    omega (arith, ap row_number same, (mark_in_others number least others none').0)
+
+pub order_left : (floor : ℕ) (rows : List Row) (least : Row) (others : List Row) (accepted accepted' : List Accepted) → IsInOrder floor rows accepted → rows ≡ least ∷ others → accepted' ≡ cond (is_accepted least.mark) (drop 1 accepted) accepted → IsInOrder least.number others accepted'
+order_left floor rows least others accepted accepted' order e f =
+    rw f (order_taken floor least others accepted (subst (λ (xs : List Row). IsInOrder floor xs accepted) e order))
+
+-- a number above the rows that it is below
+pub above_first : (number floor : ℕ) (rows : List Row) (first : Row) → Rises (floor ∷ map row_number rows) → 0 < length rows → first ≡ get_or rows 0 first → number < first.number → IsAbove number (map row_number rows)
+above_first number floor [] first rises some read lt = absurd (omega arith)
+above_first number floor (row ∷ rows) first rises some read lt =
+    let below : number < row.number = omega (arith, ap row_number read) in
+    (below, above_lower number row.number (map row_number rows) (omega arith) rises.1.0)

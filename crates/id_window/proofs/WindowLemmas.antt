@@ -9,7 +9,7 @@ use Rattle.id_window.specs.declared.rows.Accepted.{Accepted}
 use Rattle.id_window.specs.Marks.{Marks, mark_of, given, is_accepted}
 use Rattle.id_window.specs.History.{History, FirstJudgement, Outcome, was_accepted, EachOnce, inserted, noted, greatest_among, greatest, floor, kept, forgotten, accepted_part, accepted_of, found, newly_forgotten}
 use Rattle.id_window.specs.Window.{Contents, IsAbove, Rises, IsInOrder, IsRowOf, Stands, mark_in, with_mark, greatest_in}
-use Rattle.id_window.proofs.PlaceLemmas.{row_number, accepted_key}
+use Rattle.id_window.proofs.PlaceLemmas.{row_number, accepted_key, with_mark_absent}
 use Rattle.id_window.proofs.OrderLemmas.{Absent, NoneBelow, none_below_above, absent_from_mark, inserted_first, inserted_later, option_inserted, parts_inserted}
 use Rattle.id_window.proofs.HistoryLemmas.{judged_number, mark_of-same, mark_of-other, all_of, length-kept, greatest-ascending, greatest-append, never_recorded, once_more, kept-with_room, floor-with_room, kept-full, floor-full}
 
@@ -265,6 +265,14 @@ module _ (w : Contents) (history : History) (marks : Marks) (number seq : ℕ) (
 
 -- ---- another mark
 
-pub stands_marked : (w : Contents) (history : History) (marks : Marks) (number : ℕ) (mark : Mark) → Rises (map row_number w.rows) → is_accepted mark ≡ true → IfSome (mark_in number w.rows) (λ last. is_accepted last ≡ true) → Stands w history marks → Stands (record w { rows = with_mark number mark w.rows }) history (given number mark marks)
-stands_marked w history marks number mark rises taken was stands =
-    record { rows = zip_marked number mark marks w.rows (kept history) rises taken was stands.rows; accepted = stands.accepted; floor = stands.floor; once = stands.once }
+pub marked_stands : (after w : Contents) (history : History) (marks : Marks) (number : ℕ) (mark : Mark) → after ≡ record w { rows = with_mark number mark w.rows } → Rises (map row_number w.rows) → is_accepted mark ≡ true → IfSome (mark_in number w.rows) (λ last. is_accepted last ≡ true) → Stands w history marks → Stands after history (given number mark marks)
+marked_stands after w history marks number mark is rises taken was stands =
+    rw is (record { rows = zip_marked number mark marks w.rows (kept history) rises taken was stands.rows; accepted = stands.accepted; floor = stands.floor; once = stands.once })
+
+pub unmarked : (w : Contents) (number : ℕ) (mark : Mark) → mark_in number w.rows ≡ None → w ≡ record w { rows = with_mark number mark w.rows }
+unmarked w number mark absent = ap (λ (rows : List Row). record w { rows = rows }) (sym (with_mark_absent number mark w.rows absent))
+
+-- the same window in other words
+pub stands_as : (history : History) (marks : Marks) (floor room : ℕ) (rows rows' : List Row) (accepted accepted' : List Accepted) → rows' ≡ rows → accepted' ≡ accepted
+  → Stands (record { rows = rows; accepted = accepted; floor = floor; room = room }) history marks → Stands (record { rows = rows'; accepted = accepted'; floor = floor; room = room }) history marks
+stands_as history marks floor room rows rows' accepted accepted' e f stands = rw (e, f) stands
