@@ -3,3 +3,4 @@ pub mod CrossingLemmas
 pub mod OrderLemmas
 pub mod HistoryLemmas
 pub mod WindowLemmas
+pub mod LawLemmas

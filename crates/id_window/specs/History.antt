@@ -52,11 +52,11 @@ abbrev pub ascending : History → History
 ascending history = fold (λ sorted judgement. inserted (λ judged. judged.number) judgement sorted) [] history
 
 -- 16,384 numbers are kept, the greatest: the last ones in ascending order
-abbrev pub kept : History → History
+unfoldable pub kept : History → History
 kept history = drop (length history - 16384) (ascending history)
 
 -- the others
-abbrev pub forgotten : History → History
+unfoldable pub forgotten : History → History
 forgotten history = take (length history - 16384) (ascending history)
 
 abbrev pub is_kept : ℕ → History → Bool

@@ -38,10 +38,10 @@ impl Model for Window {
     ghost Value = { Contents };
 
     ghost view = { λ window. record {
-        rows = window.rows.items;
-        accepted = window.accepted.items;
-        floor = window.forgotten_up_to;
-        room = window.reserved
+      rows = window.rows.items;
+      accepted = window.accepted.items;
+      floor = window.forgotten_up_to;
+      room = window.reserved;
     } };
 
     ghost invariant = { λ window. IsInOrder window.forgotten_up_to window.rows.items window.accepted.items
