@@ -1,9 +1,8 @@
 -- What crosses an accepted message crosses a neighbour, since the seqs never fall.
-use Rattle.std.proofs.Common.{◌≡◌, ◌∙◌, ℕ, ◌<◌, ◌≤◌, Bool, true, false, ◌||◌, ◌&&◌, ltb, eqb, cond, Option, Some, None, List, [], ◌∷◌, map, ap, refl, sym, inl, inr, arith}
+use Rattle.std.proofs.Common.{◌≡◌, ◌∙◌, ℕ, ◌≤◌, Bool, true, false, ◌||◌, ◌&&◌, ltb, eqb, Some, None, List, [], ◌∷◌, map, refl, sym, inl, inr, arith}
 use Rattle.std.specs.List.{list_any}
-use Rattle.std.proofs.lemmas.Bool.{cases_lt, cases_Bool, lt-ltb, le-ltb, ltb-true, ltb-false, eq-eqb, eqb-true, and_parts, and_from, or_cases, or_left, or_right, or_parts}
+use Rattle.std.proofs.lemmas.Bool.{cases_lt, cases_Bool, lt-ltb, le-ltb, ltb-true, eqb-true, and_parts, or_cases, or_left}
 use Rattle.id_window.specs.declared.rows.Accepted.{Accepted}
-use Rattle.id_window.specs.declared.cross.Cross.{Cross}
 use Rattle.id_window.specs.declared.cross.Cross.TheVariants.{None as Apart, Low, High}
 use Rattle.id_window.specs.Crossing.{is_odd, is_past, is_short, makes_low, makes_high, crossing}
 use Rattle.id_window.specs.Window.{IsAbove, Rises, IsFrom, SeqsNeverFall}

@@ -1,14 +1,12 @@
 -- What one more judgement does to what is kept of a history.
-use Rattle.std.proofs.Common.{◌≡◌, ◌≢◌, ◌∙◌, ℕ, zero, suc, ◌+◌, ◌-◌, ◌<◌, ◌≤◌, max, Bool, true, false, ltb, eqb, cond, Option, Some, None, List, [], ◌∷◌, ◌++◌, fold, map, length, take, drop, get_or, ap, subst, refl, sym, inl, inr, arith, add-one}
-use Rattle.std.specs.List.{list_any, AllPairs}
-use Rattle.std.proofs.lemmas.Bool.{cases_lt, cases_eq, lt-ltb, le-ltb, eq-eqb, ne_eqb}
+use Rattle.std.proofs.Common.{◌≡◌, ◌≢◌, ◌∙◌, ℕ, zero, suc, ◌+◌, ◌-◌, ◌<◌, ◌≤◌, max, true, false, ltb, eqb, cond, Some, None, [], ◌∷◌, ◌++◌, fold, map, length, take, drop, get_or, ap, subst, refl, sym, inl, inr, arith, add-one}
+use Rattle.std.proofs.lemmas.Bool.{cases_lt, le-ltb, eq-eqb, ne_eqb}
 use Rattle.std.proofs.lemmas.Grind.{fold-append}
-use Rattle.std.proofs.lemmas.List.{length-append, length-take, length-drop, take-append-drop, drop_at, drop-drop, take_at, get_or_append_left, get_or_at}
+use Rattle.std.proofs.lemmas.List.{length-append, length-take, length-drop, take-append-drop, drop_at, drop-drop, get_or_append_left, get_or_at}
 use Rattle.id_window.specs.declared.mark.Mark.{Mark}
 use Rattle.id_window.specs.Marks.{Marks, mark_of, given}
-use Rattle.id_window.specs.History.{History, FirstJudgement, EachOnce, inserted, ascending, greatest_among, greatest, floor, kept, forgotten}
-use Rattle.id_window.specs.Window.{IsAbove, Rises}
-use Rattle.id_window.proofs.OrderLemmas.{Absent, absent_append, length-inserted, inserted_later}
+use Rattle.id_window.specs.History.{History, FirstJudgement, EachOnce, inserted, ascending, greatest_among, floor, kept, forgotten}
+use Rattle.id_window.proofs.OrderLemmas.{Absent, length-inserted, inserted_later}
 
 abbrev pub judged_number : FirstJudgement → ℕ
 judged_number judgement = judgement.number

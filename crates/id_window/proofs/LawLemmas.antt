@@ -1,15 +1,15 @@
 -- What the laws say.
-use Rattle.std.proofs.Common.{◌≡◌, ◌≢◌, ◌∙◌, ℕ, ◌-◌, ◌<◌, ◌≤◌, Bool, true, false, ◌||◌, eqb, Option, Some, None, List, [], ◌∷◌, map, length, ap, subst, refl, sym, arith, All}
+use Rattle.std.proofs.Common.{◌≡◌, ◌≢◌, ◌∙◌, ℕ, ◌<◌, ◌≤◌, true, false, eqb, Some, List, [], ◌∷◌, map, length, get_or, ap, refl, sym, inl, inr, All}
 use Rattle.std.specs.List.{list_any, AllZip}
 use Rattle.std.specs.Option.{IsSomeAnd}
-use Rattle.std.proofs.lemmas.Bool.{eq-eqb, eqb-false, or_parts, or_left, or_right}
+use Rattle.std.proofs.lemmas.Bool.{cases_lt, eq-eqb, eqb-false, or_parts, or_left, or_right}
 use Rattle.std.proofs.lemmas.List.Elements.{All-nil, All-cons}
-use Rattle.id_window.specs.declared.mark.Mark.{Mark}
 use Rattle.id_window.specs.declared.rows.Row.{Row}
 use Rattle.id_window.specs.Marks.{Marks, mark_of, is_accepted}
 use Rattle.id_window.specs.History.{History, FirstJudgement, was_accepted, kept, is_kept, floor}
-use Rattle.id_window.specs.Window.{IsRowOf}
+use Rattle.id_window.specs.Window.{Contents, IsRowOf, IsThatOf, mark_in}
 use Rattle.id_window.proofs.OrderLemmas.{Absent}
+use Rattle.id_window.proofs.WindowLemmas.{found_is}
 use Rattle.id_window.proofs.HistoryLemmas.{judged_number, never_recorded}
 
 abbrev pub Fits : Marks → FirstJudgement → Type 0
@@ -47,3 +47,22 @@ all_from_absent number (j ∷ js) absent = All-cons (λ (j : FirstJudgement). j.
 
 pub never_judged : (history : History) (number : ℕ) → floor history < number → is_kept number history ≡ false → All (λ (j : FirstJudgement). j.number ≢ number) history
 never_judged history number above none = all_from_absent number history (never_recorded number history above (absent_from_any number (kept history) none))
+
+pub not_above_floor : (history : History) → All (λ (j : FirstJudgement). is_kept j.number history ≡ false → j.number ≤ floor history) history
+not_above_floor history i d within none = elim (cases_lt (floor history) (get_or history i d).number) [
+  | inl above ↦ absurd (never_judged history (get_or history i d).number above none i d within refl)
+  | inr le ↦ le
+]
+
+-- a judgement is one of those of its number
+any_at : (js : History) (i : ℕ) (d : FirstJudgement) → i < length js → list_any (λ j. eqb j.number (get_or js i d).number) js ≡ true
+any_at [] i d within = absurd (omega arith)
+any_at (j ∷ js) zero d within = or_left (eqb j.number j.number) (list_any (λ k. eqb k.number j.number) js) (eq-eqb j.number j.number refl)
+any_at (j ∷ js) (suc i) d within = or_right (eqb j.number (get_or js i d).number) (list_any (λ k. eqb k.number (get_or js i d).number) js) (any_at js i d (omega arith))
+
+pub marks_had : (window : Contents) (history : History) (marks : Marks) → IsThatOf window history marks → All (λ judgement. IsSomeAnd (mark_in judgement.number window.rows) (λ mark. is_accepted mark ≡ was_accepted judgement.outcome)) (kept history)
+marks_had window history marks stands i d within =
+    let judgement : FirstJudgement = get_or (kept history) i d in
+    let there : is_kept judgement.number history ≡ true = any_at (kept history) i d within in
+    let had : mark_in judgement.number window.rows ≡ mark_of judgement.number marks = found_is window history marks stands judgement.number ∙ rw there refl in
+    rw had (marks_fit marks window.rows (kept history) stands.rows i d within)

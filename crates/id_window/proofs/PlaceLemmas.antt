@@ -1,5 +1,5 @@
 -- Places in ascending lists.
-use Rattle.std.proofs.Common.{◌≡◌, ◌≢◌, ◌∙◌, ℕ, zero, suc, ◌+◌, ◌<◌, ◌≤◌, Bool, true, false, ltb, eqb, cond, Option, Some, None, List, [], ◌∷◌, ◌++◌, map, length, get_or, set, take, drop, insert, ap, refl, sym, inl, inr, arith, add-one}
+use Rattle.std.proofs.Common.{◌≡◌, ◌≢◌, ℕ, zero, suc, ◌<◌, ◌≤◌, true, false, ltb, eqb, Option, Some, None, List, [], ◌∷◌, map, length, get_or, set, insert, ap, refl, inl, inr, arith, add-one}
 use Rattle.std.specs.List.{AllWithin}
 use Rattle.std.specs.List.Sorted.{IsNonDecreasingBy}
 use Rattle.std.proofs.lemmas.Bool.{cases_lt, cases_eq, lt-ltb, le-ltb, eq-eqb, ne_eqb}

@@ -1,6 +1,6 @@
 -- What a window stands for, before and after.
-use Rattle.std.proofs.Common.{◌≡◌, ◌≢◌, ◌∙◌, ℕ, zero, suc, ◌+◌, ◌-◌, ◌<◌, ◌≤◌, max, Bool, true, false, ltb, eqb, cond, Option, Some, None, option_map, List, [], ◌∷◌, ◌++◌, map, length, take, drop, get_or, ap, subst, refl, sym, inl, inr, arith, IfSome}
-use Rattle.std.specs.List.{list_any, filter_map, cons_option, AllZip}
+use Rattle.std.proofs.Common.{◌≡◌, ◌≢◌, ◌∙◌, ℕ, zero, suc, ◌+◌, ◌-◌, ◌<◌, ◌≤◌, max, true, false, ltb, eqb, cond, Some, None, List, [], ◌∷◌, ◌++◌, map, length, take, drop, get_or, ap, subst, refl, sym, inl, inr, arith, IfSome}
+use Rattle.std.specs.List.{list_any, AllZip}
 use Rattle.std.proofs.lemmas.Bool.{cases_lt, cases_eq, cases_Bool, lt-ltb, le-ltb, eq-eqb, ne_eqb}
 use Rattle.std.proofs.lemmas.List.{length-append, length-map}
 use Rattle.id_window.specs.declared.mark.Mark.{Mark}

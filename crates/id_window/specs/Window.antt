@@ -1,5 +1,5 @@
 -- A window: what it has of a history and of the marks that were given.
-use Rattle.std.specs.Prelude.{◌≡◌, ℕ, ◌<◌, ◌≤◌, ◌-◌, ◌^◌, Bool, max, min, nat_le, ◌==◌, if◌then◌else◌, Option, Some, None, List, [], ◌∷◌, length, map, filter_map}
+use Rattle.std.specs.Prelude.{◌≡◌, ℕ, ◌<◌, ◌≤◌, ◌-◌, ◌^◌, nat_le, ◌==◌, if◌then◌else◌, Option, Some, None, List, [], ◌∷◌, length, map, filter_map}
 use Rattle.std.specs.List.{AllZip}
 use Rattle.id_window.specs.declared.mark.Mark.{Mark}
 use Rattle.id_window.specs.declared.rows.Row.{Row}

@@ -19,10 +19,13 @@ pub fn windows_tell()
         → (number seq : ℕ) → crossing number seq window.accepted ≡ crosses number seq history }
 {}
 
-/// Each kept number was given a mark, and the last one is that of an accepted message exactly where it was accepted.
+/// Each kept number was given a mark, which the window has, and the last one is that of an accepted message exactly
+/// where it was accepted.
 pub fn marks_fit_outcomes()
-    ensures { (window : Contents) (history : History) (marks : Marks) → Stands window history marks
+    ensures given { (window : Contents) (history : History) (marks : Marks) → Stands window history marks
         → All (λ judgement. IsSomeAnd (mark_of judgement.number marks) (λ mark. is_accepted mark ≡ was_accepted judgement.outcome)) (kept history) }
+    ensures had { (window : Contents) (history : History) (marks : Marks) → Stands window history marks
+        → All (λ judgement. IsSomeAnd (mark_in judgement.number window.rows) (λ mark. is_accepted mark ≡ was_accepted judgement.outcome)) (kept history) }
 {}
 
 /// A window stands for any marks that are the same at the kept numbers.
@@ -37,6 +40,11 @@ pub fn numbers_are_judged_once()
     ensures once { (window : Contents) (history : History) (marks : Marks) → Stands window history marks → EachOnce history }
     ensures new { (history : History) (number : ℕ) → floor history < number → is_kept number history ≡ false
         → All (λ judgement. judgement.number ≢ number) history }
+{}
+
+/// What isn't kept is forgotten: it is not above the floor.
+pub fn others_are_not_above_the_floor()
+    ensures { (history : History) → All (λ judgement. is_kept judgement.number history ≡ false → judgement.number ≤ floor history) history }
 {}
 
 /// 16,384 numbers are kept at most.

@@ -1,8 +1,8 @@
 use Rattle.std.proofs.Common.{◌≡◌, ◌∙◌, true, false, None, ap, sym}
 use Rattle.id_window.specs.Crossing.{crossing}
-use Rattle.id_window.specs.Window.{Contents, Stands}
+use Rattle.id_window.specs.Window.{Stands}
 use Rattle.id_window.specs.Places.{last_below, first_above, is_some_past, is_some_short}
-use Rattle.id_window.proofs.OrderLemmas.{accepted_rise}
+use Rattle.id_window.proofs.InOrderLemmas.{accepted_rise}
 use Rattle.id_window.proofs.CrossingLemmas.{low_there, high_there, apart_there}
 use Rattle.id_window.proofs.window.Window.crosses.Goals as goal
 

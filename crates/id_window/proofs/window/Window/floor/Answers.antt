@@ -1,4 +1,4 @@
-use Rattle.std.proofs.Common.{◌≡◌, ◌∙◌, ap}
+use Rattle.std.proofs.Common.{◌∙◌, ap}
 use Rattle.id_window.specs.Window.{Contents, Stands}
 use Rattle.id_window.proofs.window.Window.floor.Goals as goal
 

@@ -1,15 +1,15 @@
 -- A note in a window with room, one below a full window, and one for which a full window forgets its least number.
-use Rattle.std.proofs.Common.{◌≡◌, ◌∙◌, ◌+◌, ◌-◌, ◌^◌, ◌<◌, ◌≤◌, true, cond, None, List, ◌∷◌, map, length, drop, ap, subst, sym, arith}
-use Rattle.std.proofs.lemmas.List.{length-map}
+use Rattle.std.proofs.Common.{◌≡◌, ◌∙◌, ◌+◌, ◌-◌, ◌<◌, ◌≤◌, true, cond, None, List, ◌∷◌, map, length, ap, subst, arith}
 use Rattle.id_window.specs.declared.cross.Cross.TheVariants.{None as Apart}
 use Rattle.id_window.specs.declared.rows.Row.{Row}
 use Rattle.id_window.specs.declared.rows.Accepted.{Accepted}
 use Rattle.id_window.specs.Marks.{is_accepted}
 use Rattle.id_window.specs.Crossing.{crossing}
 use Rattle.id_window.specs.History.{inserted}
-use Rattle.id_window.specs.Window.{Contents, IsThatOf, IsAbove, IsInOrder, Rises, Stands, mark_in, room_in}
+use Rattle.id_window.specs.Window.{Contents, IsThatOf, IsAbove, Stands, mark_in}
 use Rattle.id_window.proofs.PlaceLemmas.{row_number, accepted_key}
-use Rattle.id_window.proofs.OrderLemmas.{accepted_rise, fewer_accepted, order_entered, order_as, order_left, room_for_one, room_left, room_kept, length-inserted, length_entered, length_taken, least_below, mark_in_others, apart_taken, above_first}
+use Rattle.id_window.proofs.OrderLemmas.{length-inserted}
+use Rattle.id_window.proofs.InOrderLemmas.{accepted_rise, fewer_accepted, order_entered, order_as, order_left, room_for_one, room_left, room_kept, length_entered, length_taken, least_below, mark_in_others, apart_taken, above_first}
 use Rattle.id_window.proofs.WindowLemmas.{stands_entered, stands_passed, stands_moved, nothing_forgotten, passed_forgotten, moved_forgotten, stands_as}
 use Rattle.id_window.proofs.window.Window.note.Goals as goal
 

@@ -1,6 +1,6 @@
 use Rattle.std.proofs.Common.{arith}
 use Rattle.id_window.specs.Window.{Contents, IsThatOf, Stands}
-use Rattle.id_window.proofs.OrderLemmas.{fewer_accepted}
+use Rattle.id_window.proofs.InOrderLemmas.{fewer_accepted}
 use Rattle.id_window.proofs.WindowLemmas.{stands_as, stands_reserved}
 use Rattle.id_window.proofs.window.Window.reserve.Goals as goal
 

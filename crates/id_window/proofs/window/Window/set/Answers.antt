@@ -1,10 +1,9 @@
-use Rattle.std.proofs.Common.{◌≡◌, ◌≢◌, ◌∙◌, ◌<◌, true, None, List, map, length, get_or, set, ap, subst, sym, arith, IfSome}
+use Rattle.std.proofs.Common.{◌≡◌, ◌≢◌, ◌∙◌, true, None, List, map, get_or, ap, subst, sym, arith, IfSome}
 use Rattle.id_window.specs.declared.rows.Row.{Row}
-use Rattle.id_window.specs.declared.rows.Accepted.{Accepted}
 use Rattle.id_window.specs.Marks.{is_accepted}
-use Rattle.id_window.specs.Window.{Contents, IsInOrder, Rises, Stands, mark_in, with_mark}
-use Rattle.id_window.proofs.PlaceLemmas.{row_number, no_mark_past, no_mark_at, mark_at, with_mark_absent, with_mark_at}
-use Rattle.id_window.proofs.OrderLemmas.{order_as, order_marked}
+use Rattle.id_window.specs.Window.{Contents, Rises, Stands, mark_in}
+use Rattle.id_window.proofs.PlaceLemmas.{row_number, no_mark_past, no_mark_at, with_mark_at}
+use Rattle.id_window.proofs.InOrderLemmas.{order_marked}
 use Rattle.id_window.proofs.WindowLemmas.{marked_stands, unmarked}
 use Rattle.id_window.proofs.window.Window.set.Goals as goal
 
