@@ -1,0 +1,68 @@
+//! What no clause says, and each call once.
+
+ghost use Rattle.std.specs.Prelude.{◌≡◌, ◌<◌, ◌+◌, ◌^◌, ◌++◌, length, OnOk, OnErr};
+
+use super::*;
+use std::alloc::Global;
+use std::test::*;
+
+#[test]
+fn bytes_own_their_memory(rt: HostRuntime) -> Result<(), Fail> {
+    let alloc = rt.alloc();
+    let mut text = Octets::copy(alloc, b"abc")?;
+    text.push_all(alloc, b"de")?;
+    let copy = text.clone()?;
+    text.truncate(2);
+    assert_eq!(rt; text.as_slice(), b"ab".as_slice());
+    assert_eq!(rt; copy.as_slice(), b"abcde".as_slice());
+    let again = Octets::from(copy.into_vec());
+    assert_eq!(rt; again.as_slice(), b"abcde".as_slice());
+    assert_eq!(rt; Octets::new(alloc).as_slice().len(), 0);
+    Ok(())
+}
+
+#[test]
+fn numbers_own_their_memory(rt: HostRuntime) -> Result<(), Fail> {
+    let alloc = rt.alloc();
+    let mut list = IdList::new(alloc);
+    list.push_all(alloc, &[3, u64::MAX])?;
+    let other = IdList::copy(alloc, &[4])?;
+    list.push_all(alloc, other.ids())?;
+    assert_eq!(rt; list.clone()?.ids(), [3, u64::MAX, 4].as_slice());
+    assert_eq!(rt; IdList::from(vec![in alloc; 7]?).ids(), [7].as_slice());
+    Ok(())
+}
+
+// Puts two parts behind a text, both or none, as a crate above does.
+fn put(alloc: Global, text: &mut Octets, front: &[u8], back: &[u8]) -> Result<(), Memory>
+    requires { length front.now + length back.now < 2 ^ 32 }
+    ensures appended { OnOk result (text.new ≡ text.old ++ (front.now ++ back.now)) }
+    ensures unchanged_on_memory { OnErr result (text.new ≡ text.old) }
+{
+    let mut buffer = Buffer::after(alloc, text, front.len() + back.len())?;
+    buffer.push_all(front);
+    buffer.push_all(back);
+    *text = buffer.into_octets();
+    Ok(())
+}
+
+#[test]
+fn a_buffer_is_filled(rt: HostRuntime) -> Result<(), Fail> {
+    let alloc = rt.alloc();
+    let mut text = Octets::copy(alloc, b"ab")?;
+    put(alloc, &mut text, b"cd", b"e")?;
+    assert_eq!(rt; text.as_slice(), b"abcde".as_slice());
+    let mut buffer = Buffer::new(alloc, 2)?;
+    buffer.reserve(alloc, 3)?;
+    buffer.push_all(b"xyz");
+    assert_eq!(rt; buffer.as_slice(), b"xyz".as_slice());
+    assert_eq!(rt; buffer.room(), 0);
+    Ok(())
+}
+
+#[test]
+fn memory_is_told(rt: HostRuntime) -> Result<(), Fail> {
+    let told = format!(in rt.alloc(); "{Memory}")?;
+    assert_eq!(rt; told.as_str(), "out of memory");
+    Ok(())
+}
