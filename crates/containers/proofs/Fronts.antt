@@ -13,7 +13,7 @@ pub record IsLawfulFront (number : ℕ) (text : List ℕ) : Type 0 where
   pub below : (message_in text).number < number
   pub unnested : begins_container (message_in text).body ≡ false
 
-passed : (b : Bool) (why : Why) (others : Option Why) → cond b (Some why) others ≡ None → (b ≡ false) × (others ≡ None)
+pub passed : (b : Bool) (why : Why) (others : Option Why) → cond b (Some why) others ≡ None → (b ≡ false) × (others ≡ None)
 passed true why others e = absurd cc
 passed false why others e = (refl, e)
 

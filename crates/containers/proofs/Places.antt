@@ -1,10 +1,9 @@
 -- The places of a container, one after the other.
-use Rattle.std.proofs.Common.{◌≡◌, ℕ, zero, suc, ◌+◌, ◌-◌, ◌<◌, List, [], ◌∷◌, ◌++◌, length, map, Option, Some, None, refl, ap, ◌∙◌, arith}
+use Rattle.std.proofs.Common.{◌≡◌, ℕ, zero, suc, ◌+◌, ◌-◌, ◌<◌, List, ◌∷◌, length, Option, Some, None, refl, ap, ◌∙◌, arith}
 use Rattle.containers.specs.declared.fault.Why.{Why}
-use Rattle.containers.specs.Container.{message_head}
-use Rattle.containers.specs.Parts.{said_length, after, cause_in, messages_in, causes, first_from, texts}
+use Rattle.containers.specs.Parts.{after, cause_in, messages_in, causes, first_from}
 use Rattle.containers.specs.Whole.{AreWhole}
-use Rattle.containers.proofs.Fronts.{IsLawfulFront, lawful_front}
+use Rattle.containers.proofs.Fronts.{lawful_front}
 
 pub length-messages_in : (count : ℕ) (text : List ℕ) → length (messages_in count text) ≡ count
 length-messages_in zero text = refl

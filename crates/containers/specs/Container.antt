@@ -28,7 +28,7 @@ message_head = 16
 -- ---- spelling
 
 -- message msg_id:long seqno:int bytes:int body:Object = Message
-abbrev pub row : Message → List ℕ
+unfoldable pub row : Message → List ℕ
 row message = little_bytes 8 message.number ++ (little_bytes 4 message.seq ++ (little_bytes 4 (length message.body) ++ message.body))
 
 -- the constructor, the count, and the messages one after the other

@@ -6,7 +6,9 @@
 
 mod fault;
 mod front;
+pub mod laws;
 mod limits;
+mod packing;
 mod part;
 mod parts;
 mod unfolding;
@@ -16,6 +18,7 @@ pub use front::is_container;
 pub use limits::{
     CONTAINER_BYTES_MAX, CONTAINER_HEAD_BYTES, CONTAINER_MESSAGES_MAX, MESSAGE_HEAD_BYTES,
 };
+pub use packing::{container, fits};
 pub use part::Part;
 pub use parts::Parts;
 pub use service_tl::{Message, Messages};

@@ -1,4 +1,4 @@
-use Rattle.std.proofs.Common.{◌≡◌, ◌++◌, ◌∙◌, List, length, sym, ap, append_assoc, length-append, arith}
+use Rattle.std.proofs.Common.{◌++◌, ◌∙◌, List, length, sym, ap, append_assoc, length-append, arith}
 use Rattle.std.proofs.lemmas.List.{append-nil}
 use Rattle.service_tl.specs.declared.lists.Message.{Message}
 use Rattle.containers.proofs.unfolding.copied.Goals as goal
