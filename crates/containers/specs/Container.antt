@@ -1,6 +1,6 @@
 -- Containers: how their bytes are spelt, and what makes one lawful
 -- (core.telegram.org/mtproto/service_messages#containers).
-use Rattle.std.specs.Prelude.{◌≡◌, ◌<◌, ◌≤◌, ◌^◌, ℕ, ◌%◌, ◌==◌, ◌&&◌, nat_le, Bool, false, List, ◌++◌, length}
+use Rattle.std.specs.Prelude.{◌≡◌, ◌<◌, ◌≤◌, ◌^◌, ℕ, ◌+◌, ◌%◌, ◌==◌, ◌&&◌, nat_le, Bool, false, List, ◌++◌, length, sum_by}
 use Rattle.std.specs.List.{flat_map, AllByRecursion}
 use Rattle.byteorder.specs.Endian.{little_bytes, little_number}
 use Rattle.service_tl.specs.declared.lists.Message.{Message}
@@ -58,7 +58,11 @@ pub record IsContainer (number : ℕ) (messages : List Message) (body : List ℕ
 
 -- ---- what is packed
 
+-- how many bytes the container of these messages has
+abbrev pub size_of : List Message → ℕ
+size_of messages = container_head + sum_by (λ message. message_head + length message.body) messages
+
 -- the messages can stand in one container
 pub record AreWithin (messages : List Message) : Type 0 where
   pub few : length messages ≤ messages_max
-  pub short : length (container_of messages) ≤ bytes_max
+  pub short : size_of messages ≤ bytes_max

@@ -1,10 +1,10 @@
 //! Laws of the definitions that the contracts stand on, each the contract of a function that does nothing.
 
-ghost use Rattle.std.specs.Prelude.{◌≡◌, ◌+◌, ◌≤◌, ◌++◌, ◌∷◌, [], ℕ, true, List, length, IsTrue, Ok};
+ghost use Rattle.std.specs.Prelude.{◌≡◌, ◌≤◌, ℕ, List, length, IsTrue, Ok};
 ghost use Rattle.std.specs.List.{AllByRecursion};
 ghost use Rattle.octets.specs.Bytes.{IsBytes};
 ghost use Rattle.service_tl.specs.declared.lists.Message.{Message};
-ghost use Rattle.containers.specs.Container.{IsContainer, IsInner, begins_container, container_head, container_of, message_head, messages_max};
+ghost use Rattle.containers.specs.Container.{IsContainer, IsInner, begins_container, container_of, messages_max, size_of};
 ghost use Rattle.containers.specs.Parts.{parts_of};
 
 /// A body that begins as a container has parts exactly where it is a lawful container, and then they are
@@ -24,7 +24,5 @@ pub fn packed_is_unfolded()
 
 /// How many bytes a container has.
 pub fn container_sizes()
-    ensures empty { length (container_of []) ≡ container_head }
-    ensures more { (messages : List Message) (message : Message)
-        → length (container_of (messages ++ message ∷ [])) ≡ length (container_of messages) + message_head + length message.body }
+    ensures { (messages : List Message) → length (container_of messages) ≡ size_of messages }
 {}

@@ -23,3 +23,6 @@ pub use part::Part;
 pub use parts::Parts;
 pub use service_tl::{Message, Messages};
 pub use unfolding::{Unfolded, unfold};
+
+#[cfg(test)]
+mod tests;

@@ -2,7 +2,7 @@
 
 ghost use Rattle.std.specs.Prelude.{◌≡◌, ◌<◌, ◌≤◌, ◌+◌, ◌^◌, ◌++◌, ◌∷◌, [], ◌↔◌, List, length, IsTrue, OnOk, OnErr};
 ghost use Rattle.service_tl.specs.declared.lists.Message.{Message as Inner};
-ghost use Rattle.containers.specs.Container.{AreWithin, bytes_max, container_of, message_head, messages_max, row};
+ghost use Rattle.containers.specs.Container.{AreWithin, bytes_max, container_of, message_head, messages_max, row, size_of};
 
 use crate::limits::{
     CONTAINER_BYTES_MAX, CONTAINER_HEAD_BYTES, CONTAINER_MESSAGES_MAX, MESSAGE_HEAD_BYTES,
@@ -16,7 +16,7 @@ use std::alloc::Global;
 /// 16 bytes and its body.
 pub fn fits(count: usize, bytes: usize, next: usize) -> bool
     ensures limits { IsTrue result ↔ ((count + 1 ≤ messages_max) × (bytes + message_head + next ≤ bytes_max)) }
-    ensures as_packed { (messages : List Inner) (message : Inner) → count ≡ length messages → bytes ≡ length (container_of messages) → next ≡ length message.body
+    ensures as_packed { (messages : List Inner) (message : Inner) → count ≡ length messages → bytes ≡ size_of messages → next ≡ length message.body
         → (IsTrue result ↔ AreWithin (messages ++ message ∷ [])) }
 {
     count < CONTAINER_MESSAGES_MAX
@@ -50,7 +50,7 @@ pub fn container(alloc: Global, messages: &[Message], into: &mut Octets) -> Resu
 // How many bytes the container of these messages has.
 fn size(messages: &[Message]) -> usize
     requires { AreWithin messages.now }
-    ensures { result ≡ length (container_of messages.now) }
+    ensures { result ≡ size_of messages.now }
 {
     let mut size = CONTAINER_HEAD_BYTES;
     for message in messages {

@@ -60,8 +60,7 @@ fn copy(alloc: Global, part: &Part<'_>) -> Result<Message, Memory>
 fn copied(alloc: Global, parts: Parts<'_>) -> Result<Messages, Memory>
     ensures { IfOk result (λ messages. messages ≡ parts.entry) }
 {
-    let count = parts.len();
-    let mut messages = Messages::new(alloc);
+    let mut messages = Messages::with_capacity(alloc, parts.len())?;
     for part in parts {
         messages.push(alloc, copy(alloc, &part)?)?;
     }

@@ -1,18 +1,18 @@
 use Rattle.std.proofs.Common.{length, ap, append_assoc, arith}
 use Rattle.octets.specs.Draft.{Draft}
 use Rattle.containers.specs.Container.{container_of}
-use Rattle.containers.proofs.Rows.{length-container_of, body-within}
+use Rattle.containers.proofs.Rows.{size_of-rows, body-within}
 use Rattle.containers.proofs.packing.container.Goals as goal
 
 pub push_all-requires : goal.push_all-requires
 push_all-requires c =
     let room = ap (λ (draft : Draft). draft.room) c.in_ok-buffer.ensures.taken in
-    omega (arith, ap length c.to_le_bytes.ensures, length-container_of c.args.messages.now)
+    omega (arith, ap length c.to_le_bytes.ensures, size_of-rows c.args.messages.now)
 
 pub push_all-requires-2 : goal.push_all-requires-2
 push_all-requires-2 c =
     let room = ap (λ (draft : Draft). draft.room) c.in_ok-buffer.ensures.taken in
-    omega (arith, ap length c.to_le_bytes.ensures, ap length c.to_le_bytes-2.ensures, length-container_of c.args.messages.now)
+    omega (arith, ap length c.to_le_bytes.ensures, ap length c.to_le_bytes-2.ensures, size_of-rows c.args.messages.now)
 
 pub put-requires-clause-short : goal.put-requires-clause-short
 put-requires-clause-short c =
@@ -25,5 +25,5 @@ loop-message-init c =
     let bytes = ap (λ (draft : Draft). draft.bytes) c.in_ok-buffer.ensures.taken in
     record {
       so_far = rw (c.push_all-2.ensures.written, c.push_all.ensures.written, c.to_le_bytes.ensures, c.to_le_bytes-2.ensures, bytes) (simp append_assoc);
-      room = omega (arith, ap length c.to_le_bytes.ensures, ap length c.to_le_bytes-2.ensures, length-container_of c.args.messages.now);
+      room = omega (arith, ap length c.to_le_bytes.ensures, ap length c.to_le_bytes-2.ensures, size_of-rows c.args.messages.now);
     }

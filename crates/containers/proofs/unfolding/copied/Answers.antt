@@ -4,7 +4,7 @@ use Rattle.service_tl.specs.declared.lists.Message.{Message}
 use Rattle.containers.proofs.unfolding.copied.Goals as goal
 
 pub loop-part-init : goal.loop-part-init
-loop-part-init c = rw (c.new-messages.ensures) c.into_iter-part-iterator.ensures.into_iter_gives
+loop-part-init c = rw (c.in_ok-messages.ensures) c.into_iter-part-iterator.ensures.into_iter_gives
 
 pub push-requires-clause-few : goal.push-requires-clause-few
 push-requires-clause-few c =
