@@ -1,7 +1,13 @@
 //! The worked bodies, and messages that are put together and unfolded again.
 
+ghost use Rattle.std.specs.Prelude.{◌≡◌, ◌++◌, ◌∷◌, [], List, IsTrue, OnErr, IsErr, IfOk, None, Some, Ok};
+ghost use Rattle.std.specs.Bool.{OnTrue};
+ghost use Rattle.service_tl.specs.declared.lists.Message.{Message as Inner};
+ghost use Rattle.containers.specs.Container.{begins_container, container_of};
+ghost use Rattle.containers.specs.Parts.{parts_of};
+
 use super::*;
-use octets::Octets;
+use octets::{Memory, Octets};
 use std::alloc::Global;
 use std::test::*;
 
@@ -76,7 +82,7 @@ fn two_are_put_together_and_unfolded(rt: HostRuntime) -> Result<(), Fail> {
         },
     ];
     let mut text = Octets::copy(alloc, b"..")?;
-    container(alloc, &messages, &mut text)?;
+    assert!(rt; paired(alloc, &messages, &mut text)?);
     let want =
         b"..\xdc\xf8\xf1\x73\x02\0\0\0\x04\0\0\0\0\0\0\0\x01\0\0\0\x04\0\0\0abcd\x08\0\0\0\0\0\0\0\x02\0\0\0\0\0\0\0";
     assert_eq!(rt; text.as_slice(), want.as_slice());
@@ -92,4 +98,33 @@ fn two_are_put_together_and_unfolded(rt: HostRuntime) -> Result<(), Fail> {
         Unfolded::Invalid { .. } | Unfolded::Memory => return Err(Fail::new("not unfolded")),
     }
     Ok(())
+}
+
+// The seq of the first inner message, as a caller that copies nothing reads it.
+fn first_seq(number: u64, body: &[u8]) -> Option<u32>
+    requires { IsTrue (begins_container body.now) }
+    ensures none { IsErr (parts_of number body.now) → result ≡ None }
+    ensures empty { parts_of number body.now ≡ Ok [] → result ≡ None }
+    ensures first { (message : Inner) (others : List Inner) → parts_of number body.now ≡ Ok (message ∷ others) → result ≡ Some message.seq }
+{
+    let mut parts = Parts::read(number, body).ok()?;
+    let part = parts.next()?;
+    Some(part.seq)
+}
+
+// Puts two messages together where they fit, as a caller does that counts what it took.
+fn paired(alloc: Global, pair: &[Message; 2], into: &mut Octets) -> Result<bool, Memory>
+    ensures packed { IfOk result (λ done. OnTrue done (into.new ≡ into.old ++ container_of pair.now)) }
+    ensures unchanged_on_memory { OnErr result (into.new ≡ into.old) }
+{
+    let first = pair[0].body.as_slice().len();
+    let second = pair[1].body.as_slice().len();
+    if !fits(0, CONTAINER_HEAD_BYTES, first) {
+        return Ok(false);
+    }
+    if !fits(1, CONTAINER_HEAD_BYTES + MESSAGE_HEAD_BYTES + first, second) {
+        return Ok(false);
+    }
+    container(alloc, pair, into)?;
+    Ok(true)
 }
