@@ -9,7 +9,7 @@ use Rattle.octets.specs.Bytes.{IsBytes}
 use Rattle.service_tl.specs.declared.lists.Message.{Message}
 use Rattle.containers.specs.declared.fault.ContainerFault.{ContainerFault}
 use Rattle.containers.specs.declared.fault.Why.TheVariants.{Short, TooMany, Extra}
-use Rattle.containers.specs.Container.{constructor, container_head, message_head, messages_max, row, container_of, begins_container, IsInner, IsContainer}
+use Rattle.containers.specs.Container.{constructor, container_head, message_head, messages_max, row, head_of, container_of, begins_container, IsInner, IsContainer}
 use Rattle.containers.specs.Parts.{said_length, message_in, after, cause_in, messages_in, extra_in, causes, first_from, unless, parts_of}
 use Rattle.containers.proofs.Numbers.{int_bytes, long_bytes, IsBytes-drop}
 use Rattle.containers.proofs.Rows.{length-row, length-container_of}
@@ -135,11 +135,11 @@ parts_from number body count text messages head count-is text-is few none same =
     rw (long, count-is, small, text-is, none, same) refl
 
 count_at : (messages : List Message) → length messages ≤ messages_max → little_number 4 (drop 4 (container_of messages)) ≡ length messages
-unfolding container_of
+unfolding container_of head_of
 count_at messages few = little_number-reads_back 4 (length messages) (flat_map row messages) (omega arith)
 
 rows_at : (messages : List Message) → drop container_head (container_of messages) ≡ flat_map row messages
-unfolding container_of
+unfolding container_of head_of
 rows_at messages = refl
 
 pub parts_of-container_of : (number : ℕ) (messages : List Message) → length messages ≤ messages_max → AllByRecursion (IsInner number) messages → parts_of number (container_of messages) ≡ Ok messages
@@ -183,7 +183,7 @@ begins body bytes e =
 
 assembled : (body : List ℕ) (count : ℕ) (messages : List Message) → take 4 body ≡ little_bytes 4 constructor → take 4 (drop 4 body) ≡ little_bytes 4 count → length messages ≡ count
     → drop container_head body ≡ flat_map row messages → body ≡ container_of messages
-unfolding container_of
+unfolding container_of head_of
 assembled body count messages tag size count-is rows =
     let number : take 4 (drop 4 body) ≡ little_bytes 4 (length messages) = size ∙ ap (little_bytes 4) (sym count-is) in
     cut 0 4 body
@@ -209,5 +209,5 @@ container-parts_of number messages body bytes e parts =
     }
 
 pub begins_container-container_of : (messages : List Message) → begins_container (container_of messages) ≡ true
-unfolding begins_container container_of
+unfolding begins_container container_of head_of
 begins_container-container_of messages = and_from _ _ (le-leb _ _ (omega arith)) refl

@@ -31,9 +31,13 @@ message_head = 16
 unfoldable pub row : Message → List ℕ
 row message = little_bytes 8 message.number ++ (little_bytes 4 message.seq ++ (little_bytes 4 (length message.body) ++ message.body))
 
--- the constructor, the count, and the messages one after the other
+-- the constructor and the count
+unfoldable pub head_of : ℕ → List ℕ
+head_of count = little_bytes 4 constructor ++ little_bytes 4 count
+
+-- these, and the messages one after the other
 unfoldable pub container_of : List Message → List ℕ
-container_of messages = little_bytes 4 constructor ++ (little_bytes 4 (length messages) ++ flat_map row messages)
+container_of messages = head_of (length messages) ++ flat_map row messages
 
 -- a body that begins with the constructor of a container
 unfoldable pub begins_container : List ℕ → Bool
