@@ -11,7 +11,7 @@ use crate::part::Part;
 use crate::parts::Parts;
 use service_tl::{Message, Messages};
 use std::alloc::Global;
-use tl_codec::{Memory, Octets};
+use octets::{Memory, Octets};
 
 /// What a container is.
 #[derive(Debug, Drop)]
