@@ -1,10 +1,12 @@
 //! The worked bodies, and messages that are put together and unfolded again.
 
-ghost use Rattle.std.specs.Prelude.{◌≡◌, ◌++◌, ◌∷◌, [], List, IsTrue, OnErr, IsErr, IfOk, None, Some, Ok};
+ghost use Rattle.std.specs.Prelude.{◌≡◌, ◌<◌, ◌++◌, ◌∷◌, [], List, length, IsTrue, OnErr, IsErr, IfOk, None, Some, Ok};
 ghost use Rattle.std.specs.Bool.{OnTrue};
+ghost use Rattle.std.specs.List.{AllByRecursion};
 ghost use Rattle.service_tl.specs.declared.lists.Message.{Message as Inner};
-ghost use Rattle.containers.specs.Container.{begins_container, container_of};
+ghost use Rattle.containers.specs.Container.{AreWithin, IsInner, begins_container, container_of};
 ghost use Rattle.containers.specs.Parts.{parts_of};
+ghost use Rattle.containers.specs.Unfolded.{Tells};
 
 use super::*;
 use octets::{Memory, Octets};
@@ -20,6 +22,19 @@ fn fault_of(alloc: Global, body: &[u8]) -> Option<(u32, Why)> {
         Unfolded::Invalid { place, why } => Some((place, why)),
         Unfolded::Messages(_) | Unfolded::Memory => None,
     }
+}
+
+// Puts messages together and unfolds them, as one end's packet reaches the other.
+fn unfolded_again(alloc: Global, number: u64, messages: &[Message]) -> Result<Unfolded, Memory>
+    requires some { 0 < length messages.now }
+    requires within { AreWithin messages.now }
+    requires inner { AllByRecursion (IsInner number) messages.now }
+    ensures { IfOk result (Tells (Ok messages.now)) }
+{
+    let mut text = Octets::new(alloc);
+    container(alloc, messages, &mut text)?;
+    laws::packed_is_unfolded();
+    Ok(unfold(alloc, number, text.as_slice()))
 }
 
 #[test]
