@@ -1,0 +1,11 @@
+use Rattle.std.proofs.Common.{◌≡◌, ◌∙◌, ap}
+use Rattle.regs_service.specs.Kept.{sums_of}
+use Rattle.regs_service.specs.Registers as registers
+use Rattle.regs_service.proofs.MapLemmas.{inserted}
+use Rattle.regs_service.proofs.registers.Regs.put.Goals as goal
+
+pub returns-clause-put : goal.returns-clause-put
+returns-clause-put c =
+    ap sums_of c.in_ok-insert.ensures.entries ∙ inserted c.in_ok-key.key c.args.sum c.self.inside.sums.entries
+    ∙ ap (λ sums. registers.with_sum sums c.in_ok-key.key.items c.args.sum) c.self.view_is
+    ∙ ap (λ name. registers.with_sum c.args.self.now name c.args.sum) c.in_ok-key.ensures.items

@@ -1,0 +1,50 @@
+-- The requests of the registers.
+use Rattle.std.specs.Prelude.{ℕ, ◌==◌, nat_lt, ◌&&◌, ◌||◌, Bool, if◌then◌else◌, List, length, Option, Some, None, Result, Ok, Err}
+use Rattle.std.specs.List.{list_all}
+use Rattle.std.specs.Int.{is_in_range}
+use Rattle.tl_codec.specs.declared.fault.TlFault.{TlFault}
+use Rattle.tl_codec.specs.declared.fault.TlFault.TheVariants.{BadTag}
+use Rattle.tl_codec.specs.Spelling.{Int, Long, Bytes}
+use Rattle.tl_codec.specs.Reading.{◌>>=◌, read_at}
+
+-- 0a1b2c01 name:string amount:long, which adds
+abbrev pub add_number : ℕ
+add_number = 0x0a1b2c01
+
+-- 0a1b2c02 name:string, which gets
+abbrev pub get_number : ℕ
+get_number = 0x0a1b2c02
+
+pub data Asked : Type 0 where
+  Add : List ℕ → ℕ → Asked
+  Get : List ℕ → Asked
+
+abbrev pub name_of : Asked → List ℕ
+name_of (Add name amount) = name
+name_of (Get name) = name
+
+-- `a` to `z`, `0` to `9`
+abbrev pub is_name_byte : ℕ → Bool
+is_name_byte byte = is_in_range 97 122 byte || is_in_range 48 57 byte
+
+-- 1 to 32 of these
+abbrev pub is_name : List ℕ → Bool
+is_name name = nat_lt 0 (length name) && (nat_lt (length name) 33 && list_all is_name_byte name)
+
+-- The request at the front of a text and what follows it. It is read as TL is read: the long form of a
+-- string and any padding are taken.
+abbrev pub request_at : List ℕ → Result (Asked × List ℕ) TlFault
+request_at text = do
+  number ← read_at Int text
+  name ← read_at Bytes number.1
+  if number.0 == add_number then (read_at Long name.1 >>= λ amount. Ok (Add name.0 amount.0, amount.1))
+      else if number.0 == get_number then Ok (Get name.0, name.1)
+      else Err (BadTag number.0)
+
+-- it is one where the text ends there and its name is one
+abbrev pub whole : Result (Asked × List ℕ) TlFault → Option Asked
+whole (Ok (asked, rest)) = if length rest == 0 && is_name (name_of asked) then Some asked else None
+whole (Err fault) = None
+
+abbrev pub request_of : List ℕ → Option Asked
+request_of text = whole (request_at text)

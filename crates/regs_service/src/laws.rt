@@ -1,0 +1,31 @@
+//! Laws of services, each the contract of a function that does nothing.
+
+ghost use Rattle.std.specs.Prelude.{◌≡◌, List, ℕ, [], ◌∷◌, ◌++◌, length};
+ghost use Rattle.regs_service.specs.Served.{Served, Ran, state_after, requests_of, reply_bytes_max};
+ghost use Rattle.regs_service.specs.Requests.{add_number, get_number};
+ghost use Rattle.regs_service.specs.Replies.{value_number};
+ghost use Rattle.regs_service.specs.Registers.{names_max};
+
+use crate::registers::NAMES_MAX;
+use crate::reply::VALUE;
+use crate::request::{ADD, GET};
+use crate::service::Service;
+
+/// The constants are the numbers and limits that the definitions stand on.
+pub fn constants_of_the_registers()
+    ensures add { ADD ≡ add_number }
+    ensures get { GET ≡ get_number }
+    ensures value { VALUE ≡ value_number }
+    ensures names { NAMES_MAX ≡ names_max }
+{}
+
+/// What was served stays so with one more request: its reply is that of the state after all before.
+pub fn served_grows<V: Service>()
+    ensures none { Served V.step V.fresh_state [] }
+    ensures state { (runs : List Ran) (ran : Ran)
+        → state_after V.step V.fresh_state (requests_of (runs ++ ran ∷ []))
+            ≡ (V.step (state_after V.step V.fresh_state (requests_of runs)) ran.request).1 }
+    ensures served { (runs : List Ran) (ran : Ran) → Served V.step V.fresh_state runs
+        → ran.reply ≡ (V.step (state_after V.step V.fresh_state (requests_of runs)) ran.request).0
+        → Served V.step V.fresh_state (runs ++ ran ∷ []) }
+{}

@@ -1,0 +1,17 @@
+//! Services, whose replies are a function of their state and of the request, and one of them: `Regs`,
+//! named sums. `specs/Served.antt` says what the replies of any service are, one request after the other;
+//! `specs/Registers.antt` what those of the registers are.
+#![tactic(auto)]
+
+pub mod laws;
+mod registers;
+mod reply;
+mod request;
+mod service;
+
+pub use octets::Octets;
+pub use registers::Regs;
+pub use service::{NoMemory, Service};
+
+#[cfg(test)]
+mod tests;
