@@ -1,5 +1,5 @@
 -- The names and sums of a map's entries.
-use Rattle.std.proofs.Common.{◌≡◌, ◌∙◌, ℕ, List, [], ◌∷◌, length, map, cond, refl, sym, ap, Vec, Global}
+use Rattle.std.proofs.Common.{◌≡◌, ◌∙◌, ℕ, suc, List, [], ◌∷◌, length, map, cond, true, nat_lt, ◌||◌, ◌+◌, ◌≤◌, Option, Some, None, is_some, arith, refl, sym, ap, Vec, Global}
 use Rattle.std.specs.List.{AllZip}
 use Rattle.std.specs.BTreeMap.{insert_entry, is_at}
 use Rattle.std.specs.Map.{lookup}
@@ -7,7 +7,9 @@ use Rattle.std.specs.declared.cmp.Ordering.{Ordering}
 use Rattle.std.specs.declared.cmp.Ordering.TheVariants.{Less, Equal, Greater}
 use Rattle.std.specs.Ordering.{nat_cmp, is_eq, match_ordering}
 use Rattle.std.specs.Cmp.Lexicographic.{slice_cmp}
+use Rattle.std.proofs.lemmas.Bool.{ltb-true}
 use Rattle.regs_service.specs.Kept.{sums_of}
+use Rattle.regs_service.specs.Registers.{find, has_place}
 
 Entry : Type 0
 Entry = Vec ℕ Global × ℕ
@@ -36,3 +38,21 @@ copied C D c d [] [] h = refl
 copied C D c d [] (f ∷ fs) h = absurd h
 copied C D c d (e ∷ es) [] h = absurd h
 copied C D c d (e ∷ es) (f ∷ fs) h = λ i. (c e.0 f.0 h.0.0 i, d e.1 f.1 h.0.1 i) ∷ copied C D c d es fs h.1 i
+
+counts : (entries : List (Vec ℕ Global × ℕ)) → length (sums_of entries) ≡ length entries
+counts [] = refl
+counts (entry ∷ entries) = ap suc (counts entries)
+
+counted : (o : Option ℕ) (n m : ℕ) → n ≤ 65536 → (is_some o || nat_lt n 65536) ≡ true → m ≡ n + cond (is_some o) 0 1 → m ≤ 65536
+counted (Some v) n m few place len = omega (arith, few, len)
+counted None n m few place len = let below = ltb-true n 65536 place in omega (arith, below, len)
+
+-- a name that has a place leaves them few
+pub still_few : (name : List ℕ) (key : Vec ℕ Global) (entries : List (Vec ℕ Global × ℕ)) (after : ℕ) (old : Option ℕ)
+    → key.items ≡ name → length entries ≤ 65536 → has_place (sums_of entries) name ≡ true
+    → old ≡ lookup (is_at (λ k. slice_cmp nat_cmp key.items k.items)) entries → after ≡ length entries + cond (is_some old) 0 1 → after ≤ 65536
+still_few name key entries after old own few place at len =
+    let there : old ≡ find (sums_of entries) name = at ∙ sym (found key.items entries) ∙ ap (λ n. find (sums_of entries) n) own in
+    counted old (length entries) after few
+    (ap (λ o. is_some o || nat_lt (length entries) 65536) there ∙ ap (λ n. is_some (find (sums_of entries) name) || nat_lt n 65536) (sym (counts entries)) ∙ place)
+    len

@@ -1,5 +1,5 @@
 -- What was served, with one more.
-use Rattle.std.proofs.Common.{◌≡◌, ◌∙◌, ℕ, List, [], ◌∷◌, ◌++◌, map, refl, sym, ap}
+use Rattle.std.proofs.Common.{◌≡◌, ◌∙◌, List, [], ◌∷◌, ◌++◌, refl, sym, ap}
 use Rattle.regs_service.specs.Served.{Step, Ran, state_after, replies_to, requests_of, replies_of, Served}
 
 module _ {S : Type 0} (step : Step S) where

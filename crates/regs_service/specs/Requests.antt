@@ -33,13 +33,17 @@ is_name name = nat_lt 0 (length name) && (nat_lt (length name) 33 && list_all is
 
 -- The request at the front of a text and what follows it. It is read as TL is read: the long form of a
 -- string and any padding are taken.
+abbrev pub behind : ℕ → List ℕ × List ℕ → Result (Asked × List ℕ) TlFault
+behind number name =
+    if number == add_number then (read_at Long name.1 >>= λ amount. Ok (Add name.0 amount.0, amount.1))
+    else if number == get_number then Ok (Get name.0, name.1)
+    else Err (BadTag number)
+
 abbrev pub request_at : List ℕ → Result (Asked × List ℕ) TlFault
 request_at text = do
   number ← read_at Int text
   name ← read_at Bytes number.1
-  if number.0 == add_number then (read_at Long name.1 >>= λ amount. Ok (Add name.0 amount.0, amount.1))
-      else if number.0 == get_number then Ok (Get name.0, name.1)
-      else Err (BadTag number.0)
+  behind number.0 name
 
 -- it is one where the text ends there and its name is one
 abbrev pub whole : Result (Asked × List ℕ) TlFault → Option Asked

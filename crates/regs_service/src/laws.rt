@@ -1,7 +1,7 @@
 //! Laws of services, each the contract of a function that does nothing.
 
-ghost use Rattle.std.specs.Prelude.{◌≡◌, List, ℕ, [], ◌∷◌, ◌++◌, length};
-ghost use Rattle.regs_service.specs.Served.{Served, Ran, state_after, requests_of, reply_bytes_max};
+ghost use Rattle.std.specs.Prelude.{◌≡◌, List, [], ◌∷◌, ◌++◌};
+ghost use Rattle.regs_service.specs.Served.{Served, Ran, state_after, requests_of};
 ghost use Rattle.regs_service.specs.Requests.{add_number, get_number};
 ghost use Rattle.regs_service.specs.Replies.{value_number};
 ghost use Rattle.regs_service.specs.Registers.{names_max};
@@ -24,7 +24,7 @@ pub fn served_grows<V: Service>()
     ensures none { Served V.step V.fresh_state [] }
     ensures state { (runs : List Ran) (ran : Ran)
         → state_after V.step V.fresh_state (requests_of (runs ++ ran ∷ []))
-            ≡ (V.step (state_after V.step V.fresh_state (requests_of runs)) ran.request).1 }
+        ≡ (V.step (state_after V.step V.fresh_state (requests_of runs)) ran.request).1 }
     ensures served { (runs : List Ran) (ran : Ran) → Served V.step V.fresh_state runs
         → ran.reply ≡ (V.step (state_after V.step V.fresh_state (requests_of runs)) ran.request).0
         → Served V.step V.fresh_state (runs ++ ran ∷ []) }

@@ -1,6 +1,6 @@
 //! The registers.
 
-ghost use Rattle.std.specs.Prelude.{◌≡◌, IfOk, OnOk, OnErr, is_some};
+ghost use Rattle.std.specs.Prelude.{◌≡◌, ◌≤◌, true, length, IfOk, OnOk, OnErr};
 ghost use Rattle.regs_service.specs.Served.{IsReply};
 ghost use Rattle.regs_service.specs.Registers as registers;
 ghost use Rattle.regs_service.specs.Kept.{sums_of};
@@ -29,16 +29,27 @@ pub struct Regs {
 }
 
 impl Model for Regs {
-    ghost use Rattle.std.specs.Prelude.{ℕ, List};
+    ghost use Rattle.std.specs.Prelude.{ℕ, List, length, ◌≤◌};
 
     ghost Value = { List (List ℕ × ℕ) };
 
     ghost use Rattle.regs_service.specs.Kept.{sums_of};
+    ghost use Rattle.regs_service.specs.Registers.{names_max};
 
     ghost view = { λ regs. sums_of regs.sums.entries };
+
+    ghost invariant = { λ regs. length regs.sums.entries ≤ names_max };
 }
 
 impl Regs {
+    /// How many names there are.
+    pub fn names(&self) -> usize
+        ensures value { result ≡ length self.now }
+        ensures few { result ≤ registers.names_max }
+    {
+        self.sums.len()
+    }
+
     // The sum of a name, where it is there.
     fn find(&self, name: &[u8]) -> Option<u64>
         ensures { result ≡ registers.find self.now name.now }
@@ -55,6 +66,7 @@ impl Regs {
 
     // Puts the sum at the name.
     fn put(&mut self, alloc: Global, name: &[u8], sum: u64) -> Result<(), Memory>
+        requires { registers.has_place self.old name.now ≡ true }
         ensures put { OnOk result (self.new ≡ registers.with_sum self.old name.now sum) }
         ensures unchanged_on_memory { OnErr result (self.new ≡ self.old) }
     {
@@ -84,7 +96,8 @@ impl Regs {
 
 // A map with the same names and sums.
 fn copy_of(sums: &BTreeMap<Vec<u8>, u64>) -> Result<BTreeMap<Vec<u8>, u64>, Memory>
-    ensures { IfOk result (λ copy. sums_of copy.entries ≡ sums_of sums.now.entries) }
+    ensures same { IfOk result (λ copy. sums_of copy.entries ≡ sums_of sums.now.entries) }
+    ensures count { IfOk result (λ copy. length copy.entries ≡ length sums.now.entries) }
 {
     Ok(sums.clone()?)
 }

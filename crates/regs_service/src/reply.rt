@@ -1,6 +1,6 @@
 //! Writing a reply.
 
-ghost use Rattle.std.specs.Prelude.{◌≡◌, ◌≤◌, length, IfOk};
+ghost use Rattle.std.specs.Prelude.{◌≡◌, IfOk};
 ghost use Rattle.tl_codec.specs.Spelling.{spelling};
 ghost use Rattle.regs_service.specs.Replies as replies;
 ghost use Rattle.regs_service.specs.Served.{IsReply};

@@ -1,6 +1,6 @@
 //! The worked rows of the registers, and what a server does with a service.
 
-ghost use Rattle.std.specs.Prelude.{◌≡◌, [], ◌∷◌, IfOk};
+ghost use Rattle.std.specs.Prelude.{[], ◌∷◌, IfOk};
 ghost use Rattle.regs_service.specs.Served.{Served};
 
 use super::*;
@@ -8,7 +8,11 @@ use std::alloc::Global;
 use std::test::*;
 
 // What a server does: it runs one request and then another.
-fn runs_two<V: Service>(alloc: Global, first: &[u8], second: &[u8]) -> Result<(Octets, Octets), NoMemory>
+fn runs_two<V: Service>(
+    alloc: Global,
+    first: &[u8],
+    second: &[u8],
+) -> Result<(Octets, Octets), NoMemory>
     ensures { IfOk result (λ replies. Served V.step V.fresh_state
         (record { request = first.now; reply = replies.0 } ∷ record { request = second.now; reply = replies.1 } ∷ [])) }
 {
@@ -20,12 +24,19 @@ fn runs_two<V: Service>(alloc: Global, first: &[u8], second: &[u8]) -> Result<(O
 }
 
 const GET_X: &[u8] = b"\x02\x2c\x1b\x0a\x01x\0\0";
+
 const ADD_X_5: &[u8] = b"\x01\x2c\x1b\x0a\x01x\0\0\x05\0\0\0\0\0\0\0";
+
 const ADD_X_ALL: &[u8] = b"\x01\x2c\x1b\x0a\x01x\0\0\xff\xff\xff\xff\xff\xff\xff\xff";
+
 const VALUE_0: &[u8] = b"\x03\x2c\x1b\x0a\0\0\0\0\0\0\0\0";
+
 const VALUE_5: &[u8] = b"\x03\x2c\x1b\x0a\x05\0\0\0\0\0\0\0";
+
 const BAD_REQUEST: &[u8] = b"\x19\xca\x44\x21\x90\x01\0\0\x0bBAD_REQUEST";
+
 const TOO_LARGE: &[u8] = b"\x19\xca\x44\x21\x90\x01\0\0\x09TOO_LARGE\0\0";
+
 const TOO_MANY: &[u8] = b"\x19\xca\x44\x21\x90\x01\0\0\x08TOO_MANY\0\0\0";
 
 #[test]
@@ -81,6 +92,7 @@ fn names_have_an_end(rt: HostRuntime) -> Result<(), Fail> {
     }
     let reply = regs.run(alloc, ADD_X_5)?;
     assert_eq!(rt; reply.as_slice(), TOO_MANY);
+    assert_eq!(rt; regs.names(), 65_536);
     let reply = regs.run(alloc, ADD_X_ALL)?;
     assert_eq!(rt; reply.as_slice(), TOO_MANY);
     let reply = regs.run(alloc, GET_X)?;

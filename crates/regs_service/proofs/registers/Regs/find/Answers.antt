@@ -1,4 +1,4 @@
-use Rattle.std.proofs.Common.{◌≡◌, ◌∙◌, sym, ap}
+use Rattle.std.proofs.Common.{◌∙◌, sym, ap}
 use Rattle.regs_service.specs.Registers as registers
 use Rattle.regs_service.proofs.MapLemmas.{found}
 use Rattle.regs_service.proofs.registers.Regs.find.Goals as goal
