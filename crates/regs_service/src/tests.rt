@@ -84,9 +84,11 @@ fn names_have_an_end(rt: HostRuntime) -> Result<(), Fail> {
     let mut regs = Regs::fresh(alloc);
     let mut request = *b"\x01\x2c\x1b\x0a\x04aaaa\0\0\0\x05\0\0\0\0\0\0\0";
     for k in 0..65_536_u32 {
-        for (place, shift) in [(5, 0), (6, 4), (7, 8), (8, 12)] {
-            request[place] = b'a' + ((k >> shift) & 15) as u8;
-        }
+        let bytes = k.to_le_bytes();
+        request[5] = b'a' + bytes[0] % 16;
+        request[6] = b'a' + bytes[0] / 16;
+        request[7] = b'a' + bytes[1] % 16;
+        request[8] = b'a' + bytes[1] / 16;
         let reply = regs.run(alloc, &request)?;
         assert_eq!(rt; reply.as_slice(), VALUE_5);
     }
