@@ -9,8 +9,8 @@ ghost use Rattle.salt_line.specs.Held.{rows_of, AreHeld, IsIn};
 
 use circular_buffer::HeapCircularBuffer;
 use draws::Draw;
-use std::alloc::Global;
 use octets::Memory;
+use std::alloc::Global;
 
 /// How many rows there is room for: those of 64 periods to come and the one before.
 const ROWS_MAX: usize = 65;

@@ -9,9 +9,9 @@ ghost use Rattle.salt_line.specs.Future.{salt_rows_from};
 use crate::rows::Rows;
 use draws::Draw;
 use msg_ids::Moment;
+use octets::Memory;
 use std::alloc::Global;
 use std::marker::Model;
-use octets::Memory;
 
 /// How many seconds after one period the next begins.
 const PERIOD_SECONDS: u64 = 1800;

@@ -3,9 +3,9 @@ ghost use Rattle.std.specs.Prelude.{◌≡◌, ◌<◌, IfOk};
 use crate::{SaltLine, SaltRow};
 use draws::{Draw, StepDraw};
 use msg_ids::Moment;
+use octets::Memory;
 use std::alloc::Global;
 use std::test::Fail;
-use octets::Memory;
 
 const NO_ROW: SaltRow = SaltRow {
     since: 0,
