@@ -1,15 +1,16 @@
 -- What stands at the front of a text is what `Reads` allows there.
 use Rattle.std.proofs.Common.{◌≡◌, ◌≢◌, ℕ, ◌≤◌, inl, inr, Bool, true, false, eqb, cond, List, ◌++◌, length, take, drop, Result, Ok, Err, refl, sym, ap, subst, ◌∙◌, arith}
-use Rattle.std.specs.Prelude.{IfOk, IfErr, OnErr}
+use Rattle.std.specs.Prelude.{IfErr, OnErr}
 use Rattle.std.proofs.lemmas.Bool.{cases_eq, eq-eqb, ne_eqb}
 use Rattle.std.proofs.lemmas.List.{take-append-drop, length-take, append_cancel_right}
 use Rattle.byteorder.specs.Endian.{little_bytes}
-use Rattle.tl_codec.specs.declared.tags.TheConstants.{BOOL_TRUE, BOOL_FALSE}
+use Rattle.tl_codec.specs.Standard.{bool_true, bool_false}
 use Rattle.tl_codec.specs.declared.fault.TlFault.{TlFault}
 use Rattle.tl_codec.specs.declared.fault.TlFault.TheVariants.{Short, BadTag, TooMany, Extra, Memory}
-use Rattle.tl_codec.specs.Bytes.{IsBytes}
+use Rattle.octets.specs.Bytes.{IsBytes}
 use Rattle.tl_codec.specs.Spelling.{Form, Int, Long, Raw, Bytes, Longs, Truth, Tag, Of, Spells, Reads, ReadsBytes, spelling}
-use Rattle.tl_codec.specs.Reading.{Takes, NoFront, Gives, GivesUnlessMemory, number_at, truth_at, read_at}
+use Rattle.std.specs.Borrow.{Bor}
+use Rattle.tl_codec.specs.Reading.{Takes, NoFront, UnlessMemory, with_rest, lent, number_at, truth_at, read_at}
 use Rattle.tl_codec.proofs.Steps.{bind_ok, same_parts, same_value}
 use Rattle.tl_codec.proofs.Numbers.{raw_takes, raw_again, number_takes, number_again}
 use Rattle.tl_codec.proofs.Strings.{bytes_take, bytes_again, spelling_reads}
@@ -19,28 +20,28 @@ raw_stands : (size : ℕ) (text : List ℕ) → size ≤ length text → Takes (
 unfolding spelling
 raw_stands size text enough = (take size text, (omega (arith, length-take size text), refl), sym (take-append-drop size text))
 
-truth_front : (value : Bool) (text left : List ℕ) → text ≡ little_bytes 4 (cond value BOOL_TRUE BOOL_FALSE) ++ left → Takes Truth value text left
+truth_front : (value : Bool) (text left : List ℕ) → text ≡ little_bytes 4 (cond value bool_true bool_false) ++ left → Takes Truth value text left
 unfolding spelling
-truth_front value text left spelt = (little_bytes 4 (cond value BOOL_TRUE BOOL_FALSE), (tt, refl), spelt)
+truth_front value text left spelt = (little_bytes 4 (cond value bool_true bool_false), (tt, refl), spelt)
 
 truth_stands : (found : ℕ) (text left rest : List ℕ) (value : Bool) → text ≡ little_bytes 4 found ++ left
-    → cond {A = Result (Bool × List ℕ) TlFault} (eqb found BOOL_TRUE) (Ok (true, left)) (cond (eqb found BOOL_FALSE) (Ok (false, left)) (Err (BadTag found))) ≡ Ok (value, rest)
+    → cond {A = Result (Bool × List ℕ) TlFault} (eqb found bool_true) (Ok (true, left)) (cond (eqb found bool_false) (Ok (false, left)) (Err (BadTag found))) ≡ Ok (value, rest)
     → Takes Truth value text rest
 truth_stands found text left rest value spelt e =
-    elim (cases_eq found BOOL_TRUE) [
+    elim (cases_eq found bool_true) [
       | inl is ↦
-          let test : eqb found BOOL_TRUE ≡ true = eq-eqb _ _ is in
+          let test : eqb found bool_true ≡ true = eq-eqb _ _ is in
           let same : ◌≡◌ {A = Bool × List ℕ} (true, left) (value, rest) = same_value _ _ _ refl (rw test at e) in
           subst (λ (p : Bool × List ℕ). Takes Truth p.0 text p.1) same (truth_front true text left (subst (λ (n : ℕ). text ≡ little_bytes 4 n ++ left) is spelt))
-      | inr other ↦ elim (cases_eq found BOOL_FALSE) [
+      | inr other ↦ elim (cases_eq found bool_false) [
         | inl is ↦
-            let first : eqb found BOOL_TRUE ≡ false = ne_eqb _ _ other in
-            let test : eqb found BOOL_FALSE ≡ true = eq-eqb _ _ is in
+            let first : eqb found bool_true ≡ false = ne_eqb _ _ other in
+            let test : eqb found bool_false ≡ true = eq-eqb _ _ is in
             let same : ◌≡◌ {A = Bool × List ℕ} (false, left) (value, rest) = same_value _ _ _ refl (rw (first, test) at e) in
             subst (λ (p : Bool × List ℕ). Takes Truth p.0 text p.1) same (truth_front false text left (subst (λ (n : ℕ). text ≡ little_bytes 4 n ++ left) is spelt))
         | inr neither ↦
-            let first : eqb found BOOL_TRUE ≡ false = ne_eqb _ _ other in
-            let second : eqb found BOOL_FALSE ≡ false = ne_eqb _ _ neither in
+            let first : eqb found bool_true ≡ false = ne_eqb _ _ other in
+            let second : eqb found bool_false ≡ false = ne_eqb _ _ neither in
             let none = rw (first, second) at e in
             absurd cc
       ]
@@ -49,13 +50,13 @@ truth_stands found text left rest value spelt e =
 truth_takes : (text : List ℕ) (value : Bool) (rest : List ℕ) → IsBytes text → truth_at text ≡ Ok (value, rest) → Takes Truth value text rest
 unfolding truth_at
 truth_takes text value rest fits e =
-    let a = bind_ok (number_at 4 text) (λ found. cond (eqb found.0 BOOL_TRUE) (Ok (true, found.1)) (cond (eqb found.0 BOOL_FALSE) (Ok (false, found.1)) (Err (BadTag found.0)))) (value, rest) e in
+    let a = bind_ok (number_at 4 text) (λ found. cond (eqb found.0 bool_true) (Ok (true, found.1)) (cond (eqb found.0 bool_false) (Ok (false, found.1)) (Err (BadTag found.0)))) (value, rest) e in
     truth_stands a.0.0 text a.0.1 rest value (number_takes 4 text a.0.0 a.0.1 fits a.1).1 a.2
 
-truth_again : (value : Bool) (rest : List ℕ) → truth_at (little_bytes 4 (cond value BOOL_TRUE BOOL_FALSE) ++ rest) ≡ Ok (value, rest)
+truth_again : (value : Bool) (rest : List ℕ) → truth_at (little_bytes 4 (cond value bool_true bool_false) ++ rest) ≡ Ok (value, rest)
 unfolding truth_at
-truth_again true rest = rw (number_again 4 BOOL_TRUE rest (omega arith)) refl
-truth_again false rest = rw (number_again 4 BOOL_FALSE rest (omega arith)) refl
+truth_again true rest = rw (number_again 4 bool_true rest (omega arith)) refl
+truth_again false rest = rw (number_again 4 bool_false rest (omega arith)) refl
 
 -- what is read is a front
 pub takes : (form : Form) (text : List ℕ) (value : Of form) (rest : List ℕ) → IsBytes text → read_at form text ≡ Ok (value, rest) → Takes form value text rest
@@ -94,30 +95,25 @@ one_reading form v w x y r s first second e =
 pub refuses : (form : Form) (text : List ℕ) (fault : TlFault) → read_at form text ≡ Err fault → NoFront form text
 refuses form text fault e value rest t = let read = taken_again form text value rest t in absurd cc
 
--- what a call that reads a form learns from its exact answer
-pub call_takes : {X : Type 0} (form : Form) (view : X → Of form) (result : Result X TlFault) (old new : List ℕ) → IsBytes old
-    → Gives view result old new (read_at form old) → IfOk result (λ x. Takes form (view x) old new)
-call_takes form view (Ok x) old new fits given = takes form old (view x) new fits given
-call_takes form view (Err fault) old new fits given = tt
+-- what a read that failed says of the text
+pub call_refuses : (form : Form) (result : Result (Of form) TlFault) (old new : List ℕ)
+    → read_at form old ≡ with_rest result new → OnErr result (NoFront form old)
+call_refuses form (Ok value) old new exact = tt
+call_refuses form (Err fault) old new exact = refuses form old fault exact
 
-pub call_refuses : {X : Type 0} (form : Form) (view : X → Of form) (result : Result X TlFault) (old new : List ℕ)
-    → Gives view result old new (read_at form old) → OnErr result (NoFront form old)
-call_refuses form view (Ok x) old new given = tt
-call_refuses form view (Err fault) old new given = refuses form old fault given.0
+pub bytes_refuse : (result : Result (Bor (List ℕ)) TlFault) (old new : List ℕ)
+    → read_at Bytes old ≡ with_rest (lent result) new → OnErr result (NoFront Bytes old)
+bytes_refuse (Ok bytes) old new exact = tt
+bytes_refuse (Err fault) old new exact = refuses Bytes old fault exact
 
-pub call_takes_with_memory : {X : Type 0} (form : Form) (view : X → Of form) (result : Result X TlFault) (old new : List ℕ) → IsBytes old
-    → GivesUnlessMemory view result old new (read_at form old) → IfOk result (λ x. Takes form (view x) old new)
-call_takes_with_memory form view (Ok x) old new fits given = takes form old (view x) new fits given
-call_takes_with_memory form view (Err fault) old new fits given = tt
-
-pub call_refuses_with_memory : {X : Type 0} (form : Form) (view : X → Of form) (result : Result X TlFault) (old new : List ℕ)
-    → GivesUnlessMemory view result old new (read_at form old) → IfErr result (λ fault. fault ≢ Memory → NoFront form old)
-call_refuses_with_memory form view (Ok x) old new given = tt
-call_refuses_with_memory form view (Err Memory) old new given = λ other. absurd (other refl)
-call_refuses_with_memory form view (Err (Short need have)) old new given = λ other. refuses form old (Short need have) given.0
-call_refuses_with_memory form view (Err (BadTag found)) old new given = λ other. refuses form old (BadTag found) given.0
-call_refuses_with_memory form view (Err (TooMany count)) old new given = λ other. refuses form old (TooMany count) given.0
-call_refuses_with_memory form view (Err (Extra bytes)) old new given = λ other. refuses form old (Extra bytes) given.0
+pub longs_refuse : (result : Result (List ℕ) TlFault) (old new : List ℕ)
+    → UnlessMemory result (read_at Longs old ≡ with_rest result new) → IfErr result (λ fault. fault ≢ Memory → NoFront Longs old)
+longs_refuse (Ok numbers) old new exact = tt
+longs_refuse (Err Memory) old new exact = λ other. absurd (other refl)
+longs_refuse (Err (Short need have)) old new exact = λ other. refuses Longs old (Short need have) exact
+longs_refuse (Err (BadTag found)) old new exact = λ other. refuses Longs old (BadTag found) exact
+longs_refuse (Err (TooMany count)) old new exact = λ other. refuses Longs old (TooMany count) exact
+longs_refuse (Err (Extra bytes)) old new exact = λ other. refuses Longs old (Extra bytes) exact
 
 -- a spelling is a reading
 pub spelt_reads : (form : Form) (value : Of form) (text : List ℕ) → Spells form value text → Reads form value text

@@ -5,3 +5,4 @@ pub mod Numbers
 pub mod Strings
 pub mod Vectors
 pub mod Fronts
+pub mod Sizes

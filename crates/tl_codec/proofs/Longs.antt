@@ -3,7 +3,7 @@ use Rattle.std.proofs.Common.{◌≡◌, ℕ, zero, suc, ◌+◌, ◌-◌, ◌<�
 use Rattle.std.proofs.lemmas.List.{append-nil}
 use Rattle.byteorder.specs.Endian.{little_number}
 use Rattle.byteorder.specs.Numbers.{little_from-take, little_from-lt}
-use Rattle.tl_codec.specs.Bytes.{IsBytes, AreLongs}
+use Rattle.octets.specs.Bytes.{IsBytes, AreLongs}
 use Rattle.tl_codec.specs.Reading.{longs_in}
 use Rattle.tl_codec.proofs.Texts.{IsBytes-drop}
 

@@ -7,7 +7,7 @@ use Rattle.std.specs.Int.{byte_at, bytes_low_first}
 use Rattle.byteorder.specs.Endian.{little_bytes, little_number, little_from}
 use Rattle.byteorder.specs.Numbers.{length-bytes_low_first, little_from-cons, little_from-lt, little_from-take, little_number-reads_back}
 use Rattle.tl_codec.specs.declared.fault.TlFault.TheVariants.{Short}
-use Rattle.tl_codec.specs.Bytes.{IsBytes}
+use Rattle.octets.specs.Bytes.{IsBytes}
 use Rattle.tl_codec.specs.Reading.{raw_at, number_at}
 use Rattle.tl_codec.proofs.Texts.{IsBytes-tail}
 use Rattle.tl_codec.proofs.Steps.{guard_ok, same_parts}

@@ -5,8 +5,8 @@ use Rattle.std.proofs.lemmas.Bool.{cases_lt, cases_eq, lt-ltb, le-ltb, eq-eqb, n
 use Rattle.std.proofs.lemmas.List.{take_at, drop_at, take-take, take-append-drop, length-append, length-take, length-drop, length-replicate}
 use Rattle.byteorder.specs.Endian.{little_bytes, little_number}
 use Rattle.byteorder.specs.Numbers.{length-bytes_low_first, little_from-lt, little_number-reads_back}
-use Rattle.tl_codec.specs.declared.tags.TheConstants.{BYTES_MAX}
-use Rattle.tl_codec.specs.Bytes.{IsBytes}
+use Rattle.tl_codec.specs.Standard.{bytes_max}
+use Rattle.octets.specs.Bytes.{IsBytes}
 use Rattle.tl_codec.specs.Spelling.{Bytes, padding_of, head, long_head, IsHead, ReadsBytes, spelling}
 use Rattle.tl_codec.specs.Reading.{◌>>=◌, Takes, raw_at, head_at, bytes_at}
 use Rattle.tl_codec.proofs.Steps.{bind_ok, same_parts, same_value}
@@ -137,7 +137,7 @@ bytes_again content text rest read =
     rw (begun, field, inner) refl
 
 -- the short form is a head, and zeros are a padding
-pub spelling_reads : (content : List ℕ) → length content ≤ BYTES_MAX → ReadsBytes content (spelling Bytes content)
+pub spelling_reads : (content : List ℕ) → length content ≤ bytes_max → ReadsBytes content (spelling Bytes content)
 unfolding spelling
 spelling_reads content fits =
     let size = length content in

@@ -1,7 +1,8 @@
 -- What stands at the front of a text.
-use Rattle.std.specs.Prelude.{◌≡◌, ℕ, zero, suc, ◌+◌, ◌*◌, ◌%◌, nat_lt, ◌==◌, if◌then◌else◌, Bool, true, false, List, [], ◌∷◌, ◌++◌, length, take, drop, slice_index, Result, Ok, Err}
+use Rattle.std.specs.Prelude.{◌≡◌, ℕ, zero, suc, ◌+◌, ◌*◌, ◌%◌, nat_lt, ◌==◌, if◌then◌else◌, Bool, true, false, List, [], ◌∷◌, ◌++◌, length, take, drop, slice_index, Result, Ok, Err, ⊤}
+use Rattle.std.specs.Borrow.{Bor}
 use Rattle.byteorder.specs.Endian.{little_number}
-use Rattle.tl_codec.specs.declared.tags.TheConstants.{VECTOR, BOOL_TRUE, BOOL_FALSE, LONGS_MAX}
+use Rattle.tl_codec.specs.Standard.{vector, bool_true, bool_false, longs_max}
 use Rattle.tl_codec.specs.declared.fault.TlFault.{TlFault}
 use Rattle.tl_codec.specs.declared.fault.TlFault.TheVariants.{Short, BadTag, TooMany, Memory}
 use Rattle.tl_codec.specs.Spelling.{Form, Int, Long, Raw, Bytes, Longs, Truth, Tag, Of, Reads, padding_of}
@@ -38,7 +39,7 @@ tag_at want text = do
 unfoldable pub truth_at : List ℕ → Result (Bool × List ℕ) TlFault
 truth_at text = do
   found ← number_at 4 text
-  if found.0 == BOOL_TRUE then Ok (true, found.1) else if found.0 == BOOL_FALSE then Ok (false, found.1) else Err (BadTag found.0)
+  if found.0 == bool_true then Ok (true, found.1) else if found.0 == bool_false then Ok (false, found.1) else Err (BadTag found.0)
 
 -- How many bytes the length in front of a string takes, and the length. A string has 4 bytes at least.
 -- The byte 255 begins no string.
@@ -62,12 +63,12 @@ abbrev pub longs_in : ℕ → List ℕ → List ℕ
 longs_in zero text = []
 longs_in (suc count) text = little_number 8 text ∷ longs_in count (drop 8 text)
 
--- Where items lack, the first one that isn't whole is short.
+-- Where items are missing, the first one that isn't whole is short.
 unfoldable pub longs_at : List ℕ → Result (List ℕ × List ℕ) TlFault
 longs_at text = do
-  tag ← tag_at VECTOR text
+  tag ← tag_at vector text
   count ← number_at 4 tag.1
-  if nat_lt LONGS_MAX count.0 then Err (TooMany count.0)
+  if nat_lt longs_max count.0 then Err (TooMany count.0)
       else if nat_lt (length count.1) (8 * count.0) then Err (Short 8 (length count.1 % 8))
       else Ok (longs_in count.0 count.1, drop (8 * count.0) count.1)
 
@@ -80,14 +81,19 @@ read_at Longs text = longs_at text
 read_at Truth text = truth_at text
 read_at (Tag number) text = tag_at number text
 
--- What a read answered, seen by view, and what it left, are what stands at the front of the old text.
--- With a fault it left the text as it was.
-abbrev pub Gives : {X Y : Type 0} → (X → Y) → Result X TlFault → List ℕ → List ℕ → Result (Y × List ℕ) TlFault → Type 0
-Gives view (Ok x) old new read = read ≡ Ok (view x, new)
-Gives view (Err fault) old new read = (read ≡ Err fault) × (new ≡ old)
+-- ---- What a read answers. It is what stands at the front, together with what the read left.
 
--- the same for a read that takes memory
-abbrev pub GivesUnlessMemory : {X Y : Type 0} → (X → Y) → Result X TlFault → List ℕ → List ℕ → Result (Y × List ℕ) TlFault → Type 0
-GivesUnlessMemory view (Ok x) old new read = read ≡ Ok (view x, new)
-GivesUnlessMemory view (Err Memory) old new read = new ≡ old
-GivesUnlessMemory view (Err fault) old new read = (read ≡ Err fault) × (new ≡ old)
+abbrev pub with_rest : {A : Type 0} → Result A TlFault → List ℕ → Result (A × List ℕ) TlFault
+with_rest (Ok value) rest = Ok (value, rest)
+with_rest (Err fault) rest = Err fault
+
+-- bytes that are lent from the text, by what they are
+abbrev pub lent : Result (Bor (List ℕ)) TlFault → Result (List ℕ) TlFault
+lent (Ok bytes) = Ok bytes.now
+lent (Err fault) = Err fault
+
+-- a fact about every answer but that memory ran out
+abbrev pub UnlessMemory : {A : Type 0} → Result A TlFault → Type 0 → Type 0
+UnlessMemory (Ok value) P = P
+UnlessMemory (Err Memory) P = ⊤
+UnlessMemory (Err fault) P = P

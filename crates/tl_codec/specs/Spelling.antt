@@ -1,9 +1,9 @@
 -- How TL values are spelt (core.telegram.org/mtproto/serialize).
-use Rattle.std.specs.Prelude.{◌≡◌, ◌<◌, ◌≤◌, ◌^◌, ℕ, ◌+◌, ◌-◌, ◌%◌, Bool, nat_lt, if◌then◌else◌, List, [], ◌∷◌, ◌++◌, length, replicate, ⊤, ◌⊎◌}
+use Rattle.std.specs.Prelude.{◌≡◌, ◌<◌, ◌≤◌, ◌^◌, ℕ, ◌+◌, ◌-◌, ◌*◌, ◌%◌, Bool, nat_lt, if◌then◌else◌, List, [], ◌∷◌, ◌++◌, length, replicate, ⊤, ◌⊎◌}
 use Rattle.std.specs.List.{flat_map}
 use Rattle.byteorder.specs.Endian.{little_bytes}
-use Rattle.tl_codec.specs.Bytes.{AreLongs}
-use Rattle.tl_codec.specs.declared.tags.TheConstants.{VECTOR, BOOL_TRUE, BOOL_FALSE, BYTES_MAX, LONGS_MAX}
+use Rattle.octets.specs.Bytes.{AreLongs}
+use Rattle.tl_codec.specs.Standard.{vector, bool_true, bool_false, bytes_max, longs_max}
 
 -- The forms that the values of MTProto's own objects have: `int`, `long`, the raw bytes of an `int128`
 -- or `int256`, `bytes` (a `string` is the same), `Vector long`, `Bool`, and a boxed object's constructor.
@@ -31,12 +31,12 @@ abbrev pub Fits : (form : Form) → Of form → Type 0
 Fits Int number = number < 2 ^ 32
 Fits Long number = number < 2 ^ 64
 Fits (Raw size) bytes = length bytes ≡ size
-Fits Bytes content = length content ≤ BYTES_MAX
-Fits Longs numbers = (length numbers ≤ LONGS_MAX) × AreLongs numbers
+Fits Bytes content = length content ≤ bytes_max
+Fits Longs numbers = (length numbers ≤ longs_max) × AreLongs numbers
 Fits Truth value = ⊤
 Fits (Tag number) value = number < 2 ^ 32
 
--- what lacks to a multiple of 4
+-- what is missing to a multiple of 4
 abbrev pub padding_of : ℕ → ℕ
 padding_of size = (4 - size % 4) % 4
 
@@ -58,9 +58,24 @@ spelling Int number = little_bytes 4 number
 spelling Long number = little_bytes 8 number
 spelling (Raw size) bytes = bytes
 spelling Bytes content = head (length content) ++ content ++ replicate (padding_of (length (head (length content)) + length content)) 0
-spelling Longs numbers = little_bytes 4 VECTOR ++ little_bytes 4 (length numbers) ++ flat_map (little_bytes 8) numbers
-spelling Truth value = little_bytes 4 (if value then BOOL_TRUE else BOOL_FALSE)
+spelling Longs numbers = little_bytes 4 vector ++ little_bytes 4 (length numbers) ++ flat_map (little_bytes 8) numbers
+spelling Truth value = little_bytes 4 (if value then bool_true else bool_false)
 spelling (Tag number) value = little_bytes 4 number
+
+-- How many bytes a spelling has. A string takes a multiple of 4 with its length.
+abbrev pub string_size : ℕ → ℕ
+string_size size =
+    let whole = (if nat_lt size 254 then 1 else 4) + size in
+    whole + padding_of whole
+
+abbrev pub size_of : (form : Form) → Of form → ℕ
+size_of Int number = 4
+size_of Long number = 8
+size_of (Raw size) bytes = size
+size_of Bytes content = string_size (length content)
+size_of Longs numbers = 8 + 8 * length numbers
+size_of Truth value = 4
+size_of (Tag number) value = 4
 
 -- the whole text is this value, as a writer spells it
 abbrev pub Spells : (form : Form) → Of form → List ℕ → Type 0
@@ -68,7 +83,7 @@ Spells form value text = Fits form value × (text ≡ spelling form value)
 
 -- A reader takes either head for any length, and any bytes as padding.
 abbrev pub IsHead : ℕ → List ℕ → Type 0
-IsHead size text = ((size < 254) × (text ≡ short_head size)) ⊎ ((size ≤ BYTES_MAX) × (text ≡ long_head size))
+IsHead size text = ((size < 254) × (text ≡ short_head size)) ⊎ ((size ≤ bytes_max) × (text ≡ long_head size))
 
 abbrev pub ReadsBytes : List ℕ → List ℕ → Type 0
 ReadsBytes content text =

@@ -1,11 +1,16 @@
 -- What a writer puts at the end of a text.
 use Rattle.std.specs.Prelude.{◌≡◌, List, ℕ, ◌++◌}
+use Rattle.std.specs.Borrow.{MutBor}
 use Rattle.tl_codec.specs.declared.writer.Writer.{Writer}
 use Rattle.tl_codec.specs.Spelling.{Form, Of, Fits, spelling}
 
 -- the text that a writer has written so far, what stood there before it included
 abbrev pub text_of : Writer → List ℕ
 text_of writer = writer.into.now
+
+-- the writer writes into these octets
+abbrev pub WritesInto : MutBor (List ℕ) → Writer → Type 0
+WritesInto octets writer = writer.into.ghost_name ≡ octets.ghost_name
 
 -- both write into the same octets
 abbrev pub IsSameText : Writer → Writer → Type 0

@@ -11,7 +11,7 @@ pub(crate) const LONG_FORM: u8 = 254;
 /// The first byte that no string has.
 pub(crate) const NO_FORM: u8 = 255;
 
-/// How many bytes lack to a multiple of 4.
+/// How many bytes are missing to a multiple of 4.
 pub(crate) fn padding_of(size: usize) -> usize
     ensures value { result ≡ spelling.padding_of size }
     ensures small { result ≤ 3 }

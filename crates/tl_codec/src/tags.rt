@@ -9,11 +9,11 @@ pub const BOOL_TRUE: u32 = 0x997275b5;
 /// `boolFalse#bc799737 = Bool`.
 pub const BOOL_FALSE: u32 = 0xbc799737;
 
-/// The longest string, in bytes: its length has three bytes.
+/// The longest string, in bytes: its length has three of them.
 pub const BYTES_MAX: usize = 16_777_215;
 
 /// The most numbers in a list; the standard lets at most 8,192 identifiers stand in one.
-pub const LONGS_MAX: u32 = 8_192;
+pub const LONGS_MAX: usize = 8_192;
 
 /// The bytes of an `int`; a string takes a multiple of them.
 pub(crate) const WORD_BYTES: usize = 4;

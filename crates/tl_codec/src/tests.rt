@@ -1,8 +1,12 @@
 //! The worked texts of each form.
 
-ghost use Rattle.std.specs.Prelude.{◌≤◌, length};
+ghost use Rattle.std.specs.Prelude.{◌≡◌, ◌≤◌, ◌++◌, length, OnOk, Ok, OnErr};
+ghost use Rattle.tl_codec.specs.Standard.{bytes_max};
+ghost use Rattle.tl_codec.specs.Spelling.{Bytes, Truth, Tag, spelling};
+ghost use Rattle.tl_codec.specs.Reading.{read_at, with_rest, lent};
 
 use super::*;
+use octets::Buffer;
 use std::alloc::Global;
 use std::test::*;
 
@@ -15,7 +19,7 @@ fn sevens(alloc: Global) -> Result<Octets, Memory> {
 }
 
 fn spelt(alloc: Global, content: &[u8]) -> Result<Octets, Memory>
-    requires { length content.now ≤ BYTES_MAX }
+    requires { length content.now ≤ bytes_max }
 {
     let mut text = Octets::new(alloc);
     let mut writer = Writer::new(&mut text);
@@ -28,16 +32,16 @@ fn strings_are_padded(rt: HostRuntime) -> Result<(), Fail> {
     let alloc = rt.alloc();
     let short = [7; 253];
     let long = [7; 254];
-    let empty = spelt(alloc, &[]).ok().ok_or("no memory")?;
+    let empty = spelt(alloc, &[])?;
     assert_eq!(rt; empty.as_slice(), [0; 4].as_slice());
-    let abc = spelt(alloc, b"abc").ok().ok_or("no memory")?;
+    let abc = spelt(alloc, b"abc")?;
     assert_eq!(rt; abc.as_slice(), b"\x03abc".as_slice());
-    let last_short = spelt(alloc, &short).ok().ok_or("no memory")?;
+    let last_short = spelt(alloc, &short)?;
     assert_eq!(rt; last_short.as_slice().len(), 256);
     assert!(rt; last_short.as_slice().starts_with(&[0xfd, 7]));
     assert!(rt; last_short.as_slice().ends_with(&[7, 0, 0]));
-    let first_long = spelt(alloc, &long).ok().ok_or("no memory")?;
-    let want = sevens(alloc).ok().ok_or("no memory")?;
+    let first_long = spelt(alloc, &long)?;
+    let want = sevens(alloc)?;
     assert_eq!(rt; first_long.as_slice(), want.as_slice());
     Ok(())
 }
@@ -45,7 +49,7 @@ fn strings_are_padded(rt: HostRuntime) -> Result<(), Fail> {
 #[test]
 fn strings_are_read(rt: HostRuntime) -> Result<(), Fail> {
     let alloc = rt.alloc();
-    let long = sevens(alloc).ok().ok_or("no memory")?;
+    let long = sevens(alloc)?;
     let content = [7; 254];
     let rows: [(&[u8], Result<&[u8], TlFault>); 7] = [
         (&[0; 4], Ok(&[])),
@@ -75,14 +79,65 @@ fn truths_are_read(rt: HostRuntime) {
     }
 }
 
+// The same values behind a text, of which the room is taken once and which are written in place.
+fn filled(
+    alloc: Global,
+    text: &mut Octets,
+    number: u32,
+    name: &[u8],
+    found: bool,
+) -> Result<(), Memory>
+    requires { length name.now ≤ bytes_max }
+    ensures appended { OnOk result (text.new ≡ text.old ++ (spelling (Tag number) tt ++ (spelling Bytes name.now ++ spelling Truth found))) }
+    ensures unchanged_on_memory { OnErr result (text.new ≡ text.old) }
+{
+    let mut buffer = Buffer::after(alloc, text, 8 + fill::string_size(name.len()))?;
+    fill::tag(&mut buffer, number);
+    fill::bytes(&mut buffer, name);
+    fill::boolean(&mut buffer, found);
+    *text = buffer.into_octets();
+    Ok(())
+}
+
+// A caller that reads: a refused read leaves the place where it was, so another form can be tried.
+fn number_or_name<'a>(reader: &mut Reader<'a>, number: u32) -> Result<&'a [u8], TlFault>
+    ensures numbered { OnOk (read_at (Tag number) reader.old) (OnOk result (read_at (Tag number) reader.old ≡ Ok (tt, reader.new))) }
+    ensures named { OnErr (read_at (Tag number) reader.old) (read_at Bytes reader.old ≡ with_rest (lent result) reader.new) }
+{
+    match reader.tag(number) {
+        Ok(()) => Ok(&[]),
+        Err(_) => reader.bytes(),
+    }
+}
+
+#[test]
+fn values_are_read_again(rt: HostRuntime) -> Result<(), Fail> {
+    let alloc = rt.alloc();
+    let mut text = Octets::new(alloc);
+    filled(alloc, &mut text, 1, b"abcd", true)?;
+    let bytes = b"\x01\0\0\0\x04abcd\0\0\0\xb5\x75\x72\x99";
+    assert_eq!(rt; text.as_slice(), bytes.as_slice());
+    let mut reader = Reader::new(text.as_slice());
+    assert!(rt; number_or_name(&mut reader, 1) == Ok([].as_slice()));
+    assert!(rt; number_or_name(&mut reader, 1) == Ok(b"abcd".as_slice()));
+    assert_eq!(rt; reader.boolean(), Ok(true));
+    let fault = TlFault::BadTag { found: 255 };
+    let told = format!(in alloc; "{fault}, {}", TlFault::from(Memory))?;
+    assert_eq!(rt;
+        told.as_str(),
+        "constructor 000000ff is another than the one that is due, out of memory"
+    );
+    Ok(())
+}
+
 #[test]
 fn fields_follow_each_other(rt: HostRuntime) -> Result<(), Fail> {
     let alloc = rt.alloc();
     let mut text = Octets::new(alloc);
     let mut writer = Writer::new(&mut text);
-    assert!(rt; writer.int(alloc, 0x7abe77ec).is_ok());
-    assert!(rt; writer.long(alloc, 0x0807060504030201).is_ok());
-    assert!(rt; writer.raw(alloc, &[9; 16]).is_ok());
+    writer.tag(alloc, 0x7abe77ec)?;
+    writer.long(alloc, 0x0807060504030201)?;
+    writer.raw(alloc, &[9; 16])?;
     let bytes =
         b"\xec\x77\xbe\x7a\x01\x02\x03\x04\x05\x06\x07\x08\x09\x09\x09\x09\x09\x09\x09\x09\x09\x09\x09\x09\x09\x09\x09\x09";
     assert_eq!(rt; text.as_slice(), bytes.as_slice());
@@ -105,18 +160,15 @@ fn fields_follow_each_other(rt: HostRuntime) -> Result<(), Fail> {
 #[test]
 fn lists_of_numbers(rt: HostRuntime) -> Result<(), Fail> {
     let alloc = rt.alloc();
-    let numbers = IdList::copy(alloc, &[4]).ok().ok_or("no memory")?;
+    let numbers = IdList::copy(alloc, &[4])?;
     let mut both = IdList::new(alloc);
-    assert!(rt; both.push_all(alloc, numbers.ids()).is_ok());
+    both.push_all(alloc, numbers.ids())?;
     let bytes = b"\x15\xc4\xb5\x1c\x01\0\0\0\x04\0\0\0\0\0\0\0";
     let mut text = Octets::new(alloc);
     let mut writer = Writer::new(&mut text);
-    assert!(rt; writer.longs(alloc, &[4]).is_ok());
+    writer.longs(alloc, &[4])?;
     assert_eq!(rt; text.as_slice(), bytes.as_slice());
-    let read = Reader::new(bytes)
-        .longs(alloc)
-        .ok()
-        .ok_or("the bytes are a list")?;
+    let read = Reader::new(bytes).longs(alloc)?;
     assert_eq!(rt; read.ids(), both.ids());
     let rows: [(&[u8], TlFault); 4] = [
         (&bytes[..15], TlFault::Short { need: 8, have: 7 }),

@@ -1,14 +1,12 @@
-//! Writing TL values at the end of a text.
+//! Writing TL values at the end of octets.
 
-ghost use Rattle.std.specs.Prelude.{◌≡◌, ◌≤◌, ◌<◌, ◌++◌, ◌+◌, replicate, length, OnOk, OnErr};
-ghost use Rattle.tl_codec.specs.Spelling as spelling;
-ghost use Rattle.tl_codec.specs.Spelling.{Int, Long, Bytes, Longs};
+ghost use Rattle.std.specs.Prelude.{◌≡◌, ◌≤◌, ◌++◌, length, OnOk, OnErr};
+ghost use Rattle.tl_codec.specs.Standard.{bytes_max, longs_max};
+ghost use Rattle.tl_codec.specs.Spelling.{Int, Long, Bytes, Longs, Truth, Tag};
 
-use crate::memory::Memory;
-use crate::octets::Octets;
-use crate::padding::{LONG_FORM, padding_of};
-use crate::tags::{BYTES_MAX, LONG_BYTES, LONGS_MAX, VECTOR, WORD_BYTES};
-use byteorder::{ByteOrder, LittleEndian};
+use crate::fill;
+use crate::tags::{LONG_BYTES, WORD_BYTES};
+use octets::{Buffer, Memory, Octets};
 use std::alloc::Global;
 
 /// Writes TL values at the end of the octets that it was made for.
@@ -18,42 +16,84 @@ pub struct Writer<'a> {
 }
 
 impl<'a> Writer<'a> {
-    ghost use Rattle.tl_codec.specs.Writing.{Appends, IsSameText, text_of};
+    ghost use Rattle.tl_codec.specs.Writing.{Appends, WritesInto, IsSameText, text_of};
 
     /// A writer at the end of the octets.
     pub fn new(into: &'a mut Octets) -> Writer<'a>
-        ensures same_text { result.into.ghost_name ≡ into.entry.ghost_name }
+        ensures same_text { WritesInto into.entry result }
         ensures text { text_of result ≡ into.old }
     {
         Writer { into }
     }
 
-    /// Writes an `int`, also a constructor number. A refused write leaves the text as it was.
+    /// Writes an `int`: 4 bytes, little-endian.
+    ///
+    /// # Errors
+    ///
+    /// `Memory`, and then the text is as it was, here and below.
     #[tactic(auto, unfolding(crate::specs::Spelling::spelling))]
     pub fn int(&mut self, alloc: Global, v: u32) -> Result<(), Memory>
         ensures same_text { IsSameText self.old self.new }
         ensures appended { OnOk result (Appends Int v (text_of self.old) (text_of self.new)) }
         ensures unchanged_on_memory { OnErr result (text_of self.new ≡ text_of self.old) }
     {
-        let mut bytes = [0; WORD_BYTES];
-        LittleEndian::write_u32(&mut bytes, v);
-        self.into.push_all(alloc, &bytes)
+        let mut buffer = Buffer::after(alloc, self.into, WORD_BYTES)?;
+        fill::int(&mut buffer, v);
+        *self.into = buffer.into_octets();
+        Ok(())
     }
 
-    /// Writes a `long`. A refused write leaves the text as it was.
+    /// Writes the constructor number of a boxed object.
+    ///
+    /// # Errors
+    ///
+    /// `Memory`.
     #[tactic(auto, unfolding(crate::specs::Spelling::spelling))]
+    pub fn tag(&mut self, alloc: Global, number: u32) -> Result<(), Memory>
+        ensures same_text { IsSameText self.old self.new }
+        ensures appended { OnOk result (Appends (Tag number) tt (text_of self.old) (text_of self.new)) }
+        ensures unchanged_on_memory { OnErr result (text_of self.new ≡ text_of self.old) }
+    {
+        self.int(alloc, number)
+    }
+
+    /// Writes a `long`: 8 bytes, little-endian.
+    ///
+    /// # Errors
+    ///
+    /// `Memory`.
     pub fn long(&mut self, alloc: Global, v: u64) -> Result<(), Memory>
         ensures same_text { IsSameText self.old self.new }
         ensures appended { OnOk result (Appends Long v (text_of self.old) (text_of self.new)) }
         ensures unchanged_on_memory { OnErr result (text_of self.new ≡ text_of self.old) }
     {
-        let mut bytes = [0; LONG_BYTES];
-        LittleEndian::write_u64(&mut bytes, v);
-        self.into.push_all(alloc, &bytes)
+        let mut buffer = Buffer::after(alloc, self.into, LONG_BYTES)?;
+        fill::long(&mut buffer, v);
+        *self.into = buffer.into_octets();
+        Ok(())
     }
 
-    /// Writes raw bytes. A refused write leaves the text as it was.
-    #[tactic(auto, unfolding(crate::specs::Spelling::spelling))]
+    /// Writes a `Bool`.
+    ///
+    /// # Errors
+    ///
+    /// `Memory`.
+    pub fn boolean(&mut self, alloc: Global, v: bool) -> Result<(), Memory>
+        ensures same_text { IsSameText self.old self.new }
+        ensures appended { OnOk result (Appends Truth v (text_of self.old) (text_of self.new)) }
+        ensures unchanged_on_memory { OnErr result (text_of self.new ≡ text_of self.old) }
+    {
+        let mut buffer = Buffer::after(alloc, self.into, WORD_BYTES)?;
+        fill::boolean(&mut buffer, v);
+        *self.into = buffer.into_octets();
+        Ok(())
+    }
+
+    /// Writes raw bytes.
+    ///
+    /// # Errors
+    ///
+    /// `Memory`.
     pub fn raw(&mut self, alloc: Global, v: &[u8]) -> Result<(), Memory>
         ensures same_text { IsSameText self.old self.new }
         ensures appended { OnOk result (text_of self.new ≡ text_of self.old ++ v.now) }
@@ -63,49 +103,38 @@ impl<'a> Writer<'a> {
     }
 
     /// Writes a `string` or `bytes` of at most 16,777,215 bytes: the length in its short form where it
-    /// fits, and zeros as padding. A refused write leaves the text as it was.
-    #[tactic(auto, unfolding(crate::specs::Spelling::spelling))]
+    /// fits, and zeros as padding.
+    ///
+    /// # Errors
+    ///
+    /// `Memory`.
     pub fn bytes(&mut self, alloc: Global, v: &[u8]) -> Result<(), Memory>
-        requires { length v.now ≤ BYTES_MAX }
+        requires { length v.now ≤ bytes_max }
         ensures same_text { IsSameText self.old self.new }
         ensures appended { OnOk result (Appends Bytes v.now (text_of self.old) (text_of self.new)) }
         ensures unchanged_on_memory { OnErr result (text_of self.new ≡ text_of self.old) }
     {
-        if v.len() < LONG_FORM as usize {
-            self.padded(alloc, &[v.len() as u8], v)
-        } else {
-            let mut front = [LONG_FORM; WORD_BYTES];
-            LittleEndian::write_u24(&mut front[1..], v.len() as u32);
-            self.padded(alloc, &front, v)
-        }
+        let mut buffer = Buffer::after(alloc, self.into, fill::string_size(v.len()))?;
+        fill::bytes(&mut buffer, v);
+        *self.into = buffer.into_octets();
+        Ok(())
     }
 
-    /// Writes a `Vector long` of at most 8,192 numbers. A refused write leaves the text as it was.
-    #[tactic(auto, unfolding(crate::specs::Spelling::spelling))]
+    /// Writes a `Vector long` of at most 8,192 numbers.
+    ///
+    /// # Errors
+    ///
+    /// `Memory`.
     pub fn longs(&mut self, alloc: Global, v: &[u64]) -> Result<(), Memory>
-        requires { length v.now ≤ LONGS_MAX }
+        requires { length v.now ≤ longs_max }
         ensures same_text { IsSameText self.old self.new }
         ensures appended { OnOk result (Appends Longs v.now (text_of self.old) (text_of self.new)) }
         ensures unchanged_on_memory { OnErr result (text_of self.new ≡ text_of self.old) }
     {
-        let mut front = [0; 2 * WORD_BYTES];
-        LittleEndian::write_u32(&mut front, VECTOR);
-        LittleEndian::write_u32(&mut front[WORD_BYTES..], v.len() as u32);
-        self.into.push_numbers(alloc, &front, v)
-    }
-
-    // Writes a string behind its length, and zeros to a multiple of 4.
-    fn padded(&mut self, alloc: Global, front: &[u8], content: &[u8]) -> Result<(), Memory>
-        requires front { length front.now ≤ WORD_BYTES }
-        requires content { length content.now ≤ BYTES_MAX }
-        ensures same_text { IsSameText self.old self.new }
-        ensures appended { OnOk result (text_of self.new
-            ≡ text_of self.old ++ (front.now ++ content.now ++ replicate (spelling.padding_of (length front.now + length content.now)) 0)) }
-        ensures unchanged_on_memory { OnErr result (text_of self.new ≡ text_of self.old) }
-    {
-        let padding = [0; 3];
-        let size = padding_of(front.len() + content.len());
-        self.into
-            .push_parts(alloc, front, content, &padding[..size])
+        let room = 2 * WORD_BYTES + LONG_BYTES * v.len();
+        let mut buffer = Buffer::after(alloc, self.into, room)?;
+        fill::longs(&mut buffer, v);
+        *self.into = buffer.into_octets();
+        Ok(())
     }
 }

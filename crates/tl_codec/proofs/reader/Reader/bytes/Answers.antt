@@ -1,17 +1,17 @@
-use Rattle.std.proofs.Common.{rules, List, ℕ, Bor, ◌+◌, ◌-◌, take, drop, subst}
-use Rattle.tl_codec.specs.Bytes.{IsBytes}
+use Rattle.std.proofs.Common.{rules, ◌+◌, ◌-◌, take, drop, subst}
+use Rattle.octets.specs.Bytes.{IsBytes}
 use Rattle.tl_codec.specs.Spelling.{Bytes}
 use Rattle.tl_codec.specs.Reading.{bytes_at}
-use Rattle.tl_codec.proofs.Fronts.{takes, call_refuses}
+use Rattle.tl_codec.proofs.Fronts.{takes, bytes_refuse}
 use Rattle.tl_codec.proofs.reader.Reader.bytes.Goals as goal
 
 pub returns-in_err-head-clause-refused : goal.returns-in_err-head-clause-refused
 unfolding bytes_at
-returns-in_err-head-clause-refused c = call_refuses {X = Bor (List ℕ)} Bytes (λ bytes. bytes.now) c.from_residual.result c.args.self.now c.args.self.now (search rules)
+returns-in_err-head-clause-refused c = bytes_refuse c.from_residual.result c.args.self.now c.args.self.now (search rules)
 
 pub returns-in_err-field-clause-refused : goal.returns-in_err-field-clause-refused
 unfolding bytes_at
-returns-in_err-field-clause-refused c = call_refuses {X = Bor (List ℕ)} Bytes (λ bytes. bytes.now) c.from_residual-in_err-field.result c.args.self.now c.args.self.now (search rules)
+returns-in_err-field-clause-refused c = bytes_refuse c.from_residual-in_err-field.result c.args.self.now c.args.self.now (search rules)
 
 pub returns-clause-taken : goal.returns-clause-taken
 unfolding bytes_at

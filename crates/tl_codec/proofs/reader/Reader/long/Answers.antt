@@ -1,5 +1,5 @@
 use Rattle.std.proofs.Common.{rules, subst}
-use Rattle.tl_codec.specs.Bytes.{IsBytes}
+use Rattle.octets.specs.Bytes.{IsBytes}
 use Rattle.tl_codec.specs.Spelling.{Long}
 use Rattle.tl_codec.specs.Reading.{number_at}
 use Rattle.tl_codec.proofs.Fronts.{takes}

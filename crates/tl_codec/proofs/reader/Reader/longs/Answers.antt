@@ -1,18 +1,18 @@
-use Rattle.std.proofs.Common.{rules, List, ℕ, ◌%◌, length, subst}
+use Rattle.std.proofs.Common.{rules, ◌%◌, length, subst}
 use Rattle.tl_codec.specs.declared.fault.TlFault.TheVariants.{Short}
-use Rattle.tl_codec.specs.Bytes.{IsBytes}
+use Rattle.octets.specs.Bytes.{IsBytes}
 use Rattle.tl_codec.specs.Spelling.{Longs}
 use Rattle.tl_codec.specs.Reading.{longs_at}
-use Rattle.tl_codec.proofs.Fronts.{takes, refuses, call_refuses_with_memory}
+use Rattle.tl_codec.proofs.Fronts.{takes, refuses, longs_refuse}
 use Rattle.tl_codec.proofs.reader.Reader.longs.Goals as goal
 
 pub returns-in_err-tag-clause-refused : goal.returns-in_err-tag-clause-refused
 unfolding longs_at
-returns-in_err-tag-clause-refused c = call_refuses_with_memory {X = List ℕ} Longs (λ numbers. numbers) c.from_residual.result c.args.self.now c.args.self.now (search rules)
+returns-in_err-tag-clause-refused c = longs_refuse c.from_residual.result c.args.self.now c.args.self.now (search rules)
 
-pub returns-in_err-count-clause-refused : goal.returns-in_err-count-clause-refused
+pub returns-in_err-claimed-clause-refused : goal.returns-in_err-claimed-clause-refused
 unfolding longs_at
-returns-in_err-count-clause-refused c = call_refuses_with_memory {X = List ℕ} Longs (λ numbers. numbers) c.from_residual-in_err-count.result c.args.self.now c.args.self.now (search rules)
+returns-in_err-claimed-clause-refused c = longs_refuse c.from_residual-in_err-claimed.result c.args.self.now c.args.self.now (search rules)
 
 pub returns-then-ahead-count-clause-refused : goal.returns-then-ahead-count-clause-refused
 unfolding longs_at

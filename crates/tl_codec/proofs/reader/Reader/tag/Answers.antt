@@ -6,4 +6,4 @@ use Rattle.tl_codec.proofs.reader.Reader.tag.Goals as goal
 
 pub returns-in_err-found-clause-refused : goal.returns-in_err-found-clause-refused
 unfolding tag_at
-returns-in_err-found-clause-refused c = call_refuses {X = Unit {0}} (Tag c.args.want) (λ value. value) c.from_residual.result c.args.self.now c.args.self.now (search rules)
+returns-in_err-found-clause-refused c = call_refuses (Tag c.args.want) c.from_residual.result c.args.self.now c.args.self.now (search rules)

@@ -1,6 +1,6 @@
 use Rattle.std.proofs.Common.{◌≡◌, ◌-◌, ◌*◌, ◌≤◌, ◌++◌, length}
 use Rattle.tl_codec.specs.Reading.{longs_in}
-use Rattle.tl_codec.proofs.ids.IdList.read.Given as goal
+use Rattle.tl_codec.proofs.reader.numbers_of.Given as goal
 
 abbrev pub invariant-loop : goal.invariant-loop
 invariant-loop l = record {
