@@ -1,0 +1,5 @@
+pub mod Marks
+pub mod History
+pub mod Crossing
+pub mod Window
+pub mod Places
