@@ -95,7 +95,7 @@ impl Model for Messages {
 }
 
 impl Messages {
-    ghost use Rattle.std.specs.Prelude.{◌≡◌, ◌<◌, ◌^◌, ◌+◌, ◌++◌, ◌∷◌, [], length, OnOk, OnErr};
+    ghost use Rattle.std.specs.Prelude.{◌≡◌, ◌<◌, ◌^◌, ◌+◌, ◌++◌, ◌∷◌, [], length, IfOk, OnOk, OnErr};
     ghost use Rattle.service_tl.specs.Sizes.{AreSized};
 
     /// No message yet. Takes no memory.
@@ -105,6 +105,15 @@ impl Messages {
         Messages {
             messages: Vec::new(alloc),
         }
+    }
+
+    /// No message yet, and room for `count` of them. Fails for want of memory alone.
+    pub fn with_capacity(alloc: Global, count: usize) -> Result<Messages, Memory>
+        ensures { IfOk result (λ messages. messages ≡ []) }
+    {
+        Ok(Messages {
+            messages: Vec::with_capacity(alloc, count)?,
+        })
     }
 
     /// Puts a message at the end. Fails for want of memory alone, and then leaves the list as it was.

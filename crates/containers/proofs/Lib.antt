@@ -1,0 +1,5 @@
+pub mod Numbers
+pub mod Rows
+pub mod Fronts
+pub mod Places
+pub mod Exact

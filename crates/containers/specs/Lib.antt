@@ -1,0 +1,5 @@
+pub mod Container
+pub mod Parts
+pub mod Lent
+pub mod Whole
+pub mod Unfolded

@@ -1,0 +1,28 @@
+//! Laws of the definitions that the contracts stand on, each the contract of a function that does nothing.
+
+ghost use Rattle.std.specs.Prelude.{◌≡◌, ◌≤◌, ℕ, List, length, IsTrue, Ok};
+ghost use Rattle.std.specs.List.{AllByRecursion};
+ghost use Rattle.octets.specs.Bytes.{IsBytes};
+ghost use Rattle.service_tl.specs.declared.lists.Message.{Message};
+ghost use Rattle.containers.specs.Container.{IsContainer, IsInner, begins_container, container_of, messages_max, size_of};
+ghost use Rattle.containers.specs.Parts.{parts_of};
+
+/// A body that begins as a container has parts exactly where it is a lawful container, and then they are
+/// its messages.
+pub fn parts_are_exact()
+    ensures lawful { (number : ℕ) (messages : List Message) (body : List ℕ) → IsContainer number messages body → parts_of number body ≡ Ok messages }
+    ensures only_lawful { (number : ℕ) (messages : List Message) (body : List ℕ) → IsBytes body → IsTrue (begins_container body)
+        → parts_of number body ≡ Ok messages → IsContainer number messages body }
+{}
+
+/// What was put together of messages that are lawful inside has these messages as its parts.
+pub fn packed_is_unfolded()
+    ensures begins { (messages : List Message) → IsTrue (begins_container (container_of messages)) }
+    ensures unfolded { (number : ℕ) (messages : List Message) → length messages ≤ messages_max → AllByRecursion (IsInner number) messages
+        → parts_of number (container_of messages) ≡ Ok messages }
+{}
+
+/// How many bytes a container has.
+pub fn container_sizes()
+    ensures { (messages : List Message) → length (container_of messages) ≡ size_of messages }
+{}
