@@ -1,0 +1,5 @@
+pub mod Rows
+pub mod Needed
+pub mod Line
+pub mod Future
+pub mod Held
