@@ -67,8 +67,8 @@ fn faults_have_their_places(rt: HostRuntime) {
 #[test]
 fn two_are_put_together_and_unfolded(rt: HostRuntime) -> Result<(), Fail> {
     let alloc = rt.alloc();
-    let first = tl_codec::Octets::copy(alloc, b"abcd")?;
-    let second = tl_codec::Octets::copy(alloc, b"")?;
+    let first = Octets::copy(alloc, b"abcd")?;
+    let second = Octets::copy(alloc, b"")?;
     let messages = [
         Message {
             number: 4,

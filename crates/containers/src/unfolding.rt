@@ -9,9 +9,9 @@ ghost use Rattle.containers.specs.Unfolded.{Tells};
 use crate::fault::Why;
 use crate::part::Part;
 use crate::parts::Parts;
+use octets::{Memory, Octets};
 use service_tl::{Message, Messages};
 use std::alloc::Global;
-use tl_codec::{Memory, Octets};
 
 /// What a container is.
 #[derive(Debug, Drop)]

@@ -1,21 +1,23 @@
 -- What is read of a text is what the text is.
-use Rattle.std.proofs.Common.{◌≡◌, ℕ, zero, suc, ◌+◌, ◌^◌, ◌<◌, false, eqb, List, [], ◌∷◌, ◌++◌, length, drop, Some, Result, Ok, Err, refl, sym, ap, subst, ◌∙◌, append_assoc, arith}
+use Rattle.std.proofs.Common.{◌≡◌, ℕ, zero, suc, ◌+◌, ◌^◌, ◌<◌, Bool, true, false, cond, eqb, inl, inr, List, [], ◌∷◌, ◌++◌, length, drop, Option, Some, None, Result, Ok, Err, refl, sym, ap, subst, ◌∙◌, append_assoc, arith}
 use Rattle.std.specs.List.{flat_map, AllByRecursion}
-use Rattle.std.proofs.lemmas.Bool.{ne_eqb}
+use Rattle.std.proofs.lemmas.Bool.{ne_eqb, ltb-true}
 use Rattle.std.proofs.lemmas.List.{append-nil, drop_at, get_or-drop}
 use Rattle.tl_codec.specs.declared.fault.TlFault.{TlFault}
-use Rattle.tl_codec.specs.Bytes.{IsBytes}
-use Rattle.tl_codec.specs.Spelling.{Form, Int, Long, Raw, Bytes, Longs, Of, Spells, spelling}
+use Rattle.octets.specs.Bytes.{IsBytes}
+use Rattle.tl_codec.specs.Spelling.{Form, Int, Long, Raw, Bytes, Longs, Truth, Tag, Of, Fits, Spells, Reads, spelling}
 use Rattle.tl_codec.specs.Reading.{◌>>=◌, Takes, read_at}
 use Rattle.service_tl.specs.declared.item.Item.{Item}
-use Rattle.service_tl.specs.declared.item.Item.TheVariants.{RpcResult, RpcError, RpcDropAnswer, RpcAnswerUnknown, RpcAnswerDroppedRunning, RpcAnswerDropped, GetFutureSalts, FutureSalts, Ping, PingDelayDisconnect, Pong, DestroySession, DestroySessionOk, DestroySessionNone, NewSessionCreated, MsgContainer, MsgsAck, MsgsStateReq, MsgsStateInfo, MsgsAllInfo, MsgResendReq, MsgDetailedInfo, MsgNewDetailedInfo, BadMsgNotification, BadServerSalt, InvokeAfterMsg, InvokeAfterMsgs, AuthBindTempAuthKey, Broken}
+use Rattle.service_tl.specs.declared.item.Item.TheVariants.{Packed, Call, Broken}
 use Rattle.service_tl.specs.declared.lists.FutureSalt.{FutureSalt}
 use Rattle.service_tl.specs.declared.lists.Message.{Message}
-use Rattle.service_tl.specs.declared.numbers.TheConstants.{RPC_RESULT, RPC_ERROR, RPC_DROP_ANSWER, RPC_ANSWER_UNKNOWN, RPC_ANSWER_DROPPED_RUNNING, RPC_ANSWER_DROPPED, GET_FUTURE_SALTS, FUTURE_SALTS, PING, PING_DELAY_DISCONNECT, PONG, DESTROY_SESSION, DESTROY_SESSION_OK, DESTROY_SESSION_NONE, NEW_SESSION_CREATED, MSG_CONTAINER, MSGS_ACK, MSGS_STATE_REQ, MSGS_STATE_INFO, MSGS_ALL_INFO, MSG_RESEND_REQ, MSG_DETAILED_INFO, MSG_NEW_DETAILED_INFO, BAD_MSG_NOTIFICATION, BAD_SERVER_SALT, INVOKE_AFTER_MSG, INVOKE_AFTER_MSGS, AUTH_BIND_TEMP_AUTH_KEY, GZIP_PACKED}
-use Rattle.service_tl.specs.Fields.{Field, Plain, Rest, Salts, Bodies, Holds, field_spelling, SaltFits, MessageFits, salt_row, message_row, salt_at, message_at, items_at, vector_at, field_at}
-use Rattle.service_tl.specs.Schema.{Makes, schema, fields_at, item_in}
-use Rattle.service_tl.specs.ItemOf.{whole}
-use Rattle.service_tl.specs.Exact.{Values, ReadsField, ReadsFields, IsBroken}
+use Rattle.service_tl.specs.Fields.{Field, Plain, Rest, Salts, Bodies, Holds, FieldFits, field_spelling, MessageFits, salt_row, message_row, salt_at, message_at, items_at, vector_at, field_at}
+use Rattle.service_tl.specs.Sizes.{SaltFits}
+use Rattle.service_tl.specs.Schema.{Makes, Row, schema, gzip_packed, fields_at, item_in}
+use Rattle.service_tl.specs.Items.{Values, made, Filled, filled, FieldsFit, FilledFits, ItemFits, IsShort, AreShort, FilledIsWritable, IsWritable, IsOfSchema}
+use Rattle.service_tl.specs.ItemOf.{whole, item_behind, item_after, item_of}
+use Rattle.service_tl.specs.Exact.{ReadsField, ReadsFields, IsBroken}
+use Rattle.service_tl.proofs.Table.{IsRow, of_rows, each_row, MakesFit, each_fit}
 use Rattle.service_tl.proofs.Again.{value_again}
 
 -- the value of a step that did not fail
@@ -47,6 +49,68 @@ verdict number (Ok (item, byte ∷ rest)) none =
     let more : eqb (suc (length rest)) 0 ≡ false = ne_eqb _ _ (λ same. omega arith) in
     rw more refl
 verdict number (Err fault) none = refl
+
+-- a value that was read fits
+reads_fits : (form : Form) (value : Of form) (text : List ℕ) → Reads form value text → Fits form value
+reads_fits Int value text reads = reads.0
+reads_fits Long value text reads = reads.0
+reads_fits (Raw size) value text reads = reads.0
+reads_fits Bytes value text reads = elim reads.2 [ inl short ↦ omega (arith, short.0) | inr long ↦ long.0 ]
+reads_fits Longs value text reads = reads.0
+reads_fits Truth value text reads = reads.0
+reads_fits (Tag number) value text reads = reads.0
+
+-- a value that fits isn't too long
+short_fit : (field : Field) (value : Holds field) → FieldFits field value → IsShort field value
+short_fit (Plain Bytes) value fits = fits
+short_fit (Plain Longs) value fits = fits.0
+short_fit (Plain Int) value fits = tt
+short_fit (Plain Long) value fits = tt
+short_fit (Plain (Raw size)) value fits = tt
+short_fit (Plain Truth) value fits = tt
+short_fit (Plain (Tag number)) value fits = tt
+short_fit Rest value fits = tt
+short_fit Salts value fits = tt
+short_fit Bodies value fits = tt
+
+fields_short : (fields : List Field) (values : Values fields) → FieldsFit fields values → AreShort fields values
+fields_short [] values fits = tt
+fields_short (field ∷ fields) values fits = (short_fit field values.0 fits.0, fields_short fields values.1 fits.1)
+
+filled_short : (of : Option Filled) → FilledFits of → FilledIsWritable of
+filled_short (Some of) fits = fields_short of.row.fields of.values fits
+filled_short None fits = fits
+
+pub fits_writable : (item : Item) → ItemFits item → IsWritable item
+fits_writable item fits = filled_short (filled item) fits
+
+-- ---- whether an item that was read fits
+
+abbrev FitsIfRead : Item → Type 0
+FitsIfRead item = IsOfSchema item → ItemFits item
+
+read_fits : (number : ℕ) (read : Result (Item × List ℕ) TlFault) → ((x : Item) → read ≡ Ok (x, []) → FitsIfRead x) → FitsIfRead (whole number (read >>= λ x. Ok (Some x.0, x.1)))
+read_fits number (Ok (item, [])) fits of_schema = fits item refl of_schema
+read_fits number (Ok (item, byte ∷ rest)) fits of_schema =
+    let more : eqb (suc (length rest)) 0 ≡ false = ne_eqb _ _ (λ same. omega arith) in
+    absurd (rw more at of_schema)
+read_fits number (Err fault) fits of_schema = absurd of_schema
+
+chosen_fits : (test : Bool) (number : ℕ) (read : Result (Item × List ℕ) TlFault) (others : Result (Option Item × List ℕ) TlFault)
+    → ((x : Item) → read ≡ Ok (x, []) → FitsIfRead x) → FitsIfRead (whole number others) → FitsIfRead (whole number (cond test (read >>= λ x. Ok (Some x.0, x.1)) others))
+chosen_fits true number read others fits next = read_fits number read fits
+chosen_fits false number read others fits next = next
+
+packed_or : (test : Bool) (item : Item) → FitsIfRead item → FitsIfRead (cond test Packed item)
+packed_or true item fits of_schema = absurd of_schema
+packed_or false item fits of_schema = fits of_schema
+
+behind_fits : (number : ℕ) (text : List ℕ) → FitsIfRead (whole number (item_in schema number text)) → FitsIfRead (item_behind number text)
+behind_fits number text fits = packed_or (eqb number gzip_packed) (whole number (item_in schema number text)) fits
+
+after_fits : (read : Result (ℕ × List ℕ) TlFault) → ((number : ℕ) (text : List ℕ) → read ≡ Ok (number, text) → FitsIfRead (item_behind number text)) → FitsIfRead (item_after read)
+after_fits (Ok (number, text)) fits of_schema = fits number text refl of_schema
+after_fits (Err fault) fits of_schema = absurd of_schema
 
 module _ (again : (form : Form) (value : Of form) (text rest : List ℕ) → Spells form value text → read_at form (text ++ rest) ≡ Ok (value, rest)) (taken : (form : Form) (value : Of form) (text rest : List ℕ) → IsBytes text → read_at form text ≡ Ok (value, rest) → Takes form value text rest) where
   int_found : (value : ℕ) (text rest : List ℕ) → IsBytes text → read_at Int text ≡ Ok (value, rest) → Found (value < 2 ^ 32) text (spelling Int value) rest
@@ -132,121 +196,56 @@ module _ (again : (form : Form) (value : Of form) (text rest : List ℕ) → Spe
         let counted : text ≡ spelling Int (length items) ++ a.0.1 = count.parts ∙ ap (λ (n : ℕ). spelling Int n ++ a.0.1) len in
         record { fits = (subst (λ (n : ℕ). n < 2 ^ 32) len count.fits, all.fits.1); parts = then text (spelling Int (length items)) a.0.1 (flat_map row items) rest counted all.parts; after = all.after }
 
-  -- a field that was read is a front of the text
-  field_found : (field : Field) (text : List ℕ) (value : Holds field) (rest : List ℕ) → IsBytes text → field_at field text ≡ Ok (value, rest) → (front : List ℕ) × ReadsField field value front × (text ≡ front ++ rest) × IsBytes rest
+  -- a field that was read is a front of the text, and its value fits
+  field_found : (field : Field) (text : List ℕ) (value : Holds field) (rest : List ℕ) → IsBytes text → field_at field text ≡ Ok (value, rest) → (front : List ℕ) × ReadsField field value front × (text ≡ front ++ rest) × IsBytes rest × FieldFits field value
   field_found (Plain form) text value rest bytes e =
-      let t = taken form value text rest bytes e in (t.0, t.1, t.2, IsBytes-after text t.0 rest t.2 bytes)
+      let t = taken form value text rest bytes e in (t.0, t.1, t.2, IsBytes-after text t.0 rest t.2 bytes, reads_fits form value t.0 t.1)
   field_found Rest text value rest bytes e =
       let same = ok_is {A = List ℕ × List ℕ} (text, []) (value, rest) e in
-      subst (λ (p : List ℕ × List ℕ). (front : List ℕ) × ReadsField Rest p.0 front × (text ≡ front ++ p.1) × IsBytes p.1) same (text, refl, sym (append-nil text), λ i. omega arith)
+      subst (λ (p : List ℕ × List ℕ). (front : List ℕ) × ReadsField Rest p.0 front × (text ≡ front ++ p.1) × IsBytes p.1 × FieldFits Rest p.0) same (text, refl, sym (append-nil text), (λ i. omega arith), tt)
   field_found Salts text value rest bytes e =
       let found = vector_found salt_at salt_row SaltFits salt_found text value rest bytes e in
-      (field_spelling Salts value, (found.fits, refl), found.parts, found.after)
+      (field_spelling Salts value, (found.fits, refl), found.parts, found.after, found.fits)
   field_found Bodies text value rest bytes e =
       let found = vector_found message_at message_row MessageFits message_found text value rest bytes e in
-      (field_spelling Bodies value, (found.fits, refl), found.parts, found.after)
+      (field_spelling Bodies value, (found.fits, refl), found.parts, found.after, found.fits)
 
-  fields_found : (fields : List Field) (item : Makes fields) (text : List ℕ) (x : Item) → IsBytes text → fields_at fields item text ≡ Ok (x, []) → (values : Values fields) × ReadsFields fields values text
-  fields_found [] item text x bytes e = (tt, ap (λ (p : Item × List ℕ). p.1) (ok_is {A = Item × List ℕ} (item, text) (x, []) e))
+  -- fields that were read are the text, fit, and made the item
+  fields_found : (fields : List Field) (item : Makes fields) (text : List ℕ) (x : Item) → IsBytes text → fields_at fields item text ≡ Ok (x, []) → (values : Values fields) × ReadsFields fields values text × FieldsFit fields values × (made fields item values ≡ x)
+  fields_found [] item text x bytes e =
+      let same = ok_is {A = Item × List ℕ} (item, text) (x, []) e in
+      (tt, ap (λ (p : Item × List ℕ). p.1) same, tt, ap (λ (p : Item × List ℕ). p.0) same)
   fields_found (field ∷ fields) item text x bytes e =
       let a = bind_ok (field_at field text) (λ value. fields_at fields (item value.0) value.1) (x, []) e in
       let first = field_found field text a.0.0 a.0.1 bytes a.1 in
       let others = fields_found fields (item a.0.0) a.0.1 x first.3 a.2 in
-      ((a.0.0, others.0), (first.0, a.0.1, first.1, others.1, first.2))
+      ((a.0.0, others.0), (first.0, a.0.1, first.1, others.1, first.2), (first.4, others.2), others.3)
 
-  row_broken : (number : ℕ) (fields : List Field) (item : Makes fields) → number < 2 ^ 32 → eqb number GZIP_PACKED ≡ false
-      → ((text : List ℕ) → item_in schema number text ≡ (fields_at fields item text >>= λ x. Ok (Some x.0, x.1)))
-      → IsBroken (record { number = number; fields = fields; item = item })
-  row_broken number fields item small other row text bytes none =
-      let read = value_again again Int number text small in
-      let not_read : (x : Item) → fields_at fields item text ≡ Ok (x, []) → ⊥ = λ x e. let found = fields_found fields item text x bytes e in none found.0 found.1 in
-      let broken = ap (whole number) (row text) ∙ verdict number (fields_at fields item text) not_read in
-      rw (read, other) broken
+  pub row_broken : (row : Row) → IsRow row → IsBroken row
+  row_broken row is text bytes none =
+      let read = value_again again Int row.number text (ltb-true _ _ is.small) in
+      let not_read : (x : Item) → fields_at row.fields row.item text ≡ Ok (x, []) → ⊥ = λ x e. let found = fields_found row.fields row.item text x bytes e in none found.0 found.1 in
+      let broken = ap (whole row.number) (is.found text) ∙ verdict row.number (fields_at row.fields row.item text) not_read in
+      rw (read, is.other) broken
 
   pub each_broken : AllByRecursion IsBroken schema
-  unfolding schema
-  each_broken = (
-    row_broken RPC_RESULT (Plain Long ∷ Rest ∷ []) RpcResult (omega arith) refl (λ text. refl),
-    (
-      row_broken RPC_ERROR (Plain Int ∷ Plain Bytes ∷ []) RpcError (omega arith) refl (λ text. refl),
-      (
-        row_broken RPC_DROP_ANSWER (Plain Long ∷ []) RpcDropAnswer (omega arith) refl (λ text. refl),
-        (
-          row_broken RPC_ANSWER_UNKNOWN ([]) RpcAnswerUnknown (omega arith) refl (λ text. refl),
-          (
-            row_broken RPC_ANSWER_DROPPED_RUNNING ([]) RpcAnswerDroppedRunning (omega arith) refl (λ text. refl),
-            (
-              row_broken RPC_ANSWER_DROPPED (Plain Long ∷ Plain Int ∷ Plain Int ∷ []) RpcAnswerDropped (omega arith) refl (λ text. refl),
-              (
-                row_broken GET_FUTURE_SALTS (Plain Int ∷ []) GetFutureSalts (omega arith) refl (λ text. refl),
-                (
-                  row_broken FUTURE_SALTS (Plain Long ∷ Plain Int ∷ Salts ∷ []) FutureSalts (omega arith) refl (λ text. refl),
-                  (
-                    row_broken PING (Plain Long ∷ []) Ping (omega arith) refl (λ text. refl),
-                    (
-                      row_broken PING_DELAY_DISCONNECT (Plain Long ∷ Plain Int ∷ []) PingDelayDisconnect (omega arith) refl (λ text. refl),
-                      (
-                        row_broken PONG (Plain Long ∷ Plain Long ∷ []) Pong (omega arith) refl (λ text. refl),
-                        (
-                          row_broken DESTROY_SESSION (Plain Long ∷ []) DestroySession (omega arith) refl (λ text. refl),
-                          (
-                            row_broken DESTROY_SESSION_OK (Plain Long ∷ []) DestroySessionOk (omega arith) refl (λ text. refl),
-                            (
-                              row_broken DESTROY_SESSION_NONE (Plain Long ∷ []) DestroySessionNone (omega arith) refl (λ text. refl),
-                              (
-                                row_broken NEW_SESSION_CREATED (Plain Long ∷ Plain Long ∷ Plain Long ∷ []) NewSessionCreated (omega arith) refl (λ text. refl),
-                                (
-                                  row_broken MSG_CONTAINER (Bodies ∷ []) MsgContainer (omega arith) refl (λ text. refl),
-                                  (
-                                    row_broken MSGS_ACK (Plain Longs ∷ []) MsgsAck (omega arith) refl (λ text. refl),
-                                    (
-                                      row_broken MSGS_STATE_REQ (Plain Longs ∷ []) MsgsStateReq (omega arith) refl (λ text. refl),
-                                      (
-                                        row_broken MSGS_STATE_INFO (Plain Long ∷ Plain Bytes ∷ []) MsgsStateInfo (omega arith) refl (λ text. refl),
-                                        (
-                                          row_broken MSGS_ALL_INFO (Plain Longs ∷ Plain Bytes ∷ []) MsgsAllInfo (omega arith) refl (λ text. refl),
-                                          (
-                                            row_broken MSG_RESEND_REQ (Plain Longs ∷ []) MsgResendReq (omega arith) refl (λ text. refl),
-                                            (
-                                              row_broken MSG_DETAILED_INFO (Plain Long ∷ Plain Long ∷ Plain Int ∷ Plain Int ∷ []) MsgDetailedInfo (omega arith) refl (λ text. refl),
-                                              (
-                                                row_broken MSG_NEW_DETAILED_INFO (Plain Long ∷ Plain Int ∷ Plain Int ∷ []) MsgNewDetailedInfo (omega arith) refl (λ text. refl),
-                                                (
-                                                  row_broken BAD_MSG_NOTIFICATION (Plain Long ∷ Plain Int ∷ Plain Int ∷ []) BadMsgNotification (omega arith) refl (λ text. refl),
-                                                  (
-                                                    row_broken BAD_SERVER_SALT (Plain Long ∷ Plain Int ∷ Plain Int ∷ Plain Long ∷ []) BadServerSalt (omega arith) refl (λ text. refl),
-                                                    (
-                                                      row_broken INVOKE_AFTER_MSG (Plain Long ∷ Rest ∷ []) InvokeAfterMsg (omega arith) refl (λ text. refl),
-                                                      (
-                                                        row_broken INVOKE_AFTER_MSGS (Plain Longs ∷ Rest ∷ []) InvokeAfterMsgs (omega arith) refl (λ text. refl),
-                                                        (
-                                                          row_broken AUTH_BIND_TEMP_AUTH_KEY (Plain Long ∷ Plain Long ∷ Plain Int ∷ Plain Bytes ∷ []) AuthBindTempAuthKey (omega arith) refl (λ text. refl),
-                                                          tt,
-                                                        ),
-                                                      ),
-                                                    ),
-                                                  ),
-                                                ),
-                                              ),
-                                            ),
-                                          ),
-                                        ),
-                                      ),
-                                    ),
-                                  ),
-                                ),
-                              ),
-                            ),
-                          ),
-                        ),
-                      ),
-                    ),
-                  ),
-                ),
-              ),
-            ),
-          ),
-        ),
-      ),
-    ),
-  )
+  each_broken = of_rows IsBroken row_broken schema each_row
+
+  -- ---- what was read fits
+
+  IsBytes-read : (body : List ℕ) (number : ℕ) (text : List ℕ) → IsBytes body → read_at Int body ≡ Ok (number, text) → IsBytes text
+  IsBytes-read body number text bytes e = let found = int_found number body text bytes e in found.after
+
+  row_fits : (row : Row) → MakesFit row → (text : List ℕ) → IsBytes text → (x : Item) → fields_at row.fields row.item text ≡ Ok (x, []) → FitsIfRead x
+  row_fits row makes text bytes x e of_schema =
+      let found = fields_found row.fields row.item text x bytes e in
+      subst ItemFits found.3 (makes found.0 found.2)
+
+  rows_fit : (rows : List Row) → AllByRecursion MakesFit rows → (number : ℕ) (text : List ℕ) → IsBytes text → FitsIfRead (whole number (item_in rows number text))
+  rows_fit [] makes number text bytes of_schema = absurd of_schema
+  rows_fit (row ∷ rows) makes number text bytes of_schema =
+      chosen_fits (eqb number row.number) number (fields_at row.fields row.item text) (item_in rows number text) (row_fits row makes.0 text bytes) (rows_fit rows makes.1 number text bytes) of_schema
+
+  pub body_fits : (body : List ℕ) → IsBytes body → FitsIfRead (item_of body)
+  body_fits body bytes =
+      after_fits (read_at Int body) (λ number text e. behind_fits number text (rows_fit schema each_fit number text (IsBytes-read body number text bytes e)))

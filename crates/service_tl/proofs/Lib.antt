@@ -1,7 +1,7 @@
 pub mod Loop
 pub mod Rows
 pub mod Membership
-pub mod Written
+pub mod Table
 pub mod Again
 pub mod Exact
 pub mod Found

@@ -5,7 +5,7 @@ use Rattle.tl_codec.specs.declared.fault.TlFault.{TlFault}
 use Rattle.tl_codec.specs.declared.fault.TlFault.TheVariants.{Short, BadTag, TooMany, Extra, Memory}
 use Rattle.tl_codec.specs.Reading.{◌>>=◌}
 use Rattle.service_tl.specs.Fields.{items_at}
-use Rattle.service_tl.specs.ItemOf.{Answers}
+use Rattle.service_tl.specs.Parts.{Answers}
 
 -- what was read before, and what is still read
 abbrev pub with_front : {A : Type 0} → List A → Result (List A × List ℕ) TlFault → Result (List A × List ℕ) TlFault

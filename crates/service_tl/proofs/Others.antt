@@ -5,8 +5,7 @@ use Rattle.std.proofs.lemmas.List.{length-append, get_or_at, get_or_append_left}
 use Rattle.tl_codec.specs.Spelling.{Form, Int, Of, Spells}
 use Rattle.tl_codec.specs.Reading.{read_at, number_at}
 use Rattle.service_tl.specs.declared.item.Item.TheVariants.{Packed, Call}
-use Rattle.service_tl.specs.declared.numbers.TheConstants.{GZIP_PACKED}
-use Rattle.service_tl.specs.Schema.{Row, schema, service_numbers, item_in}
+use Rattle.service_tl.specs.Schema.{Row, schema, gzip_packed, service_numbers, item_in}
 use Rattle.service_tl.specs.ItemOf.{item_of}
 use Rattle.service_tl.specs.Exact.{behind}
 use Rattle.service_tl.proofs.Again.{value_again}
@@ -29,15 +28,15 @@ absent (row ∷ rows) number text none =
     rw other (absent rows number text (λ held. none (held_further row.number (map (λ row. row.number) rows) number held)))
 
 module _ (again : (form : Form) (value : Of form) (text rest : List ℕ) → Spells form value text → read_at form (text ++ rest) ≡ Ok (value, rest)) where
-  pub is_packed : (text : List ℕ) → item_of (behind GZIP_PACKED text) ≡ Packed
-  is_packed text = rw (value_again again Int GZIP_PACKED text (omega arith)) refl
+  pub is_packed : (text : List ℕ) → item_of (behind gzip_packed text) ≡ Packed
+  is_packed text = rw (value_again again Int gzip_packed text (omega arith)) refl
 
   pub is_call : (number : ℕ) (text : List ℕ) → number < 2 ^ 32 → (Contains service_numbers number → ⊥) → item_of (behind number text) ≡ Call
   unfolding service_numbers
   is_call number text small none =
       let numbers = map (λ (row : Row). row.number) schema in
-      let packed : eqb number GZIP_PACKED ≡ false = ne_eqb _ _ (λ same. none (subst (λ (n : ℕ). Contains (numbers ++ GZIP_PACKED ∷ []) n) (sym same) (held_last numbers GZIP_PACKED))) in
-      let no_row = absent schema number text (λ held. none (held_before numbers (GZIP_PACKED ∷ []) number held)) in
+      let packed : eqb number gzip_packed ≡ false = ne_eqb _ _ (λ same. none (subst (λ (n : ℕ). Contains (numbers ++ gzip_packed ∷ []) n) (sym same) (held_last numbers gzip_packed))) in
+      let no_row = absent schema number text (λ held. none (held_before numbers (gzip_packed ∷ []) number held)) in
       rw (value_again again Int number text small, packed, no_row) refl
 
 -- fewer than 4 bytes

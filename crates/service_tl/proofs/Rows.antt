@@ -5,7 +5,7 @@ use Rattle.tl_codec.specs.declared.fault.TlFault.TheVariants.{Short, BadTag, Too
 use Rattle.tl_codec.specs.Reading.{◌>>=◌}
 use Rattle.service_tl.specs.declared.item.Item.{Item}
 use Rattle.service_tl.specs.Schema.{Row, fields_at, item_in}
-use Rattle.service_tl.specs.ItemOf.{Answers}
+use Rattle.service_tl.specs.Parts.{Answers}
 
 some_item : Result (Item × List ℕ) TlFault → Result (Option Item × List ℕ) TlFault
 some_item read = read >>= λ item. Ok (Some item.0, item.1)

@@ -1,21 +1,13 @@
 -- What a body is, said of the whole text and not field by field.
 use Rattle.std.specs.Prelude.{◌≡◌, ℕ, List, [], ◌∷◌, ◌++◌}
-use Rattle.tl_codec.specs.Bytes.{IsBytes}
+use Rattle.octets.specs.Bytes.{IsBytes}
 use Rattle.tl_codec.specs.Spelling.{Int, Reads, spelling}
 use Rattle.service_tl.specs.declared.item.Item.{Item}
 use Rattle.service_tl.specs.declared.item.Item.TheVariants.{Broken}
 use Rattle.service_tl.specs.Fields.{Field, Plain, Rest, Salts, Bodies, Holds, FieldFits, field_spelling}
-use Rattle.service_tl.specs.Schema.{Makes, Row}
+use Rattle.service_tl.specs.Schema.{Row}
+use Rattle.service_tl.specs.Items.{Values, made}
 use Rattle.service_tl.specs.ItemOf.{item_of}
-
--- the values of fields, and the item that they make
-abbrev pub Values : List Field → Type 0
-Values [] = Unit {0}
-Values (field ∷ fields) = Holds field × Values fields
-
-abbrev pub made : (fields : List Field) → Makes fields → Values fields → Item
-made [] item values = item
-made (field ∷ fields) item values = made fields (item values.0) values.1
 
 -- The whole text is the field. Strings may have the long form and any padding; the rest is as it stands.
 abbrev pub ReadsField : (field : Field) → Holds field → List ℕ → Type 0

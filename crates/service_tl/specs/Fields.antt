@@ -6,6 +6,7 @@ use Rattle.tl_codec.specs.Spelling.{Form, Int, Long, Raw, Of, Fits, spelling}
 use Rattle.tl_codec.specs.Reading.{◌>>=◌, read_at}
 use Rattle.service_tl.specs.declared.lists.FutureSalt.{FutureSalt}
 use Rattle.service_tl.specs.declared.lists.Message.{Message}
+use Rattle.service_tl.specs.Sizes.{SaltFits}
 
 -- a TL value, the rest of the body, a bare vector of bare salts, one of bare messages
 pub data Field : Type 0 where
@@ -39,9 +40,6 @@ field_spelling Bodies messages = spelling Int (length messages) ++ flat_map mess
 
 -- ---- what has a spelling
 
-abbrev pub SaltFits : FutureSalt → Type 0
-SaltFits row = (row.valid_since < 2 ^ 32) × (row.valid_until < 2 ^ 32) × (row.salt < 2 ^ 64)
-
 abbrev pub MessageFits : Message → Type 0
 MessageFits message = (message.number < 2 ^ 64) × (message.seq < 2 ^ 32) × (length message.body < 2 ^ 32)
 
@@ -68,7 +66,7 @@ message_at text = do
   body ← read_at (Raw bytes.0) bytes.1
   Ok (record { number = number.0; seq = seq.0; body = body.0 }, body.1)
 
--- so many items, one after the other
+-- `count` items, one after the other
 unfoldable pub items_at : {A : Type 0} → (List ℕ → Result (A × List ℕ) TlFault) → ℕ → List ℕ → Result (List A × List ℕ) TlFault
 items_at item_at zero text = Ok ([], text)
 items_at item_at (suc count) text = do

@@ -1,20 +1,11 @@
 -- What a body is.
-use Rattle.std.specs.Prelude.{◌≡◌, ℕ, ◌==◌, if◌then◌else◌, List, length, Option, Some, None, Result, Ok, Err, ⊤}
+use Rattle.std.specs.Prelude.{ℕ, ◌==◌, if◌then◌else◌, List, length, Option, Some, None, Result, Ok, Err}
 use Rattle.tl_codec.specs.declared.fault.TlFault.{TlFault}
-use Rattle.tl_codec.specs.declared.fault.TlFault.TheVariants.{Memory}
 use Rattle.tl_codec.specs.Spelling.{Int}
 use Rattle.tl_codec.specs.Reading.{read_at}
 use Rattle.service_tl.specs.declared.item.Item.{Item}
 use Rattle.service_tl.specs.declared.item.Item.TheVariants.{Packed, Call, Broken}
-use Rattle.service_tl.specs.declared.numbers.TheConstants.{GZIP_PACKED}
-use Rattle.service_tl.specs.Schema.{schema, item_in}
-
--- What a read answered and what it left are what stands at the front of the text, unless memory ran out.
--- After a failure nothing more is read, so nothing is said of what it left.
-abbrev pub Answers : {X : Type 0} → Result X TlFault → List ℕ → Result (X × List ℕ) TlFault → Type 0
-Answers (Ok value) new read = read ≡ Ok (value, new)
-Answers (Err Memory) new read = ⊤
-Answers (Err fault) new read = read ≡ Err fault
+use Rattle.service_tl.specs.Schema.{schema, gzip_packed, item_in}
 
 -- What was read behind a constructor is the item where the body ends there. A constructor that no row
 -- has begins a call. Else the body is misspelt.
@@ -24,7 +15,7 @@ whole number (Ok (None, rest)) = Call
 whole number (Err fault) = Broken number
 
 abbrev pub item_behind : ℕ → List ℕ → Item
-item_behind number text = if number == GZIP_PACKED then Packed else whole number (item_in schema number text)
+item_behind number text = if number == gzip_packed then Packed else whole number (item_in schema number text)
 
 -- a body of fewer than 4 bytes is a call
 abbrev pub item_after : Result (ℕ × List ℕ) TlFault → Item

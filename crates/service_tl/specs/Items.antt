@@ -1,166 +1,114 @@
--- How an item is spelt: its constructor and its fields, one line for each constructor.
-use Rattle.std.specs.Prelude.{ℕ, List, [], ◌∷◌, ◌++◌, ◌≤◌, length, ⊤}
-use Rattle.tl_codec.specs.declared.tags.TheConstants.{BYTES_MAX, LONGS_MAX}
-use Rattle.tl_codec.specs.Spelling.{Int, Long, Bytes, Longs, spelling}
+-- How an item is spelt, and which items are written: all by the rows of the schema.
+use Rattle.std.specs.Prelude.{◌≤◌, ℕ, List, [], ◌∷◌, ◌++◌, length, Option, Some, None, ⊤}
+use Rattle.tl_codec.specs.Standard.{bytes_max, longs_max}
+use Rattle.tl_codec.specs.Spelling.{Int, Bytes, Longs, spelling}
 use Rattle.service_tl.specs.declared.item.Item.{Item}
 use Rattle.service_tl.specs.declared.item.Item.TheVariants.{RpcResult, RpcError, RpcDropAnswer, RpcAnswerUnknown, RpcAnswerDroppedRunning, RpcAnswerDropped, GetFutureSalts, FutureSalts, Ping, PingDelayDisconnect, Pong, DestroySession, DestroySessionOk, DestroySessionNone, NewSessionCreated, MsgContainer, MsgsAck, MsgsStateReq, MsgsStateInfo, MsgsAllInfo, MsgResendReq, MsgDetailedInfo, MsgNewDetailedInfo, BadMsgNotification, BadServerSalt, InvokeAfterMsg, InvokeAfterMsgs, AuthBindTempAuthKey, Packed, Call, Broken}
-use Rattle.service_tl.specs.declared.lists.FutureSalt.{FutureSalt}
-use Rattle.service_tl.specs.declared.lists.Message.{Message}
-use Rattle.service_tl.specs.declared.numbers.TheConstants.{RPC_RESULT, RPC_ERROR, RPC_DROP_ANSWER, RPC_ANSWER_UNKNOWN, RPC_ANSWER_DROPPED_RUNNING, RPC_ANSWER_DROPPED, GET_FUTURE_SALTS, FUTURE_SALTS, PING, PING_DELAY_DISCONNECT, PONG, DESTROY_SESSION, DESTROY_SESSION_OK, DESTROY_SESSION_NONE, NEW_SESSION_CREATED, MSG_CONTAINER, MSGS_ACK, MSGS_STATE_REQ, MSGS_STATE_INFO, MSGS_ALL_INFO, MSG_RESEND_REQ, MSG_DETAILED_INFO, MSG_NEW_DETAILED_INFO, BAD_MSG_NOTIFICATION, BAD_SERVER_SALT, INVOKE_AFTER_MSG, INVOKE_AFTER_MSGS, AUTH_BIND_TEMP_AUTH_KEY}
-use Rattle.service_tl.specs.Fields.{Plain, Rest, Salts, Bodies, field_spelling, FieldFits}
+use Rattle.service_tl.specs.Fields.{Field, Plain, Holds, FieldFits, field_spelling}
+use Rattle.service_tl.specs.Schema.{Makes, Row, rpc_result, rpc_error, rpc_drop_answer, rpc_answer_unknown, rpc_answer_dropped_running, rpc_answer_dropped, get_future_salts, future_salts, ping, ping_delay_disconnect, pong, destroy_session, destroy_session_ok, destroy_session_none, new_session_created, msg_container, msgs_ack, msgs_state_req, msgs_state_info, msgs_all_info, msg_resend_req, msg_detailed_info, msg_new_detailed_info, bad_msg_notification, bad_server_salt, invoke_after_msg, invoke_after_msgs, auth_bind_temp_auth_key}
 
--- parts, one after the other
-abbrev pub parts : List (List ℕ) → List ℕ
-parts [] = []
-parts (text ∷ texts) = text ++ parts texts
+-- the values of fields, in their order
+abbrev pub Values : List Field → Type 0
+Values [] = Unit {0}
+Values (field ∷ fields) = Holds field × Values fields
 
-abbrev pub boxed : ℕ → List (List ℕ) → List ℕ
-boxed number fields = spelling Int number ++ parts fields
+-- the item that they make
+abbrev pub made : (fields : List Field) → Makes fields → Values fields → Item
+made [] item values = item
+made (field ∷ fields) item values = made fields (item values.0) values.1
 
-abbrev pub int : ℕ → List ℕ
-int value = spelling Int value
+-- a row of the schema with a value for each field
+pub record Filled : Type 0 where
+  pub row : Row
+  pub values : Values row.fields
 
-abbrev pub long : ℕ → List ℕ
-long value = spelling Long value
+abbrev pub of : (row : Row) → Values row.fields → Option Filled
+of row values = Some (record { row = row; values = values })
 
-abbrev pub bytes : List ℕ → List ℕ
-bytes value = spelling Bytes value
+-- The row that an item is made by, and its values. What isn't read has none.
+abbrev pub filled : Item → Option Filled
+filled (RpcResult req_msg_id result) = of rpc_result (req_msg_id, (result, tt))
+filled (RpcError error_code error_message) = of rpc_error (error_code, (error_message, tt))
+filled (RpcDropAnswer req_msg_id) = of rpc_drop_answer (req_msg_id, tt)
+filled RpcAnswerUnknown = of rpc_answer_unknown tt
+filled RpcAnswerDroppedRunning = of rpc_answer_dropped_running tt
+filled (RpcAnswerDropped msg_id seq_no bytes) = of rpc_answer_dropped (msg_id, (seq_no, (bytes, tt)))
+filled (GetFutureSalts num) = of get_future_salts (num, tt)
+filled (FutureSalts req_msg_id now salts) = of future_salts (req_msg_id, (now, (salts, tt)))
+filled (Ping ping_id) = of ping (ping_id, tt)
+filled (PingDelayDisconnect ping_id disconnect_delay) = of ping_delay_disconnect (ping_id, (disconnect_delay, tt))
+filled (Pong msg_id ping_id) = of pong (msg_id, (ping_id, tt))
+filled (DestroySession session_id) = of destroy_session (session_id, tt)
+filled (DestroySessionOk session_id) = of destroy_session_ok (session_id, tt)
+filled (DestroySessionNone session_id) = of destroy_session_none (session_id, tt)
+filled (NewSessionCreated first_msg_id unique_id server_salt) = of new_session_created (first_msg_id, (unique_id, (server_salt, tt)))
+filled (MsgContainer messages) = of msg_container (messages, tt)
+filled (MsgsAck msg_ids) = of msgs_ack (msg_ids, tt)
+filled (MsgsStateReq msg_ids) = of msgs_state_req (msg_ids, tt)
+filled (MsgsStateInfo req_msg_id info) = of msgs_state_info (req_msg_id, (info, tt))
+filled (MsgsAllInfo msg_ids info) = of msgs_all_info (msg_ids, (info, tt))
+filled (MsgResendReq msg_ids) = of msg_resend_req (msg_ids, tt)
+filled (MsgDetailedInfo msg_id answer_msg_id bytes status) = of msg_detailed_info (msg_id, (answer_msg_id, (bytes, (status, tt))))
+filled (MsgNewDetailedInfo answer_msg_id bytes status) = of msg_new_detailed_info (answer_msg_id, (bytes, (status, tt)))
+filled (BadMsgNotification bad_msg_id bad_msg_seqno error_code) = of bad_msg_notification (bad_msg_id, (bad_msg_seqno, (error_code, tt)))
+filled (BadServerSalt bad_msg_id bad_msg_seqno error_code new_server_salt) = of bad_server_salt (bad_msg_id, (bad_msg_seqno, (error_code, (new_server_salt, tt))))
+filled (InvokeAfterMsg msg_id query) = of invoke_after_msg (msg_id, (query, tt))
+filled (InvokeAfterMsgs msg_ids query) = of invoke_after_msgs (msg_ids, (query, tt))
+filled (AuthBindTempAuthKey perm_auth_key_id nonce expires_at encrypted_message) = of auth_bind_temp_auth_key (perm_auth_key_id, (nonce, (expires_at, (encrypted_message, tt))))
+filled Packed = None
+filled Call = None
+filled (Broken number) = None
 
-abbrev pub longs : List ℕ → List ℕ
-longs value = spelling Longs value
+-- an item of the schema is none of these three
+abbrev pub IsOfSchema : Item → Type 0
+IsOfSchema Packed = ⊥
+IsOfSchema Call = ⊥
+IsOfSchema (Broken number) = ⊥
+IsOfSchema other = ⊤
 
-abbrev pub salt_rows : List FutureSalt → List ℕ
-salt_rows rows = field_spelling Salts rows
+-- ---- the spelling
 
-abbrev pub message_rows : List Message → List ℕ
-message_rows messages = field_spelling Bodies messages
+-- fields, one after the other
+abbrev pub fields_spelling : (fields : List Field) → Values fields → List ℕ
+fields_spelling [] values = []
+fields_spelling (field ∷ fields) values = field_spelling field values.0 ++ fields_spelling fields values.1
 
--- Each part's bytes, one after the other, behind the constructor.
+-- the row's number, and then its fields
+abbrev pub filled_spelling : Option Filled → List ℕ
+filled_spelling (Some filled) = spelling Int filled.row.number ++ fields_spelling filled.row.fields filled.values
+filled_spelling None = []
+
 abbrev pub spelling_of : Item → List ℕ
--- answers to calls: core.telegram.org/mtproto/service_messages, "Response to an RPC query", "RPC Error", "Cancellation of an RPC Query"
-spelling_of (RpcResult req_msg_id result) = boxed RPC_RESULT (long req_msg_id ∷ result ∷ [])
-spelling_of (RpcError error_code error_message) = boxed RPC_ERROR (int error_code ∷ bytes error_message ∷ [])
-spelling_of (RpcDropAnswer req_msg_id) = boxed RPC_DROP_ANSWER (long req_msg_id ∷ [])
-spelling_of RpcAnswerUnknown = boxed RPC_ANSWER_UNKNOWN []
-spelling_of RpcAnswerDroppedRunning = boxed RPC_ANSWER_DROPPED_RUNNING []
-spelling_of (RpcAnswerDropped msg_id seq_no size) = boxed RPC_ANSWER_DROPPED (long msg_id ∷ int seq_no ∷ int size ∷ [])
--- salts, pings and sessions: the same page, "Request for several future salts", "Ping Messages", "Request to Destroy Session", "New Session Creation Notification"
-spelling_of (GetFutureSalts num) = boxed GET_FUTURE_SALTS (int num ∷ [])
-spelling_of (FutureSalts req_msg_id now salts) = boxed FUTURE_SALTS (long req_msg_id ∷ int now ∷ salt_rows salts ∷ [])
-spelling_of (Ping ping_id) = boxed PING (long ping_id ∷ [])
-spelling_of (PingDelayDisconnect ping_id disconnect_delay) = boxed PING_DELAY_DISCONNECT (long ping_id ∷ int disconnect_delay ∷ [])
-spelling_of (Pong msg_id ping_id) = boxed PONG (long msg_id ∷ long ping_id ∷ [])
-spelling_of (DestroySession session_id) = boxed DESTROY_SESSION (long session_id ∷ [])
-spelling_of (DestroySessionOk session_id) = boxed DESTROY_SESSION_OK (long session_id ∷ [])
-spelling_of (DestroySessionNone session_id) = boxed DESTROY_SESSION_NONE (long session_id ∷ [])
-spelling_of (NewSessionCreated first_msg_id unique_id server_salt) = boxed NEW_SESSION_CREATED (long first_msg_id ∷ long unique_id ∷ long server_salt ∷ [])
--- containers, acknowledgements and states: the same page, "Containers", and core.telegram.org/mtproto/service_messages_about_messages
-spelling_of (MsgContainer messages) = boxed MSG_CONTAINER (message_rows messages ∷ [])
-spelling_of (MsgsAck msg_ids) = boxed MSGS_ACK (longs msg_ids ∷ [])
-spelling_of (MsgsStateReq msg_ids) = boxed MSGS_STATE_REQ (longs msg_ids ∷ [])
-spelling_of (MsgsStateInfo req_msg_id info) = boxed MSGS_STATE_INFO (long req_msg_id ∷ bytes info ∷ [])
-spelling_of (MsgsAllInfo msg_ids info) = boxed MSGS_ALL_INFO (longs msg_ids ∷ bytes info ∷ [])
-spelling_of (MsgResendReq msg_ids) = boxed MSG_RESEND_REQ (longs msg_ids ∷ [])
--- notices about one message: core.telegram.org/mtproto/service_messages_about_messages
-spelling_of (MsgDetailedInfo msg_id answer_msg_id size status) = boxed MSG_DETAILED_INFO (long msg_id ∷ long answer_msg_id ∷ int size ∷ int status ∷ [])
-spelling_of (MsgNewDetailedInfo answer_msg_id size status) = boxed MSG_NEW_DETAILED_INFO (long answer_msg_id ∷ int size ∷ int status ∷ [])
-spelling_of (BadMsgNotification bad_msg_id bad_msg_seqno error_code) = boxed BAD_MSG_NOTIFICATION (long bad_msg_id ∷ int bad_msg_seqno ∷ int error_code ∷ [])
-spelling_of (BadServerSalt bad_msg_id bad_msg_seqno error_code new_server_salt) = boxed BAD_SERVER_SALT (long bad_msg_id ∷ int bad_msg_seqno ∷ int error_code ∷ long new_server_salt ∷ [])
--- queries after other messages, and the binding of temporary keys: core.telegram.org/api/invoking, core.telegram.org/method/auth.bindTempAuthKey
-spelling_of (InvokeAfterMsg msg_id query) = boxed INVOKE_AFTER_MSG (long msg_id ∷ query ∷ [])
-spelling_of (InvokeAfterMsgs msg_ids query) = boxed INVOKE_AFTER_MSGS (longs msg_ids ∷ query ∷ [])
-spelling_of (AuthBindTempAuthKey perm_auth_key_id nonce expires_at encrypted_message) = boxed AUTH_BIND_TEMP_AUTH_KEY (long perm_auth_key_id ∷ long nonce ∷ int expires_at ∷ bytes encrypted_message ∷ [])
--- what isn't read has no spelling of its own
-spelling_of Packed = []
-spelling_of Call = []
-spelling_of (Broken number) = []
+spelling_of item = filled_spelling (filled item)
 
--- what a writer takes: strings and lists of numbers that are not too long, and nothing that isn't read
-abbrev pub IsWritable : Item → Type 0
-IsWritable (RpcError error_code error_message) = length error_message ≤ BYTES_MAX
-IsWritable (MsgsAck msg_ids) = length msg_ids ≤ LONGS_MAX
-IsWritable (MsgsStateReq msg_ids) = length msg_ids ≤ LONGS_MAX
-IsWritable (MsgsStateInfo req_msg_id info) = length info ≤ BYTES_MAX
-IsWritable (MsgsAllInfo msg_ids info) = (length msg_ids ≤ LONGS_MAX) × (length info ≤ BYTES_MAX)
-IsWritable (MsgResendReq msg_ids) = length msg_ids ≤ LONGS_MAX
-IsWritable (InvokeAfterMsgs msg_ids query) = length msg_ids ≤ LONGS_MAX
-IsWritable (AuthBindTempAuthKey perm_auth_key_id nonce expires_at encrypted_message) = length encrypted_message ≤ BYTES_MAX
-IsWritable Packed = ⊥
-IsWritable Call = ⊥
-IsWritable (Broken number) = ⊥
-IsWritable other = ⊤
+-- ---- which items have a spelling that is read again: each value fits its field
 
--- an item but the answers to calls
-abbrev pub IsNoAnswer : Item → Type 0
-IsNoAnswer (RpcResult req_msg_id result) = ⊥
-IsNoAnswer (RpcError error_code error_message) = ⊥
-IsNoAnswer (RpcDropAnswer req_msg_id) = ⊥
-IsNoAnswer RpcAnswerUnknown = ⊥
-IsNoAnswer RpcAnswerDroppedRunning = ⊥
-IsNoAnswer (RpcAnswerDropped msg_id seq_no size) = ⊥
-IsNoAnswer other = ⊤
+abbrev pub FieldsFit : (fields : List Field) → Values fields → Type 0
+FieldsFit [] values = ⊤
+FieldsFit (field ∷ fields) values = FieldFits field values.0 × FieldsFit fields values.1
 
--- of these one that isn't about salts, pings and sessions
-abbrev pub IsNoSession : Item → Type 0
-IsNoSession (GetFutureSalts num) = ⊥
-IsNoSession (FutureSalts req_msg_id now salts) = ⊥
-IsNoSession (Ping ping_id) = ⊥
-IsNoSession (PingDelayDisconnect ping_id disconnect_delay) = ⊥
-IsNoSession (Pong msg_id ping_id) = ⊥
-IsNoSession (DestroySession session_id) = ⊥
-IsNoSession (DestroySessionOk session_id) = ⊥
-IsNoSession (DestroySessionNone session_id) = ⊥
-IsNoSession (NewSessionCreated first_msg_id unique_id server_salt) = ⊥
-IsNoSession other = IsNoAnswer other
+abbrev pub FilledFits : Option Filled → Type 0
+FilledFits (Some filled) = FieldsFit filled.row.fields filled.values
+FilledFits None = ⊥
 
--- of these one that is no container, acknowledgement or state
-abbrev pub IsNoList : Item → Type 0
-IsNoList (MsgContainer messages) = ⊥
-IsNoList (MsgsAck msg_ids) = ⊥
-IsNoList (MsgsStateReq msg_ids) = ⊥
-IsNoList (MsgsStateInfo req_msg_id info) = ⊥
-IsNoList (MsgsAllInfo msg_ids info) = ⊥
-IsNoList (MsgResendReq msg_ids) = ⊥
-IsNoList other = IsNoSession other
-
--- of these one that is no notice
-abbrev pub IsWrapper : Item → Type 0
-IsWrapper (MsgDetailedInfo msg_id answer_msg_id size status) = ⊥
-IsWrapper (MsgNewDetailedInfo answer_msg_id size status) = ⊥
-IsWrapper (BadMsgNotification bad_msg_id bad_msg_seqno error_code) = ⊥
-IsWrapper (BadServerSalt bad_msg_id bad_msg_seqno error_code new_server_salt) = ⊥
-IsWrapper other = IsNoList other
-
--- which items have a spelling that is read again: each number fits its width
 abbrev pub ItemFits : Item → Type 0
-ItemFits (RpcResult req_msg_id result) = FieldFits (Plain Long) req_msg_id × FieldFits Rest result
-ItemFits (RpcError error_code error_message) = FieldFits (Plain Int) error_code × FieldFits (Plain Bytes) error_message
-ItemFits (RpcDropAnswer req_msg_id) = FieldFits (Plain Long) req_msg_id
-ItemFits RpcAnswerUnknown = ⊤
-ItemFits RpcAnswerDroppedRunning = ⊤
-ItemFits (RpcAnswerDropped msg_id seq_no size) = FieldFits (Plain Long) msg_id × FieldFits (Plain Int) seq_no × FieldFits (Plain Int) size
-ItemFits (GetFutureSalts num) = FieldFits (Plain Int) num
-ItemFits (FutureSalts req_msg_id now salts) = FieldFits (Plain Long) req_msg_id × FieldFits (Plain Int) now × FieldFits Salts salts
-ItemFits (Ping ping_id) = FieldFits (Plain Long) ping_id
-ItemFits (PingDelayDisconnect ping_id disconnect_delay) = FieldFits (Plain Long) ping_id × FieldFits (Plain Int) disconnect_delay
-ItemFits (Pong msg_id ping_id) = FieldFits (Plain Long) msg_id × FieldFits (Plain Long) ping_id
-ItemFits (DestroySession session_id) = FieldFits (Plain Long) session_id
-ItemFits (DestroySessionOk session_id) = FieldFits (Plain Long) session_id
-ItemFits (DestroySessionNone session_id) = FieldFits (Plain Long) session_id
-ItemFits (NewSessionCreated first_msg_id unique_id server_salt) = FieldFits (Plain Long) first_msg_id × FieldFits (Plain Long) unique_id × FieldFits (Plain Long) server_salt
-ItemFits (MsgContainer messages) = FieldFits Bodies messages
-ItemFits (MsgsAck msg_ids) = FieldFits (Plain Longs) msg_ids
-ItemFits (MsgsStateReq msg_ids) = FieldFits (Plain Longs) msg_ids
-ItemFits (MsgsStateInfo req_msg_id info) = FieldFits (Plain Long) req_msg_id × FieldFits (Plain Bytes) info
-ItemFits (MsgsAllInfo msg_ids info) = FieldFits (Plain Longs) msg_ids × FieldFits (Plain Bytes) info
-ItemFits (MsgResendReq msg_ids) = FieldFits (Plain Longs) msg_ids
-ItemFits (MsgDetailedInfo msg_id answer_msg_id size status) = FieldFits (Plain Long) msg_id × FieldFits (Plain Long) answer_msg_id × FieldFits (Plain Int) size × FieldFits (Plain Int) status
-ItemFits (MsgNewDetailedInfo answer_msg_id size status) = FieldFits (Plain Long) answer_msg_id × FieldFits (Plain Int) size × FieldFits (Plain Int) status
-ItemFits (BadMsgNotification bad_msg_id bad_msg_seqno error_code) = FieldFits (Plain Long) bad_msg_id × FieldFits (Plain Int) bad_msg_seqno × FieldFits (Plain Int) error_code
-ItemFits (BadServerSalt bad_msg_id bad_msg_seqno error_code new_server_salt) = FieldFits (Plain Long) bad_msg_id × FieldFits (Plain Int) bad_msg_seqno × FieldFits (Plain Int) error_code × FieldFits (Plain Long) new_server_salt
-ItemFits (InvokeAfterMsg msg_id query) = FieldFits (Plain Long) msg_id × FieldFits Rest query
-ItemFits (InvokeAfterMsgs msg_ids query) = FieldFits (Plain Longs) msg_ids × FieldFits Rest query
-ItemFits (AuthBindTempAuthKey perm_auth_key_id nonce expires_at encrypted_message) = FieldFits (Plain Long) perm_auth_key_id × FieldFits (Plain Long) nonce × FieldFits (Plain Int) expires_at × FieldFits (Plain Bytes) encrypted_message
-ItemFits Packed = ⊥
-ItemFits Call = ⊥
-ItemFits (Broken number) = ⊥
+ItemFits item = FilledFits (filled item)
+
+-- ---- which items a writer takes: of those of the schema all whose strings and lists of numbers aren't
+-- ---- too long, since a program's numbers fit by their types
+
+abbrev pub IsShort : (field : Field) → Holds field → Type 0
+IsShort (Plain Bytes) content = length content ≤ bytes_max
+IsShort (Plain Longs) numbers = length numbers ≤ longs_max
+IsShort other value = ⊤
+
+abbrev pub AreShort : (fields : List Field) → Values fields → Type 0
+AreShort [] values = ⊤
+AreShort (field ∷ fields) values = IsShort field values.0 × AreShort fields values.1
+
+abbrev pub FilledIsWritable : Option Filled → Type 0
+FilledIsWritable (Some filled) = AreShort filled.row.fields filled.values
+FilledIsWritable None = ⊥
+
+abbrev pub IsWritable : Item → Type 0
+IsWritable item = FilledIsWritable (filled item)

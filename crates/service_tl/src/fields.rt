@@ -4,7 +4,7 @@ ghost use Rattle.std.specs.Prelude.{◌≡◌, ◌<◌, ◌^◌, length, IfOk};
 ghost use Rattle.tl_codec.specs.Spelling.{Bytes};
 ghost use Rattle.tl_codec.specs.Reading.{read_at};
 ghost use Rattle.service_tl.specs.Fields.{Rest, Salts, Bodies, field_at, salt_at, message_at, items_at};
-ghost use Rattle.service_tl.specs.ItemOf.{Answers};
+ghost use Rattle.service_tl.specs.Parts.{Answers};
 
 use crate::lists::{FutureSalt, FutureSaltList, Message, Messages};
 use std::alloc::Global;

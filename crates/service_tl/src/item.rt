@@ -26,7 +26,7 @@ pub enum Item {
         /// The number of the message that this is about.
         req_msg_id: u64,
     },
-    /// The server knows no such call, or has answered it and forgot.
+    /// The server knows no such call, or has answered it and has forgotten it.
     RpcAnswerUnknown,
     /// The call was running; no answer comes.
     RpcAnswerDroppedRunning,
@@ -58,7 +58,7 @@ pub enum Item {
         /// The ping's identifier.
         ping_id: u64,
     },
-    /// The same; the server may close the connection after so many seconds without another.
+    /// The same; the server may close the connection after that many seconds without another.
     PingDelayDisconnect {
         /// The ping's identifier.
         ping_id: u64,
@@ -130,7 +130,7 @@ pub enum Item {
         /// The messages' numbers.
         msg_ids: IdList,
     },
-    /// A message and its answer, of so many bytes, that isn't sent again.
+    /// That message came before, and its answer is there; it is sent again where the peer asks for it.
     MsgDetailedInfo {
         /// The message's number.
         msg_id: u64,
@@ -141,7 +141,7 @@ pub enum Item {
         /// The state.
         status: u32,
     },
-    /// An answer, of so many bytes, that was sent before.
+    /// A message of the peer's own was sent before and isn't acknowledged; it is sent again where asked for.
     MsgNewDetailedInfo {
         /// The answer's number.
         answer_msg_id: u64,
@@ -201,4 +201,16 @@ pub enum Item {
     Call,
     /// A body that a service constructor begins and that isn't spelt right; its constructor.
     Broken(u32),
+}
+
+impl Item {
+    ghost use Rattle.std.specs.Prelude.{◌↔◌, IsTrue};
+    ghost use Rattle.service_tl.specs.Items.{IsOfSchema};
+
+    /// Whether it is an item of the schema, which has a spelling: not `Packed`, `Call` or `Broken`.
+    pub fn is_of_schema(&self) -> bool
+        ensures { IsTrue result ↔ IsOfSchema self.now }
+    {
+        !matches!(self, Item::Packed | Item::Call | Item::Broken(_))
+    }
 }

@@ -5,7 +5,7 @@
 
 mod fields;
 mod item;
-mod laws;
+pub mod laws;
 mod lists;
 mod numbers;
 mod parsing;
@@ -14,7 +14,6 @@ mod reading;
 mod writing;
 
 pub use item::Item;
-pub use laws::{items_again, items_exact};
 pub use lists::{FutureSalt, FutureSaltList, Message, Messages};
 pub use numbers::{
     AUTH_BIND_TEMP_AUTH_KEY, BAD_MSG_NOTIFICATION, BAD_SERVER_SALT, DESTROY_SESSION,

@@ -23,17 +23,22 @@ pub struct FutureSaltList {
 
 impl Model for FutureSaltList {
     ghost use Rattle.std.specs.Prelude.{List, length, ◌<◌, ◌^◌};
+    ghost use Rattle.std.specs.List.{AllByRecursion};
     ghost use Rattle.service_tl.specs.declared.lists.FutureSalt.{FutureSalt};
 
     ghost Value = { List FutureSalt };
 
+    ghost use Rattle.service_tl.specs.Sizes.{SaltFits};
+
     ghost view = { λ list. list.rows.items };
 
-    ghost invariant = { λ list. length list.rows.items < 2 ^ 32 };
+    ghost invariant = { λ list. (length list.rows.items < 2 ^ 32) × AllByRecursion SaltFits list.rows.items };
 }
 
 impl FutureSaltList {
     ghost use Rattle.std.specs.Prelude.{◌≡◌, ◌<◌, ◌^◌, ◌+◌, ◌++◌, ◌∷◌, [], length, OnOk, OnErr};
+    ghost use Rattle.std.specs.List.{AllByRecursion};
+    ghost use Rattle.service_tl.specs.Sizes.{SaltFits};
 
     /// No salt yet. Takes no memory.
     pub fn new(alloc: Global) -> FutureSaltList
@@ -44,7 +49,11 @@ impl FutureSaltList {
         }
     }
 
-    /// Puts a salt at the end. Fails for want of memory alone, and then leaves the list as it was.
+    /// Puts a salt at the end.
+    ///
+    /// # Errors
+    ///
+    /// `Memory`, and then the list is as it was.
     pub fn push(&mut self, _alloc: Global, row: FutureSalt) -> Result<(), Memory>
         requires { length self.old + 1 < 2 ^ 32 }
         ensures pushed { OnOk result (self.new ≡ self.old ++ row ∷ []) }
@@ -58,6 +67,7 @@ impl FutureSaltList {
     pub fn as_slice(&self) -> &[FutureSalt]
         ensures value { result.now ≡ self.now }
         ensures length { length self.now < 2 ^ 32 }
+        ensures ranges { AllByRecursion SaltFits self.now }
     {
         self.rows.as_slice()
     }
@@ -87,16 +97,18 @@ impl Model for Messages {
 
     ghost Value = { List Message };
 
-    ghost use Rattle.service_tl.specs.Sizes.{AreSized};
+    ghost use Rattle.std.specs.List.{AllByRecursion};
+    ghost use Rattle.service_tl.specs.Sizes.{AreSized, IsInRange};
 
     ghost view = { λ list. list.messages.items };
 
-    ghost invariant = { λ list. AreSized list.messages.items };
+    ghost invariant = { λ list. AreSized list.messages.items × AllByRecursion IsInRange list.messages.items };
 }
 
 impl Messages {
     ghost use Rattle.std.specs.Prelude.{◌≡◌, ◌<◌, ◌^◌, ◌+◌, ◌++◌, ◌∷◌, [], length, IfOk, OnOk, OnErr};
-    ghost use Rattle.service_tl.specs.Sizes.{AreSized};
+    ghost use Rattle.std.specs.List.{AllByRecursion};
+    ghost use Rattle.service_tl.specs.Sizes.{AreSized, IsInRange};
 
     /// No message yet. Takes no memory.
     pub fn new(alloc: Global) -> Messages
@@ -107,7 +119,11 @@ impl Messages {
         }
     }
 
-    /// No message yet, and room for `count` of them. Fails for want of memory alone.
+    /// No message yet, and room for `count` of them.
+    ///
+    /// # Errors
+    ///
+    /// `Memory`.
     pub fn with_capacity(alloc: Global, count: usize) -> Result<Messages, Memory>
         ensures { IfOk result (λ messages. messages ≡ []) }
     {
@@ -116,7 +132,11 @@ impl Messages {
         })
     }
 
-    /// Puts a message at the end. Fails for want of memory alone, and then leaves the list as it was.
+    /// Puts a message at the end.
+    ///
+    /// # Errors
+    ///
+    /// `Memory`, and then the list is as it was.
     pub fn push(&mut self, _alloc: Global, message: Message) -> Result<(), Memory>
         requires few { length self.old + 1 < 2 ^ 32 }
         requires short { length message.body < 2 ^ 32 }
@@ -131,6 +151,7 @@ impl Messages {
     pub fn as_slice(&self) -> &[Message]
         ensures value { result.now ≡ self.now }
         ensures sizes { AreSized self.now }
+        ensures ranges { AllByRecursion IsInRange self.now }
     {
         self.messages.as_slice()
     }

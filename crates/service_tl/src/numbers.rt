@@ -1,5 +1,12 @@
-//! The constructor numbers of the service items, each with its line of the schema
-//! (core.telegram.org/mtproto/service_messages, core.telegram.org/mtproto/service_messages_about_messages).
+//! The constructor numbers of the service items, each with its line of the schema.
+//! `laws::numbers_are_the_standards` ties them to the numbers that the definitions have.
+//!
+//! - Answers to calls, salts, pings, sessions, containers and packed objects:
+//!   core.telegram.org/mtproto/service_messages.
+//! - Acknowledgements, states and notices: core.telegram.org/mtproto/service_messages_about_messages.
+//! - Queries after other messages: core.telegram.org/api/invoking. These two lines have `{X:Type}`
+//!   before their fields in the public schema, which takes no bytes.
+//! - The binding of temporary keys: core.telegram.org/method/auth.bindTempAuthKey.
 
 /// `rpc_result#f35c6d01 req_msg_id:long result:Object = RpcResult`.
 pub const RPC_RESULT: u32 = 0xf35c6d01;
@@ -76,10 +83,10 @@ pub const BAD_MSG_NOTIFICATION: u32 = 0xa7eff811;
 /// `bad_server_salt#edab447b bad_msg_id:long bad_msg_seqno:int error_code:int new_server_salt:long = BadMsgNotification`.
 pub const BAD_SERVER_SALT: u32 = 0xedab447b;
 
-/// `invokeAfterMsg#cb9f372d msg_id:long query:!X = X`.
+/// `invokeAfterMsg#cb9f372d {X:Type} msg_id:long query:!X = X`.
 pub const INVOKE_AFTER_MSG: u32 = 0xcb9f372d;
 
-/// `invokeAfterMsgs#3dc4b4f0 msg_ids:Vector long query:!X = X`.
+/// `invokeAfterMsgs#3dc4b4f0 {X:Type} msg_ids:Vector<long> query:!X = X`.
 pub const INVOKE_AFTER_MSGS: u32 = 0x3dc4b4f0;
 
 /// `auth.bindTempAuthKey#cdd42a05 perm_auth_key_id:long nonce:long expires_at:int encrypted_message:bytes = Bool`.

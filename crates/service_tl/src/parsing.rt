@@ -1,10 +1,12 @@
 //! What a body is.
 
 ghost use Rattle.std.specs.Prelude.{◌≡◌, ◌↔◌, IsTrue, Contains, IfOk};
+ghost use Rattle.service_tl.specs.Items.{IsOfSchema, ItemFits, IsWritable};
 ghost use Rattle.service_tl.specs.Schema.{service_numbers};
 ghost use Rattle.service_tl.specs.ItemOf.{item_of};
 
 use crate::item::Item;
+use crate::laws::items_fit;
 use crate::numbers::*;
 use crate::reading::item;
 use std::alloc::Global;
@@ -43,8 +45,22 @@ const SERVICE: [u32; 29] = [
     GZIP_PACKED,
 ];
 
-/// The item that the body is. Fails for want of memory alone.
+/// The item that the body is. One of the schema can be written again.
+///
+/// # Errors
+///
+/// `Memory`.
 pub fn parse(alloc: Global, body: &[u8]) -> Result<Item, Memory>
+    ensures item { IfOk result (λ item. item ≡ item_of body.now) }
+    ensures fits { IfOk result (λ item. IsOfSchema item → ItemFits item) }
+    ensures writable { IfOk result (λ item. IsOfSchema item → IsWritable item) }
+{
+    let item = read(alloc, body)?;
+    items_fit();
+    Ok(item)
+}
+
+fn read(alloc: Global, body: &[u8]) -> Result<Item, Memory>
     ensures { IfOk result (λ item. item ≡ item_of body.now) }
 {
     let mut reader = Reader::new(body);

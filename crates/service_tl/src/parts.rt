@@ -1,16 +1,19 @@
-//! The parts of an item, written one after the other.
+//! The fields of an item, written one after the other into room that was taken before.
 
-ghost use Rattle.std.specs.Prelude.{◌≡◌, ◌++◌, map, All, OnOk, OnErr, IfOk};
-ghost use Rattle.service_tl.specs.Fields.{salt_row, message_row};
-ghost use Rattle.service_tl.specs.Sizes.{IsSized};
-ghost use Rattle.service_tl.specs.Items.{boxed, salt_rows, message_rows};
-ghost use Rattle.service_tl.specs.Parts.{part_spelling, PartFits};
+ghost use Rattle.std.specs.Prelude.{◌≡◌, ◌≤◌, ◌<◌, ◌^◌, ◌+◌, ◌*◌, ◌++◌, length, sum_by, IfSome};
+ghost use Rattle.std.specs.List.{AllByRecursion};
+ghost use Rattle.service_tl.specs.Fields.{Salts, Bodies, FieldFits, MessageFits, salt_row, message_row, field_spelling};
+ghost use Rattle.service_tl.specs.Parts.{part_spelling, part_size, parts_size, message_size, boxed, PartFits};
 
-use crate::lists::{FutureSalt, FutureSaltList, Message, Messages};
-use std::alloc::Global;
-use tl_codec::{Memory, Octets, Writer};
+use crate::lists::{FutureSalt, Message};
+use octets::Buffer;
+use tl_codec::fill;
 
-/// A field as it is written.
+const INT_BYTES: usize = 4;
+
+const LONG_BYTES: usize = 8;
+
+/// A field as it is written. `End` is no field, and fills up an array of them.
 #[derive(Clone, Copy)]
 pub(crate) enum Part<'a> {
     Int(u32),
@@ -18,96 +21,127 @@ pub(crate) enum Part<'a> {
     Bytes(&'a [u8]),
     Longs(&'a [u64]),
     Rest(&'a [u8]),
-    Salts(&'a FutureSaltList),
-    Bodies(&'a Messages),
+    Salts(&'a [FutureSalt]),
+    Bodies(&'a [Message]),
+    End,
 }
 
-fn write_salt(alloc: Global, text: &mut Octets, row: &FutureSalt) -> Result<(), Memory>
-    ensures { OnOk result (text.new ≡ text.old ++ salt_row row.now) }
+/// How many bytes a constructor and the parts behind it take; none where there are too many to count.
+pub(crate) fn size_of_parts(parts: &[Part<'_>; 4]) -> Option<usize>
+    requires { AllByRecursion PartFits parts.now }
+    ensures { IfSome result (λ size. size ≡ 4 + parts_size parts.now) }
 {
-    let mut writer = Writer::new(text);
-    writer.int(alloc, row.valid_since)?;
-    writer.int(alloc, row.valid_until)?;
-    writer.long(alloc, row.salt)?;
-    Ok(())
+    let [a, b, c, d] = parts;
+    INT_BYTES
+        .checked_add(size_of_part(a)?)?
+        .checked_add(size_of_part(b)?)?
+        .checked_add(size_of_part(c)?)?
+        .checked_add(size_of_part(d)?)
 }
 
-fn write_message(alloc: Global, text: &mut Octets, message: &Message) -> Result<(), Memory>
-    requires { IsSized message.now }
-    ensures { OnOk result (text.new ≡ text.old ++ message_row message.now) }
-{
-    let mut writer = Writer::new(text);
-    writer.long(alloc, message.number)?;
-    writer.int(alloc, message.seq)?;
-    writer.int(alloc, message.body.as_slice().len() as u32)?;
-    writer.raw(alloc, message.body.as_slice())?;
-    Ok(())
-}
-
-fn write_salts(alloc: Global, text: &mut Octets, list: &FutureSaltList) -> Result<(), Memory>
-    ensures { OnOk result (text.new ≡ text.old ++ salt_rows list.now) }
-{
-    let rows = list.as_slice();
-    let mut writer = Writer::new(text);
-    writer.int(alloc, rows.len() as u32)?;
-    for row in rows {
-        write_salt(alloc, text, row)?;
-    }
-    Ok(())
-}
-
-fn write_messages(alloc: Global, text: &mut Octets, list: &Messages) -> Result<(), Memory>
-    ensures { OnOk result (text.new ≡ text.old ++ message_rows list.now) }
-{
-    let messages = list.as_slice();
-    let mut writer = Writer::new(text);
-    writer.int(alloc, messages.len() as u32)?;
-    for message in messages {
-        write_message(alloc, text, message)?;
-    }
-    Ok(())
-}
-
-fn write_part(alloc: Global, text: &mut Octets, part: &Part<'_>) -> Result<(), Memory>
+fn size_of_part(part: &Part<'_>) -> Option<usize>
     requires { PartFits part.now }
-    ensures { OnOk result (text.new ≡ text.old ++ part_spelling part.now) }
+    ensures { IfSome result (λ size. size ≡ part_size part.now) }
 {
     match part {
-        Part::Salts(list) => write_salts(alloc, text, list),
-        Part::Bodies(list) => write_messages(alloc, text, list),
-        Part::Rest(content) => text.push_all(alloc, content),
-        Part::Int(value) => Writer::new(text).int(alloc, *value),
-        Part::Long(value) => Writer::new(text).long(alloc, *value),
-        Part::Bytes(content) => Writer::new(text).bytes(alloc, content),
-        Part::Longs(numbers) => Writer::new(text).longs(alloc, numbers),
+        Part::Int(_) => Some(INT_BYTES),
+        Part::Long(_) => Some(LONG_BYTES),
+        Part::Bytes(content) => Some(fill::string_size(content.len())),
+        Part::Longs(numbers) => Some(2 * INT_BYTES + LONG_BYTES * numbers.len()),
+        Part::Rest(content) => Some(content.len()),
+        Part::Salts(rows) => Some(INT_BYTES + (2 * INT_BYTES + LONG_BYTES) * rows.len()),
+        Part::Bodies(messages) => size_of_messages(messages),
+        Part::End => Some(0),
     }
 }
 
-// The constructor and the parts, one after the other, on their own.
-fn spelt(alloc: Global, number: u32, parts: &[Part<'_>]) -> Result<Octets, Memory>
-    requires { All PartFits parts.now }
-    ensures { IfOk result (λ text. text ≡ boxed number (map part_spelling parts.now)) }
+fn size_of_messages(messages: &[Message]) -> Option<usize>
+    ensures { IfSome result (λ size. size ≡ 4 + sum_by message_size messages.now) }
 {
-    let mut text = Octets::new(alloc);
-    let mut writer = Writer::new(&mut text);
-    writer.int(alloc, number)?;
-    for part in parts {
-        write_part(alloc, &mut text, part)?;
+    let mut size = INT_BYTES;
+    for message in messages {
+        size = size
+            .checked_add(LONG_BYTES + 2 * INT_BYTES)?
+            .checked_add(message.body.as_slice().len())?;
     }
-    Ok(text)
+    Some(size)
 }
 
-/// Puts the constructor and the parts at the end, all or none.
-pub(crate) fn put(
-    alloc: Global,
-    into: &mut Octets,
-    number: u32,
-    parts: &[Part<'_>],
-) -> Result<(), Memory>
-    requires { All PartFits parts.now }
-    ensures appended { OnOk result (into.new ≡ into.old ++ boxed number (map part_spelling parts.now)) }
-    ensures unchanged_on_memory { OnErr result (into.new ≡ into.old) }
+/// Writes a constructor and the parts behind it.
+pub(crate) fn fill_boxed(into: &mut Buffer, number: u32, parts: &[Part<'_>; 4])
+    requires fits { AllByRecursion PartFits parts.now }
+    requires room { 4 + parts_size parts.now ≤ into.old.room }
+    ensures { into.new.bytes ≡ into.old.bytes ++ boxed number parts.now }
 {
-    let text = spelt(alloc, number, parts)?;
-    into.push_all(alloc, text.as_slice())
+    let [a, b, c, d] = parts;
+    fill::int(into, number);
+    fill_part(into, a);
+    fill_part(into, b);
+    fill_part(into, c);
+    fill_part(into, d);
+}
+
+fn fill_part(into: &mut Buffer, part: &Part<'_>)
+    requires fits { PartFits part.now }
+    requires room { part_size part.now ≤ into.old.room }
+    ensures appended { into.new.bytes ≡ into.old.bytes ++ part_spelling part.now }
+    ensures room { into.new.room + part_size part.now ≡ into.old.room }
+{
+    match part {
+        Part::Int(value) => fill::int(into, *value),
+        Part::Long(value) => fill::long(into, *value),
+        Part::Bytes(content) => fill::bytes(into, content),
+        Part::Longs(numbers) => fill::longs(into, numbers),
+        Part::Rest(content) => into.push_all(content),
+        Part::Salts(rows) => fill_salts(into, rows),
+        Part::Bodies(messages) => fill_messages(into, messages),
+        Part::End => {}
+    }
+}
+
+fn fill_salts(into: &mut Buffer, rows: &[FutureSalt])
+    requires few { length rows.now < 2 ^ 32 }
+    requires room { 4 + 16 * length rows.now ≤ into.old.room }
+    ensures appended { into.new.bytes ≡ into.old.bytes ++ field_spelling Salts rows.now }
+    ensures room { into.new.room + (4 + 16 * length rows.now) ≡ into.old.room }
+{
+    fill::int(into, rows.len() as u32);
+    for row in rows {
+        fill_salt(into, row);
+    }
+}
+
+fn fill_salt(into: &mut Buffer, row: &FutureSalt)
+    requires { 16 ≤ into.old.room }
+    ensures appended { into.new.bytes ≡ into.old.bytes ++ salt_row row.now }
+    ensures room { into.new.room + 16 ≡ into.old.room }
+{
+    fill::int(into, row.valid_since);
+    fill::int(into, row.valid_until);
+    fill::long(into, row.salt);
+}
+
+fn fill_messages(into: &mut Buffer, messages: &[Message])
+    requires fits { FieldFits Bodies messages.now }
+    requires room { 4 + sum_by message_size messages.now ≤ into.old.room }
+    ensures appended { into.new.bytes ≡ into.old.bytes ++ field_spelling Bodies messages.now }
+    ensures room { into.new.room + (4 + sum_by message_size messages.now) ≡ into.old.room }
+{
+    fill::int(into, messages.len() as u32);
+    for message in messages {
+        fill_message(into, message);
+    }
+}
+
+fn fill_message(into: &mut Buffer, message: &Message)
+    requires fits { MessageFits message.now }
+    requires room { message_size message.now ≤ into.old.room }
+    ensures appended { into.new.bytes ≡ into.old.bytes ++ message_row message.now }
+    ensures room { into.new.room + message_size message.now ≡ into.old.room }
+{
+    let body = message.body.as_slice();
+    fill::long(into, message.number);
+    fill::int(into, message.seq);
+    fill::int(into, body.len() as u32);
+    into.push_all(body);
 }

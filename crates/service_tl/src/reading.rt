@@ -2,7 +2,7 @@
 
 ghost use Rattle.std.specs.Prelude.{◌≡◌};
 ghost use Rattle.service_tl.specs.Schema.{calls, sessions, lists, notices, wrappers, schema, item_in};
-ghost use Rattle.service_tl.specs.ItemOf.{Answers};
+ghost use Rattle.service_tl.specs.Parts.{Answers};
 
 use crate::fields::{messages, octets, rest, salts};
 use crate::item::Item;

@@ -1,305 +1,222 @@
-//! One item of each constructor, with its bytes by the schema, and bodies that are none.
+//! One body of each constructor, worked out from the standard's schema, and bodies that are none.
 
-ghost use Rattle.service_tl.specs.Items.{IsWritable};
+ghost use Rattle.std.specs.Prelude.{◌≡◌, IfOk};
+ghost use Rattle.service_tl.specs.Items.{spelling_of, IsWritable, IsOfSchema};
+ghost use Rattle.service_tl.specs.ItemOf.{item_of};
 
 use super::*;
+use crate::laws::items_again;
 use std::alloc::Global;
 use std::test::*;
 use tl_codec::{IdList, Memory, Octets};
 
-// Whether the item is written as these bytes, and the bytes are read as the item.
-fn agrees(alloc: Global, item: &Item, text: &str) -> Result<bool, Memory>
+// What is written of an item and parsed is that item.
+fn written_and_parsed(alloc: Global, item: &Item) -> Result<Item, Memory>
     requires { IsWritable item.now }
+    ensures { IfOk result (λ again. again ≡ item.now) }
 {
-    let bytes = hex::decode(alloc, text).map_err(|_| Memory)?;
-    let mut written = Octets::new(alloc);
-    write(alloc, item, &mut written)?;
-    let read = parse(alloc, &bytes)?;
-    let shown = format!(in alloc; "{item:?}").map_err(|_| Memory)?;
-    let same = format!(in alloc; "{read:?}").map_err(|_| Memory)?;
-    Ok(written.as_slice() == bytes.as_slice() && shown == same)
+    let mut text = Octets::new(alloc);
+    write(alloc, item, &mut text)?;
+    items_again();
+    parse(alloc, text.as_slice())
 }
 
-#[test]
-fn answers_to_calls(rt: HostRuntime) -> Result<(), Fail> {
-    let alloc = rt.alloc();
-    let result = Octets::copy(alloc, b"\x01\x02\x03\x04")
-        .ok()
-        .ok_or("no memory")?;
-    let item = Item::RpcResult {
-        req_msg_id: 4,
-        result,
-    };
-    assert!(rt; agrees(alloc, &item, "016d5cf3040000000000000001020304").is_ok_and(|same| same));
-    let error_message = Octets::copy(alloc, b"BAD_REQUEST").ok().ok_or("no memory")?;
-    let item = Item::RpcError {
-        error_code: 400,
-        error_message,
-    };
-    assert!(rt;
-        agrees(alloc, &item, "19ca4421900100000b4241445f52455155455354").is_ok_and(|same| same)
-    );
-    let item = Item::RpcDropAnswer { req_msg_id: 4 };
-    assert!(rt; agrees(alloc, &item, "40a7e4580400000000000000").is_ok_and(|same| same));
-    let item = Item::RpcAnswerUnknown;
-    assert!(rt; agrees(alloc, &item, "6ed32a5e").is_ok_and(|same| same));
-    let item = Item::RpcAnswerDroppedRunning;
-    assert!(rt; agrees(alloc, &item, "86e578cd").is_ok_and(|same| same));
-    let item = Item::RpcAnswerDropped {
-        msg_id: 8,
-        seq_no: 1,
-        bytes: 16,
-    };
-    assert!(rt;
-        agrees(alloc, &item, "b7d83aa408000000000000000100000010000000").is_ok_and(|same| same)
-    );
-    Ok(())
+// What is parsed of a body in the writer's own spelling and written is that body.
+fn parsed_and_written(alloc: Global, body: &[u8]) -> Result<Octets, Memory>
+    requires of_schema { IsOfSchema (item_of body.now) }
+    requires spelling { spelling_of (item_of body.now) ≡ body.now }
+    ensures { IfOk result (λ text. text ≡ body.now) }
+{
+    let item = parse(alloc, body)?;
+    let mut text = Octets::new(alloc);
+    write(alloc, &item, &mut text)?;
+    Ok(text)
 }
 
-#[test]
-fn salts_pings_and_sessions(rt: HostRuntime) -> Result<(), Fail> {
-    let alloc = rt.alloc();
-    let item = Item::GetFutureSalts { num: 2 };
-    assert!(rt; agrees(alloc, &item, "04bd21b902000000").is_ok_and(|same| same));
-    let mut salts = FutureSaltList::new(alloc);
-    for (valid_since, valid_until, salt) in [(0, 3600, 7), (1800, 5400, 8)] {
-        let row = FutureSalt {
-            valid_since,
-            valid_until,
-            salt,
-        };
-        if salts.as_slice().len() < 2 {
-            assert!(rt; salts.push(alloc, row).is_ok());
-        }
+// An item that the caller makes is written with no word of the schema.
+fn ack_and_pong(alloc: Global, number: u64, ping_id: u64) -> Result<Octets, Memory> {
+    let mut text = Octets::new(alloc);
+    let msg_ids = IdList::copy(alloc, &[number])?;
+    write(alloc, &Item::MsgsAck { msg_ids }, &mut text)?;
+    let msg_id = number;
+    write(alloc, &Item::Pong { msg_id, ping_id }, &mut text)?;
+    Ok(text)
+}
+
+fn is_shown(alloc: Global, item: &Item, want: &str) -> Result<bool, Memory> {
+    let shown = format!(in alloc; "{item:?}")?;
+    Ok(shown.as_str() == want)
+}
+
+// Whether a body is read as the item that is shown so, and that item is written as the body.
+fn agrees(alloc: Global, body: &[u8], want: &str) -> Result<bool, Memory> {
+    let item = parse(alloc, body)?;
+    if !item.is_of_schema() || !is_shown(alloc, &item, want)? {
+        return Ok(false);
     }
-    let item = Item::FutureSalts {
-        req_msg_id: 4,
-        now: 1000,
-        salts,
-    };
-    assert!(rt;
-        agrees(
-            alloc,
-            &item,
-            "950850ae0400000000000000e80300000200000000000000100e0000070000000000000008070000181500000800000000000000"
-        )
-        .is_ok_and(|same| same)
-    );
-    let item = Item::Ping { ping_id: 7 };
-    assert!(rt; agrees(alloc, &item, "ec77be7a0700000000000000").is_ok_and(|same| same));
-    let item = Item::PingDelayDisconnect {
-        ping_id: 7,
-        disconnect_delay: 75,
-    };
-    assert!(rt; agrees(alloc, &item, "8c7b42f307000000000000004b000000").is_ok_and(|same| same));
-    let item = Item::Pong {
-        msg_id: 8,
-        ping_id: 7,
-    };
-    assert!(rt;
-        agrees(alloc, &item, "c573773408000000000000000700000000000000").is_ok_and(|same| same)
-    );
-    let item = Item::DestroySession {
-        session_id: 72623859790382856,
-    };
-    assert!(rt; agrees(alloc, &item, "262151e70807060504030201").is_ok_and(|same| same));
-    let item = Item::DestroySessionOk {
-        session_id: 72623859790382856,
-    };
-    assert!(rt; agrees(alloc, &item, "fc4520e20807060504030201").is_ok_and(|same| same));
-    let item = Item::DestroySessionNone {
-        session_id: 72623859790382856,
-    };
-    assert!(rt; agrees(alloc, &item, "c950d3620807060504030201").is_ok_and(|same| same));
-    let item = Item::NewSessionCreated {
-        first_msg_id: 12,
-        unique_id: 1234605616436508552,
-        server_salt: 7,
-    };
-    assert!(rt;
-        agrees(
-            alloc,
-            &item,
-            "0809c29e0c0000000000000088776655443322110700000000000000"
-        )
-        .is_ok_and(|same| same)
-    );
-    Ok(())
+    let mut written = Octets::new(alloc);
+    write(alloc, &item, &mut written)?;
+    Ok(written.as_slice() == body)
 }
 
 #[test]
-fn containers_and_states(rt: HostRuntime) -> Result<(), Fail> {
-    let alloc = rt.alloc();
-    let body = Octets::copy(alloc, &[10, 11, 12, 13])
-        .ok()
-        .ok_or("no memory")?;
-    let mut messages = Messages::new(alloc);
-    assert!(rt;
-        messages
-            .push(
-                alloc,
-                Message {
-                    number: 8,
-                    seq: 1,
-                    body
-                }
-            )
-            .is_ok()
-    );
-    let item = Item::MsgContainer { messages };
-    assert!(rt;
-        agrees(
-            alloc,
-            &item,
-            "dcf8f17301000000080000000000000001000000040000000a0b0c0d"
-        )
-        .is_ok_and(|same| same)
-    );
-    let msg_ids = IdList::copy(alloc, &[4]).ok().ok_or("no memory")?;
-    let item = Item::MsgsAck { msg_ids };
-    assert!(rt;
-        agrees(alloc, &item, "59b4d66215c4b51c010000000400000000000000").is_ok_and(|same| same)
-    );
-    let msg_ids = IdList::copy(alloc, &[4]).ok().ok_or("no memory")?;
-    let item = Item::MsgsStateReq { msg_ids };
-    assert!(rt;
-        agrees(alloc, &item, "52fb69da15c4b51c010000000400000000000000").is_ok_and(|same| same)
-    );
-    let info = Octets::copy(alloc, b"\x01\x04").ok().ok_or("no memory")?;
-    let item = Item::MsgsStateInfo {
-        req_msg_id: 4,
-        info,
-    };
-    assert!(rt; agrees(alloc, &item, "7db5de04040000000000000002010400").is_ok_and(|same| same));
-    let msg_ids = IdList::copy(alloc, &[4]).ok().ok_or("no memory")?;
-    let info = Octets::copy(alloc, b"\x01\x04").ok().ok_or("no memory")?;
-    let item = Item::MsgsAllInfo { msg_ids, info };
-    assert!(rt;
-        agrees(
-            alloc,
-            &item,
-            "31d1c08c15c4b51c01000000040000000000000002010400"
-        )
-        .is_ok_and(|same| same)
-    );
-    let msg_ids = IdList::copy(alloc, &[4]).ok().ok_or("no memory")?;
-    let item = Item::MsgResendReq { msg_ids };
-    assert!(rt;
-        agrees(alloc, &item, "081a867d15c4b51c010000000400000000000000").is_ok_and(|same| same)
-    );
-    Ok(())
-}
-
-#[test]
-fn notices(rt: HostRuntime) -> Result<(), Fail> {
-    let alloc = rt.alloc();
-    let item = Item::MsgDetailedInfo {
-        msg_id: 8,
-        answer_msg_id: 20,
-        bytes: 16,
-        status: 0,
-    };
-    assert!(rt;
-        agrees(
-            alloc,
-            &item,
-            "c63e6d27080000000000000014000000000000001000000000000000"
-        )
-        .is_ok_and(|same| same)
-    );
-    let item = Item::MsgNewDetailedInfo {
-        answer_msg_id: 20,
-        bytes: 16,
-        status: 0,
-    };
-    assert!(rt;
-        agrees(alloc, &item, "dfb69d8014000000000000001000000000000000").is_ok_and(|same| same)
-    );
-    let item = Item::BadMsgNotification {
-        bad_msg_id: 4,
-        bad_msg_seqno: 1,
-        error_code: 48,
-    };
-    assert!(rt;
-        agrees(alloc, &item, "11f8efa704000000000000000100000030000000").is_ok_and(|same| same)
-    );
-    let item = Item::BadServerSalt {
-        bad_msg_id: 4,
-        bad_msg_seqno: 1,
-        error_code: 48,
-        new_server_salt: 7,
-    };
-    assert!(rt;
-        agrees(
-            alloc,
-            &item,
-            "7b44abed040000000000000001000000300000000700000000000000"
-        )
-        .is_ok_and(|same| same)
-    );
-    Ok(())
-}
-
-#[test]
-fn wrapped_queries(rt: HostRuntime) -> Result<(), Fail> {
-    let alloc = rt.alloc();
-    let query = Octets::copy(alloc, b"\x01\x02\x03\x04")
-        .ok()
-        .ok_or("no memory")?;
-    let item = Item::InvokeAfterMsg { msg_id: 8, query };
-    assert!(rt; agrees(alloc, &item, "2d379fcb080000000000000001020304").is_ok_and(|same| same));
-    let msg_ids = IdList::copy(alloc, &[4]).ok().ok_or("no memory")?;
-    let query = Octets::copy(alloc, b"\x01\x02\x03\x04")
-        .ok()
-        .ok_or("no memory")?;
-    let item = Item::InvokeAfterMsgs { msg_ids, query };
-    assert!(rt;
-        agrees(
-            alloc,
-            &item,
-            "f0b4c43d15c4b51c01000000040000000000000001020304"
-        )
-        .is_ok_and(|same| same)
-    );
-    let encrypted_message = Octets::copy(alloc, b"sealed").ok().ok_or("no memory")?;
-    let item = Item::AuthBindTempAuthKey {
-        perm_auth_key_id: 578437695752307201,
-        nonce: 9,
-        expires_at: 3600,
-        encrypted_message,
-    };
-    assert!(rt;
-        agrees(
-            alloc,
-            &item,
-            "052ad4cd01020304050607080900000000000000100e0000067365616c656400"
-        )
-        .is_ok_and(|same| same)
-    );
-    Ok(())
-}
-
-#[test]
-fn bodies_that_are_no_items(rt: HostRuntime) -> Result<(), Fail> {
+fn one_body_of_each_constructor(rt: HostRuntime) -> Result<(), Fail> {
     let alloc = rt.alloc();
     let rows = [
+        (
+            "016d5cf3040000000000000001020304",
+            "RpcResult { req_msg_id: 4, result: Octets { bytes: [1, 2, 3, 4] } }",
+        ),
+        (
+            "016d5cf30400000000000000",
+            "RpcResult { req_msg_id: 4, result: Octets { bytes: [] } }",
+        ),
+        (
+            "19ca44219001000003414243",
+            "RpcError { error_code: 400, error_message: Octets { bytes: [65, 66, 67] } }",
+        ),
+        (
+            "40a7e4580400000000000000",
+            "RpcDropAnswer { req_msg_id: 4 }",
+        ),
+        ("6ed32a5e", "RpcAnswerUnknown"),
+        ("86e578cd", "RpcAnswerDroppedRunning"),
+        (
+            "b7d83aa408000000000000000100000010000000",
+            "RpcAnswerDropped { msg_id: 8, seq_no: 1, bytes: 16 }",
+        ),
+        ("04bd21b902000000", "GetFutureSalts { num: 2 }"),
+        (
+            "950850ae0400000000000000e80300000200000000000000100e0000070000000000000008070000181500000800000000000000",
+            "FutureSalts { req_msg_id: 4, now: 1000, salts: FutureSaltList { rows: [FutureSalt { valid_since: 0, valid_until: 3600, salt: 7 }, FutureSalt { valid_since: 1800, valid_until: 5400, salt: 8 }] } }",
+        ),
+        ("ec77be7a0700000000000000", "Ping { ping_id: 7 }"),
+        (
+            "8c7b42f307000000000000004b000000",
+            "PingDelayDisconnect { ping_id: 7, disconnect_delay: 75 }",
+        ),
+        (
+            "c573773408000000000000000700000000000000",
+            "Pong { msg_id: 8, ping_id: 7 }",
+        ),
+        (
+            "262151e70807060504030201",
+            "DestroySession { session_id: 72623859790382856 }",
+        ),
+        (
+            "fc4520e20807060504030201",
+            "DestroySessionOk { session_id: 72623859790382856 }",
+        ),
+        (
+            "c950d3620807060504030201",
+            "DestroySessionNone { session_id: 72623859790382856 }",
+        ),
+        (
+            "0809c29e0c0000000000000088776655443322110700000000000000",
+            "NewSessionCreated { first_msg_id: 12, unique_id: 1234605616436508552, server_salt: 7 }",
+        ),
+        (
+            "dcf8f17301000000080000000000000001000000040000000a0b0c0d",
+            "MsgContainer { messages: Messages { messages: [Message { number: 8, seq: 1, body: Octets { bytes: [10, 11, 12, 13] } }] } }",
+        ),
+        (
+            "59b4d66215c4b51c010000000400000000000000",
+            "MsgsAck { msg_ids: IdList { numbers: [4] } }",
+        ),
+        (
+            "52fb69da15c4b51c010000000400000000000000",
+            "MsgsStateReq { msg_ids: IdList { numbers: [4] } }",
+        ),
+        (
+            "7db5de04040000000000000002010400",
+            "MsgsStateInfo { req_msg_id: 4, info: Octets { bytes: [1, 4] } }",
+        ),
+        (
+            "31d1c08c15c4b51c01000000040000000000000002010400",
+            "MsgsAllInfo { msg_ids: IdList { numbers: [4] }, info: Octets { bytes: [1, 4] } }",
+        ),
+        (
+            "081a867d15c4b51c010000000400000000000000",
+            "MsgResendReq { msg_ids: IdList { numbers: [4] } }",
+        ),
+        (
+            "c63e6d27080000000000000014000000000000001000000000000000",
+            "MsgDetailedInfo { msg_id: 8, answer_msg_id: 20, bytes: 16, status: 0 }",
+        ),
+        (
+            "dfb69d8014000000000000001000000000000000",
+            "MsgNewDetailedInfo { answer_msg_id: 20, bytes: 16, status: 0 }",
+        ),
+        (
+            "11f8efa704000000000000000100000030000000",
+            "BadMsgNotification { bad_msg_id: 4, bad_msg_seqno: 1, error_code: 48 }",
+        ),
+        (
+            "7b44abed040000000000000001000000300000000700000000000000",
+            "BadServerSalt { bad_msg_id: 4, bad_msg_seqno: 1, error_code: 48, new_server_salt: 7 }",
+        ),
+        (
+            "2d379fcb080000000000000001020304",
+            "InvokeAfterMsg { msg_id: 8, query: Octets { bytes: [1, 2, 3, 4] } }",
+        ),
+        (
+            "f0b4c43d15c4b51c01000000040000000000000001020304",
+            "InvokeAfterMsgs { msg_ids: IdList { numbers: [4] }, query: Octets { bytes: [1, 2, 3, 4] } }",
+        ),
+        (
+            "052ad4cd01020304050607080900000000000000100e0000067365616c656400",
+            "AuthBindTempAuthKey { perm_auth_key_id: 578437695752307201, nonce: 9, expires_at: 3600, encrypted_message: Octets { bytes: [115, 101, 97, 108, 101, 100] } }",
+        ),
+    ];
+    for (text, want) in rows {
+        let body = hex::decode(alloc, text).ok().ok_or("hexadecimal digits")?;
+        assert!(rt; agrees(alloc, &body, want)?, "{want}");
+    }
+    Ok(())
+}
+
+#[test]
+fn bodies_that_are_read_otherwise(rt: HostRuntime) -> Result<(), Fail> {
+    let alloc = rt.alloc();
+    let rows = [
+        // a call
         ("", "Call"),
         ("0102", "Call"),
         ("01020304", "Call"),
+        // packed, and not read
         ("a1cf7230", "Packed"),
-        ("ec77be7a0700000000000000", "Ping { ping_id: 7 }"),
+        // a ping with 4 bytes after it
         ("ec77be7a070000000000000000000000", "Broken(2059302892)"),
+        // a list of numbers that is cut, that claims 8,193 of them, and without its constructor
         (
             "59b4d66215c4b51c0100000004000000000000",
             "Broken(1658238041)",
         ),
         ("59b4d66215c4b51c01200000", "Broken(1658238041)"),
         ("59b4d662010000000400000000000000", "Broken(1658238041)"),
+        // a container of one message that is cut, and one that claims two
+        (
+            "dcf8f17301000000080000000000000001000000080000000a0b0c0d",
+            "Broken(1945237724)",
+        ),
+        (
+            "dcf8f17302000000080000000000000001000000040000000a0b0c0d",
+            "Broken(1945237724)",
+        ),
+        // salts of which the second is cut
+        (
+            "950850ae0400000000000000e80300000200000000000000100e00000700000000000000080700001815000008000000",
+            "Broken(2924480661)",
+        ),
+        // a string in the long form
+        (
+            "19ca442190010000fe03000041424300",
+            "RpcError { error_code: 400, error_message: Octets { bytes: [65, 66, 67] } }",
+        ),
     ];
     for (text, want) in rows {
         let bytes = hex::decode(alloc, text).ok().ok_or("hexadecimal digits")?;
-        let item = parse(alloc, &bytes).ok().ok_or("no memory")?;
-        let shown = format!(in alloc; "{item:?}")?;
+        let shown = format!(in alloc; "{:?}", parse(alloc, &bytes)?)?;
         assert_eq!(rt; shown.as_str(), want);
     }
     Ok(())

@@ -1,225 +1,158 @@
-//! Writing items: one arm for each constructor, in the order of the schema.
+//! Writing items.
 
 ghost use Rattle.std.specs.Prelude.{◌≡◌, ◌++◌, OnOk, OnErr};
-ghost use Rattle.service_tl.specs.Items.{spelling_of, IsWritable, IsNoAnswer, IsNoSession, IsNoList, IsWrapper};
+ghost use Rattle.std.specs.List.{AllByRecursion};
+ghost use Rattle.service_tl.specs.Items.{spelling_of, IsWritable, ItemFits};
+ghost use Rattle.service_tl.specs.Parts.{boxed, PartFits};
 
 use crate::item::Item;
 use crate::numbers::*;
-use crate::parts::{Part, put};
+use crate::parts::Part::{Bodies, Bytes, End, Int, Long, Longs, Rest, Salts};
+use crate::parts::{Part, fill_boxed, size_of_parts};
+use octets::Buffer;
 use std::alloc::Global;
 use tl_codec::{Memory, Octets};
 
-/// Writes an item at the end. Fails for want of memory alone, and then leaves the text as it was.
+/// Writes an item at the end of the text. The room for it is taken once.
+///
+/// # Errors
+///
+/// `Memory`, and then the text is as it was.
 pub fn write(alloc: Global, item: &Item, into: &mut Octets) -> Result<(), Memory>
     requires { IsWritable item.now }
     ensures appended { OnOk result (into.new ≡ into.old ++ spelling_of item.now) }
+    ensures fits { OnOk result (ItemFits item.now) }
     ensures unchanged_on_memory { OnErr result (into.new ≡ into.old) }
 {
+    let (number, parts) = parts_of(item);
+    let room = size_of_parts(&parts).ok_or(Memory)?;
+    let mut buffer = Buffer::after(alloc, into, room)?;
+    fill_boxed(&mut buffer, number, &parts);
+    *into = buffer.into_octets();
+    Ok(())
+}
+
+// An item's constructor and its fields in the schema's order.
+fn parts_of(item: &Item) -> (u32, [Part<'_>; 4])
+    requires { IsWritable item.now }
+    ensures spelling { boxed result.0 result.1 ≡ spelling_of item.now }
+    ensures parts { AllByRecursion PartFits result.1 }
+    ensures fits { ItemFits item.now }
+{
     match item {
-        Item::RpcResult { req_msg_id, result } => put(
-            alloc,
-            into,
+        Item::RpcResult { req_msg_id, result } => (
             RPC_RESULT,
-            &[Part::Long(*req_msg_id), Part::Rest(result.as_slice())],
+            [Long(*req_msg_id), Rest(result.as_slice()), End, End],
         ),
         Item::RpcError {
             error_code,
             error_message,
-        } => put(
-            alloc,
-            into,
+        } => (
             RPC_ERROR,
-            &[
-                Part::Int(*error_code),
-                Part::Bytes(error_message.as_slice()),
-            ],
+            [Int(*error_code), Bytes(error_message.as_slice()), End, End],
         ),
-        Item::RpcDropAnswer { req_msg_id } => put(
-            alloc,
-            into,
-            RPC_DROP_ANSWER,
-            &[Part::Long(*req_msg_id)],
-        ),
-        Item::RpcAnswerUnknown => put(alloc, into, RPC_ANSWER_UNKNOWN, &[]),
-        Item::RpcAnswerDroppedRunning => put(alloc, into, RPC_ANSWER_DROPPED_RUNNING, &[]),
+        Item::RpcDropAnswer { req_msg_id } => (RPC_DROP_ANSWER, [Long(*req_msg_id), End, End, End]),
+        Item::RpcAnswerUnknown => (RPC_ANSWER_UNKNOWN, [End, End, End, End]),
+        Item::RpcAnswerDroppedRunning => (RPC_ANSWER_DROPPED_RUNNING, [End, End, End, End]),
         Item::RpcAnswerDropped {
             msg_id,
             seq_no,
             bytes,
-        } => put(
-            alloc,
-            into,
+        } => (
             RPC_ANSWER_DROPPED,
-            &[Part::Long(*msg_id), Part::Int(*seq_no), Part::Int(*bytes)],
+            [Long(*msg_id), Int(*seq_no), Int(*bytes), End],
         ),
-        _ => write_session(alloc, item, into),
-    }
-}
-
-// The items but answers to calls.
-fn write_session(alloc: Global, item: &Item, into: &mut Octets) -> Result<(), Memory>
-    requires writable { IsWritable item.now }
-    requires left { IsNoAnswer item.now }
-    ensures appended { OnOk result (into.new ≡ into.old ++ spelling_of item.now) }
-    ensures unchanged_on_memory { OnErr result (into.new ≡ into.old) }
-{
-    match item {
-        Item::GetFutureSalts { num } => put(alloc, into, GET_FUTURE_SALTS, &[Part::Int(*num)]),
+        Item::GetFutureSalts { num } => (GET_FUTURE_SALTS, [Int(*num), End, End, End]),
         Item::FutureSalts {
             req_msg_id,
             now,
             salts,
-        } => put(
-            alloc,
-            into,
+        } => (
             FUTURE_SALTS,
-            &[Part::Long(*req_msg_id), Part::Int(*now), Part::Salts(salts)],
+            [Long(*req_msg_id), Int(*now), Salts(salts.as_slice()), End],
         ),
-        Item::Ping { ping_id } => put(alloc, into, PING, &[Part::Long(*ping_id)]),
+        Item::Ping { ping_id } => (PING, [Long(*ping_id), End, End, End]),
         Item::PingDelayDisconnect {
             ping_id,
             disconnect_delay,
-        } => put(
-            alloc,
-            into,
+        } => (
             PING_DELAY_DISCONNECT,
-            &[Part::Long(*ping_id), Part::Int(*disconnect_delay)],
+            [Long(*ping_id), Int(*disconnect_delay), End, End],
         ),
-        Item::Pong { msg_id, ping_id } => put(
-            alloc,
-            into,
-            PONG,
-            &[Part::Long(*msg_id), Part::Long(*ping_id)],
-        ),
-        Item::DestroySession { session_id } => put(
-            alloc,
-            into,
+        Item::Pong { msg_id, ping_id } => (PONG, [Long(*msg_id), Long(*ping_id), End, End]),
+        Item::DestroySession { session_id } => (
             DESTROY_SESSION,
-            &[Part::Long(*session_id)],
+            [Long(*session_id), End, End, End],
         ),
-        Item::DestroySessionOk { session_id } => put(
-            alloc,
-            into,
+        Item::DestroySessionOk { session_id } => (
             DESTROY_SESSION_OK,
-            &[Part::Long(*session_id)],
+            [Long(*session_id), End, End, End],
         ),
-        Item::DestroySessionNone { session_id } => put(
-            alloc,
-            into,
+        Item::DestroySessionNone { session_id } => (
             DESTROY_SESSION_NONE,
-            &[Part::Long(*session_id)],
+            [Long(*session_id), End, End, End],
         ),
         Item::NewSessionCreated {
             first_msg_id,
             unique_id,
             server_salt,
-        } => put(
-            alloc,
-            into,
+        } => (
             NEW_SESSION_CREATED,
-            &[
-                Part::Long(*first_msg_id),
-                Part::Long(*unique_id),
-                Part::Long(*server_salt),
+            [
+                Long(*first_msg_id),
+                Long(*unique_id),
+                Long(*server_salt),
+                End,
             ],
         ),
-        _ => write_list(alloc, item, into),
-    }
-}
-
-// Of these all but salts, pings and sessions.
-fn write_list(alloc: Global, item: &Item, into: &mut Octets) -> Result<(), Memory>
-    requires writable { IsWritable item.now }
-    requires left { IsNoSession item.now }
-    ensures appended { OnOk result (into.new ≡ into.old ++ spelling_of item.now) }
-    ensures unchanged_on_memory { OnErr result (into.new ≡ into.old) }
-{
-    match item {
-        Item::MsgContainer { messages } => put(
-            alloc,
-            into,
+        Item::MsgContainer { messages } => (
             MSG_CONTAINER,
-            &[Part::Bodies(messages)],
+            [Bodies(messages.as_slice()), End, End, End],
         ),
-        Item::MsgsAck { msg_ids } => put(alloc, into, MSGS_ACK, &[Part::Longs(msg_ids.ids())]),
-        Item::MsgsStateReq { msg_ids } => put(
-            alloc,
-            into,
-            MSGS_STATE_REQ,
-            &[Part::Longs(msg_ids.ids())],
-        ),
-        Item::MsgsStateInfo { req_msg_id, info } => put(
-            alloc,
-            into,
+        Item::MsgsAck { msg_ids } => (MSGS_ACK, [Longs(msg_ids.ids()), End, End, End]),
+        Item::MsgsStateReq { msg_ids } => (MSGS_STATE_REQ, [Longs(msg_ids.ids()), End, End, End]),
+        Item::MsgsStateInfo { req_msg_id, info } => (
             MSGS_STATE_INFO,
-            &[Part::Long(*req_msg_id), Part::Bytes(info.as_slice())],
+            [Long(*req_msg_id), Bytes(info.as_slice()), End, End],
         ),
-        Item::MsgsAllInfo { msg_ids, info } => put(
-            alloc,
-            into,
+        Item::MsgsAllInfo { msg_ids, info } => (
             MSGS_ALL_INFO,
-            &[Part::Longs(msg_ids.ids()), Part::Bytes(info.as_slice())],
+            [Longs(msg_ids.ids()), Bytes(info.as_slice()), End, End],
         ),
-        Item::MsgResendReq { msg_ids } => put(
-            alloc,
-            into,
-            MSG_RESEND_REQ,
-            &[Part::Longs(msg_ids.ids())],
-        ),
-        _ => write_notice(alloc, item, into),
-    }
-}
-
-// Of these all but containers, acknowledgements and states.
-fn write_notice(alloc: Global, item: &Item, into: &mut Octets) -> Result<(), Memory>
-    requires writable { IsWritable item.now }
-    requires left { IsNoList item.now }
-    ensures appended { OnOk result (into.new ≡ into.old ++ spelling_of item.now) }
-    ensures unchanged_on_memory { OnErr result (into.new ≡ into.old) }
-{
-    match item {
+        Item::MsgResendReq { msg_ids } => (MSG_RESEND_REQ, [Longs(msg_ids.ids()), End, End, End]),
         Item::MsgDetailedInfo {
             msg_id,
             answer_msg_id,
             bytes,
             status,
-        } => put(
-            alloc,
-            into,
+        } => (
             MSG_DETAILED_INFO,
-            &[
-                Part::Long(*msg_id),
-                Part::Long(*answer_msg_id),
-                Part::Int(*bytes),
-                Part::Int(*status),
+            [
+                Long(*msg_id),
+                Long(*answer_msg_id),
+                Int(*bytes),
+                Int(*status),
             ],
         ),
         Item::MsgNewDetailedInfo {
             answer_msg_id,
             bytes,
             status,
-        } => put(
-            alloc,
-            into,
+        } => (
             MSG_NEW_DETAILED_INFO,
-            &[
-                Part::Long(*answer_msg_id),
-                Part::Int(*bytes),
-                Part::Int(*status),
-            ],
+            [Long(*answer_msg_id), Int(*bytes), Int(*status), End],
         ),
         Item::BadMsgNotification {
             bad_msg_id,
             bad_msg_seqno,
             error_code,
-        } => put(
-            alloc,
-            into,
+        } => (
             BAD_MSG_NOTIFICATION,
-            &[
-                Part::Long(*bad_msg_id),
-                Part::Int(*bad_msg_seqno),
-                Part::Int(*error_code),
+            [
+                Long(*bad_msg_id),
+                Int(*bad_msg_seqno),
+                Int(*error_code),
+                End,
             ],
         ),
         Item::BadServerSalt {
@@ -227,57 +160,37 @@ fn write_notice(alloc: Global, item: &Item, into: &mut Octets) -> Result<(), Mem
             bad_msg_seqno,
             error_code,
             new_server_salt,
-        } => put(
-            alloc,
-            into,
+        } => (
             BAD_SERVER_SALT,
-            &[
-                Part::Long(*bad_msg_id),
-                Part::Int(*bad_msg_seqno),
-                Part::Int(*error_code),
-                Part::Long(*new_server_salt),
+            [
+                Long(*bad_msg_id),
+                Int(*bad_msg_seqno),
+                Int(*error_code),
+                Long(*new_server_salt),
             ],
         ),
-        _ => write_wrapper(alloc, item, into),
-    }
-}
-
-// Queries after other messages, and the binding of temporary keys.
-fn write_wrapper(alloc: Global, item: &Item, into: &mut Octets) -> Result<(), Memory>
-    requires writable { IsWritable item.now }
-    requires left { IsWrapper item.now }
-    ensures appended { OnOk result (into.new ≡ into.old ++ spelling_of item.now) }
-    ensures unchanged_on_memory { OnErr result (into.new ≡ into.old) }
-{
-    match item {
-        Item::InvokeAfterMsg { msg_id, query } => put(
-            alloc,
-            into,
+        Item::InvokeAfterMsg { msg_id, query } => (
             INVOKE_AFTER_MSG,
-            &[Part::Long(*msg_id), Part::Rest(query.as_slice())],
+            [Long(*msg_id), Rest(query.as_slice()), End, End],
         ),
-        Item::InvokeAfterMsgs { msg_ids, query } => put(
-            alloc,
-            into,
+        Item::InvokeAfterMsgs { msg_ids, query } => (
             INVOKE_AFTER_MSGS,
-            &[Part::Longs(msg_ids.ids()), Part::Rest(query.as_slice())],
+            [Longs(msg_ids.ids()), Rest(query.as_slice()), End, End],
         ),
         Item::AuthBindTempAuthKey {
             perm_auth_key_id,
             nonce,
             expires_at,
             encrypted_message,
-        } => put(
-            alloc,
-            into,
+        } => (
             AUTH_BIND_TEMP_AUTH_KEY,
-            &[
-                Part::Long(*perm_auth_key_id),
-                Part::Long(*nonce),
-                Part::Int(*expires_at),
-                Part::Bytes(encrypted_message.as_slice()),
+            [
+                Long(*perm_auth_key_id),
+                Long(*nonce),
+                Int(*expires_at),
+                Bytes(encrypted_message.as_slice()),
             ],
         ),
-        _ => unreachable!(),
+        Item::Packed | Item::Call | Item::Broken(_) => unreachable!(),
     }
 }

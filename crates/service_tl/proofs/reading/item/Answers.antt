@@ -1,7 +1,7 @@
 use Rattle.std.proofs.Common.{◌++◌, refl, sym, subst, List}
 use Rattle.std.proofs.lemmas.Result.{err_from_is_err_and}
 use Rattle.service_tl.specs.Schema.{Row, schema, calls, sessions, lists, notices, wrappers, item_in}
-use Rattle.service_tl.specs.ItemOf.{Answers}
+use Rattle.service_tl.specs.Parts.{Answers}
 use Rattle.service_tl.proofs.Rows.{goes_past, finds_here, ends_here}
 use Rattle.service_tl.proofs.reading.item.Goals as goal
 
