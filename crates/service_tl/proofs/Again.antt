@@ -4,8 +4,8 @@ use Rattle.std.proofs.lemmas.Bool.{ltb-true}
 use Rattle.std.specs.List.{flat_map, AllByRecursion}
 use Rattle.std.proofs.lemmas.List.{append-nil}
 use Rattle.tl_codec.specs.declared.fault.TlFault.{TlFault}
-use Rattle.tl_codec.specs.Spelling.{Form, Int, Long, Raw, Bytes, Longs, Of, Fits, Spells, spelling}
-use Rattle.tl_codec.specs.Reading.{◌>>=◌, read_at}
+use Rattle.tl_codec.specs.Spelling.{Form, Int, Long, Raw, Of, Fits, Spells, spelling}
+use Rattle.tl_codec.specs.Reading.{read_at}
 use Rattle.service_tl.specs.declared.item.Item.{Item}
 use Rattle.service_tl.specs.declared.lists.FutureSalt.{FutureSalt}
 use Rattle.service_tl.specs.declared.lists.Message.{Message}

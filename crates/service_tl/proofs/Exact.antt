@@ -1,10 +1,10 @@
 -- A body is an item exactly where its text is that item's fields.
-use Rattle.std.proofs.Common.{◌≡◌, ℕ, ◌^◌, ◌<◌, true, List, [], ◌∷◌, ◌++◌, Some, Ok, refl, ap, ◌∙◌, arith}
+use Rattle.std.proofs.Common.{◌≡◌, ℕ, true, List, [], ◌∷◌, ◌++◌, Some, Ok, refl, ap, ◌∙◌}
 use Rattle.std.specs.List.{AllByRecursion}
 use Rattle.std.proofs.lemmas.Bool.{ltb-true}
 use Rattle.std.proofs.lemmas.List.{append-nil}
-use Rattle.tl_codec.specs.Spelling.{Form, Int, Long, Bytes, Longs, Of, Spells}
-use Rattle.tl_codec.specs.Reading.{◌>>=◌, Takes, read_at}
+use Rattle.tl_codec.specs.Spelling.{Form, Int, Of, Spells}
+use Rattle.tl_codec.specs.Reading.{Takes, read_at}
 use Rattle.service_tl.specs.Fields.{Field, Plain, Rest, Salts, Bodies, field_spelling, MessageFits, salt_row, message_row, salt_at, message_at, vector_at}
 use Rattle.service_tl.specs.Sizes.{SaltFits}
 use Rattle.service_tl.specs.Schema.{Makes, Row, schema, fields_at, item_in}

@@ -8,7 +8,7 @@ use Rattle.octets.specs.Bytes.{IsBytes}
 use Rattle.tl_codec.specs.Spelling.{Form, Int, Long, Raw, Bytes, Longs, Truth, Tag, Of, Fits, Spells, Reads, spelling}
 use Rattle.tl_codec.specs.Reading.{◌>>=◌, Takes, read_at}
 use Rattle.service_tl.specs.declared.item.Item.{Item}
-use Rattle.service_tl.specs.declared.item.Item.TheVariants.{Packed, Call, Broken}
+use Rattle.service_tl.specs.declared.item.Item.TheVariants.{Packed, Broken}
 use Rattle.service_tl.specs.declared.lists.FutureSalt.{FutureSalt}
 use Rattle.service_tl.specs.declared.lists.Message.{Message}
 use Rattle.service_tl.specs.Fields.{Field, Plain, Rest, Salts, Bodies, Holds, FieldFits, field_spelling, MessageFits, salt_row, message_row, salt_at, message_at, items_at, vector_at, field_at}

@@ -6,3 +6,4 @@ pub mod Again
 pub mod Exact
 pub mod Found
 pub mod Others
+pub mod WordsLemmas

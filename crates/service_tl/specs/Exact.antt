@@ -2,7 +2,6 @@
 use Rattle.std.specs.Prelude.{◌≡◌, ℕ, List, [], ◌∷◌, ◌++◌}
 use Rattle.octets.specs.Bytes.{IsBytes}
 use Rattle.tl_codec.specs.Spelling.{Int, Reads, spelling}
-use Rattle.service_tl.specs.declared.item.Item.{Item}
 use Rattle.service_tl.specs.declared.item.Item.TheVariants.{Broken}
 use Rattle.service_tl.specs.Fields.{Field, Plain, Rest, Salts, Bodies, Holds, FieldFits, field_spelling}
 use Rattle.service_tl.specs.Schema.{Row}

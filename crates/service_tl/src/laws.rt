@@ -9,10 +9,11 @@ ghost use Rattle.service_tl.specs.declared.item.Item.TheVariants.{Packed, Call};
 ghost use Rattle.service_tl.specs.Items.{spelling_of, ItemFits, IsWritable, IsOfSchema};
 ghost use Rattle.service_tl.specs.Schema.{schema, service_numbers, gzip_packed};
 ghost use Rattle.service_tl.specs.ItemOf.{item_of};
+ghost use Rattle.service_tl.specs.Words.{IsWords, ItemIsWords};
 ghost use Rattle.service_tl.specs.Exact.{behind, IsRead, IsBroken};
 
 use crate::numbers::*;
-use tl_codec::laws::{exact_reading, written_again};
+use tl_codec::laws::{exact_reading, sizes_of_spellings, written_again};
 
 /// The constants of this crate are the standard's constructor numbers, in the order of the schema.
 #[tactic(auto, unfolding(crate::specs::Schema::schema, crate::specs::Schema::service_numbers))]
@@ -40,6 +41,14 @@ pub fn items_fit()
 {
     written_again();
     exact_reading();
+}
+
+/// The spelling of an item is whole words of 4 bytes, as an envelope takes them, where its rest or the
+/// bodies of its messages are.
+pub fn items_are_words()
+    ensures { (item : Item) → ItemFits item → ItemIsWords item → IsWords (spelling_of item) }
+{
+    sizes_of_spellings();
 }
 
 /// A body is exactly what the schema says: of each row, a text that is its fields behind its constructor is

@@ -1,6 +1,6 @@
 //! The lists that stand in items.
 
-use std::alloc::Global;
+use std::alloc::{AllocError, Global};
 use std::marker::Model;
 use tl_codec::{Memory, Octets};
 
@@ -73,6 +73,18 @@ impl FutureSaltList {
     }
 }
 
+impl Clone for FutureSaltList {
+    ghost use Rattle.std.specs.Prelude.{◌≡◌};
+
+    ghost is_clone = { λ list copy. copy ≡ list };
+
+    fn clone(&self) -> Result<FutureSaltList, AllocError> {
+        Ok(FutureSaltList {
+            rows: self.rows.clone()?,
+        })
+    }
+}
+
 /// A message of a container.
 #[derive(Debug, Drop)]
 pub struct Message {
@@ -82,6 +94,20 @@ pub struct Message {
     pub seq: u32,
     /// Its body, of fewer than `2^32` bytes.
     pub body: Octets,
+}
+
+impl Clone for Message {
+    ghost use Rattle.std.specs.Prelude.{◌≡◌};
+
+    ghost is_clone = { λ message copy. copy ≡ message };
+
+    fn clone(&self) -> Result<Message, AllocError> {
+        Ok(Message {
+            number: self.number,
+            seq: self.seq,
+            body: self.body.clone()?,
+        })
+    }
 }
 
 /// Messages in order, fewer than `2^32` of them and each of fewer than `2^32` bytes. Contracts see it as
@@ -154,5 +180,17 @@ impl Messages {
         ensures ranges { AllByRecursion IsInRange self.now }
     {
         self.messages.as_slice()
+    }
+}
+
+impl Clone for Messages {
+    ghost use Rattle.std.specs.Prelude.{◌≡◌};
+
+    ghost is_clone = { λ list copy. copy ≡ list };
+
+    fn clone(&self) -> Result<Messages, AllocError> {
+        Ok(Messages {
+            messages: self.messages.clone()?,
+        })
     }
 }
