@@ -4,8 +4,22 @@ ghost use Rattle.std.specs.Prelude.{◌≡◌, ◌≤◌, ℕ, List, length, IsT
 ghost use Rattle.std.specs.List.{AllByRecursion};
 ghost use Rattle.octets.specs.Bytes.{IsBytes};
 ghost use Rattle.service_tl.specs.declared.lists.Message.{Message};
-ghost use Rattle.containers.specs.Container.{IsContainer, IsInner, begins_container, container_of, messages_max, size_of};
+ghost use Rattle.containers.specs.Container.{IsContainer, IsInner, begins_container, bytes_max, constructor, container_head, container_of, message_head, messages_max, size_of};
 ghost use Rattle.containers.specs.Parts.{parts_of};
+
+use crate::limits::{
+    CONTAINER_BYTES_MAX, CONTAINER_HEAD_BYTES, CONTAINER_MESSAGES_MAX, MESSAGE_HEAD_BYTES,
+};
+use service_tl::MSG_CONTAINER;
+
+/// The constants of this crate are the limits and sizes that the definitions speak of.
+pub fn constants_of_the_standard()
+    ensures constructor { MSG_CONTAINER ≡ constructor }
+    ensures messages_max { CONTAINER_MESSAGES_MAX ≡ messages_max }
+    ensures bytes_max { CONTAINER_BYTES_MAX ≡ bytes_max }
+    ensures container_head { CONTAINER_HEAD_BYTES ≡ container_head }
+    ensures message_head { MESSAGE_HEAD_BYTES ≡ message_head }
+{}
 
 /// A body that begins as a container has parts exactly where it is a lawful container, and then they are
 /// its messages.

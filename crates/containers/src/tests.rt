@@ -1,10 +1,12 @@
 //! The worked bodies, and messages that are put together and unfolded again.
 
-ghost use Rattle.std.specs.Prelude.{◌≡◌, ◌++◌, ◌∷◌, [], List, IsTrue, OnErr, IsErr, IfOk, None, Some, Ok};
+ghost use Rattle.std.specs.Prelude.{◌≡◌, ◌<◌, ◌++◌, ◌∷◌, [], List, length, IsTrue, OnErr, IsErr, IfOk, None, Some, Ok};
 ghost use Rattle.std.specs.Bool.{OnTrue};
+ghost use Rattle.std.specs.List.{AllByRecursion};
 ghost use Rattle.service_tl.specs.declared.lists.Message.{Message as Inner};
-ghost use Rattle.containers.specs.Container.{begins_container, container_of};
+ghost use Rattle.containers.specs.Container.{AreWithin, IsInner, begins_container, container_of};
 ghost use Rattle.containers.specs.Parts.{parts_of};
+ghost use Rattle.containers.specs.Unfolded.{Tells};
 
 use super::*;
 use octets::{Memory, Octets};
@@ -20,6 +22,19 @@ fn fault_of(alloc: Global, body: &[u8]) -> Option<(u32, Why)> {
         Unfolded::Invalid { place, why } => Some((place, why)),
         Unfolded::Messages(_) | Unfolded::Memory => None,
     }
+}
+
+// Puts messages together and unfolds them, as one end's packet reaches the other.
+fn unfolded_again(alloc: Global, number: u64, messages: &[Message]) -> Result<Unfolded, Memory>
+    requires some { 0 < length messages.now }
+    requires within { AreWithin messages.now }
+    requires inner { AllByRecursion (IsInner number) messages.now }
+    ensures { IfOk result (Tells (Ok messages.now)) }
+{
+    let mut text = Octets::new(alloc);
+    container(alloc, messages, &mut text)?;
+    laws::packed_is_unfolded();
+    Ok(unfold(alloc, number, text.as_slice()))
 }
 
 #[test]
@@ -127,4 +142,65 @@ fn paired(alloc: Global, pair: &[Message; 2], into: &mut Octets) -> Result<bool,
     }
     container(alloc, pair, into)?;
     Ok(true)
+}
+
+#[test]
+fn lent_messages_are_put_together(rt: HostRuntime) -> Result<(), Fail> {
+    let alloc = rt.alloc();
+    let body = b"\xdc\xf8\xf1\x73\x01\0\0\0\x04\0\0\0\0\0\0\0\x01\0\0\0\x04\0\0\0abcd";
+    let part = Part {
+        number: 4,
+        seq: 1,
+        body: b"abcd",
+    };
+    let mut text = Octets::new(alloc);
+    container_of_parts(alloc, &[part], &mut text)?;
+    assert_eq!(rt; text.as_slice(), body.as_slice());
+    assert!(rt; is_container(body));
+    let mut parts = Parts::read(8, body)?;
+    assert_eq!(rt; parts.len(), 1);
+    assert!(rt; parts.next() == Some(part));
+    assert!(rt; parts.is_empty());
+    assert!(rt; parts.next().is_none());
+    assert_eq!(rt; first_seq(8, body), Some(1));
+    Ok(())
+}
+
+#[test]
+fn limits_are_taken(rt: HostRuntime) -> Result<(), Fail> {
+    let rows = [
+        (1_019, 8, 0, true),
+        (1_020, 8, 0, false),
+        (0, 8, 1_044_456, true),
+        (0, 8, 1_044_457, false),
+        (0, usize::MAX, usize::MAX, false),
+    ];
+    for (count, bytes, next, want) in rows {
+        assert_eq!(rt; fits(count, bytes, next), want);
+    }
+    let alloc = rt.alloc();
+    let mut body = Octets::copy(alloc, b"\xdc\xf8\xf1\x73\xfc\x03\0\0")?;
+    for _ in 0..1_020 {
+        body.push_all(alloc, b"\x04\0\0\0\0\0\0\0\x01\0\0\0\0\0\0\0")?;
+    }
+    assert!(rt; is_container(body.as_slice()));
+    match unfold(alloc, 100, body.as_slice()) {
+        Unfolded::Messages(inner) => assert_eq!(rt; inner.as_slice().len(), 1_020),
+        Unfolded::Invalid { .. } | Unfolded::Memory => return Err(Fail::new("not unfolded")),
+    }
+    Ok(())
+}
+
+#[test]
+fn faults_are_told(rt: HostRuntime) -> Result<(), Fail> {
+    let fault = ContainerFault {
+        place: 1,
+        why: Why::Extra,
+    };
+    let told = format!(in rt.alloc(); "{fault}")?;
+    assert_eq!(rt;
+        told.as_str(),
+        "bytes behind the last message at message 1 of a container"
+    );
+    Ok(())
 }

@@ -132,7 +132,7 @@ impl Model for Messages {
 }
 
 impl Messages {
-    ghost use Rattle.std.specs.Prelude.{◌≡◌, ◌<◌, ◌^◌, ◌+◌, ◌++◌, ◌∷◌, [], length, IfOk, OnOk, OnErr};
+    ghost use Rattle.std.specs.Prelude.{◌≡◌, ◌<◌, ◌^◌, ◌+◌, ◌++◌, ◌∷◌, [], length, OnOk, OnErr};
     ghost use Rattle.std.specs.List.{AllByRecursion};
     ghost use Rattle.service_tl.specs.Sizes.{AreSized, IsInRange};
 
@@ -143,19 +143,6 @@ impl Messages {
         Messages {
             messages: Vec::new(alloc),
         }
-    }
-
-    /// No message yet, and room for `count` of them.
-    ///
-    /// # Errors
-    ///
-    /// `Memory`.
-    pub fn with_capacity(alloc: Global, count: usize) -> Result<Messages, Memory>
-        ensures { IfOk result (λ messages. messages ≡ []) }
-    {
-        Ok(Messages {
-            messages: Vec::with_capacity(alloc, count)?,
-        })
     }
 
     /// Puts a message at the end.
@@ -180,6 +167,23 @@ impl Messages {
         ensures ranges { AllByRecursion IsInRange self.now }
     {
         self.messages.as_slice()
+    }
+}
+
+impl Messages {
+    ghost use Rattle.std.specs.Prelude.{◌≡◌, [], IfOk};
+
+    /// No message yet, and room for `count` of them.
+    ///
+    /// # Errors
+    ///
+    /// `Memory`.
+    pub fn with_capacity(alloc: Global, count: usize) -> Result<Messages, Memory>
+        ensures { IfOk result (λ messages. messages ≡ []) }
+    {
+        Ok(Messages {
+            messages: Vec::with_capacity(alloc, count)?,
+        })
     }
 }
 
