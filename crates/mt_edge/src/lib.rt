@@ -11,6 +11,7 @@ mod source;
 mod standard;
 mod whole;
 
+pub use draws::{ChaChaDraw, Draw, Seeded, StepDraw, draw_bytes};
 pub use mem::{MemSink, MemSource};
 pub use sink::{Put, Sink};
 pub use source::{Got, Source};

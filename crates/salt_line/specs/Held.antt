@@ -7,6 +7,10 @@ abbrev pub rows_of : ℕ → List ℕ → List Row
 rows_of first [] = []
 rows_of first (word ∷ words) = record { period = first; word = word } ∷ rows_of (suc first) words
 
+-- the row has this word, and its period is this one or the one before
+abbrev pub IsIn : ℕ → ℕ → Row → Type 0
+IsIn period word row = (row.word ≡ word) × (row.period ≤ period) × (period < row.period + 2)
+
 -- which rows are held at a period: no ended one, none far ahead, and all between
 pub record AreHeld (period first count capacity : ℕ) : Type 0 where
   pub none_ended : period ≤ first + 1

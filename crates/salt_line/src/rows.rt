@@ -1,11 +1,11 @@
 //! The kept rows: words of periods that follow one another, in a ring of one block.
 
-ghost use Rattle.std.specs.Prelude.{◌≡◌, ◌+◌, ◌-◌, ◌*◌, ◌^◌, ◌<◌, ◌≤◌, ◌++◌, List, ℕ, take, drop, max, length, filter, nat_lt, IfOk, IsTrue, ◌↔◌, Some, [], ◌∷◌, slice_get};
+ghost use Rattle.std.specs.Prelude.{◌≡◌, ◌+◌, ◌-◌, ◌*◌, ◌^◌, ◌<◌, ◌≤◌, ◌++◌, List, ℕ, take, drop, max, length, filter, nat_lt, IfOk, IsTrue, Any, ◌↔◌, Some, [], ◌∷◌, slice_get};
 ghost use Rattle.circular_buffer.specs.Buffer.{buffer};
 ghost use Rattle.draws.specs.Draws.{draw_after};
 ghost use Rattle.salt_line.specs.Rows.{Row};
 ghost use Rattle.salt_line.specs.Needed.{needed, needed_from, word_in};
-ghost use Rattle.salt_line.specs.Held.{rows_of, AreHeld};
+ghost use Rattle.salt_line.specs.Held.{rows_of, AreHeld, IsIn};
 
 use circular_buffer::HeapCircularBuffer;
 use draws::Draw;
@@ -51,11 +51,18 @@ impl Rows {
     }
 
     /// Whether the row of a period is kept and has this word.
-    pub(crate) fn has(&self, period: u64, word: u64) -> bool
+    fn has_at(&self, period: u64, word: u64) -> bool
         ensures { IsTrue result ↔ ((self.now.first ≤ period) × (slice_get self.now.words.items (period - self.now.first) ≡ Some word)) }
     {
         period >= self.first
             && self.words.get((period - self.first) as usize).copied() == Some(word)
+    }
+
+    /// Whether the row of a period, or of the one before, is kept and has this word.
+    pub(crate) fn has(&self, period: u64, word: u64) -> bool
+        ensures { IsTrue result ↔ Any (IsIn period word) (rows_of self.now.first self.now.words.items) }
+    {
+        self.has_at(period, word) || period > 0 && self.has_at(period - 1, word)
     }
 
     /// Drops the rows that have ended in a period: all but those from the period before it on.

@@ -1,7 +1,10 @@
 //! Salt lines.
 
-ghost use Rattle.std.specs.Prelude.{◌≡◌, ◌+◌, ◌-◌, ◌^◌, ◌<◌, ◌≤◌, ◌++◌, ◌↔◌, min, take, drop, length, All, IsTrue, IfOk};
+ghost use Rattle.std.specs.Prelude.{◌≡◌, ◌+◌, ◌-◌, ◌*◌, ◌^◌, ◌<◌, ◌≤◌, ◌++◌, ◌↔◌, min, take, drop, length, All, IsTrue, IfOk};
 ghost use Rattle.salt_line.specs.Rows.{period_at};
+ghost use Rattle.salt_line.specs.Needed.{needed_from};
+ghost use Rattle.salt_line.specs.Held.{rows_of, AreHeld};
+ghost use Rattle.salt_line.specs.Future.{salt_rows_from};
 
 use crate::rows::Rows;
 use draws::Draw;
@@ -95,8 +98,7 @@ impl SaltLine {
         ensures { (line : Line) → Stands self.now line → (IsTrue result ↔ IsValidSalt line now salt) }
     {
         let period = (now.seconds() - self.start) / PERIOD_SECONDS;
-        salt != 0
-            && (self.rows.has(period, salt) || period > 0 && self.rows.has(period - 1, salt))
+        salt != 0 && self.rows.has(period, salt)
     }
 
     /// The salt of this moment. Its word is drawn where that wasn't needed before.
@@ -112,6 +114,33 @@ impl SaltLine {
         self.rows.word(period, draw)
     }
 
+    /// The rows of `n` periods, at most 64, from that of this moment on, at the front of `into`; how many they are. Words that
+    /// weren't needed before are drawn, in order. What follows in `into` stays.
+    pub fn future<D: Draw>(
+        &mut self,
+        now: Moment,
+        n: usize,
+        draw: &mut D,
+        into: &mut [SaltRow; 64],
+    ) -> usize
+        requires { self.old.latest ≤ now }
+        ensures count { result ≡ min n 64 }
+        ensures rows { (line : Line) → Stands self.old line
+            → take (min n 64) into.new ≡ salt_rows (line_after D.step now (min n 64) line draw.old) now (min n 64) }
+        ensures others { drop (min n 64) into.new ≡ drop (min n 64) into.old }
+        ensures early { All (λ row. row.until < 2 ^ 32) (take (min n 64) into.new) }
+
+        ensures line { (line : Line) → Stands self.old line → Stands self.new (line_after D.step now (min n 64) line draw.old) }
+        ensures draw { (line : Line) → Stands self.old line → draw.new ≡ draw_after_rows D.step now (min n 64) line draw.old }
+        ensures start { self.new.start ≡ self.old.start }
+        ensures latest { self.new.latest ≡ now }
+    {
+        let count = n.min(FUTURE_ROWS_MAX);
+        let period = self.come_to(now.seconds());
+        hand_out(&mut self.rows, self.start, period, count, draw, into);
+        count
+    }
+
     /// Comes to a moment: the rows that have ended go. The period of the moment.
     fn come_to(&mut self, now: u64) -> u64
         requires in_order { self.old.latest ≤ now }
@@ -125,5 +154,37 @@ impl SaltLine {
         self.rows.forget_ended(period);
         self.latest = now;
         period
+    }
+}
+
+/// Puts the rows of `count` periods from this one on at the front of `into`.
+fn hand_out<D: Draw>(
+    rows: &mut Rows,
+    start: u64,
+    period: u64,
+    count: usize,
+    draw: &mut D,
+    into: &mut [SaltRow],
+)
+    requires held { AreHeld period rows.old.first (length rows.old.words.items) rows.old.words.capacity }
+    requires few { count ≤ 64 }
+    requires fits { count ≤ length into.old }
+    requires early { start + 1800 * period ≤ 4000000000 }
+    ensures needed { (rows_of rows.new.first rows.new.words.items, draw.new)
+        ≡ needed_from D.step period count (rows_of rows.old.first rows.old.words.items, draw.old) }
+    ensures rows { take count into.new
+        ≡ salt_rows_from record { start = start; rows = rows_of rows.new.first rows.new.words.items } period count }
+    ensures others { drop count into.new ≡ drop count into.old }
+    ensures held { AreHeld period rows.new.first (length rows.new.words.items) rows.new.words.capacity }
+{
+    for k in 0..count {
+        let next = period + k as u64;
+        let salt = rows.word(next, draw);
+        let since = start + PERIOD_SECONDS * next;
+        into[k] = SaltRow {
+            since,
+            until: since + VALID_SECONDS,
+            salt,
+        };
     }
 }

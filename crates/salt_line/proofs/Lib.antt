@@ -1,0 +1,6 @@
+pub mod TestLemmas
+pub mod NeededLemmas
+pub mod HeldLemmas
+pub mod StandsLemmas
+pub mod FutureLemmas
+pub mod LawLemmas
