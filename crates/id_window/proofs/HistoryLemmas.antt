@@ -1,14 +1,12 @@
 -- What one more judgement does to what is kept of a history.
-use Rattle.std.proofs.Common.{◌≡◌, ◌≢◌, ◌∙◌, ℕ, zero, suc, ◌+◌, ◌-◌, ◌<◌, ◌≤◌, max, Bool, true, false, ltb, eqb, cond, Option, Some, None, List, [], ◌∷◌, ◌++◌, fold, map, length, take, drop, get_or, ap, subst, refl, sym, inl, inr, arith, add-one}
-use Rattle.std.specs.List.{list_any, AllPairs}
-use Rattle.std.proofs.lemmas.Bool.{cases_lt, cases_eq, lt-ltb, le-ltb, eq-eqb, ne_eqb}
+use Rattle.std.proofs.Common.{◌≡◌, ◌≢◌, ◌∙◌, ℕ, zero, suc, ◌+◌, ◌-◌, ◌<◌, ◌≤◌, max, true, false, ltb, eqb, cond, Some, None, [], ◌∷◌, ◌++◌, fold, map, length, take, drop, get_or, ap, subst, refl, sym, inl, inr, arith, add-one}
+use Rattle.std.proofs.lemmas.Bool.{cases_lt, le-ltb, eq-eqb, ne_eqb}
 use Rattle.std.proofs.lemmas.Grind.{fold-append}
-use Rattle.std.proofs.lemmas.List.{length-append, length-take, length-drop, take-append-drop, drop_at, drop-drop, take_at, get_or_append_left, get_or_at}
+use Rattle.std.proofs.lemmas.List.{length-append, length-take, length-drop, take-append-drop, drop_at, drop-drop, get_or_append_left, get_or_at}
 use Rattle.id_window.specs.declared.mark.Mark.{Mark}
 use Rattle.id_window.specs.Marks.{Marks, mark_of, given}
-use Rattle.id_window.specs.History.{History, FirstJudgement, EachOnce, inserted, ascending, greatest_among, greatest, floor, kept, forgotten}
-use Rattle.id_window.specs.Window.{IsAbove, Rises}
-use Rattle.id_window.proofs.OrderLemmas.{Absent, absent_append, length-inserted, inserted_later}
+use Rattle.id_window.specs.History.{History, FirstJudgement, EachOnce, inserted, ascending, greatest_among, floor, kept, forgotten}
+use Rattle.id_window.proofs.OrderLemmas.{Absent, length-inserted, inserted_later}
 
 abbrev pub judged_number : FirstJudgement → ℕ
 judged_number judgement = judgement.number
@@ -42,8 +40,9 @@ length-ascending history = omega (arith, length_from [] history)
 greatest-inserted : (j : FirstJudgement) (js : History) → greatest_among (inserted judged_number j js) ≡ max j.number (greatest_among js)
 greatest-inserted j [] = refl
 greatest-inserted j (k ∷ ks) = elim (cases_lt k.number j.number) [
-    inl below ↦ rw (inserted_later judged_number j k ks below) (omega (arith, greatest-inserted j ks))
-  | inr above ↦ let e : ltb k.number j.number ≡ false = le-ltb k.number j.number above in rw e refl ]
+  | inl below ↦ rw (inserted_later judged_number j k ks below) (omega (arith, greatest-inserted j ks))
+  | inr above ↦ let e : ltb k.number j.number ≡ false = le-ltb k.number j.number above in rw e refl
+]
 
 greatest_from : (sorted history : History) → greatest_among (fold put sorted history) ≡ max (greatest_among sorted) (greatest_among history)
 greatest_from sorted [] = omega arith
@@ -59,11 +58,12 @@ greatest-append (j ∷ js) second = omega (arith, greatest-append js second)
 absent_inserted : (number : ℕ) (j : FirstJudgement) (js : History) → Absent number (map judged_number (inserted judged_number j js)) → (j.number ≢ number) × Absent number (map judged_number js)
 absent_inserted number j [] absent = absent
 absent_inserted number j (k ∷ ks) absent = elim (cases_lt k.number j.number) [
-    inl below ↦
+  | inl below ↦
       let later : Absent number (map judged_number (k ∷ inserted judged_number j ks)) = rw (inserted_later judged_number j k ks below) at absent in
       let rest = absent_inserted number j ks later.1 in
       (rest.0, (later.0, rest.1))
-  | inr above ↦ let e : ltb k.number j.number ≡ false = le-ltb k.number j.number above in rw e at absent ]
+  | inr above ↦ let e : ltb k.number j.number ≡ false = le-ltb k.number j.number above in rw e at absent
+]
 
 absent_from : (number : ℕ) (sorted history : History) → Absent number (map judged_number (fold put sorted history)) → Absent number (map judged_number sorted) × Absent number (map judged_number history)
 absent_from number sorted [] absent = (absent, tt)
@@ -75,9 +75,11 @@ absent_from number sorted (j ∷ js) absent =
 -- ---- what is kept
 
 pub all_of : (history : History) → forgotten history ++ kept history ≡ ascending history
+unfolding kept forgotten
 all_of history = take-append-drop (length history - 16384) (ascending history)
 
 pub length-kept : (history : History) → length (kept history) ≡ length history - (length history - 16384)
+unfolding kept
 length-kept history = omega (arith, length-drop (length history - 16384) (ascending history), length-ascending history)
 
 -- a number above the floor that isn't kept was never recorded
@@ -104,13 +106,14 @@ pub once_more : (history : History) (j : FirstJudgement) → EachOnce history �
 once_more history j once absent a b d lt l =
     let long = length-append history (j ∷ []) in
     elim (cases_lt b (length history)) [
-      inl within ↦
-        let in_a : a < length history = omega arith in
-        rw (get_or_append_left history (j ∷ []) d b within, get_or_append_left history (j ∷ []) d a in_a) (once a b d lt within)
-    | inr last ↦
-        let e : length history ≡ b = omega arith in
-        let in_a : a < length history = omega arith in
-        rw (get_or_at history j [] d b e, get_or_append_left history (j ∷ []) d a in_a) (absent_at j.number history absent a d in_a) ]
+      | inl within ↦
+          let in_a : a < length history = omega arith in
+          rw (get_or_append_left history (j ∷ []) d b within, get_or_append_left history (j ∷ []) d a in_a) (once a b d lt within)
+      | inr last ↦
+          let e : length history ≡ b = omega arith in
+          let in_a : a < length history = omega arith in
+          rw (get_or_at history j [] d b e, get_or_append_left history (j ∷ []) d a in_a) (absent_at j.number history absent a d in_a)
+    ]
 
 -- ---- one more judgement, where there is room
 
@@ -122,9 +125,11 @@ module _ (history : History) (j : FirstJudgement) (room : length history < 16384
   still_none = omega (arith, length-append history (j ∷ []))
 
   pub kept-with_room : kept (history ++ j ∷ []) ≡ inserted judged_number j (kept history)
+  unfolding kept
   kept-with_room = rw (still_none, none_yet) (ascending-more history j)
 
   pub floor-with_room : floor (history ++ j ∷ []) ≡ floor history
+  unfolding forgotten
   floor-with_room = rw (still_none, none_yet) refl
 
 -- ---- and where there isn't
@@ -144,17 +149,20 @@ module _ (history : History) (j : FirstJudgement) (full : 16384 ≤ length histo
   gone = length history - 16384
 
   one_more : length (history ++ j ∷ []) - 16384 ≡ length (forgotten history) + 1
+  unfolding forgotten
   one_more = omega (arith, length-append history (j ∷ []), length-take (length history - 16384) (ascending history), length-ascending history)
 
   sorted : ascending (history ++ j ∷ []) ≡ forgotten history ++ inserted judged_number j (kept history)
   sorted = ascending-more history j ∙ (ap (inserted judged_number j) (sym (all_of history)) ∙ inserted_behind j (forgotten history) (kept history) above)
 
   pub kept-full : kept (history ++ j ∷ []) ≡ drop 1 (inserted judged_number j (kept history))
+  unfolding kept
   kept-full =
-    rw (one_more, sorted) (sym (drop-drop 1 (length (forgotten history)) (forgotten history ++ inserted judged_number j (kept history)))
-    ∙ ap (drop 1) (drop_at (forgotten history) (inserted judged_number j (kept history)) (length (forgotten history)) refl))
+      rw (one_more, sorted) (sym (drop-drop 1 (length (forgotten history)) (forgotten history ++ inserted judged_number j (kept history)))
+      ∙ ap (drop 1) (drop_at (forgotten history) (inserted judged_number j (kept history)) (length (forgotten history)) refl))
 
   pub floor-full : floor (history ++ j ∷ []) ≡ max (floor history) (greatest_among (take 1 (inserted judged_number j (kept history))))
+  unfolding forgotten
   floor-full =
-    rw (one_more, sorted, add-one) (ap greatest_among (take_behind (forgotten history) (inserted judged_number j (kept history)))
-    ∙ greatest-append (forgotten history) (take 1 (inserted judged_number j (kept history))))
+      rw (one_more, sorted, add-one) (ap greatest_among (take_behind (forgotten history) (inserted judged_number j (kept history)))
+      ∙ greatest-append (forgotten history) (take 1 (inserted judged_number j (kept history))))

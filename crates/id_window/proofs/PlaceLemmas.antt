@@ -1,5 +1,5 @@
 -- Places in ascending lists.
-use Rattle.std.proofs.Common.{◌≡◌, ◌≢◌, ◌∙◌, ℕ, zero, suc, ◌+◌, ◌<◌, ◌≤◌, Bool, true, false, ltb, eqb, cond, Option, Some, None, List, [], ◌∷◌, ◌++◌, map, length, get_or, set, take, drop, insert, ap, refl, sym, inl, inr, arith, add-one}
+use Rattle.std.proofs.Common.{◌≡◌, ◌≢◌, ℕ, zero, suc, ◌<◌, ◌≤◌, true, false, ltb, eqb, Option, Some, None, List, [], ◌∷◌, map, length, get_or, set, insert, ap, refl, inl, inr, arith, add-one}
 use Rattle.std.specs.List.{AllWithin}
 use Rattle.std.specs.List.Sorted.{IsNonDecreasingBy}
 use Rattle.std.proofs.lemmas.Bool.{cases_lt, cases_eq, lt-ltb, le-ltb, eq-eqb, ne_eqb}
@@ -59,41 +59,48 @@ place_first number x xs above = let e : ltb x number ≡ false = le-ltb x number
 pub insert_at_place : {X : Type 0} (key : X → ℕ) (x : X) (xs : List X) → insert xs (place (key x) (map key xs)) x ≡ inserted key x xs
 insert_at_place key x [] = refl
 insert_at_place key x (y ∷ ys) = elim (cases_lt (key y) (key x)) [
-    inl below ↦ let e : ltb (key y) (key x) ≡ true = lt-ltb (key y) (key x) below in rw (e, add-one) (ap (λ zs. y ∷ zs) (insert_at_place key x ys))
-  | inr above ↦ let e : ltb (key y) (key x) ≡ false = le-ltb (key y) (key x) above in rw e refl ]
+  | inl below ↦ let e : ltb (key y) (key x) ≡ true = lt-ltb (key y) (key x) below in rw (e, add-one) (ap (λ zs. y ∷ zs) (insert_at_place key x ys))
+  | inr above ↦ let e : ltb (key y) (key x) ≡ false = le-ltb (key y) (key x) above in rw e refl
+]
 
 -- ---- the neighbours of a place
 
 pub no_last_below : (number : ℕ) (xs : List Accepted) (before : Option Accepted) → place number (map accepted_key xs) ≡ 0 → last_below number xs before ≡ before
 no_last_below number [] before at = refl
 no_last_below number (x ∷ xs) before at = elim (cases_lt x.number number) [
-    inl below ↦ absurd (omega (arith, place_later number x.number (map accepted_key xs) below))
-  | inr above ↦ let e : ltb x.number number ≡ false = le-ltb x.number number above in rw e refl ]
+  | inl below ↦ absurd (omega (arith, place_later number x.number (map accepted_key xs) below))
+  | inr above ↦ let e : ltb x.number number ≡ false = le-ltb x.number number above in rw e refl
+]
 
 pub last_below_at : (number : ℕ) (xs : List Accepted) (before : Option Accepted) (k : ℕ) (d : Accepted) → place number (map accepted_key xs) ≡ suc k → last_below number xs before ≡ Some (get_or xs k d)
 last_below_at number [] before k d at = absurd (omega arith)
 last_below_at number (x ∷ xs) before zero d at = elim (cases_lt x.number number) [
-    inl below ↦ let e : ltb x.number number ≡ true = lt-ltb x.number number below in rw e (no_last_below number xs (Some x) (omega (arith, place_later number x.number (map accepted_key xs) below)))
-  | inr above ↦ absurd (omega (arith, place_first number x.number (map accepted_key xs) above)) ]
+  | inl below ↦ let e : ltb x.number number ≡ true = lt-ltb x.number number below in rw e (no_last_below number xs (Some x) (omega (arith, place_later number x.number (map accepted_key xs) below)))
+  | inr above ↦ absurd (omega (arith, place_first number x.number (map accepted_key xs) above))
+]
 last_below_at number (x ∷ xs) before (suc k) d at = elim (cases_lt x.number number) [
-    inl below ↦ let e : ltb x.number number ≡ true = lt-ltb x.number number below in rw e (last_below_at number xs (Some x) k d (omega (arith, place_later number x.number (map accepted_key xs) below)))
-  | inr above ↦ absurd (omega (arith, place_first number x.number (map accepted_key xs) above)) ]
+  | inl below ↦ let e : ltb x.number number ≡ true = lt-ltb x.number number below in rw e (last_below_at number xs (Some x) k d (omega (arith, place_later number x.number (map accepted_key xs) below)))
+  | inr above ↦ absurd (omega (arith, place_first number x.number (map accepted_key xs) above))
+]
 
 pub no_first_above : (number : ℕ) (xs : List Accepted) → length xs ≤ place number (map accepted_key xs) → first_above number xs ≡ None
 no_first_above number [] at = refl
 no_first_above number (x ∷ xs) at = elim (cases_lt x.number number) [
-    inl below ↦ let e : ltb number x.number ≡ false = le-ltb number x.number (omega arith) in rw e (no_first_above number xs (omega (arith, place_later number x.number (map accepted_key xs) below)))
-  | inr above ↦ absurd (omega (arith, place_first number x.number (map accepted_key xs) above)) ]
+  | inl below ↦ let e : ltb number x.number ≡ false = le-ltb number x.number (omega arith) in rw e (no_first_above number xs (omega (arith, place_later number x.number (map accepted_key xs) below)))
+  | inr above ↦ absurd (omega (arith, place_first number x.number (map accepted_key xs) above))
+]
 
 -- it stands at the place, where it has another number
 pub first_above_at : (number : ℕ) (xs : List Accepted) (k : ℕ) (d : Accepted) → k ≡ place number (map accepted_key xs) → k < length xs → (get_or xs k d).number ≢ number → first_above number xs ≡ Some (get_or xs k d)
 first_above_at number [] k d at within other = absurd (omega arith)
 first_above_at number (x ∷ xs) zero d at within other = elim (cases_lt x.number number) [
-    inl below ↦ absurd (omega (arith, place_later number x.number (map accepted_key xs) below))
-  | inr above ↦ let e : ltb number x.number ≡ true = lt-ltb number x.number (omega arith) in rw e refl ]
+  | inl below ↦ absurd (omega (arith, place_later number x.number (map accepted_key xs) below))
+  | inr above ↦ let e : ltb number x.number ≡ true = lt-ltb number x.number (omega arith) in rw e refl
+]
 first_above_at number (x ∷ xs) (suc k) d at within other = elim (cases_lt x.number number) [
-    inl below ↦ let e : ltb number x.number ≡ false = le-ltb number x.number (omega arith) in rw e (first_above_at number xs k d (omega (arith, place_later number x.number (map accepted_key xs) below)) (omega arith) other)
-  | inr above ↦ absurd (omega (arith, place_first number x.number (map accepted_key xs) above)) ]
+  | inl below ↦ let e : ltb number x.number ≡ false = le-ltb number x.number (omega arith) in rw e (first_above_at number xs k d (omega (arith, place_later number x.number (map accepted_key xs) below)) (omega arith) other)
+  | inr above ↦ absurd (omega (arith, place_first number x.number (map accepted_key xs) above))
+]
 
 -- above a number is the first of what rises above it
 first_of_above : (number : ℕ) (xs : List Accepted) (d : Accepted) → IsAbove number (map accepted_key xs) → 0 < length xs → first_above number xs ≡ Some (get_or xs 0 d)
@@ -107,16 +114,18 @@ first_above_next number (x ∷ xs) zero d at within same rises =
     let e : ltb number x.number ≡ false = le-ltb number x.number (omega arith) in
     rw e (first_of_above number xs d (above_lower number x.number (map accepted_key xs) (omega arith) rises.0) (omega arith))
 first_above_next number (x ∷ xs) (suc k) d at within same rises = elim (cases_lt x.number number) [
-    inl below ↦ let e : ltb number x.number ≡ false = le-ltb number x.number (omega arith) in rw e (first_above_next number xs k d (omega (arith, place_later number x.number (map accepted_key xs) below)) (omega arith) same rises.1)
-  | inr above ↦ absurd (omega (arith, place_first number x.number (map accepted_key xs) above)) ]
+  | inl below ↦ let e : ltb number x.number ≡ false = le-ltb number x.number (omega arith) in rw e (first_above_next number xs k d (omega (arith, place_later number x.number (map accepted_key xs) below)) (omega arith) same rises.1)
+  | inr above ↦ absurd (omega (arith, place_first number x.number (map accepted_key xs) above))
+]
 
 pub no_first_above_next : (number : ℕ) (xs : List Accepted) (k : ℕ) (d : Accepted) → k ≡ place number (map accepted_key xs) → suc k ≡ length xs → (get_or xs k d).number ≡ number → first_above number xs ≡ None
 no_first_above_next number [] k d at within same = absurd (omega arith)
 no_first_above_next number (x ∷ []) zero d at within same = let e : ltb number x.number ≡ false = le-ltb number x.number (omega arith) in rw e refl
 no_first_above_next number (x ∷ (y ∷ ys)) zero d at within same = absurd (omega arith)
 no_first_above_next number (x ∷ xs) (suc k) d at within same = elim (cases_lt x.number number) [
-    inl below ↦ let e : ltb number x.number ≡ false = le-ltb number x.number (omega arith) in rw e (no_first_above_next number xs k d (omega (arith, place_later number x.number (map accepted_key xs) below)) (omega arith) same)
-  | inr above ↦ absurd (omega (arith, place_first number x.number (map accepted_key xs) above)) ]
+  | inl below ↦ let e : ltb number x.number ≡ false = le-ltb number x.number (omega arith) in rw e (no_first_above_next number xs k d (omega (arith, place_later number x.number (map accepted_key xs) below)) (omega arith) same)
+  | inr above ↦ absurd (omega (arith, place_first number x.number (map accepted_key xs) above))
+]
 
 -- ---- the row at a place
 
@@ -127,36 +136,42 @@ no_mark_above number floor (row ∷ rows) le h = let e : eqb row.number number �
 pub no_mark_past : (number : ℕ) (rows : List Row) → length rows ≤ place number (map row_number rows) → mark_in number rows ≡ None
 no_mark_past number [] at = refl
 no_mark_past number (row ∷ rows) at = elim (cases_lt row.number number) [
-    inl below ↦ let e : eqb row.number number ≡ false = ne_eqb row.number number (λ same. omega arith) in rw e (no_mark_past number rows (omega (arith, place_later number row.number (map row_number rows) below)))
-  | inr above ↦ absurd (omega (arith, place_first number row.number (map row_number rows) above)) ]
+  | inl below ↦ let e : eqb row.number number ≡ false = ne_eqb row.number number (λ same. omega arith) in rw e (no_mark_past number rows (omega (arith, place_later number row.number (map row_number rows) below)))
+  | inr above ↦ absurd (omega (arith, place_first number row.number (map row_number rows) above))
+]
 
 pub no_mark_at : (number : ℕ) (rows : List Row) (k : ℕ) (d : Row) → k ≡ place number (map row_number rows) → k < length rows → (get_or rows k d).number ≢ number → Rises (map row_number rows) → mark_in number rows ≡ None
 no_mark_at number [] k d at within other rises = absurd (omega arith)
 no_mark_at number (row ∷ rows) zero d at within other rises = elim (cases_lt row.number number) [
-    inl below ↦ absurd (omega (arith, place_later number row.number (map row_number rows) below))
-  | inr above ↦ let e : eqb row.number number ≡ false = ne_eqb row.number number other in rw e (no_mark_above number row.number rows above rises.0) ]
+  | inl below ↦ absurd (omega (arith, place_later number row.number (map row_number rows) below))
+  | inr above ↦ let e : eqb row.number number ≡ false = ne_eqb row.number number other in rw e (no_mark_above number row.number rows above rises.0)
+]
 no_mark_at number (row ∷ rows) (suc k) d at within other rises = elim (cases_lt row.number number) [
-    inl below ↦ let e : eqb row.number number ≡ false = ne_eqb row.number number (λ same. omega arith) in rw e (no_mark_at number rows k d (omega (arith, place_later number row.number (map row_number rows) below)) (omega arith) other rises.1)
-  | inr above ↦ absurd (omega (arith, place_first number row.number (map row_number rows) above)) ]
+  | inl below ↦ let e : eqb row.number number ≡ false = ne_eqb row.number number (λ same. omega arith) in rw e (no_mark_at number rows k d (omega (arith, place_later number row.number (map row_number rows) below)) (omega arith) other rises.1)
+  | inr above ↦ absurd (omega (arith, place_first number row.number (map row_number rows) above))
+]
 
 pub mark_at : (number : ℕ) (rows : List Row) (k : ℕ) (d : Row) → k ≡ place number (map row_number rows) → k < length rows → (get_or rows k d).number ≡ number → mark_in number rows ≡ Some (get_or rows k d).mark
 mark_at number [] k d at within same = absurd (omega arith)
 mark_at number (row ∷ rows) zero d at within same = let e : eqb row.number number ≡ true = eq-eqb row.number number same in rw e refl
 mark_at number (row ∷ rows) (suc k) d at within same = elim (cases_lt row.number number) [
-    inl below ↦ let e : eqb row.number number ≡ false = ne_eqb row.number number (λ same. omega arith) in rw e (mark_at number rows k d (omega (arith, place_later number row.number (map row_number rows) below)) (omega arith) same)
-  | inr above ↦ absurd (omega (arith, place_first number row.number (map row_number rows) above)) ]
+  | inl below ↦ let e : eqb row.number number ≡ false = ne_eqb row.number number (λ same. omega arith) in rw e (mark_at number rows k d (omega (arith, place_later number row.number (map row_number rows) below)) (omega arith) same)
+  | inr above ↦ absurd (omega (arith, place_first number row.number (map row_number rows) above))
+]
 
 -- ---- another mark
 
 pub with_mark_absent : (number : ℕ) (mark : Mark) (rows : List Row) → mark_in number rows ≡ None → with_mark number mark rows ≡ rows
 with_mark_absent number mark [] absent = refl
 with_mark_absent number mark (row ∷ rows) absent = elim (cases_eq row.number number) [
-    inl same ↦ let e : eqb row.number number ≡ true = eq-eqb row.number number same in let found : Some row.mark ≡ None = rw e at absent in cc
-  | inr other ↦ let e : eqb row.number number ≡ false = ne_eqb row.number number other in let rest : mark_in number rows ≡ None = rw e at absent in rw e (ap (λ rows. row ∷ rows) (with_mark_absent number mark rows rest)) ]
+  | inl same ↦ let e : eqb row.number number ≡ true = eq-eqb row.number number same in let found : Some row.mark ≡ None = rw e at absent in cc
+  | inr other ↦ let e : eqb row.number number ≡ false = ne_eqb row.number number other in let rest : mark_in number rows ≡ None = rw e at absent in rw e (ap (λ rows. row ∷ rows) (with_mark_absent number mark rows rest))
+]
 
 pub with_mark_at : (number : ℕ) (mark : Mark) (rows : List Row) (k : ℕ) (d : Row) → k ≡ place number (map row_number rows) → k < length rows → (get_or rows k d).number ≡ number → set rows k (record { number = number; mark = mark }) ≡ with_mark number mark rows
 with_mark_at number mark [] k d at within same = absurd (omega arith)
 with_mark_at number mark (row ∷ rows) zero d at within same = let e : eqb row.number number ≡ true = eq-eqb row.number number same in rw e refl
 with_mark_at number mark (row ∷ rows) (suc k) d at within same = elim (cases_lt row.number number) [
-    inl below ↦ let e : eqb row.number number ≡ false = ne_eqb row.number number (λ same. omega arith) in rw e (ap (λ rows. row ∷ rows) (with_mark_at number mark rows k d (omega (arith, place_later number row.number (map row_number rows) below)) (omega arith) same))
-  | inr above ↦ absurd (omega (arith, place_first number row.number (map row_number rows) above)) ]
+  | inl below ↦ let e : eqb row.number number ≡ false = ne_eqb row.number number (λ same. omega arith) in rw e (ap (λ rows. row ∷ rows) (with_mark_at number mark rows k d (omega (arith, place_later number row.number (map row_number rows) below)) (omega arith) same))
+  | inr above ↦ absurd (omega (arith, place_first number row.number (map row_number rows) above))
+]

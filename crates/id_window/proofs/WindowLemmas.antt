@@ -1,6 +1,6 @@
 -- What a window stands for, before and after.
-use Rattle.std.proofs.Common.{◌≡◌, ◌≢◌, ◌∙◌, ℕ, zero, suc, ◌+◌, ◌-◌, ◌<◌, ◌≤◌, max, Bool, true, false, ltb, eqb, cond, Option, Some, None, option_map, List, [], ◌∷◌, ◌++◌, map, length, take, drop, get_or, ap, subst, refl, sym, inl, inr, arith, IfSome}
-use Rattle.std.specs.List.{list_any, filter_map, cons_option, AllZip}
+use Rattle.std.proofs.Common.{◌≡◌, ◌≢◌, ◌∙◌, ℕ, zero, suc, ◌+◌, ◌-◌, ◌<◌, ◌≤◌, max, true, false, ltb, eqb, cond, Some, None, List, [], ◌∷◌, ◌++◌, map, length, take, drop, get_or, ap, subst, refl, sym, inl, inr, arith, IfSome}
+use Rattle.std.specs.List.{list_any, AllZip}
 use Rattle.std.proofs.lemmas.Bool.{cases_lt, cases_eq, cases_Bool, lt-ltb, le-ltb, eq-eqb, ne_eqb}
 use Rattle.std.proofs.lemmas.List.{length-append, length-map}
 use Rattle.id_window.specs.declared.mark.Mark.{Mark}
@@ -8,7 +8,7 @@ use Rattle.id_window.specs.declared.rows.Row.{Row}
 use Rattle.id_window.specs.declared.rows.Accepted.{Accepted}
 use Rattle.id_window.specs.Marks.{Marks, mark_of, given, is_accepted}
 use Rattle.id_window.specs.History.{History, FirstJudgement, Outcome, was_accepted, EachOnce, inserted, noted, greatest_among, greatest, floor, kept, forgotten, accepted_part, accepted_of, found, newly_forgotten}
-use Rattle.id_window.specs.Window.{Contents, IsAbove, Rises, IsInOrder, IsRowOf, Stands, mark_in, with_mark, greatest_in}
+use Rattle.id_window.specs.Window.{Contents, IsAbove, Rises, IsInOrder, IsRowOf, IsThatOf, mark_in, with_mark, greatest_in}
 use Rattle.id_window.proofs.PlaceLemmas.{row_number, accepted_key, with_mark_absent}
 use Rattle.id_window.proofs.OrderLemmas.{Absent, NoneBelow, none_below_above, absent_from_mark, inserted_first, inserted_later, option_inserted, parts_inserted}
 use Rattle.id_window.proofs.HistoryLemmas.{judged_number, mark_of-same, mark_of-other, all_of, length-kept, greatest-ascending, greatest-append, never_recorded, once_more, kept-with_room, floor-with_room, kept-full, floor-full}
@@ -37,13 +37,14 @@ zip_inserted marks row j [] [] is zip = (is, tt)
 zip_inserted marks row j [] (k ∷ ks) is zip = absurd zip
 zip_inserted marks row j (r ∷ rs) [] is zip = absurd zip
 zip_inserted marks row j (r ∷ rs) (k ∷ ks) is zip = elim (cases_lt r.number row.number) [
-    inl below ↦
+  | inl below ↦
       let below' : k.number < j.number = omega (arith, is.number, zip.0.number) in
       rw (inserted_later row_number row r rs below, inserted_later judged_number j k ks below') (zip.0, zip_inserted marks row j rs ks is zip.1)
   | inr above ↦
       let e : ltb r.number row.number ≡ false = le-ltb r.number row.number above in
       let f : ltb k.number j.number ≡ false = le-ltb k.number j.number (omega (arith, is.number, zip.0.number)) in
-      rw (e, f) (is, zip) ]
+      rw (e, f) (is, zip)
+]
 
 -- another mark for an accepted number
 pub zip_marked : (number : ℕ) (mark : Mark) (marks : Marks) (rows : List Row) (js : History) → Rises (map row_number rows) → is_accepted mark ≡ true → IfSome (mark_in number rows) (λ last. is_accepted last ≡ true) → AllZip (IsRowOf marks) rows js → AllZip (IsRowOf (given number mark marks)) (with_mark number mark rows) js
@@ -51,15 +52,18 @@ zip_marked number mark marks [] [] rises taken was zip = tt
 zip_marked number mark marks [] (j ∷ js) rises taken was zip = absurd zip
 zip_marked number mark marks (row ∷ rows) [] rises taken was zip = absurd zip
 zip_marked number mark marks (row ∷ rows) (j ∷ js) rises taken was zip = elim (cases_eq row.number number) [
-    inl same ↦
+  | inl same ↦
       let e : eqb row.number number ≡ true = eq-eqb row.number number same in
       let had : is_accepted row.mark ≡ true = rw e at was in
-      rw e (record { number = sym same ∙ zip.0.number; mark = mark_of-same number mark marks; accepted = taken ∙ (sym had ∙ zip.0.accepted) },
-        zip_given number mark marks rows js (absent_above number row.number (map row_number rows) (omega arith) rises.0) zip.1)
+      rw e (
+        record { number = sym same ∙ zip.0.number; mark = mark_of-same number mark marks; accepted = taken ∙ (sym had ∙ zip.0.accepted) },
+        zip_given number mark marks rows js (absent_above number row.number (map row_number rows) (omega arith) rises.0) zip.1,
+      )
   | inr other ↦
       let e : eqb row.number number ≡ false = ne_eqb row.number number other in
       let rest : IfSome (mark_in number rows) (λ last. is_accepted last ≡ true) = rw e at was in
-      rw e (row_given number mark marks row j other zip.0, zip_marked number mark marks rows js rises.1 taken rest zip.1) ]
+      rw e (row_given number mark marks row j other zip.0, zip_marked number mark marks rows js rises.1 taken rest zip.1)
+]
   where
     absent_above : (number least : ℕ) (numbers : List ℕ) → number ≤ least → IsAbove least numbers → Absent number numbers
     absent_above number least [] le above = tt
@@ -72,16 +76,17 @@ found_zip number marks [] [] zip = refl
 found_zip number marks [] (j ∷ js) zip = absurd zip
 found_zip number marks (row ∷ rows) [] zip = absurd zip
 found_zip number marks (row ∷ rows) (j ∷ js) zip = elim (cases_eq row.number number) [
-    inl same ↦
+  | inl same ↦
       let e : eqb row.number number ≡ true = eq-eqb row.number number same in
       let f : eqb j.number number ≡ true = eq-eqb j.number number (sym zip.0.number ∙ same) in
       rw (e, f) (sym zip.0.mark ∙ ap (λ n. mark_of n marks) same)
   | inr other ↦
       let e : eqb row.number number ≡ false = ne_eqb row.number number other in
       let f : eqb j.number number ≡ false = ne_eqb j.number number (λ p. other (zip.0.number ∙ p)) in
-      rw (e, f) (found_zip number marks rows js zip.1) ]
+      rw (e, f) (found_zip number marks rows js zip.1)
+]
 
-pub found_is : (w : Contents) (history : History) (marks : Marks) → Stands w history marks → (number : ℕ) → mark_in number w.rows ≡ found number history marks
+pub found_is : (w : Contents) (history : History) (marks : Marks) → IsThatOf w history marks → (number : ℕ) → mark_in number w.rows ≡ found number history marks
 found_is w history marks stands number = found_zip number marks w.rows (kept history) stands.rows
 
 greatest_zip : (floor : ℕ) (marks : Marks) (rows : List Row) (js : History) → AllZip (IsRowOf marks) rows js → Rises (floor ∷ map row_number rows) → greatest_in floor rows ≡ max floor (greatest_among js)
@@ -90,7 +95,7 @@ greatest_zip floor marks [] (j ∷ js) zip rises = absurd zip
 greatest_zip floor marks (row ∷ rows) [] zip rises = absurd zip
 greatest_zip floor marks (row ∷ rows) (j ∷ js) zip rises = omega (arith, greatest_zip row.number marks rows js zip.1 rises.1, zip.0.number, rises.0.0)
 
-pub greatest_is : (w : Contents) (history : History) (marks : Marks) → IsInOrder w.floor w.rows w.accepted → Stands w history marks → greatest_in w.floor w.rows ≡ greatest history
+pub greatest_is : (w : Contents) (history : History) (marks : Marks) → IsInOrder w.floor w.rows w.accepted → IsThatOf w history marks → greatest_in w.floor w.rows ≡ greatest history
 greatest_is w history marks order stands =
     let all : greatest_among (forgotten history ++ kept history) ≡ greatest history = ap greatest_among (all_of history) ∙ greatest-ascending history in
     omega (arith, greatest_zip w.floor marks w.rows (kept history) stands.rows order.rising, stands.floor, greatest-append (forgotten history) (kept history), all)
@@ -107,8 +112,9 @@ greatest_last floor (row ∷ (r ∷ rs)) (suc k) d last = greatest_last row.numb
 
 part_of : (j : FirstJudgement) (one : Accepted) → accepted_part j ≡ Some one → one.number ≡ j.number
 part_of j one e = elim (cases_Bool (was_accepted j.outcome)) [
-    inl taken ↦ let made : Accepted = record { number = j.number; seq = j.seq } in let s : Some made ≡ Some one = rw taken at e in let t : made ≡ one = cc in ap accepted_key (sym t)
-  | inr left ↦ let s : None ≡ Some one = rw left at e in absurd (cc) ]
+  | inl taken ↦ let made : Accepted = record { number = j.number; seq = j.seq } in let s : Some made ≡ Some one = rw taken at e in let t : made ≡ one = cc in ap accepted_key (sym t)
+  | inr left ↦ let s : None ≡ Some one = rw left at e in absurd (cc)
+]
 
 module _ (number seq : ℕ) (mark : Mark) (outcome : Outcome) (same : was_accepted outcome ≡ is_accepted mark) where
   new_row : Row
@@ -127,12 +133,13 @@ module _ (number seq : ℕ) (mark : Mark) (outcome : Outcome) (same : was_accept
       let j : FirstJudgement = record { number = number; seq = seq; outcome = outcome } in
       let parts : accepted_of (inserted judged_number j js) ≡ option_inserted accepted_key (accepted_part j) (accepted_of js) = parts_inserted judged_number accepted_key accepted_part part_of j js rises in
       elim (cases_Bool (is_accepted mark)) [
-        inl taken ↦
-          let part : accepted_part j ≡ Some one = rw (same, taken) refl in
-          rw taken (ap (inserted accepted_key one) is ∙ (ap (λ o. option_inserted accepted_key o (accepted_of js)) (sym part) ∙ sym parts))
-      | inr left ↦
-          let part : accepted_part j ≡ None = rw (same, left) refl in
-          rw left (is ∙ (ap (λ o. option_inserted accepted_key o (accepted_of js)) (sym part) ∙ sym parts)) ]
+        | inl taken ↦
+            let part : accepted_part j ≡ Some one = rw (same, taken) refl in
+            rw taken (ap (inserted accepted_key one) is ∙ (ap (λ o. option_inserted accepted_key o (accepted_of js)) (sym part) ∙ sym parts))
+        | inr left ↦
+            let part : accepted_part j ≡ None = rw (same, left) refl in
+            rw left (is ∙ (ap (λ o. option_inserted accepted_key o (accepted_of js)) (sym part) ∙ sym parts))
+      ]
 
 -- the least one is taken out and the new one put in, of what is kept with the new one
 record Moved (number seq : ℕ) (mark : Mark) (outcome : Outcome) (marks : Marks) (least : Row) (others : List Row) (accepted : List Accepted) (all : History) : Type 0 where
@@ -143,18 +150,19 @@ record Moved (number seq : ℕ) (mark : Mark) (outcome : Outcome) (marks : Marks
 
 first_part_out : (row : Row) (j : FirstJudgement) (js : History) (accepted : List Accepted) → is_accepted row.mark ≡ was_accepted j.outcome → accepted ≡ accepted_of (j ∷ js) → cond (is_accepted row.mark) (drop 1 accepted) accepted ≡ accepted_of js
 first_part_out row j js accepted same is = elim (cases_Bool (is_accepted row.mark)) [
-    inl taken ↦
+  | inl taken ↦
       let taken' : was_accepted j.outcome ≡ true = sym same ∙ taken in
       let parts : accepted ≡ record { number = j.number; seq = j.seq } ∷ accepted_of js = rw taken' at is in
       rw taken (ap (drop 1) parts)
   | inr left ↦
       let left' : was_accepted j.outcome ≡ false = sym same ∙ left in
       let parts : accepted ≡ accepted_of js = rw left' at is in
-      rw left parts ]
+      rw left parts
+]
 
 move : (number seq : ℕ) (mark : Mark) (outcome : Outcome) → was_accepted outcome ≡ is_accepted mark → (marks : Marks) (least : Row) (others : List Row) (accepted : List Accepted) (js : History) → least.number < number
-  → AllZip (IsRowOf (given number mark marks)) (least ∷ others) js → accepted ≡ accepted_of js → Rises (map judged_number js)
-  → Moved number seq mark outcome marks least others accepted (inserted judged_number (record { number = number; seq = seq; outcome = outcome }) js)
+    → AllZip (IsRowOf (given number mark marks)) (least ∷ others) js → accepted ≡ accepted_of js → Rises (map judged_number js)
+    → Moved number seq mark outcome marks least others accepted (inserted judged_number (record { number = number; seq = seq; outcome = outcome }) js)
 move number seq mark outcome same marks least others accepted [] below zip is rises = absurd zip
 move number seq mark outcome same marks least others accepted (k ∷ ks) below zip is rises =
     let j : FirstJudgement = record { number = number; seq = seq; outcome = outcome } in
@@ -165,19 +173,20 @@ move number seq mark outcome same marks least others accepted (k ∷ ks) below z
       rows_now = zip_inserted (given number mark marks) row j others ks (row_of_new number seq mark outcome same marks) zip.1;
       accepted_now = accepted_entered number seq mark outcome same (cond (is_accepted least.mark) (drop 1 accepted) accepted) ks left rises.1;
       least_now = omega (arith, zip.0.number);
-      mark_now = zip.0.mark })
+      mark_now = zip.0.mark;
+    })
 
 -- the number is new to the history too
-new_number : (w : Contents) (history : History) (marks : Marks) (number : ℕ) → Stands w history marks → w.floor < number → Absent number (map row_number w.rows) → Absent number (map judged_number history)
+new_number : (w : Contents) (history : History) (marks : Marks) (number : ℕ) → IsThatOf w history marks → w.floor < number → Absent number (map row_number w.rows) → Absent number (map judged_number history)
 new_number w history marks number stands above absent =
     never_recorded number history (omega (arith, stands.floor)) (subst (Absent number) (numbers_zip marks w.rows (kept history) stands.rows) absent)
 
-kept_rise : (w : Contents) (history : History) (marks : Marks) → Stands w history marks → Rises (map row_number w.rows) → Rises (map judged_number (kept history))
+kept_rise : (w : Contents) (history : History) (marks : Marks) → IsThatOf w history marks → Rises (map row_number w.rows) → Rises (map judged_number (kept history))
 kept_rise w history marks stands rises = subst Rises (numbers_zip marks w.rows (kept history) stands.rows) rises
 
 module _ (w : Contents) (history : History) (marks : Marks) (number seq : ℕ) (mark : Mark) (outcome : Outcome)
     (order : IsInOrder w.floor w.rows w.accepted) (above : w.floor < number) (new : mark_in number w.rows ≡ None)
-    (stands : Stands w history marks) (same : was_accepted outcome ≡ is_accepted mark) where
+    (stands : IsThatOf w history marks) (same : was_accepted outcome ≡ is_accepted mark) where
   absent : Absent number (map row_number w.rows)
   absent = absent_from_mark number w.rows new
 
@@ -195,7 +204,7 @@ module _ (w : Contents) (history : History) (marks : Marks) (number seq : ℕ) (
 
   -- where the window has room
   pub stands_entered : (room : ℕ) → length w.rows < 16384
-    → Stands (record { rows = inserted row_number (record { number = number; mark = mark }) w.rows; accepted = cond (is_accepted mark) (inserted accepted_key (record { number = number; seq = seq }) w.accepted) w.accepted; floor = w.floor; room = room }) (noted number seq outcome history) (given number mark marks)
+      → IsThatOf (record { rows = inserted row_number (record { number = number; mark = mark }) w.rows; accepted = cond (is_accepted mark) (inserted accepted_key (record { number = number; seq = seq }) w.accepted) w.accepted; floor = w.floor; room = room }) (noted number seq outcome history) (given number mark marks)
   stands_entered room short =
       let j : FirstJudgement = record { number = number; seq = seq; outcome = outcome } in
       let row : Row = record { number = number; mark = mark } in
@@ -205,7 +214,8 @@ module _ (w : Contents) (history : History) (marks : Marks) (number seq : ℕ) (
         rows = rw kept' (zip_inserted (given number mark marks) row j w.rows (kept history) (row_of_new number seq mark outcome same marks) zip);
         accepted = rw kept' (accepted_entered number seq mark outcome same w.accepted (kept history) stands.accepted (kept_rise w history marks stands order.rising.1));
         floor = stands.floor ∙ sym (floor-with_room history j short');
-        once = once }
+        once = once;
+      }
 
   pub nothing_forgotten : length w.rows < 16384 → None ≡ newly_forgotten (noted number seq outcome history) (given number mark marks)
   nothing_forgotten short = let e : ltb 16384 (length (noted number seq outcome history)) ≡ false = le-ltb 16384 _ (omega (arith, long, more)) in rw e refl
@@ -223,7 +233,7 @@ module _ (w : Contents) (history : History) (marks : Marks) (number seq : ℕ) (
       floor-full history j (omega (arith, long)) above' ∙ (ap (λ js. max (floor history) (greatest_among (take 1 js))) (passed_first below) ∙ omega arith)
 
   pub stands_passed : (room : ℕ) → 16384 ≤ length w.rows → IsAbove number (map row_number w.rows)
-    → Stands (record { rows = w.rows; accepted = w.accepted; floor = number; room = room }) (noted number seq outcome history) (given number mark marks)
+      → IsThatOf (record { rows = w.rows; accepted = w.accepted; floor = number; room = room }) (noted number seq outcome history) (given number mark marks)
   stands_passed room full below =
       let j : FirstJudgement = record { number = number; seq = seq; outcome = outcome } in
       let above' : floor history < number = omega (arith, stands.floor) in
@@ -243,9 +253,9 @@ module _ (w : Contents) (history : History) (marks : Marks) (number seq : ℕ) (
     moved : Moved number seq mark outcome marks least others w.accepted (inserted judged_number (record { number = number; seq = seq; outcome = outcome }) (kept history))
     moved =
         move number seq mark outcome same marks least others w.accepted (kept history) below
-          (subst (λ (rows : List Row). AllZip (IsRowOf (given number mark marks)) rows (kept history)) first zip)
-          stands.accepted
-          (kept_rise w history marks stands order.rising.1)
+        (subst (λ (rows : List Row). AllZip (IsRowOf (given number mark marks)) rows (kept history)) first zip)
+        stands.accepted
+        (kept_rise w history marks stands order.rising.1)
 
     moved_floor : floor (noted number seq outcome history) ≡ least.number
     moved_floor =
@@ -254,7 +264,7 @@ module _ (w : Contents) (history : History) (marks : Marks) (number seq : ℕ) (
         omega (arith, floor-full history (record { number = number; seq = seq; outcome = outcome }) (omega (arith, long)) above', moved.least_now, rising.0.0, stands.floor)
 
     pub stands_moved : (room : ℕ)
-      → Stands (record { rows = inserted row_number (record { number = number; mark = mark }) others; accepted = cond (is_accepted mark) (inserted accepted_key (record { number = number; seq = seq }) (cond (is_accepted least.mark) (drop 1 w.accepted) w.accepted)) (cond (is_accepted least.mark) (drop 1 w.accepted) w.accepted); floor = least.number; room = room }) (noted number seq outcome history) (given number mark marks)
+        → IsThatOf (record { rows = inserted row_number (record { number = number; mark = mark }) others; accepted = cond (is_accepted mark) (inserted accepted_key (record { number = number; seq = seq }) (cond (is_accepted least.mark) (drop 1 w.accepted) w.accepted)) (cond (is_accepted least.mark) (drop 1 w.accepted) w.accepted); floor = least.number; room = room }) (noted number seq outcome history) (given number mark marks)
     stands_moved room =
         let above' : floor history < number = omega (arith, stands.floor) in
         let kept' = kept-full history (record { number = number; seq = seq; outcome = outcome }) (omega (arith, long)) above' in
@@ -265,7 +275,7 @@ module _ (w : Contents) (history : History) (marks : Marks) (number seq : ℕ) (
 
 -- ---- another mark
 
-pub marked_stands : (after w : Contents) (history : History) (marks : Marks) (number : ℕ) (mark : Mark) → after ≡ record w { rows = with_mark number mark w.rows } → Rises (map row_number w.rows) → is_accepted mark ≡ true → IfSome (mark_in number w.rows) (λ last. is_accepted last ≡ true) → Stands w history marks → Stands after history (given number mark marks)
+pub marked_stands : (after w : Contents) (history : History) (marks : Marks) (number : ℕ) (mark : Mark) → after ≡ record w { rows = with_mark number mark w.rows } → Rises (map row_number w.rows) → is_accepted mark ≡ true → IfSome (mark_in number w.rows) (λ last. is_accepted last ≡ true) → IsThatOf w history marks → IsThatOf after history (given number mark marks)
 marked_stands after w history marks number mark is rises taken was stands =
     rw is (record { rows = zip_marked number mark marks w.rows (kept history) rises taken was stands.rows; accepted = stands.accepted; floor = stands.floor; once = stands.once })
 
@@ -274,5 +284,12 @@ unmarked w number mark absent = ap (λ (rows : List Row). record w { rows = rows
 
 -- the same window in other words
 pub stands_as : (history : History) (marks : Marks) (floor room : ℕ) (rows rows' : List Row) (accepted accepted' : List Accepted) → rows' ≡ rows → accepted' ≡ accepted
-  → Stands (record { rows = rows; accepted = accepted; floor = floor; room = room }) history marks → Stands (record { rows = rows'; accepted = accepted'; floor = floor; room = room }) history marks
+    → IsThatOf (record { rows = rows; accepted = accepted; floor = floor; room = room }) history marks → IsThatOf (record { rows = rows'; accepted = accepted'; floor = floor; room = room }) history marks
 stands_as history marks floor room rows rows' accepted accepted' e f stands = rw (e, f) stands
+
+pub stands_reserved : (w : Contents) (history : History) (marks : Marks) (room : ℕ) → IsThatOf w history marks → IsThatOf (record w { room = room }) history marks
+stands_reserved w history marks room stands = record { rows = stands.rows; accepted = stands.accepted; floor = stands.floor; once = stands.once }
+
+pub stands_fresh : IsThatOf (record { rows = []; accepted = []; floor = 0; room = 0 }) [] []
+unfolding kept forgotten
+stands_fresh = record { rows = tt; accepted = refl; floor = refl; once = λ i j d lt l. absurd (omega arith) }

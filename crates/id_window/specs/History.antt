@@ -1,6 +1,6 @@
 -- The history of a server session: each number that was judged, once (core.telegram.org/mtproto/service_messages_about_messages
 -- and core.telegram.org/mtproto/description, "Message Identifier"; how many numbers are kept is this project's choice).
-use Rattle.std.specs.Prelude.{◌≡◌, ◌≢◌, ℕ, ◌-◌, max, Bool, true, false, nat_lt, ◌==◌, if◌then◌else◌, Option, Some, None, option_map, List, [], ◌∷◌, ◌++◌, fold, length, take, drop, map, filter_map}
+use Rattle.std.specs.Prelude.{◌≢◌, ℕ, ◌-◌, max, Bool, true, false, nat_lt, ◌==◌, if◌then◌else◌, Option, Some, None, option_map, List, [], ◌∷◌, ◌++◌, fold, length, take, drop, filter_map}
 use Rattle.std.specs.List.{list_any, AllPairs}
 use Rattle.id_window.specs.declared.mark.Mark.{Mark}
 use Rattle.id_window.specs.declared.cross.Cross.{Cross}
@@ -52,11 +52,11 @@ abbrev pub ascending : History → History
 ascending history = fold (λ sorted judgement. inserted (λ judged. judged.number) judgement sorted) [] history
 
 -- 16,384 numbers are kept, the greatest: the last ones in ascending order
-abbrev pub kept : History → History
+unfoldable pub kept : History → History
 kept history = drop (length history - 16384) (ascending history)
 
 -- the others
-abbrev pub forgotten : History → History
+unfoldable pub forgotten : History → History
 forgotten history = take (length history - 16384) (ascending history)
 
 abbrev pub is_kept : ℕ → History → Bool

@@ -1,5 +1,5 @@
 -- A window: what it has of a history and of the marks that were given.
-use Rattle.std.specs.Prelude.{◌≡◌, ℕ, ◌<◌, ◌≤◌, ◌-◌, ◌^◌, Bool, max, min, nat_le, ◌==◌, if◌then◌else◌, Option, Some, None, List, [], ◌∷◌, length, map, filter_map}
+use Rattle.std.specs.Prelude.{◌≡◌, ℕ, ◌<◌, ◌≤◌, ◌-◌, ◌^◌, nat_le, ◌==◌, if◌then◌else◌, Option, Some, None, List, [], ◌∷◌, length, map, filter_map}
 use Rattle.std.specs.List.{AllZip}
 use Rattle.id_window.specs.declared.mark.Mark.{Mark}
 use Rattle.id_window.specs.declared.rows.Row.{Row}
@@ -39,8 +39,8 @@ pub record IsRowOf (marks : Marks) (row : Row) (judgement : FirstJudgement) : Ty
   pub mark : mark_of row.number marks ≡ Some row.mark
   pub accepted : is_accepted row.mark ≡ was_accepted judgement.outcome
 
--- a window stands for a history and the marks given
-pub record Stands (window : Contents) (history : History) (marks : Marks) : Type 0 where
+-- what a window has is that of a history and of the marks given
+pub record IsThatOf (window : Contents) (history : History) (marks : Marks) : Type 0 where
   -- its numbers are the kept ones in ascending order, with their marks
   pub rows : AllZip (IsRowOf marks) window.rows (kept history)
   -- the seqs of its accepted numbers are those of the history
@@ -49,6 +49,11 @@ pub record Stands (window : Contents) (history : History) (marks : Marks) : Type
   pub floor : window.floor ≡ floor history
   -- no number was judged twice
   pub once : EachOnce history
+
+-- a window stands for a history and the marks given. Callers need not look into it: each call says what it stands for
+-- afterwards, and the laws say what it tells.
+unfoldable pub Stands : Contents → History → Marks → Type 0
+Stands window history marks = IsThatOf window history marks
 
 -- ---- what the code keeps true (for proofs alone)
 

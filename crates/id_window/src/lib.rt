@@ -5,6 +5,7 @@
 #![tactic(auto)]
 
 mod cross;
+pub mod laws;
 mod mark;
 mod neighbours;
 mod rows;

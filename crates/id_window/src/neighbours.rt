@@ -9,11 +9,7 @@ use crate::rows::Accepted;
 use std::collections::VecDeque;
 
 /// The last entry below a number, which has this place.
-pub(crate) fn last_below(
-    accepted: &VecDeque<Accepted>,
-    number: u64,
-    at: usize,
-) -> Option<Accepted>
+pub(crate) fn last_below(accepted: &VecDeque<Accepted>, number: u64, at: usize) -> Option<Accepted>
     requires at { at ≡ place number (map (λ one. one.number) accepted.now.items) }
     requires within { at ≤ length accepted.now.items }
     ensures { result ≡ last_below number accepted.now.items None }
@@ -25,11 +21,7 @@ pub(crate) fn last_below(
 }
 
 /// The first entry above a number, which has this place.
-pub(crate) fn first_above(
-    accepted: &VecDeque<Accepted>,
-    number: u64,
-    at: usize,
-) -> Option<Accepted>
+pub(crate) fn first_above(accepted: &VecDeque<Accepted>, number: u64, at: usize) -> Option<Accepted>
     requires ascending { Rises (map (λ one. one.number) accepted.now.items) }
     requires at { at ≡ place number (map (λ one. one.number) accepted.now.items) }
     requires within { at ≤ length accepted.now.items }

@@ -1,6 +1,6 @@
 //! The window of a server session.
 
-ghost use Rattle.std.specs.Prelude.{◌≡◌, ◌<◌, ◌≤◌, ◌+◌, ◌-◌, [], ◌∷◌, ◌++◌, true, Some, None, max, length, IfOk, OnOk, OnErr, IfSome};
+ghost use Rattle.std.specs.Prelude.{◌≡◌, ◌<◌, ◌+◌, [], true, None, max, IfOk, OnOk, OnErr, IfSome};
 
 use crate::cross::Cross;
 use crate::mark::Mark;
@@ -38,10 +38,10 @@ impl Model for Window {
     ghost Value = { Contents };
 
     ghost view = { λ window. record {
-        rows = window.rows.items;
-        accepted = window.accepted.items;
-        floor = window.forgotten_up_to;
-        room = window.reserved
+      rows = window.rows.items;
+      accepted = window.accepted.items;
+      floor = window.forgotten_up_to;
+      room = window.reserved;
     } };
 
     ghost invariant = { λ window. IsInOrder window.forgotten_up_to window.rows.items window.accepted.items
@@ -162,6 +162,9 @@ impl Window {
 
     /// Notes a number that was judged, with its sequence number and mark, and answers the number that is forgotten for
     /// it with its mark, where the window is full. That may be the new one. Takes no memory.
+    ///
+    /// The number is above the floor and isn't kept, room for it is reserved, and where its message was accepted it
+    /// crosses none.
     pub fn note(&mut self, number: u64, seq: u32, mark: Mark) -> Option<(u64, Mark)>
         requires above_floor { self.old.floor < number }
         requires not_kept { mark_in number self.old.rows ≡ None }
@@ -188,7 +191,8 @@ impl Window {
         Some((least.number, least.mark))
     }
 
-    /// Gives another mark to a number that was accepted. Where the number isn't kept, nothing changes. Takes no memory.
+    /// Gives another mark of an accepted message to a number. Where the number isn't kept, nothing changes; where it is,
+    /// its message was accepted. Takes no memory.
     pub fn set(&mut self, number: u64, mark: Mark)
         requires accepted { is_accepted mark ≡ true }
         requires was_accepted { IfSome (mark_in number self.old.rows) (λ last. is_accepted last ≡ true) }

@@ -1,4 +1,4 @@
-use Rattle.std.proofs.Common.{◌≡◌, ◌≢◌, ◌∙◌, ℕ, ◌+◌, ◌<◌, ◌≤◌, suc, List, map, length, get_or, sym, ap, subst, arith, Some, None, add-one}
+use Rattle.std.proofs.Common.{◌≡◌, ◌≢◌, ◌∙◌, ℕ, ◌+◌, ◌≤◌, suc, List, map, length, get_or, sym, ap, subst, arith, Some, add-one}
 use Rattle.std.proofs.lemmas.List.{get_or_default}
 use Rattle.id_window.specs.declared.rows.Accepted.{Accepted}
 use Rattle.id_window.specs.Places.{place, first_above}

@@ -1,4 +1,4 @@
-use Rattle.std.proofs.Common.{◌≡◌, ◌∙◌, sym, ap, arith, Some, None, ◌-◌}
+use Rattle.std.proofs.Common.{◌∙◌, sym, ap, arith, Some, None, ◌-◌}
 use Rattle.id_window.proofs.PlaceLemmas.{no_last_below, last_below_at}
 use Rattle.id_window.proofs.neighbours.last_below.Goals as goal
 

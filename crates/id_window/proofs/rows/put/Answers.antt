@@ -1,4 +1,4 @@
-use Rattle.std.proofs.Common.{◌≡◌, ◌∙◌, insert, map, ap, Ok}
+use Rattle.std.proofs.Common.{◌≡◌, ◌∙◌, insert, map, ap}
 use Rattle.id_window.specs.Places.{place}
 use Rattle.id_window.proofs.PlaceLemmas.{insert_at_place}
 use Rattle.id_window.proofs.rows.put.Goals as goal

@@ -1,8 +1,8 @@
 use Rattle.std.proofs.Common.{◌≡◌, ◌∙◌, true, false, None, ap, sym}
 use Rattle.id_window.specs.Crossing.{crossing}
-use Rattle.id_window.specs.Window.{Contents}
+use Rattle.id_window.specs.Window.{Stands}
 use Rattle.id_window.specs.Places.{last_below, first_above, is_some_past, is_some_short}
-use Rattle.id_window.proofs.OrderLemmas.{accepted_rise}
+use Rattle.id_window.proofs.InOrderLemmas.{accepted_rise}
 use Rattle.id_window.proofs.CrossingLemmas.{low_there, high_there, apart_there}
 use Rattle.id_window.proofs.window.Window.crosses.Goals as goal
 
@@ -18,6 +18,7 @@ returns-then-is_past-clause-value c =
     rw (← c.self.view_is) (low_there c.args.number c.args.seq c.self.inside.accepted.items (accepted_rise _ _ _ c.self.invariant.0) c.self.invariant.0.seqs past)
 
 pub returns-then-is_past-clause-stands : goal.returns-then-is_past-clause-stands
+unfolding Stands
 returns-then-is_past-clause-stands c history marks stands = returns-then-is_past-clause-value c ∙ ap (crossing c.args.number c.args.seq) stands.accepted
 
 pub returns-then-is_short-clause-value : goal.returns-then-is_short-clause-value
@@ -27,6 +28,7 @@ returns-then-is_short-clause-value c =
     rw (← c.self.view_is) (high_there c.args.number c.args.seq c.self.inside.accepted.items (accepted_rise _ _ _ c.self.invariant.0) c.self.invariant.0.seqs past short)
 
 pub returns-then-is_short-clause-stands : goal.returns-then-is_short-clause-stands
+unfolding Stands
 returns-then-is_short-clause-stands c history marks stands = returns-then-is_short-clause-value c ∙ ap (crossing c.args.number c.args.seq) stands.accepted
 
 pub returns-clause-value : goal.returns-clause-value
@@ -36,4 +38,5 @@ returns-clause-value c =
     rw (← c.self.view_is) (apart_there c.args.number c.args.seq c.self.inside.accepted.items (accepted_rise _ _ _ c.self.invariant.0) c.self.invariant.0.seqs past short)
 
 pub returns-clause-stands : goal.returns-clause-stands
+unfolding Stands
 returns-clause-stands c history marks stands = returns-clause-value c ∙ ap (crossing c.args.number c.args.seq) stands.accepted

@@ -2,6 +2,7 @@ use Rattle.std.proofs.Common.{◌≡◌, ◌≢◌, ◌∙◌, Some, get_or, ap,
 use Rattle.id_window.specs.declared.rows.Row.{Row}
 use Rattle.id_window.proofs.PlaceLemmas.{no_mark_past, no_mark_at, mark_at}
 use Rattle.id_window.proofs.WindowLemmas.{found_is}
+use Rattle.id_window.specs.Window.{Stands}
 use Rattle.id_window.proofs.window.Window.find.Goals as goal
 
 pub place_of-place-requires : goal.place_of-place-requires
@@ -12,6 +13,7 @@ returns-then-place-len-clause-value c =
     rw (← c.self.view_is) (sym (no_mark_past c.args.number c.self.inside.rows.items (omega (arith, c.self.inside.rows.ok.0, c.place_of-place.ensures.place))))
 
 pub returns-then-place-len-clause-stands : goal.returns-then-place-len-clause-stands
+unfolding Stands
 returns-then-place-len-clause-stands c history marks stands = returns-then-place-len-clause-value c ∙ found_is _ history marks stands c.args.number
 
 pub returns-then-row-number-clause-value : goal.returns-then-row-number-clause-value
@@ -23,6 +25,7 @@ returns-then-row-number-clause-value c =
     rw (← c.self.view_is) (ap (λ (row : Row). Some row.mark) read ∙ sym found)
 
 pub returns-then-row-number-clause-stands : goal.returns-then-row-number-clause-stands
+unfolding Stands
 returns-then-row-number-clause-stands c history marks stands = returns-then-row-number-clause-value c ∙ found_is _ history marks stands c.args.number
 
 pub returns-else-row-number-clause-value : goal.returns-else-row-number-clause-value
@@ -34,4 +37,5 @@ returns-else-row-number-clause-value c =
     rw (← c.self.view_is) (sym found)
 
 pub returns-else-row-number-clause-stands : goal.returns-else-row-number-clause-stands
+unfolding Stands
 returns-else-row-number-clause-stands c history marks stands = returns-else-row-number-clause-value c ∙ found_is _ history marks stands c.args.number

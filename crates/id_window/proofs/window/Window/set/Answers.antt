@@ -1,10 +1,9 @@
-use Rattle.std.proofs.Common.{◌≡◌, ◌≢◌, ◌∙◌, ◌<◌, true, None, List, map, length, get_or, set, ap, subst, sym, arith, IfSome}
+use Rattle.std.proofs.Common.{◌≡◌, ◌≢◌, ◌∙◌, true, None, List, map, get_or, ap, subst, sym, arith, IfSome}
 use Rattle.id_window.specs.declared.rows.Row.{Row}
-use Rattle.id_window.specs.declared.rows.Accepted.{Accepted}
 use Rattle.id_window.specs.Marks.{is_accepted}
-use Rattle.id_window.specs.Window.{Contents, Stands, IsInOrder, Rises, mark_in, with_mark}
-use Rattle.id_window.proofs.PlaceLemmas.{row_number, no_mark_past, no_mark_at, mark_at, with_mark_absent, with_mark_at}
-use Rattle.id_window.proofs.OrderLemmas.{order_as, order_marked}
+use Rattle.id_window.specs.Window.{Contents, Rises, Stands, mark_in}
+use Rattle.id_window.proofs.PlaceLemmas.{row_number, no_mark_past, no_mark_at, with_mark_at}
+use Rattle.id_window.proofs.InOrderLemmas.{order_marked}
 use Rattle.id_window.proofs.WindowLemmas.{marked_stands, unmarked}
 use Rattle.id_window.proofs.window.Window.set.Goals as goal
 
@@ -26,6 +25,7 @@ returns-then-index-number-clause-marked c =
     rw (← c.self.view_is) (ap (λ (xs : List Row). record { rows = xs; accepted = c.self.inside.accepted.items; floor = c.self.inside.forgotten_up_to; room = c.self.inside.reserved }) marked)
 
 pub returns-then-index-number-clause-stands : goal.returns-then-index-number-clause-stands
+unfolding Stands
 returns-then-index-number-clause-stands c history marks stands =
     let rises : Rises (map row_number c.args.self.now.rows) = subst (λ (w : Contents). Rises (map row_number w.rows)) c.self.view_is c.self.invariant.0.rising.1 in
     marked_stands _ c.args.self.now history marks c.args.number c.args.mark (returns-then-index-number-clause-marked c) rises c.requires.accepted c.requires.was_accepted stands
@@ -41,6 +41,7 @@ returns-then-place-len-clause-marked c =
     unmarked c.args.self.now c.args.number c.args.mark absent
 
 pub returns-then-place-len-clause-stands : goal.returns-then-place-len-clause-stands
+unfolding Stands
 returns-then-place-len-clause-stands c history marks stands =
     let rises : Rises (map row_number c.args.self.now.rows) = subst (λ (w : Contents). Rises (map row_number w.rows)) c.self.view_is c.self.invariant.0.rising.1 in
     marked_stands _ c.args.self.now history marks c.args.number c.args.mark (returns-then-place-len-clause-marked c) rises c.requires.accepted c.requires.was_accepted stands
@@ -53,6 +54,7 @@ returns-else-index-number-clause-marked c =
     unmarked c.args.self.now c.args.number c.args.mark absent
 
 pub returns-else-index-number-clause-stands : goal.returns-else-index-number-clause-stands
+unfolding Stands
 returns-else-index-number-clause-stands c history marks stands =
     let rises : Rises (map row_number c.args.self.now.rows) = subst (λ (w : Contents). Rises (map row_number w.rows)) c.self.view_is c.self.invariant.0.rising.1 in
     marked_stands _ c.args.self.now history marks c.args.number c.args.mark (returns-else-index-number-clause-marked c) rises c.requires.accepted c.requires.was_accepted stands
