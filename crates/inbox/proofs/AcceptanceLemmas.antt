@@ -24,11 +24,11 @@ number_taken : (floor number : ℕ) → floor < number → number % 4 ≡ 0 → 
 number_taken floor number above fourfold = grind (arith, nat_tests)
 
 time_taken : (now second : ℕ) (valid : Bool) → now ≤ second + 300 → second ≤ now + 30 → valid ≡ true
-  → cond (nat_lt (second + 300) now) (Some 16) (cond (nat_lt (now + 30) second) (Some 17) (cond valid None (Some 48))) ≡ None
+  → cond {A = Option ℕ} (nat_lt (second + 300) now) (Some 16) (cond {A = Option ℕ} (nat_lt (now + 30) second) (Some 17) (cond {A = Option ℕ} valid None (Some 48))) ≡ None
 time_taken now second valid not_old not_early is = grind (arith, nat_tests)
 
 parity_taken : (seq : ℕ) (even odd : Bool) → (even ≡ true → seq % 2 ≡ 0) → (odd ≡ true → seq % 2 ≡ 1)
-  → cond (nat_eq (seq % 2) 1) (cond even (Some 34) None) (cond odd (Some 35) None) ≡ None
+  → cond {A = Option ℕ} (nat_eq (seq % 2) 1) (cond {A = Option ℕ} even (Some 34) None) (cond {A = Option ℕ} odd (Some 35) None) ≡ None
 parity_taken seq true true is_even is_odd = grind (arith, nat_tests)
 parity_taken seq true false is_even is_odd = grind (arith, nat_tests)
 parity_taken seq false true is_even is_odd = grind (arith, nat_tests)

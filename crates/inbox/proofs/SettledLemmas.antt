@@ -3,9 +3,6 @@ use Rattle.std.proofs.Common.{◌≡◌, ◌≢◌, ℕ, ◌<◌, ◌≤◌, Boo
 use Rattle.std.proofs.lemmas.List.{append-nil}
 use Rattle.service_tl.specs.declared.item.Item.{Item}
 use Rattle.id_window.specs.declared.mark.Mark.{Mark}
-use Rattle.id_window.specs.declared.cross.Cross.{Cross}
-use Rattle.id_window.specs.declared.rows.Accepted.{Accepted}
-use Rattle.id_window.specs.Crossing.{crossing}
 use Rattle.id_window.specs.declared.mark.Mark.TheVariants.{Noticed as MarkNoticed}
 use Rattle.id_window.specs.Marks.{given, is_accepted}
 use Rattle.id_window.specs.History.{History, Refused, found, floor, crosses, noted, was_accepted}
@@ -20,21 +17,14 @@ use Rattle.inbox.specs.Refusals.{first_code}
 use Rattle.inbox.specs.Judging.{Session, verdict_by, recorded, remembered, is_recorded, first_mark, outcome_of}
 use Rattle.inbox.specs.Drafts.{draft_judgement, draft_session, draft_judgements, drafts_session, draft_verdict, drafted}
 
--- a window's floor and accepted numbers give the code of the history
-pub same_code : (w : Contents) (session : Session) (envelope : Option ℕ) (number seq : ℕ) (kind : Kind) → Stands w session.history session.marks
-  → first_code envelope w.floor (crossing number seq w.accepted) number seq kind ≡ first_code envelope (floor session.history) (crosses number seq session.history) number seq kind
-same_code w session envelope number seq kind stands =
-    ap (λ (f : ℕ). first_code envelope f (crossing number seq w.accepted) number seq kind) stands.floor
-    ∙ ap (λ (a : List Accepted). first_code envelope (floor session.history) (crossing number seq a) number seq kind) stands.accepted
-
--- the verdict by what a window has
-pub same_verdict : (w : Contents) (session : Session) (envelope : Option ℕ) (number seq : ℕ) (kind : Kind) (item : Item) (mark : Option Mark) (code : Option ℕ) → Stands w session.history session.marks
+-- the verdict by the mark and the code that the history gives
+pub same_verdict : (session : Session) (envelope : Option ℕ) (number seq : ℕ) (kind : Kind) (item : Item) (mark : Option Mark) (code : Option ℕ)
   → mark ≡ found number session.history session.marks
-  → code ≡ first_code envelope w.floor (crossing number seq w.accepted) number seq kind
+  → code ≡ first_code envelope (floor session.history) (crosses number seq session.history) number seq kind
   → verdict_by mark code kind item ≡ draft_verdict envelope session (drafted number seq kind item)
-same_verdict w session envelope number seq kind item mark code stands mark_is code_is =
+same_verdict session envelope number seq kind item mark code mark_is code_is =
     ap (λ (m : Option Mark). verdict_by m code kind item) mark_is
-    ∙ ap (λ (c : Option ℕ). verdict_by (found number session.history session.marks) c kind item) (code_is ∙ same_code w session envelope number seq kind stands)
+    ∙ ap (λ (c : Option ℕ). verdict_by (found number session.history session.marks) c kind item) code_is
 
 -- a window that stands for what is remembered by a verdict stands for it by the same one
 pub settled_by : (w : Contents) (session : Session) (number seq : ℕ) (kind : Kind) (verdict verdict' : Verdict) → verdict ≡ verdict'
@@ -48,6 +38,11 @@ pub settled_refused : (w : Contents) (session : Session) (number seq : ℕ) (kin
   → Stands w (noted number seq (Refused code) session.history) (given number (MarkNoticed code) session.marks)
   → Stands w (remembered number seq (recorded kind (Noticed code)) session).history (remembered number seq (recorded kind (Noticed code)) session).marks
 settled_refused w session number seq kind code is stands =
+    subst (λ (b : Bool). Stands w (remembered number seq (cond b (Some (Refused code)) None) session).history (remembered number seq (cond b (Some (Refused code)) None) session).marks) (sym is) stands
+
+pub settled_unrecorded : (w : Contents) (session : Session) (number seq : ℕ) (kind : Kind) (code : ℕ) → is_recorded code ≡ false → Stands w session.history session.marks
+  → Stands w (remembered number seq (recorded kind (Noticed code)) session).history (remembered number seq (recorded kind (Noticed code)) session).marks
+settled_unrecorded w session number seq kind code is stands =
     subst (λ (b : Bool). Stands w (remembered number seq (cond b (Some (Refused code)) None) session).history (remembered number seq (cond b (Some (Refused code)) None) session).marks) (sym is) stands
 
 pub accepted_mark : (kind : Kind) (mark : Mark) → mark ≡ first_mark (outcome_of kind) → was_accepted (outcome_of kind) ≡ is_accepted mark

@@ -25,9 +25,9 @@ list_any-is number numbers found is =
 
 -- what no service constructor begins is a call
 pub not_service : (found test calling : Bool) → found ≡ false → test ≡ found → not found ≡ cond test calling true
-not_service found true calling no is = cc
-not_service true false calling no is = cc
-not_service false false calling no is = refl
+not_service true test calling none is = cc
+not_service false true calling none is = cc
+not_service false false calling none is = refl
 
 guarded : (b t : Bool) → cond b false t ≡ true → (b ≡ false) × (t ≡ true)
 guarded true t h = (cc, cc)

@@ -1,7 +1,7 @@
 //! The inbox of a server session.
 
 ghost use Rattle.std.specs.Prelude.{◌≡◌, ◌≤◌, [], true, false, None, IfOk, IfSome, OnOk, OnErr, Some, map, slice_get};
-ghost use Rattle.inbox.specs.States.{state_of_mark};
+ghost use Rattle.inbox.specs.States.{state_by, state_of_mark};
 
 use crate::draft::drafts_of;
 use crate::judged::Judged;
@@ -152,18 +152,12 @@ impl Inbox {
     fn state(&self, number: u64) -> u8
         ensures { (history : History) (marks : Marks) → Stands self.now history marks → result ≡ state_byte history marks number }
     {
-        match self.window.find(number) {
-            Some(mark) => state_of_mark(mark),
-            None => {
-                if number <= self.window.floor() {
-                    1
-                } else if number <= self.window.greatest() {
-                    2
-                } else {
-                    3
-                }
-            }
-        }
+        state_by(
+            self.window.find(number),
+            self.window.floor(),
+            self.window.greatest(),
+            number,
+        )
     }
 
     /// The same inbox once more.
@@ -178,6 +172,21 @@ impl Inbox {
             window: self.window.copy(alloc)?,
             heard: self.heard,
         })
+    }
+}
+
+/// The state byte of a number with this mark, in a window of this floor and this greatest number.
+fn state_by(mark: Option<Mark>, floor: u64, greatest: u64, number: u64) -> u8
+    ensures { result ≡ state_by mark floor greatest number }
+{
+    match mark {
+        Some(mark) => state_of_mark(mark),
+        None => {
+            if number <= floor {
+                return 1;
+            }
+            if number <= greatest { 2 } else { 3 }
+        }
     }
 }
 

@@ -2,7 +2,10 @@
 
 ghost use Rattle.std.specs.Prelude.{◌≡◌, ◌≤◌};
 ghost use Rattle.salt_line.specs.Line.{Line, Stands as LineStands};
+ghost use Rattle.id_window.specs.Marks.{Marks};
 ghost use Rattle.id_window.specs.Crossing.{crossing};
+ghost use Rattle.id_window.specs.History.{History, floor, crosses};
+ghost use Rattle.id_window.specs.Window.{Stands};
 ghost use Rattle.inbox.specs.Refusals.{InEnvelope, by_number, by_envelope, by_parity, by_neighbours, by_body, first_code};
 
 use crate::kind::Kind;
@@ -78,7 +81,9 @@ pub(crate) fn refusal(
     seq: u32,
     kind: Kind,
 ) -> Option<u32>
-    ensures { result ≡ first_code envelope window.now.floor (crossing number seq window.now.accepted) number seq kind }
+    ensures value { result ≡ first_code envelope window.now.floor (crossing number seq window.now.accepted) number seq kind }
+    ensures stands { (history : History) (marks : Marks) → Stands window.now history marks
+        → result ≡ first_code envelope (floor history) (crosses number seq history) number seq kind }
 {
     by_number(window.floor(), number)
         .or(envelope)

@@ -8,5 +8,5 @@ use Rattle.inbox.proofs.kind.begins_call.Goals as goal
 
 pub returns-then-not-is_service : goal.returns-then-not-is_service
 returns-then-not-is_service c =
-    let no : c.is_service.result ≡ false = first_of (cc, search rules, grind (arith, nat_tests)) in
-    rw c.in-Some.is (not_service c.is_service.result _ _ no (list_any-is c.in-Some.constructor service_numbers c.is_service.result c.is_service.ensures))
+    let none : c.is_service.result ≡ false = first_of (cc, search rules, grind (arith, nat_tests)) in
+    rw c.in-Some.is (not_service c.is_service.result _ _ none (list_any-is c.in-Some.constructor service_numbers c.is_service.result c.is_service.ensures))
