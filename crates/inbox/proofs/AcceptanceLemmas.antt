@@ -24,11 +24,11 @@ number_taken : (floor number : ℕ) → floor < number → number % 4 ≡ 0 → 
 number_taken floor number above fourfold = grind (arith, nat_tests)
 
 time_taken : (now second : ℕ) (valid : Bool) → now ≤ second + 300 → second ≤ now + 30 → valid ≡ true
-  → cond {A = Option ℕ} (nat_lt (second + 300) now) (Some 16) (cond {A = Option ℕ} (nat_lt (now + 30) second) (Some 17) (cond {A = Option ℕ} valid None (Some 48))) ≡ None
+    → cond {A = Option ℕ} (nat_lt (second + 300) now) (Some 16) (cond {A = Option ℕ} (nat_lt (now + 30) second) (Some 17) (cond {A = Option ℕ} valid None (Some 48))) ≡ None
 time_taken now second valid not_old not_early is = grind (arith, nat_tests)
 
 parity_taken : (seq : ℕ) (even odd : Bool) → (even ≡ true → seq % 2 ≡ 0) → (odd ≡ true → seq % 2 ≡ 1)
-  → cond {A = Option ℕ} (nat_eq (seq % 2) 1) (cond {A = Option ℕ} even (Some 34) None) (cond {A = Option ℕ} odd (Some 35) None) ≡ None
+    → cond {A = Option ℕ} (nat_eq (seq % 2) 1) (cond {A = Option ℕ} even (Some 34) None) (cond {A = Option ℕ} odd (Some 35) None) ≡ None
 parity_taken seq true true is_even is_odd = grind (arith, nat_tests)
 parity_taken seq true false is_even is_odd = grind (arith, nat_tests)
 parity_taken seq false true is_even is_odd = grind (arith, nat_tests)
@@ -49,7 +49,7 @@ not_found true mark is = cc
 not_found false mark is = refl
 
 pub none_refused : (now : ℕ) (line : Line) (salt : ℕ) (session : Session) (message : Message) → IsAcceptable now line salt session message
-  → refusal (InEnvelope now line salt) session.history message ≡ None
+    → refusal (InEnvelope now line salt) session.history message ≡ None
 none_refused now line salt session message is =
     none_first _ _ _ _ _
     (number_taken (floor session.history) message.number is.above_floor is.fourfold)
@@ -59,8 +59,8 @@ none_refused now line salt session message is =
     (body_taken (kind_of message) is.lawful)
 
 pub acceptable_judged : (now : ℕ) (line : Line) (salt : ℕ) (session : Session) (message : Message) → IsAcceptable now line salt session message
-  → judge (InEnvelope now line salt) session message ≡ Accepted (item_told message.body)
+    → judge (InEnvelope now line salt) session message ≡ Accepted (item_told message.body)
 acceptable_judged now line salt session message is =
     ap (λ (mark : Option Mark). verdict_by mark (refusal (InEnvelope now line salt) session.history message) (kind_of message) (item_told message.body))
-        (not_found (is_kept message.number session.history) (mark_of message.number session.marks) is.new)
+    (not_found (is_kept message.number session.history) (mark_of message.number session.marks) is.new)
     ∙ ap (λ (code : Option ℕ). verdict_by None code (kind_of message) (item_told message.body)) (none_refused now line salt session message is)

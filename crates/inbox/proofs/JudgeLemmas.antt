@@ -48,8 +48,8 @@ module _ (way : Way) (session : Session) (message : Message) (envelope : Option 
       ∙ ap (λ (ms : List Message). judgement_on way session message ∷ inner_judgements (judged_session way session message) ms) (sym (others_unfolded (judge way session message) message (accepted_as false is)))
 
   pub alone_stands : (w : Contents) (heard : Bool) → is_accepted judgement.verdict ≡ false → heard ≡ was_heard session.history
-    → WindowStands w (draft_session envelope session draft).history (draft_session envelope session draft).marks
-    → Stands (record { window = without_room w; heard = heard }) (session_after way session message).history (session_after way session message).marks
+      → WindowStands w (draft_session envelope session draft).history (draft_session envelope session draft).marks
+      → Stands (record { window = without_room w; heard = heard }) (session_after way session message).history (session_after way session message).marks
   alone_stands w heard is heard_is stands =
       let unaccepted = accepted_as false is in
       let after : session_after way session message ≡ judged_session way session message = ap (inner_session (judged_session way session message)) (others_unfolded (judge way session message) message unaccepted) in
@@ -62,7 +62,7 @@ module _ (way : Way) (session : Session) (message : Message) (envelope : Option 
   -- it was accepted
 
   pub all_judged : (drafts : List Draft) (js0 js1 js2 : List Judgement) → is_accepted judgement.verdict ≡ true → drafts ≡ map draft_of (inner_messages message)
-    → js0 ≡ [] → js1 ≡ js0 ++ judgement ∷ [] → js2 ≡ js1 ++ draft_judgements (draft_session envelope session draft) drafts → js2 ≡ judgements way session message
+      → js0 ≡ [] → js1 ≡ js0 ++ judgement ∷ [] → js2 ≡ js1 ++ draft_judgements (draft_session envelope session draft) drafts → js2 ≡ judgements way session message
   all_judged drafts js0 js1 js2 is drafts_are empty pushed settled_inside =
       let now = judged_session way session message in
       settled_inside
@@ -74,17 +74,17 @@ module _ (way : Way) (session : Session) (message : Message) (envelope : Option 
       ∙ ap (λ (ms : List Message). judgement_on way session message ∷ inner_judgements (judged_session way session message) ms) (sym (accepted_unfolded (judge way session message) message (accepted_as true is)))
 
   pub all_stands : (w : Contents) (drafts : List Draft) → is_accepted judgement.verdict ≡ true → drafts ≡ map draft_of (inner_messages message)
-    → WindowStands w (drafts_session (draft_session envelope session draft) drafts).history (drafts_session (draft_session envelope session draft) drafts).marks
-    → Stands (record { window = without_room w; heard = true }) (session_after way session message).history (session_after way session message).marks
+      → WindowStands w (drafts_session (draft_session envelope session draft) drafts).history (drafts_session (draft_session envelope session draft) drafts).marks
+      → Stands (record { window = without_room w; heard = true }) (session_after way session message).history (session_after way session message).marks
   all_stands w drafts is drafts_are stands =
       let taken = accepted_as true is in
       let inside : drafts_session (draft_session envelope session draft) drafts ≡ drafts_session (judged_session way session message) drafts = ap (λ (s : Session). drafts_session s drafts) session_on in
       let after : drafts_session (judged_session way session message) drafts ≡ session_after way session message =
-          ap (λ (ds : List Draft). drafts_session (judged_session way session message) ds) drafts_are
-          ∙ inner_settled (judged_session way session message) (inner_messages message)
-          ∙ ap (λ (ms : List Message). inner_session (judged_session way session message) ms) (sym (accepted_unfolded (judge way session message) message taken)) in
+      ap (λ (ds : List Draft). drafts_session (judged_session way session message) ds) drafts_are
+      ∙ inner_settled (judged_session way session message) (inner_messages message)
+      ∙ ap (λ (ms : List Message). inner_session (judged_session way session message) ms) (sym (accepted_unfolded (judge way session message) message taken)) in
       let heard : was_heard (drafts_session (judged_session way session message) drafts).history ≡ true =
-          heard_inside (judged_session way session message) drafts (heard_accepted message.number message.seq (kind_of message) (judge way session message) session taken) in
+      heard_inside (judged_session way session message) drafts (heard_accepted message.number message.seq (kind_of message) (judge way session message) session taken) in
       record {
         window = room_left_out w _ _ (subst (λ (s : Session). WindowStands w s.history s.marks) (inside ∙ after) stands);
         heard = sym (subst (λ (s : Session). was_heard s.history ≡ true) after heard);
@@ -92,8 +92,8 @@ module _ (way : Way) (session : Session) (message : Message) (envelope : Option 
 
 -- what nothing refuses is the first judgement, and is an acceptance
 pub first_accepted : (now : ℕ) (line : Line) (salt : ℕ) (session : Session) (message : Message) (js : List Judgement) → IsAcceptable now line salt session message
-  → js ≡ judgements (InEnvelope now line salt) session message
-  → slice_get js 0 ≡ Some (record { number = message.number; seq = message.seq; verdict = Accepted (item_told message.body) })
+    → js ≡ judgements (InEnvelope now line salt) session message
+    → slice_get js 0 ≡ Some (record { number = message.number; seq = message.seq; verdict = Accepted (item_told message.body) })
 first_accepted now line salt session message js is js_are =
     ap (λ (all : List Judgement). slice_get all 0) js_are
     ∙ ap (λ (v : Verdict). Some (record { number = message.number; seq = message.seq; verdict = v })) (acceptable_judged now line salt session message is)

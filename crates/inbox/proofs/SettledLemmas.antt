@@ -19,29 +19,29 @@ use Rattle.inbox.specs.Drafts.{draft_judgement, draft_session, draft_judgements,
 
 -- the verdict by the mark and the code that the history gives
 pub same_verdict : (session : Session) (envelope : Option ℕ) (number seq : ℕ) (kind : Kind) (item : Item) (mark : Option Mark) (code : Option ℕ)
-  → mark ≡ found number session.history session.marks
-  → code ≡ first_code envelope (floor session.history) (crosses number seq session.history) number seq kind
-  → verdict_by mark code kind item ≡ draft_verdict envelope session (drafted number seq kind item)
+    → mark ≡ found number session.history session.marks
+    → code ≡ first_code envelope (floor session.history) (crosses number seq session.history) number seq kind
+    → verdict_by mark code kind item ≡ draft_verdict envelope session (drafted number seq kind item)
 same_verdict session envelope number seq kind item mark code mark_is code_is =
     ap (λ (m : Option Mark). verdict_by m code kind item) mark_is
     ∙ ap (λ (c : Option ℕ). verdict_by (found number session.history session.marks) c kind item) code_is
 
 -- a window that stands for what is remembered by a verdict stands for it by the same one
 pub settled_by : (w : Contents) (session : Session) (number seq : ℕ) (kind : Kind) (verdict verdict' : Verdict) → verdict ≡ verdict'
-  → Stands w (remembered number seq (recorded kind verdict) session).history (remembered number seq (recorded kind verdict) session).marks
-  → Stands w (remembered number seq (recorded kind verdict') session).history (remembered number seq (recorded kind verdict') session).marks
+    → Stands w (remembered number seq (recorded kind verdict) session).history (remembered number seq (recorded kind verdict) session).marks
+    → Stands w (remembered number seq (recorded kind verdict') session).history (remembered number seq (recorded kind verdict') session).marks
 settled_by w session number seq kind verdict verdict' same stands =
     subst (λ (v : Verdict). Stands w (remembered number seq (recorded kind v) session).history (remembered number seq (recorded kind v) session).marks) same stands
 
 -- what is noted of a refused message, and of an accepted one
 pub settled_refused : (w : Contents) (session : Session) (number seq : ℕ) (kind : Kind) (code : ℕ) → is_recorded code ≡ true
-  → Stands w (noted number seq (Refused code) session.history) (given number (MarkNoticed code) session.marks)
-  → Stands w (remembered number seq (recorded kind (Noticed code)) session).history (remembered number seq (recorded kind (Noticed code)) session).marks
+    → Stands w (noted number seq (Refused code) session.history) (given number (MarkNoticed code) session.marks)
+    → Stands w (remembered number seq (recorded kind (Noticed code)) session).history (remembered number seq (recorded kind (Noticed code)) session).marks
 settled_refused w session number seq kind code is stands =
     subst (λ (b : Bool). Stands w (remembered number seq (cond b (Some (Refused code)) None) session).history (remembered number seq (cond b (Some (Refused code)) None) session).marks) (sym is) stands
 
 pub settled_unrecorded : (w : Contents) (session : Session) (number seq : ℕ) (kind : Kind) (code : ℕ) → is_recorded code ≡ false → Stands w session.history session.marks
-  → Stands w (remembered number seq (recorded kind (Noticed code)) session).history (remembered number seq (recorded kind (Noticed code)) session).marks
+    → Stands w (remembered number seq (recorded kind (Noticed code)) session).history (remembered number seq (recorded kind (Noticed code)) session).marks
 settled_unrecorded w session number seq kind code is stands =
     subst (λ (b : Bool). Stands w (remembered number seq (cond b (Some (Refused code)) None) session).history (remembered number seq (cond b (Some (Refused code)) None) session).marks) (sym is) stands
 
@@ -53,8 +53,8 @@ accepted_mark Call mark is = rw is refl
 accepted_mark Other mark is = rw is refl
 
 pub settled_accepted : (w : Contents) (session : Session) (number seq : ℕ) (kind : Kind) (item : Item) (mark : Mark) → mark ≡ first_mark (outcome_of kind)
-  → Stands w (noted number seq (outcome_of kind) session.history) (given number mark session.marks)
-  → Stands w (remembered number seq (recorded kind (TakenAs item)) session).history (remembered number seq (recorded kind (TakenAs item)) session).marks
+    → Stands w (noted number seq (outcome_of kind) session.history) (given number mark session.marks)
+    → Stands w (remembered number seq (recorded kind (TakenAs item)) session).history (remembered number seq (recorded kind (TakenAs item)) session).marks
 settled_accepted w session number seq kind item mark is stands =
     subst (λ (m : Mark). Stands w (noted number seq (outcome_of kind) session.history) (given number m session.marks)) is stands
 
@@ -75,10 +75,10 @@ begins session window before drafts left same stands = record {
 }
 
 pub goes_on : (session : Session) (w w' : Contents) (before judged judged' : List Judgement) (drafts left left' : List Draft) (draft : Draft) (judgement : Judgement)
-  → Goes session w before judged drafts left → left ≡ draft ∷ left' → judged' ≡ judged ++ judgement ∷ []
-  → ((s : Session) → Stands w s.history s.marks → judgement ≡ draft_judgement None s draft)
-  → ((s : Session) → Stands w s.history s.marks → Stands w' (draft_session None s draft).history (draft_session None s draft).marks)
-  → Goes session w' before judged' drafts left'
+    → Goes session w before judged drafts left → left ≡ draft ∷ left' → judged' ≡ judged ++ judgement ∷ []
+    → ((s : Session) → Stands w s.history s.marks → judgement ≡ draft_judgement None s draft)
+    → ((s : Session) → Stands w s.history s.marks → Stands w' (draft_session None s draft).history (draft_session None s draft).marks)
+    → Goes session w' before judged' drafts left'
 goes_on session w w' before judged judged' drafts left left' draft judgement goes first pushed is stands =
     let next : Session = draft_session None goes.now draft in
     record {

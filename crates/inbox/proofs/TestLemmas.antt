@@ -51,8 +51,8 @@ pub valid_passes : (line : Line) (now salt : ℕ) → IsValidSalt line now salt 
 valid_passes line now salt valid =
     guarded_back (nat_eq salt 0) _ (not_equal salt 0 valid.0)
     (list_any_at (is_row_of line.start now salt) line.rows valid.1.0 valid.1.1 valid.1.2
-        (let same = valid.1.3 in
-         subst (λ (row : Row). is_row_of line.start now salt row ≡ true) (sym same) (row_test line.start now salt valid.1.1 valid.1.4.0 valid.1.4.1)))
+    (let same = valid.1.3 in
+    subst (λ (row : Row). is_row_of line.start now salt row ≡ true) (sym same) (row_test line.start now salt valid.1.1 valid.1.4.0 valid.1.4.1)))
 
 pub passes_valid : (line : Line) (now salt : ℕ) → is_valid_salt line now salt ≡ true → IsValidSalt line now salt
 passes_valid line now salt passes =

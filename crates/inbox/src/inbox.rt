@@ -76,11 +76,11 @@ impl Inbox {
             → IfOk result (λ judged. judged ≡ judgements (InEnvelope now salts outer.now.salt) session (message_in outer.now)) }
         ensures recorded { (session : Session) (salts : Line) → Stands self.old session.history session.marks → LineStands line.now salts
             → OnOk result (Stands self.new (session_after (InEnvelope now salts outer.now.salt) session (message_in outer.now)).history
-                (session_after (InEnvelope now salts outer.now.salt) session (message_in outer.now)).marks) }
+            (session_after (InEnvelope now salts outer.now.salt) session (message_in outer.now)).marks) }
         ensures accepts { (session : Session) (salts : Line) → Stands self.old session.history session.marks → LineStands line.now salts
             → IsAcceptable now salts outer.now.salt session (message_in outer.now)
             → IfOk result (λ judged. slice_get judged 0
-                ≡ Some (record { number = outer.now.number; seq = outer.now.seq; verdict = Accepted (item_told outer.now.body) })) }
+            ≡ Some (record { number = outer.now.number; seq = outer.now.seq; verdict = Accepted (item_told outer.now.body) })) }
         ensures unchanged_on_memory { OnErr result (self.new ≡ self.old) }
     {
         let envelope = by_envelope(now, line, outer.number, outer.salt);

@@ -45,7 +45,10 @@ impl Kind {
     pub(crate) fn needs_even(self) -> bool
         ensures { result ≡ needs_even self }
     {
-        matches!(self, Kind::Container | Kind::Unlawful | Kind::Acknowledgement)
+        matches!(
+            self,
+            Kind::Container | Kind::Unlawful | Kind::Acknowledgement
+        )
     }
 
     /// Whether its sequence number is odd.
@@ -68,10 +71,7 @@ impl Kind {
 }
 
 /// The inner messages of the message with this number, or its fault, where its body begins as a container.
-pub(crate) fn container_in(
-    number: u64,
-    body: &[u8],
-) -> Option<Result<Parts<'_>, ContainerFault>>
+pub(crate) fn container_in(number: u64, body: &[u8]) -> Option<Result<Parts<'_>, ContainerFault>>
     ensures { result ≡ container_in number body.now }
 {
     if is_container(body) {
@@ -82,10 +82,7 @@ pub(crate) fn container_in(
 }
 
 /// The kind of a message with this body.
-pub(crate) fn kind_among(
-    container: &Option<Result<Parts<'_>, ContainerFault>>,
-    body: &[u8],
-) -> Kind
+pub(crate) fn kind_among(container: &Option<Result<Parts<'_>, ContainerFault>>, body: &[u8]) -> Kind
     ensures { result ≡ kind_among container.now body.now }
 {
     match container {

@@ -18,8 +18,9 @@ pub fn acceptable_messages_are_accepted()
         → judge (InEnvelope now line salt) session message ≡ Accepted (item_told message.body) }
     ensures recorded { (now : ℕ) (line : Line) (salt : ℕ) (session : Session) (message : Message) → IsAcceptable now line salt session message
         → judged_session (InEnvelope now line salt) session message ≡ record {
-            history = noted message.number message.seq (outcome_of (kind_of message)) session.history;
-            marks = given message.number (first_mark (outcome_of (kind_of message))) session.marks } }
+          history = noted message.number message.seq (outcome_of (kind_of message)) session.history;
+          marks = given message.number (first_mark (outcome_of (kind_of message))) session.marks;
+        } }
 {}
 
 /// The test of salts in the definition of judging is the definition of valid salts.

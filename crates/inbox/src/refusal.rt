@@ -108,9 +108,17 @@ fn by_parity(kind: Kind, seq: u32) -> Option<u32>
     ensures { result ≡ by_parity kind seq }
 {
     if seq % 2 == 1 {
-        return if kind.needs_even() { Some(EVEN_SEQ_EXPECTED) } else { None };
+        return if kind.needs_even() {
+            Some(EVEN_SEQ_EXPECTED)
+        } else {
+            None
+        };
     }
-    if kind.needs_odd() { Some(ODD_SEQ_EXPECTED) } else { None }
+    if kind.needs_odd() {
+        Some(ODD_SEQ_EXPECTED)
+    } else {
+        None
+    }
 }
 
 fn by_neighbours(cross: Cross) -> Option<u32>

@@ -95,11 +95,7 @@ fn verdict_again(kind: Kind, mark: Mark) -> Verdict
 }
 
 /// Judges the messages of a container in order.
-pub(crate) fn settle_inner(
-    window: &mut Window,
-    drafts: Vec<Draft>,
-    judgements: &mut Vec<Judgement>,
-)
+pub(crate) fn settle_inner(window: &mut Window, drafts: Vec<Draft>, judgements: &mut Vec<Judgement>)
     requires room { vec_len drafts ≤ window.old.room }
     requires judgement_room { vec_len judgements.old + vec_len drafts ≤ vec_capacity judgements.old }
     ensures judged { (session : Session) → Stands window.old session.history session.marks

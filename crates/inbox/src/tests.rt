@@ -32,8 +32,11 @@ const EMPTY_CONTAINER: [u8; 8] = [0xdc, 0xf8, 0xf1, 0x73, 0, 0, 0, 0];
 
 /// Accepted, and came again, as `told` tells them.
 const ACCEPTED: u32 = 0;
+
 const AGAIN: u32 = 1_000;
+
 const AGAIN_WAITING: u32 = 1_001;
+
 const AGAIN_CONTAINER: u32 = 1_002;
 
 // What became of a message, as a number: that of its notice, or one of the above.
@@ -154,9 +157,16 @@ fn container(alloc: Global, count: u32, last_length: u32) -> Result<Octets, Memo
     let mut body = Octets::copy(alloc, &[0xdc, 0xf8, 0xf1, 0x73])?;
     body.push_all(alloc, &count.to_le_bytes())?;
     for place in 1..=count as u64 {
-        let length = if place == count as u64 { last_length } else { 4 };
+        let length = if place == count as u64 {
+            last_length
+        } else {
+            4
+        };
         body.push_all(alloc, &(4 * place).to_le_bytes())?;
-        body.push_all(alloc, &(((2 * place - 1) & 0xffff_ffff) as u32).to_le_bytes())?;
+        body.push_all(
+            alloc,
+            &(((2 * place - 1) & 0xffff_ffff) as u32).to_le_bytes(),
+        )?;
         body.push_all(alloc, &length.to_le_bytes())?;
         body.push_all(alloc, &CALL)?;
     }
@@ -186,7 +196,11 @@ fn containers_are_judged_with_their_messages(rt: HostRuntime) -> Result<(), Fail
         assert_eq!(rt; told, wanted);
         assert_eq!(rt; count, wanted_count);
         let (again, _) = judge(&mut inbox, alloc, 0, number, seq, SALT, &bytes[..kept])?;
-        let wanted_again = if wanted == ACCEPTED { AGAIN_CONTAINER } else { AGAIN };
+        let wanted_again = if wanted == ACCEPTED {
+            AGAIN_CONTAINER
+        } else {
+            AGAIN
+        };
         assert_eq!(rt; again, wanted_again);
     }
     Ok(())
@@ -199,7 +213,10 @@ fn no_container_stands_in_another(rt: HostRuntime) -> Result<(), Fail> {
     body.push_all(alloc, &[4, 0, 0, 0, 0, 0, 0, 0, 0, 0, 0, 0, 8, 0, 0, 0])?;
     body.push_all(alloc, &EMPTY_CONTAINER)?;
     let mut inbox = Inbox::new(alloc)?;
-    assert_eq!(rt; judge(&mut inbox, alloc, 0, 8, 2, SALT, body.as_slice())?, (64, 1));
+    assert_eq!(rt;
+        judge(&mut inbox, alloc, 0, 8, 2, SALT, body.as_slice())?,
+        (64, 1)
+    );
     assert!(rt; inbox.mark(4).is_none());
     Ok(())
 }
@@ -264,8 +281,8 @@ fn judge_both(
     requires { line.now.latest ≤ now }
     ensures { (session : Session) (salts : Line) → Stands inbox.old session.history session.marks → LineStands line.now salts → IsOk result
         → (let once = session_after (InEnvelope now salts first.now.salt) session (message_in first.now) in
-           let twice = session_after (InEnvelope now salts second.now.salt) once (message_in second.now) in
-           Stands inbox.new twice.history twice.marks) }
+        let twice = session_after (InEnvelope now salts second.now.salt) once (message_in second.now) in
+        Stands inbox.new twice.history twice.marks) }
 {
     inbox.judge(alloc, now, line, first)?;
     inbox.judge(alloc, now, line, second)?;

@@ -19,9 +19,9 @@ pub returns-then-is_recorded-clause-stands : goal.returns-then-is_recorded-claus
 returns-then-is_recorded-clause-stands c session item stands =
     let kept : is_recorded c.in-Some-refusal.code ≡ true = first_of (cc, search rules) in
     settled_by _ session c.args.number c.args.seq c.args.kind (Noticed c.in-Some-refusal.code) (draft_verdict c.args.envelope session (drafted c.args.number c.args.seq c.args.kind item))
-      (returns-then-is_recorded-clause-judged c session item stands)
-      (settled_refused _ session c.args.number c.args.seq c.args.kind c.in-Some-refusal.code kept
-        (c.note-then-is_recorded.ensures.stands session.history session.marks (Refused c.in-Some-refusal.code) stands refl))
+    (returns-then-is_recorded-clause-judged c session item stands)
+    (settled_refused _ session c.args.number c.args.seq c.args.kind c.in-Some-refusal.code kept
+    (c.note-then-is_recorded.ensures.stands session.history session.marks (Refused c.in-Some-refusal.code) stands refl))
 
 -- ---- refused and not recorded
 
@@ -35,8 +35,8 @@ pub returns-else-is_recorded-clause-stands : goal.returns-else-is_recorded-claus
 returns-else-is_recorded-clause-stands c session item stands =
     let left : is_recorded c.in-Some-refusal.code ≡ false = first_of (cc, search rules) in
     settled_by _ session c.args.number c.args.seq c.args.kind (Noticed c.in-Some-refusal.code) (draft_verdict c.args.envelope session (drafted c.args.number c.args.seq c.args.kind item))
-      (returns-else-is_recorded-clause-judged c session item stands)
-      (settled_unrecorded _ session c.args.number c.args.seq c.args.kind c.in-Some-refusal.code left stands)
+    (returns-else-is_recorded-clause-judged c session item stands)
+    (settled_unrecorded _ session c.args.number c.args.seq c.args.kind c.in-Some-refusal.code left stands)
 
 -- ---- accepted
 
@@ -49,6 +49,6 @@ returns-in-None-clause-judged c session item stands =
 pub returns-in-None-clause-stands : goal.returns-in-None-clause-stands
 returns-in-None-clause-stands c session item stands =
     settled_by _ session c.args.number c.args.seq c.args.kind (Accepted item) (draft_verdict c.args.envelope session (drafted c.args.number c.args.seq c.args.kind item))
-      (returns-in-None-clause-judged c session item stands)
-      (settled_accepted _ session c.args.number c.args.seq c.args.kind item c.first_mark.result c.first_mark.ensures
-        (c.note.ensures.stands session.history session.marks (outcome_of c.args.kind) stands (accepted_mark c.args.kind c.first_mark.result c.first_mark.ensures)))
+    (returns-in-None-clause-judged c session item stands)
+    (settled_accepted _ session c.args.number c.args.seq c.args.kind item c.first_mark.result c.first_mark.ensures
+    (c.note.ensures.stands session.history session.marks (outcome_of c.args.kind) stands (accepted_mark c.args.kind c.first_mark.result c.first_mark.ensures)))

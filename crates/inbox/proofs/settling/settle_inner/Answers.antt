@@ -15,11 +15,13 @@ pub push_reserved-requires : goal.push_reserved-requires
 push_reserved-requires c = omega (arith, c.loop-draft.invariant.3, c.in-Some.ensures.steps.1)
 
 pub loop-draft-preserved : goal.loop-draft-preserved
-loop-draft-preserved c =
-    ( tt, tt
-    , omega (arith, c.loop-draft.invariant.2, c.in-Some.ensures.steps.1, c.settle.ensures.room)
-    , omega (arith, c.loop-draft.invariant.3, c.in-Some.ensures.steps.1, c.push_reserved.ensures.len, c.push_reserved.ensures.capacity)
-    , λ session stands. goes_on session _ _ _ _ _ _ _ _ _ _ (c.loop-draft.invariant.4 session stands) c.in-Some.ensures.steps.0 c.push_reserved.ensures.items c.settle.ensures.judged c.settle.ensures.stands )
+loop-draft-preserved c = (
+  tt,
+  tt,
+  omega (arith, c.loop-draft.invariant.2, c.in-Some.ensures.steps.1, c.settle.ensures.room),
+  omega (arith, c.loop-draft.invariant.3, c.in-Some.ensures.steps.1, c.push_reserved.ensures.len, c.push_reserved.ensures.capacity),
+  λ session stands. goes_on session _ _ _ _ _ _ _ _ _ _ (c.loop-draft.invariant.4 session stands) c.in-Some.ensures.steps.0 c.push_reserved.ensures.items c.settle.ensures.judged c.settle.ensures.stands,
+)
 
 pub returns-clause-judged : goal.returns-clause-judged
 returns-clause-judged c session stands =

@@ -13,4 +13,4 @@ invariant-loop-draft l =
     (into_iter_len l.draft-iterator ≤ l.window.room) ×
     (vec_len l.judgements + into_iter_len l.draft-iterator ≤ vec_capacity l.judgements) ×
     ((session : Session) → Stands l.initial.window session.history session.marks
-      → Goes session l.window l.initial.judgements.items l.judgements.items l.fn.drafts.items (into_iter_items l.draft-iterator))
+    → Goes session l.window l.initial.judgements.items l.judgements.items l.fn.drafts.items (into_iter_items l.draft-iterator))

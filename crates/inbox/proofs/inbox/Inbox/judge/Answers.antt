@@ -29,7 +29,7 @@ returns-then-not-accepted-clause-judged c session salts stands line_stands =
 pub returns-then-not-accepted-clause-accepts : goal.returns-then-not-accepted-clause-accepts
 returns-then-not-accepted-clause-accepts c session salts stands line_stands is =
     first_accepted c.args.now salts c.args.outer.now.salt session (message_in c.args.outer.now) _ is
-      (returns-then-not-accepted-clause-judged c session salts stands line_stands)
+    (returns-then-not-accepted-clause-judged c session salts stands line_stands)
 
 pub returns-then-not-accepted-clause-recorded : goal.returns-then-not-accepted-clause-recorded
 returns-then-not-accepted-clause-recorded c session salts stands line_stands =
@@ -60,7 +60,7 @@ returns-clause-judged c session salts stands line_stands =
     } in
     let accepted : is_accepted c.settle-judgement.result.verdict ≡ true = first_of (cc, search rules, grind (arith, nat_tests)) in
     all_judged way session (message_in c.args.outer.now) _ _ _ settled c.in_ok-message.inner.items _ _ _ accepted c.in_ok-message.ensures.inner c.in_ok-judgements.ensures.items c.push_reserved.ensures.items
-      (c.settle_inner.ensures.judged (draft_session c.by_envelope-envelope.result session c.in_ok-message.message) (c.settle-judgement.ensures.stands session w1))
+    (c.settle_inner.ensures.judged (draft_session c.by_envelope-envelope.result session c.in_ok-message.message) (c.settle-judgement.ensures.stands session w1))
 
 pub returns-clause-accepts : goal.returns-clause-accepts
 returns-clause-accepts c session salts stands line_stands is =
@@ -79,4 +79,4 @@ returns-clause-recorded c session salts stands line_stands =
     } in
     let accepted : is_accepted c.settle-judgement.result.verdict ≡ true = first_of (cc, search rules, grind (arith, nat_tests)) in
     all_stands way session (message_in c.args.outer.now) _ _ _ settled c.settle_inner.new.window c.in_ok-message.inner.items accepted c.in_ok-message.ensures.inner
-      (c.settle_inner.ensures.stands (draft_session c.by_envelope-envelope.result session c.in_ok-message.message) (c.settle-judgement.ensures.stands session w1))
+    (c.settle_inner.ensures.stands (draft_session c.by_envelope-envelope.result session c.in_ok-message.message) (c.settle-judgement.ensures.stands session w1))
