@@ -5,7 +5,9 @@ use Rattle.id_window.specs.declared.cross.Cross.TheVariants.{None as Apart}
 use Rattle.id_window.specs.History.{is_kept, floor, crosses}
 use Rattle.service_tl.specs.declared.lists.Message.{Message}
 use Rattle.inbox.specs.declared.kind.Kind.TheVariants.{Unlawful}
-use Rattle.inbox.specs.Kinds.{kind_of}
+use Rattle.inbox.specs.declared.judged.Verdict.TheVariants.{Accepted}
+use Rattle.inbox.specs.declared.judged.Judgement.{Judgement}
+use Rattle.inbox.specs.Kinds.{kind_of, item_told}
 use Rattle.inbox.specs.Refusals.{second_of, needs_even, needs_odd}
 use Rattle.inbox.specs.Judging.{Session}
 
@@ -25,3 +27,7 @@ pub record IsAcceptable (now : ℕ) (line : Line) (salt : ℕ) (session : Sessio
   pub apart : crosses message.number message.seq session.history ≡ Apart
   -- it is no container, or a lawful one
   pub lawful : kind_of message ≢ Unlawful
+
+-- its judgement: accepted, as the item that it is
+abbrev pub acceptance_of : Message → Judgement
+acceptance_of message = record { number = message.number; seq = message.seq; verdict = Accepted (item_told message.body) }

@@ -37,11 +37,9 @@ impl Inbox {
     ghost use Rattle.id_window.specs.Window.{mark_in};
     ghost use Rattle.inbox.specs.Refusals.{InEnvelope};
     ghost use Rattle.inbox.specs.Judging.{Session, judgements, session_after};
-    ghost use Rattle.inbox.specs.Inbox.{Stands, message_in, was_heard};
+    ghost use Rattle.inbox.specs.Inbox.{Stands, Remembers, message_in, was_heard};
     ghost use Rattle.inbox.specs.States.{state_byte};
-    ghost use Rattle.inbox.specs.Kinds.{item_told};
-    ghost use Rattle.inbox.specs.Acceptance.{IsAcceptable};
-    ghost use Rattle.inbox.specs.declared.judged.Verdict.TheVariants.{Accepted};
+    ghost use Rattle.inbox.specs.Acceptance.{IsAcceptable, acceptance_of};
 
     /// An inbox to which no message came.
     ///
@@ -72,15 +70,15 @@ impl Inbox {
         outer: &Outer,
     ) -> Result<Judged, Memory>
         requires { line.now.latest ≤ now }
-        ensures judged { (session : Session) (salts : Line) → Stands self.old session.history session.marks → LineStands line.now salts
+        ensures judged { (session : Session) (salts : Line) → Remembers self.old session → LineStands line.now salts
             → IfOk result (λ judged. judged ≡ judgements (InEnvelope now salts outer.now.salt) session (message_in outer.now)) }
-        ensures recorded { (session : Session) (salts : Line) → Stands self.old session.history session.marks → LineStands line.now salts
-            → OnOk result (Stands self.new (session_after (InEnvelope now salts outer.now.salt) session (message_in outer.now)).history
-            (session_after (InEnvelope now salts outer.now.salt) session (message_in outer.now)).marks) }
-        ensures accepts { (session : Session) (salts : Line) → Stands self.old session.history session.marks → LineStands line.now salts
+        ensures recorded { (session : Session) (salts : Line) → Remembers self.old session → LineStands line.now salts
+            → OnOk result (Remembers self.new (session_after (InEnvelope now salts outer.now.salt) session (message_in outer.now))) }
+
+        // A message that nothing refuses is accepted.
+        ensures accepts { (session : Session) (salts : Line) → Remembers self.old session → LineStands line.now salts
             → IsAcceptable now salts outer.now.salt session (message_in outer.now)
-            → IfOk result (λ judged. slice_get judged 0
-            ≡ Some (record { number = outer.now.number; seq = outer.now.seq; verdict = Accepted (item_told outer.now.body) })) }
+            → IfOk result (λ judged. slice_get judged 0 ≡ Some (acceptance_of (message_in outer.now))) }
         ensures unchanged_on_memory { OnErr result (self.new ≡ self.old) }
     {
         let envelope = by_envelope(now, line, outer.number, outer.salt);

@@ -6,7 +6,7 @@ ghost use Rattle.id_window.specs.Marks.{Marks, given};
 ghost use Rattle.id_window.specs.History.{History, found};
 ghost use Rattle.inbox.specs.Refusals.{InEnvelope};
 ghost use Rattle.inbox.specs.Judging.{Session, session_after};
-ghost use Rattle.inbox.specs.Inbox.{Stands, message_in};
+ghost use Rattle.inbox.specs.Inbox.{Stands, Remembers, message_in};
 
 use crate::{Inbox, Mark, Outer, Verdict};
 use msg_ids::Moment;
@@ -279,10 +279,9 @@ fn judge_both(
     second: &Outer,
 ) -> Result<(), Memory>
     requires { line.now.latest ≤ now }
-    ensures { (session : Session) (salts : Line) → Stands inbox.old session.history session.marks → LineStands line.now salts → IsOk result
+    ensures { (session : Session) (salts : Line) → Remembers inbox.old session → LineStands line.now salts → IsOk result
         → (let once = session_after (InEnvelope now salts first.now.salt) session (message_in first.now) in
-        let twice = session_after (InEnvelope now salts second.now.salt) once (message_in second.now) in
-        Stands inbox.new twice.history twice.marks) }
+        Remembers inbox.new (session_after (InEnvelope now salts second.now.salt) once (message_in second.now))) }
 {
     inbox.judge(alloc, now, line, first)?;
     inbox.judge(alloc, now, line, second)?;
