@@ -2,7 +2,7 @@
 
 ghost use Rattle.std.specs.Prelude.{◌≡◌, ◌≢◌, ℕ, suc, ◌^◌, ◌<◌, ◌≤◌, Bool, length, List, [], ◌∷◌, ◌++◌, ◌⊎◌, map, Some, None, true, false};
 ghost use Rattle.std.specs.List.{Contains, All, AllPairs};
-ghost use Rattle.session_moves.specs.Table.State.{Queued, Sent, Done, Refused, Unknown};
+ghost use Rattle.session_moves.specs.Table.State.{Queued, Sent, Held, Done, Refused, Unknown};
 ghost use Rattle.session_moves.specs.Table.Status.{Unmade, Standing, Lost};
 ghost use Rattle.session_moves.specs.Table.Cause.{ServerSessionLost, Ended, Forgotten};
 ghost use Rattle.session_moves.specs.Table.Outcome.{AcceptedOther};
@@ -22,7 +22,7 @@ ghost use Rattle.session_moves.specs.Given.{given, Rises};
 ghost use Rattle.session_moves.specs.Once.{Once, IsDecided};
 ghost use Rattle.session_moves.specs.Safe.{Salts, Numbers, OneTaker};
 ghost use Rattle.session_moves.specs.Needed.{Breaks, BreaksOneTaker, RunsTwice, taken_session, given_up_sent, given_again, not_queued, two_at_once, salt_of_zero, drawn_again, invented_message, judged_again, other_body, foreign_salt, outcome_of_twenty, early_forget, other_request, answered_again, names_another, invented_result, early_result, invented_notice, invented_wrong_salt, foreign_new_salt, silent, invented_packet};
-ghost use Rattle.session_moves.specs.Witness.{reply, entry_of, refusal, resent, lost, first_contact, two_clients, held, ended, given_up, forgotten, sent_again};
+ghost use Rattle.session_moves.specs.Witness.{reply, entry_of, refusal, resent, lost, first_contact, two_clients, held_at_first, held, ended, given_up, forgotten, sent_again};
 
 /// Whatever lawful moves clients and servers make, each call is executed at most once and reported as it was, and
 /// salts, numbers and server sessions are as that needs.
@@ -148,6 +148,17 @@ pub fn items_make()
         → (after_settled w client number state).calls call ≡ w.calls call }
 {}
 
+/// What wasn't made yet has nothing: a call that wasn't submitted has no name, a server session that wasn't made no salt,
+/// outcome or forgotten number, and a client that wasn't made no former session number.
+pub fn what_was_not_made_is_blank()
+    ensures calls { (w : World) (call : CallId) → Reached w → w.submitted call.client ≤ call.place
+        → ((w.calls call).names ≡ []) × ((w.calls call).state ≡ Refused 0) }
+    ensures servers { (w : World) (unique : ℕ) → Reached w → (w.servers unique).status ≡ Unmade
+        → ((w.servers unique).salts ≡ []) × ((w.servers unique).judged ≡ []) × ((w.servers unique).forgotten ≡ []) }
+    ensures clients { (w : World) (client : ℕ) → Reached w → (w.clients client).present ≡ 0
+        → ((w.clients client).former ≡ []) × ((w.clients client).ended ≡ false) }
+{}
+
 /// The salt of a message is 0, or belongs to a server session that was made. So what is no server session's salt, and
 /// isn't 0, is no message's.
 pub fn salts_are_drawn()
@@ -202,9 +213,10 @@ pub fn clients_can_be_two()
     ensures second_done { ((after_all start two_clients).calls (call_at 1 0)).state ≡ Done reply }
 {}
 
-/// A call whose number was too high may run once its client has renewed.
+/// A call whose number was too high is held, and may run once its client has renewed.
 pub fn calls_can_be_held()
     ensures lawful { AreLawful start held }
+    ensures held { ((after_all start held_at_first).calls (call_at 0 0)).state ≡ Held }
     ensures renumbered { map (λ name. name.number) ((after_all start held).calls (call_at 0 0)).names ≡ 4 ∷ 2 ^ 40 ∷ [] }
     ensures executed { (after_all start held).entries ≡ entry_of 12 4 ∷ [] }
     ensures done { ((after_all start held).calls (call_at 0 0)).state ≡ Done reply }
