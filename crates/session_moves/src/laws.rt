@@ -1,19 +1,19 @@
 //! What holds of every list of lawful moves, what a list of moves leaves as it was, and runs.
 
-ghost use Rattle.std.specs.Prelude.{◌≡◌, ◌≢◌, ℕ, suc, ◌^◌, ◌<◌, ◌≤◌, Bool, length, List, [], ◌∷◌, ◌++◌, ◌⊎◌, map, Some, None, true, false};
-ghost use Rattle.std.specs.List.{Contains, All, AllPairs};
+ghost use Rattle.std.specs.Prelude.{◌≡◌, ◌≢◌, ℕ, suc, ◌^◌, ◌<◌, ◌≤◌, ◌==◌, Bool, ◌||◌, length, List, [], ◌∷◌, ◌++◌, ◌⊎◌, map, Some, None, true, false};
+ghost use Rattle.std.specs.List.{Contains, All, AllPairs, list_all};
 ghost use Rattle.session_moves.specs.Table.State.{Queued, Sent, Held, Done, Refused, Unknown};
 ghost use Rattle.session_moves.specs.Table.Status.{Unmade, Standing, Lost};
 ghost use Rattle.session_moves.specs.Table.Cause.{ServerSessionLost, Ended, Forgotten};
 ghost use Rattle.session_moves.specs.Table.Outcome.{AcceptedOther};
-ghost use Rattle.session_moves.specs.Table.Item.{Result};
-ghost use Rattle.session_moves.specs.Table.{CallId, Text, State, Name, Message, Outcome, Item, Entry, call_at};
+ghost use Rattle.session_moves.specs.Table.Item.{NewSession, Result, Notice, WrongSalt};
+ghost use Rattle.session_moves.specs.Table.{CallId, Text, State, Name, Message, Outcome, Item, Packet, Entry, call_at};
 ghost use Rattle.session_moves.specs.World.{World, IsName, start};
-ghost use Rattle.session_moves.specs.Move.{Move};
+ghost use Rattle.session_moves.specs.Move.{Part, Move};
 ghost use Rattle.session_moves.specs.Move.OwnAct.{NewClient, Renew, Submit, GiveUp, End};
 ghost use Rattle.session_moves.specs.Move.Part.{First, Again, Other, OtherAgain};
-ghost use Rattle.session_moves.specs.Move.Move.{Own, Make, Draw, Judge, Forget, Answer, Speak, Lose};
-ghost use Rattle.session_moves.specs.After.{after, after_part, message_of, name_of, after_settled, after_learnt, end_client, learn, after_items, state_renewed, state_ended, LEARNT_MAX};
+ghost use Rattle.session_moves.specs.Move.Move.{Own, Send, Make, Draw, Judge, Forget, Answer, Speak, Hear, Lose};
+ghost use Rattle.session_moves.specs.After.{after, after_part, after_parts, message_of, name_of, after_settled, state_noticed, newest_salts, state_learnt, after_learnt, end_client, learn, after_salt, after_item, after_heard, after_items, state_renewed, state_ended, LEARNT_MAX};
 ghost use Rattle.session_moves.specs.Lawful.{IsLawful, MaySay};
 ghost use Rattle.session_moves.specs.LawfulBut.{IsLawfulBut, NO_PLACE};
 ghost use Rattle.session_moves.specs.Reached.{Reached, AreLawful, after_all};
@@ -109,8 +109,19 @@ pub fn own_acts_make()
         ≡ record (w.calls (call_at client place)) { state = state_ended (w.calls (call_at client place)).state } }
 {}
 
-/// What one message of a packet up makes of the messages and of its client's calls.
+/// Each move takes one step of time.
+pub fn time_goes_on()
+    ensures { (w : World) (move : Move) → (after w move).time ≡ suc w.time }
+{}
+
+/// What one message of a packet up makes of the messages and of its client's calls, and a packet of its messages in turn.
 pub fn parts_make()
+    ensures sent { (w : World) (client : ℕ) (parts : List Part) → after w (Send client parts)
+        ≡ record (after_parts w client parts) { time = suc w.time } }
+    ensures no_part { (w : World) (client : ℕ) → after_parts w client [] ≡ w }
+    ensures each_part { (w : World) (client : ℕ) (part : Part) (parts : List Part) → after_parts w client (part ∷ parts)
+        ≡ after_parts (after_part w client part) client parts }
+
     ensures first_message { (w : World) (client place number : ℕ) → (after_part w client (First place number)).ups
         ≡ message_of (w.clients client) number (Some (w.calls (call_at client place)).body) ∷ w.ups }
     ensures first_call { (w : World) (client place number : ℕ) → (after_part w client (First place number)).calls (call_at client place)
@@ -124,6 +135,37 @@ pub fn parts_make()
         ≡ record w { ups = message_of (w.clients client) number None ∷ w.ups } }
     ensures other_again { (w : World) (client number : ℕ) → after_part w client (OtherAgain number)
         ≡ record w { ups = message_of (w.clients client) number None ∷ w.ups } }
+{}
+
+/// What a client makes of a packet: one item after another, with what `takes` says of it, or false where that says nothing.
+pub fn packets_make()
+    ensures heard { (w : World) (client : ℕ) (packet : Packet) (takes : List Bool) → after w (Hear client packet takes)
+        ≡ record (after_items w client packet.items takes) { time = suc w.time } }
+    ensures no_item { (w : World) (client : ℕ) (takes : List Bool) → after_items w client [] takes ≡ w }
+    ensures each_item { (w : World) (client : ℕ) (item : Item) (items : List Item) (take : Bool) (takes : List Bool)
+        → after_items w client (item ∷ items) (take ∷ takes) ≡ after_items (after_heard w client item take) client items takes }
+    ensures each_other { (w : World) (client : ℕ) (item : Item) (items : List Item)
+        → after_items w client (item ∷ items) [] ≡ after_items (after_heard w client item false) client items [] }
+
+    // A client that has ended leaves an item.
+    ensures left { (w : World) (client : ℕ) (item : Item) (takes : Bool) → (w.clients client).ended ≡ true
+        → after_heard w client item takes ≡ w }
+    ensures taken { (w : World) (client : ℕ) (item : Item) (takes : Bool) → (w.clients client).ended ≡ false
+        → after_heard w client item takes ≡ after_item w client item takes }
+
+    // Which item does what.
+    ensures item_new { (w : World) (client unique salt : ℕ) (takes : Bool)
+        → after_item w client (NewSession unique salt) takes ≡ learn w client unique salt }
+    ensures item_result { (w : World) (client number : ℕ) (reply : Text) (takes : Bool)
+        → after_item w client (Result number reply) takes ≡ after_settled w client number (Done reply) }
+    ensures item_notice { (w : World) (client number code : ℕ) (takes : Bool)
+        → after_item w client (Notice number code) takes ≡ after_settled w client number (state_noticed code) }
+    ensures item_wrong_salt { (w : World) (client number salt : ℕ) (takes : Bool) → after_item w client (WrongSalt number salt) takes
+        ≡ after_salt (after_settled w client number (state_noticed 48)) client salt takes }
+    ensures noticed_again { (state_noticed 16 ≡ Queued) × (state_noticed 48 ≡ Queued) }
+    ensures noticed_high { state_noticed 17 ≡ Held }
+    ensures noticed_old { state_noticed 20 ≡ Unknown Forgotten }
+    ensures noticed_other { (code : ℕ) → code ≢ 16 → code ≢ 48 → code ≢ 17 → code ≢ 20 → state_noticed code ≡ Refused code }
 {}
 
 /// What an item that is heard makes of a client and of its calls.
@@ -146,6 +188,42 @@ pub fn items_make()
         → (after_settled w client number state).calls call ≡ record (w.calls call) { state = state } }
     ensures unsent { (w : World) (client number : ℕ) (state : State) (call : CallId) → (w.calls call).state ≢ Sent
         → (after_settled w client number state).calls call ≡ w.calls call }
+    ensures others_stay { (w : World) (client number : ℕ) (state : State) (call : CallId) (name : Name) (older : List Name)
+        → (w.calls call).names ≡ name ∷ older → (name.session ≡ (w.clients client).present → name.number ≢ number)
+        → (after_settled w client number state).calls call ≡ w.calls call }
+    ensures of_others { (w : World) (client number : ℕ) (state : State) (call : CallId) → call.client ≢ client
+        → (after_settled w client number state).calls call ≡ w.calls call }
+    ensures settled_clients { (w : World) (client number : ℕ) (state : State) → (after_settled w client number state).clients ≡ w.clients }
+
+    // A new salt: the client takes it over, or doesn't; calls stay.
+    ensures salt_taken { (w : World) (client salt : ℕ) → (after_salt w client salt true).clients client
+        ≡ record (w.clients client) { salt = salt } }
+    ensures salt_left { (w : World) (client salt : ℕ) → (after_salt w client salt false).clients client ≡ w.clients client }
+    ensures salt_calls { (w : World) (client salt : ℕ) (takes : Bool) → (after_salt w client salt takes).calls ≡ w.calls }
+{}
+
+/// What a unique number that a client learns makes of the client and of its calls.
+pub fn what_is_learnt_makes()
+    ensures learnt_client { (w : World) (client unique salt : ℕ) → (after_learnt w client unique salt).clients client
+        ≡ record (w.clients client) { salt = salt; learnt = unique ∷ (w.clients client).learnt } }
+    ensures learnt_calls { (w : World) (client unique salt : ℕ) (call : CallId) → call.client ≡ client → (w.calls call).state ≡ Sent
+        → (after_learnt w client unique salt).calls call
+        ≡ record (w.calls call) { state = state_learnt (w.clients client).learnt salt (newest_salts w.ups (w.calls call).names) } }
+    ensures unsent { (w : World) (client unique salt : ℕ) (call : CallId) → (w.calls call).state ≢ Sent
+        → (after_learnt w client unique salt).calls call ≡ w.calls call }
+    ensures of_others { (w : World) (client unique salt : ℕ) (call : CallId) → call.client ≢ client
+        → (after_learnt w client unique salt).calls call ≡ w.calls call }
+
+    // A call that was sent under these salts: under 0 alone; under 0 and the new one, where it is the first that is learnt;
+    // else.
+    ensures unsalted { (learnt salts : List ℕ) (salt : ℕ) → list_all (λ under. under == 0) salts ≡ true
+        → state_learnt learnt salt salts ≡ Queued }
+    ensures salted { (salts : List ℕ) (salt : ℕ) → list_all (λ under. under == 0) salts ≡ false
+        → list_all (λ under. (under == 0) || (under == salt)) salts ≡ true → state_learnt [] salt salts ≡ Sent }
+    ensures salted_else { (salts : List ℕ) (salt : ℕ) → list_all (λ under. under == 0) salts ≡ false
+        → list_all (λ under. (under == 0) || (under == salt)) salts ≡ false → state_learnt [] salt salts ≡ Unknown ServerSessionLost }
+    ensures learnt_before { (unique : ℕ) (learnt salts : List ℕ) (salt : ℕ) → list_all (λ under. under == 0) salts ≡ false
+        → state_learnt (unique ∷ learnt) salt salts ≡ Unknown ServerSessionLost }
 {}
 
 /// What wasn't made yet has nothing: a call that wasn't submitted has no name, a server session that wasn't made no salt,
