@@ -8,7 +8,7 @@ ghost use Rattle.session_moves.specs.Table.Cause.{ServerSessionLost, Ended, Forg
 ghost use Rattle.session_moves.specs.Table.Outcome.{AcceptedOther};
 ghost use Rattle.session_moves.specs.Table.Item.{NewSession, Result, Notice, WrongSalt};
 ghost use Rattle.session_moves.specs.Table.{CallId, Text, State, Name, Message, Outcome, Item, Packet, Entry, call_at};
-ghost use Rattle.session_moves.specs.World.{World, IsName, start};
+ghost use Rattle.session_moves.specs.World.{World, Owns, IsName, start};
 ghost use Rattle.session_moves.specs.Move.{Part, Move};
 ghost use Rattle.session_moves.specs.Move.OwnAct.{NewClient, Renew, Submit, GiveUp, End};
 ghost use Rattle.session_moves.specs.Move.Part.{First, Again, Other, OtherAgain};
@@ -21,7 +21,7 @@ ghost use Rattle.session_moves.specs.Extends.{Extends, LeavesServers, LeavesClie
 ghost use Rattle.session_moves.specs.Given.{given, Rises};
 ghost use Rattle.session_moves.specs.Once.{Once, IsDecided};
 ghost use Rattle.session_moves.specs.Safe.{Salts, Numbers, OneTaker};
-ghost use Rattle.session_moves.specs.Needed.{Breaks, BreaksOneTaker, RunsTwice, taken_session, given_up_sent, given_again, not_queued, two_at_once, salt_of_zero, drawn_again, invented_message, judged_again, other_body, foreign_salt, outcome_of_twenty, early_forget, other_request, answered_again, names_another, invented_result, early_result, invented_notice, invented_wrong_salt, foreign_new_salt, silent, invented_packet};
+ghost use Rattle.session_moves.specs.Needed.{Breaks, BreaksOneTaker, RunsTwice, taken_session, taken_by_renewal, made_again, given_up_sent, given_again, not_queued, again_unsent, other_number, old_number, number_of_a_call, two_at_once, salt_of_zero, drawn_again, invented_message, judged_elsewhere, judged_again, other_body, foreign_salt, outcome_of_twenty, early_forget, other_request, answered_again, names_another, foreign_first_salt, invented_result, early_result, invented_notice, invented_wrong_salt, foreign_new_salt, silent, invented_packet, foreign_packet};
 ghost use Rattle.session_moves.specs.Witness.{reply, entry_of, refusal, resent, lost, first_contact, two_clients, held_at_first, held, ended, given_up, forgotten, sent_again};
 
 /// Whatever lawful moves clients and servers make, each call is executed at most once and reported as it was, and
@@ -54,6 +54,19 @@ pub fn decisions_stay()
 /// forgotten numbers.
 pub fn moves_only_add()
     ensures { (w : World) (moves : List Move) → AreLawful w moves → Extends w (after_all w moves) }
+{}
+
+/// What lasts for good: a client that was made stays made, owns its session numbers and stays ended, and a call that was
+/// submitted keeps its body.
+pub fn clients_and_bodies_last()
+    ensures made { (w : World) (moves : List Move) (client : ℕ) → AreLawful w moves → (w.clients client).present ≢ 0
+        → ((after_all w moves).clients client).present ≢ 0 }
+    ensures owned { (w : World) (moves : List Move) (client session : ℕ) → AreLawful w moves → (w.clients client).present ≢ 0
+        → Owns (w.clients client) session → Owns ((after_all w moves).clients client) session }
+    ensures ended { (w : World) (moves : List Move) (client : ℕ) → AreLawful w moves → (w.clients client).present ≢ 0
+        → (w.clients client).ended ≡ true → ((after_all w moves).clients client).ended ≡ true }
+    ensures bodies { (w : World) (moves : List Move) (call : CallId) → AreLawful w moves → call.place < w.submitted call.client
+        → ((after_all w moves).calls call).body ≡ (w.calls call).body }
 {}
 
 /// The parts of a world that a list of moves, lawful or not, leaves as they were.
@@ -332,16 +345,23 @@ pub fn conditions_are_needed()
     ensures whole { (w : World) (move : Move) → IsLawfulBut NO_PLACE w move → IsLawful w move }
 
     ensures taken_session { Breaks taken_session }
+    ensures taken_by_renewal { Breaks taken_by_renewal }
+    ensures made_again { Breaks made_again }
     ensures given_up_sent { Breaks given_up_sent }
 
     ensures given_again { Breaks given_again }
     ensures not_queued { Breaks not_queued }
+    ensures again_unsent { Breaks again_unsent }
+    ensures other_number { Breaks other_number }
+    ensures old_number { BreaksOneTaker old_number }
+    ensures number_of_a_call { BreaksOneTaker number_of_a_call }
 
     ensures two_at_once { Breaks two_at_once }
     ensures salt_of_zero { Breaks salt_of_zero }
     ensures drawn_again { Breaks drawn_again }
 
     ensures invented_message { Breaks invented_message }
+    ensures judged_elsewhere { BreaksOneTaker judged_elsewhere }
     ensures judged_again { Breaks judged_again }
     ensures other_body { Breaks other_body }
     ensures foreign_salt { Breaks foreign_salt }
@@ -351,6 +371,7 @@ pub fn conditions_are_needed()
     ensures other_request { Breaks other_request }
     ensures answered_again { Breaks answered_again }
     ensures names_another { Breaks names_another }
+    ensures foreign_first_salt { Breaks foreign_first_salt }
     ensures invented_result { Breaks invented_result }
     ensures early_result { Breaks early_result }
     ensures invented_notice { Breaks invented_notice }
@@ -359,6 +380,7 @@ pub fn conditions_are_needed()
     ensures silent { Breaks silent }
 
     ensures invented_packet { Breaks invented_packet }
+    ensures foreign_packet { Breaks foreign_packet }
 
     ensures queued_again { RunsTwice }
 {}
