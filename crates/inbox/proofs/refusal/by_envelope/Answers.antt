@@ -6,5 +6,5 @@ use Rattle.inbox.proofs.refusal.by_envelope.Goals as goal
 
 pub returns : goal.returns
 returns c salts stands =
-    let invalid : is_valid_salt salts c.args.now c.args.salt ≡ false = salt_test salts c.args.now c.args.salt c.judge.result (c.judge.ensures salts stands) ∙ c.if-judge.false in
+    let invalid : is_valid_salt salts c.args.now c.args.salt ≡ false = salt_test salts c.args.now c.args.salt c.judge.result (c.judge.ensures.judged salts stands) ∙ c.if-judge.false in
     rw invalid (grind (arith, common_steps))
