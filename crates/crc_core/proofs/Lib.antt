@@ -1,0 +1,4 @@
+pub mod TableTests
+pub mod BitLaws
+pub mod Tables
+pub mod TextLaws
