@@ -29,13 +29,13 @@ added-xor : (a b x y : ℕ) → a < 2 → b < 2 → x < 2 → y < 2 → AddedXor
 added-xor a b x y ha hb hx hy =
     by_bit (λ a. AddedXor a b x y)
     (by_bit (λ b. AddedXor 0 b x y)
-        (by_bit (λ x. AddedXor 0 0 x y) (by_bit (AddedXor 0 0 0) refl refl y hy) (by_bit (AddedXor 0 0 1) refl refl y hy) x hx)
-        (by_bit (λ x. AddedXor 0 1 x y) (by_bit (AddedXor 0 1 0) refl refl y hy) (by_bit (AddedXor 0 1 1) refl refl y hy) x hx)
-        b hb)
+    (by_bit (λ x. AddedXor 0 0 x y) (by_bit (AddedXor 0 0 0) refl refl y hy) (by_bit (AddedXor 0 0 1) refl refl y hy) x hx)
+    (by_bit (λ x. AddedXor 0 1 x y) (by_bit (AddedXor 0 1 0) refl refl y hy) (by_bit (AddedXor 0 1 1) refl refl y hy) x hx)
+    b hb)
     (by_bit (λ b. AddedXor 1 b x y)
-        (by_bit (λ x. AddedXor 1 0 x y) (by_bit (AddedXor 1 0 0) refl refl y hy) (by_bit (AddedXor 1 0 1) refl refl y hy) x hx)
-        (by_bit (λ x. AddedXor 1 1 x y) (by_bit (AddedXor 1 1 0) refl refl y hy) (by_bit (AddedXor 1 1 1) refl refl y hy) x hx)
-        b hb)
+    (by_bit (λ x. AddedXor 1 0 x y) (by_bit (AddedXor 1 0 0) refl refl y hy) (by_bit (AddedXor 1 0 1) refl refl y hy) x hx)
+    (by_bit (λ x. AddedXor 1 1 x y) (by_bit (AddedXor 1 1 0) refl refl y hy) (by_bit (AddedXor 1 1 1) refl refl y hy) x hx)
+    b hb)
     a ha
 
 added_same : (bit : ℕ) → bit < 2 → added bit bit ≡ 0

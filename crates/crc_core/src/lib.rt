@@ -1,5 +1,5 @@
 //! The cyclic redundancy check of 32 bits that ISO/IEC 3309, ITU-T V.42 (8.1.1.6.2) and RFC 1952 (section 8)
-//! have, of a whole text or of one that comes in pieces. It is defined bit by bit, and computed by a table. No call
+//! have, of a whole text or of one that comes in pieces. It is defined bit by bit, and computed by tables. No call
 //! takes memory.
 #![tactic(auto)]
 
@@ -11,6 +11,7 @@ use std::marker::Model;
 
 pub mod laws;
 mod register;
+mod table;
 #[cfg(test)]
 mod tests;
 

@@ -1,6 +1,6 @@
-use Rattle.std.proofs.Common.{arith}
-use Rattle.crc_core.proofs.Tables.{byte_by_table}
+use Rattle.std.proofs.Common.{sym, arith}
+use Rattle.crc_core.proofs.TextLaws.{byte_fed}
 use Rattle.crc_core.proofs.register.fed_byte.Goals as goal
 
 pub returns : goal.returns
-returns c = rw c.from.ensures (byte_by_table c.args.register c.args.byte (omega arith))
+returns c = rw (c.after_one.ensures, c.from.ensures) (sym (byte_fed c.args.register c.args.byte (omega arith)))
