@@ -39,7 +39,7 @@ pub IsInverseSchedule-mixed : (d s : List ℕ) (i : ℕ) → i ≡ 56 → length
 IsInverseSchedule-mixed d s i done long m =
     let dl = m.length_is in
     record {
-      whole = long;
+      schedule_words = long;
       first = round_key_words d 0 (omega arith)
           ∙ same_words (m.first 0 (omega arith)) (m.first 1 (omega arith)) (m.first 2 (omega arith)) (m.first 3 (omega arith))
           ∙ sym (round_key_words s 0 (omega arith));
@@ -70,4 +70,4 @@ pub equivalent_round : (d s x : List ℕ) (r : ℕ) → IsInverseSchedule d s �
 unfolding add_round_key
 equivalent_round d s x r is some below =
     ap (xor_bytes (inverse_mix_columns (inverse_sub_bytes (inverse_shift_rows x)))) (is.between r some below)
-    ∙ sym (inverse_mix-xor (inverse_sub_bytes (inverse_shift_rows x)) (round_key (bytes_of s) r) (length-inverse_rows x) (length-round_key s r is.whole (omega arith)))
+    ∙ sym (inverse_mix-xor (inverse_sub_bytes (inverse_shift_rows x)) (round_key (bytes_of s) r) (length-inverse_rows x) (length-round_key s r is.schedule_words (omega arith)))

@@ -1,6 +1,5 @@
 -- The field GF(2^8) of FIPS 197, section 4, in the edition updated in May 2023 (FIPS 197-upd1), as in
--- the other files here. A byte is a number below 256; bit i of the number is the
--- coefficient of x^i.
+-- the other files here. A byte is a number below 256; bit i of the number is the coefficient of x^i.
 use Rattle.std.specs.Prelude.{ℕ, zero, suc, ◌*◌, ◌/◌, ◌%◌, ◌==◌, bit_xor, if◌then◌else◌}
 use Rattle.std.specs.Int.{bit_at}
 

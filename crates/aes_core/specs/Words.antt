@@ -20,9 +20,9 @@ abbrev pub inverse_mixed_word : ℕ → List ℕ
 inverse_mixed_word w = column 0x0e 0x0b 0x0d 0x09 (byte_at 0 w) (byte_at 1 w) (byte_at 2 w) (byte_at 3 w)
 
 -- The schedule of the equivalent inverse cipher (FIPS 197, 5.3.5): the round keys of the rounds from 1
--- to 13 go through InvMixColumns. Both are lists of 60 words.
+-- to 13 go through InvMixColumns. The schedule is a list of 60 words.
 pub record IsInverseSchedule (inverse schedule : List ℕ) : Type 0 where
-  pub whole : length schedule ≡ 60
+  pub schedule_words : length schedule ≡ 60
   pub first : round_key (bytes_of inverse) 0 ≡ round_key (bytes_of schedule) 0
   pub between : (r : ℕ) → 1 ≤ r → r < 14 → round_key (bytes_of inverse) r ≡ inverse_mix_columns (round_key (bytes_of schedule) r)
   pub last : round_key (bytes_of inverse) 14 ≡ round_key (bytes_of schedule) 14

@@ -47,10 +47,10 @@ module _ (number : ℕ) (message : Message) (more : List ℕ) (inner : IsInner n
       let whole = length-append (row message) more in
       record {
         head = omega (arith, whole, length-row message);
-        whole_words = rw said inner.whole_words;
+        whole_words = rw said inner.rules.whole_words;
         whole = omega (arith, said, whole, length-row message);
-        below = rw message_in-row inner.below;
-        unnested = rw message_in-row inner.unnested;
+        below = rw message_in-row inner.rules.below;
+        unnested = rw message_in-row inner.rules.unnested;
       }
 
   pub no_cause-row : cause_in number (row message ++ more) ≡ None
@@ -89,9 +89,7 @@ module _ (number : ℕ) (text : List ℕ) (bytes : IsBytes text) (lawful : IsLaw
   unfolding message_in
   inner_front = record {
     fits = (little_from-lt 0 8 text bytes, little_from-lt 0 4 (drop 8 text) (IsBytes-drop 8 text bytes), rw length-body (little_from-lt 0 4 (drop 12 text) (IsBytes-drop 12 text bytes)));
-    whole_words = rw length-body lawful.whole_words;
-    below = lawful.below;
-    unnested = lawful.unnested;
+    rules = record { whole_words = rw length-body lawful.whole_words; below = lawful.below; unnested = lawful.unnested };
   }
 
 bytes_after : (text : List ℕ) → IsBytes text → IsBytes (after text)

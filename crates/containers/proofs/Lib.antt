@@ -3,3 +3,4 @@ pub mod Rows
 pub mod Fronts
 pub mod Places
 pub mod Exact
+pub mod Items

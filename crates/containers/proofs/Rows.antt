@@ -1,7 +1,7 @@
 -- Messages one after the other: their lengths, and each followed by the others.
 use Rattle.std.proofs.Common.{refl, ◌≡◌, ℕ, ◌+◌, ◌<◌, List, [], ◌∷◌, ◌++◌, length, map, get_or, drop, sym, ap, ◌∙◌, length-append, arith}
 use Rattle.std.proofs.lemmas.List.{at_drop_more, length-map}
-use Rattle.std.proofs.lemmas.List.Sums.{sum_by-cons}
+use Rattle.std.proofs.lemmas.List.Sums.{sum_by-append, sum_by-cons}
 use Rattle.std.specs.List.{flat_map, sum_by}
 use Rattle.byteorder.specs.Endian.{little_bytes}
 use Rattle.service_tl.specs.declared.lists.Message.{Message}
@@ -49,3 +49,6 @@ size_of-rows messages = rw (length-rows messages) refl
 
 pub length-container_of-size_of : (messages : List Message) → length (container_of messages) ≡ size_of messages
 length-container_of-size_of messages = length-container_of messages ∙ size_of-rows messages
+
+pub size_of-push : (messages : List Message) (message : Message) → size_of (messages ++ message ∷ []) ≡ size_of messages + message_head + length message.body
+size_of-push messages message = omega (arith, sum_by-append (λ (m : Message). message_head + length m.body) messages (message ∷ []))

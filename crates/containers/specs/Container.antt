@@ -11,12 +11,9 @@ use Rattle.service_tl.specs.declared.lists.Message.{Message}
 abbrev pub constructor : ℕ
 constructor = 0x73f1f8dc
 
--- at most 1,020 messages stand in a container, and its body has at most 1,044,480 bytes
+-- at most 1,020 messages stand in a container
 abbrev pub messages_max : ℕ
 messages_max = 1020
-
-abbrev pub bytes_max : ℕ
-bytes_max = 1044480
 
 -- constructor and count take 8 bytes, the head of each message 16
 abbrev pub container_head : ℕ
@@ -45,13 +42,17 @@ begins_container body = nat_le 4 (length body) && little_number 4 body == constr
 
 -- ---- what is lawful
 
--- an inner message of a container with this number: each field fits its place, the body has whole words
--- of 4 bytes, the number is below the container's, and the body is no container
-pub record IsInner (number : ℕ) (message : Message) : Type 0 where
-  pub fits : (message.number < 2 ^ 64) × (message.seq < 2 ^ 32) × (length message.body < 2 ^ 32)
+-- a message that keeps the rules of a container with this number: the body has whole words of 4 bytes, the
+-- number is below the container's, and the body is no container
+pub record KeepsRules (number : ℕ) (message : Message) : Type 0 where
   pub whole_words : length message.body % 4 ≡ 0
   pub below : message.number < number
   pub unnested : begins_container message.body ≡ false
+
+-- an inner message of a container with this number: each field fits its place, and the rules are kept
+pub record IsInner (number : ℕ) (message : Message) : Type 0 where
+  pub fits : (message.number < 2 ^ 64) × (message.seq < 2 ^ 32) × (length message.body < 2 ^ 32)
+  pub rules : KeepsRules number message
 
 -- The body of the message with this number is a lawful container of these messages: it spells them and
 -- nothing more, they are not too many, and each is lawful inside. None at all is lawful.
@@ -61,6 +62,10 @@ pub record IsContainer (number : ℕ) (messages : List Message) (body : List ℕ
   pub inner : AllByRecursion (IsInner number) messages
 
 -- ---- what is packed
+
+-- the body of a container that is put together has at most 1,044,480 bytes; none is asked of one that is read
+abbrev pub bytes_max : ℕ
+bytes_max = 1044480
 
 -- how many bytes the container of these messages has
 abbrev pub size_of : List Message → ℕ

@@ -6,7 +6,7 @@ ghost use Rattle.containers.specs.Parts.{after, cause_in, message_in, said_lengt
 ghost use Rattle.containers.specs.Lent.{message_of};
 
 use crate::fault::Why;
-use crate::limits::{MESSAGE_HEAD_BYTES, WORD_BYTES};
+use crate::limits::{LENGTH_AT, MESSAGE_HEAD_BYTES, SEQ_AT, WORD_BYTES};
 use crate::part::Part;
 use byteorder::{ByteOrder, LittleEndian};
 use service_tl::MSG_CONTAINER;
@@ -25,7 +25,7 @@ fn said(text: &[u8]) -> usize
     ensures length { result ≡ said_length text.now }
     ensures fits { result < 2 ^ 32 }
 {
-    LittleEndian::read_u32(&text[12..]) as usize
+    LittleEndian::read_u32(&text[LENGTH_AT..]) as usize
 }
 
 // The message at the front of the text, and what stands behind it.
@@ -36,7 +36,7 @@ pub(crate) fn front(text: &[u8]) -> (Part<'_>, &[u8])
     ensures rest { result.1.now ≡ after text.now }
 {
     let number = LittleEndian::read_u64(text);
-    let seq = LittleEndian::read_u32(&text[8..]);
+    let seq = LittleEndian::read_u32(&text[SEQ_AT..]);
     let (_, behind) = text.split_at(MESSAGE_HEAD_BYTES);
     let (body, rest) = behind.split_at(said(text));
     (Part { number, seq, body }, rest)

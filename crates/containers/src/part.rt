@@ -5,7 +5,7 @@ ghost use Rattle.std.specs.Prelude.{◌<◌, ◌^◌, length};
 /// An inner message whose body still stands in the container's.
 #[derive(Clone, Copy, Debug, PartialEq, Eq)]
 pub struct Part<'a> {
-    /// Its number.
+    /// Its number: the message identifier.
     pub number: u64,
     /// Its sequence number.
     pub seq: u32,

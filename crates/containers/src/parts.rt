@@ -6,7 +6,7 @@ ghost use Rattle.containers.specs.Parts.{parts_of, first_from, causes};
 
 use crate::fault::{ContainerFault, Why};
 use crate::front::{front, lawful_front};
-use crate::limits::{CONTAINER_HEAD_BYTES, CONTAINER_MESSAGES_MAX};
+use crate::limits::{CONTAINER_HEAD_BYTES, CONTAINER_MESSAGES_MAX, COUNT_AT};
 use crate::part::Part;
 use byteorder::{ByteOrder, LittleEndian};
 use std::marker::Model;
@@ -51,7 +51,7 @@ impl<'a> Parts<'a> {
                 why: Why::Short,
             });
         }
-        let count = LittleEndian::read_u32(&body[4..]);
+        let count = LittleEndian::read_u32(&body[COUNT_AT..]);
         if count as usize > CONTAINER_MESSAGES_MAX {
             return Err(ContainerFault {
                 place: 0,

@@ -4,23 +4,25 @@ ghost use Rattle.std.specs.Prelude.{◌≡◌, ◌<◌, ◌++◌, ◌∷◌, [],
 ghost use Rattle.std.specs.Bool.{OnTrue};
 ghost use Rattle.std.specs.List.{AllByRecursion};
 ghost use Rattle.service_tl.specs.declared.lists.Message.{Message as Inner};
-ghost use Rattle.containers.specs.Container.{AreWithin, IsInner, begins_container, container_of};
+ghost use Rattle.containers.specs.Container.{AreWithin, IsInner, KeepsRules, begins_container, container_of};
 ghost use Rattle.containers.specs.Parts.{parts_of};
 ghost use Rattle.containers.specs.Unfolded.{Tells};
 
 use super::*;
 use octets::{Memory, Octets};
 use std::alloc::Global;
+use std::marker::Model;
 use std::test::*;
 
 // Where and why the container in message 100 isn't lawful.
-fn fault_of(alloc: Global, body: &[u8]) -> Option<(u32, Why)> {
+fn fault_of(alloc: Global, body: &[u8]) -> Result<Option<(u32, Why)>, Memory> {
     if !is_container(body) {
-        return None;
+        return Ok(None);
     }
     match unfold(alloc, 100, body) {
-        Unfolded::Invalid { place, why } => Some((place, why)),
-        Unfolded::Messages(_) | Unfolded::Memory => None,
+        Unfolded::Invalid { place, why } => Ok(Some((place, why))),
+        Unfolded::Messages(_) => Ok(None),
+        Unfolded::Memory => Err(Memory),
     }
 }
 
@@ -37,8 +39,86 @@ fn unfolded_again(alloc: Global, number: u64, messages: &[Message]) -> Result<Un
     Ok(unfold(alloc, number, text.as_slice()))
 }
 
+// Whether the message keeps the rules of a container with this number, as a caller looks before it packs.
+fn keeps_rules(number: u64, message: &Message) -> bool
+    ensures { OnTrue result (KeepsRules number message.now) }
+{
+    message.body.as_slice().len() % 4 == 0
+        && message.number < number
+        && !is_container(message.body.as_slice())
+}
+
+// The same for all of a list, and they are put together and unfolded.
+fn list_unfolded_again(alloc: Global, number: u64, messages: &Messages) -> Result<Unfolded, Memory>
+    requires some { 0 < length messages.now }
+    requires within { AreWithin messages.now }
+    requires rules { AllByRecursion (KeepsRules number) messages.now }
+    ensures { IfOk result (Tells (Ok messages.now)) }
+{
+    let list = messages.as_slice();
+    laws::inner_messages();
+    unfolded_again(alloc, number, list)
+}
+
+// Messages for one container, as they come: what the next one needs is counted.
+#[derive(Debug, Drop)]
+struct Packer {
+    messages: Vec<Message>,
+    bytes: usize,
+}
+
+impl Model for Packer {
+    ghost use Rattle.std.specs.Prelude.{◌≡◌, List};
+    ghost use Rattle.service_tl.specs.declared.lists.Message.{Message};
+    ghost use Rattle.containers.specs.Container.{AreWithin, size_of};
+
+    ghost Value = { List Message };
+
+    ghost view = { λ packer. packer.messages.items };
+
+    ghost invariant = { λ packer. AreWithin packer.messages.items × (packer.bytes ≡ size_of packer.messages.items) };
+}
+
+impl Packer {
+    fn new(alloc: Global) -> Packer
+        ensures { result ≡ [] }
+    {
+        Packer {
+            messages: Vec::new(alloc),
+            bytes: CONTAINER_HEAD_BYTES,
+        }
+    }
+
+    // Takes the message where it fits.
+    fn add(&mut self, _alloc: Global, message: Message) -> Result<bool, Memory>
+        ensures { IfOk result (λ taken. OnTrue taken (self.new ≡ self.old ++ message ∷ [])) }
+    {
+        let body = message.body.as_slice().len();
+        if !fits(self.messages.len(), self.bytes, body) {
+            return Ok(false);
+        }
+        laws::container_sizes();
+        self.messages.push(message)?;
+        self.bytes += MESSAGE_HEAD_BYTES + body;
+        Ok(true)
+    }
+
+    // Puts their container at the end, where there are any.
+    fn pack(&self, alloc: Global, into: &mut Octets) -> Result<bool, Memory>
+        ensures within { AreWithin self.now }
+        ensures packed { IfOk result (λ done. OnTrue done (into.new ≡ into.old ++ container_of self.now)) }
+    {
+        let messages = self.messages.as_slice();
+        if messages.is_empty() {
+            return Ok(false);
+        }
+        container(alloc, messages, into)?;
+        Ok(true)
+    }
+}
+
 #[test]
-fn faults_have_their_places(rt: HostRuntime) {
+fn faults_have_their_places(rt: HostRuntime) -> Result<(), Fail> {
     let rows: [(&[u8], Option<(u32, Why)>); 10] = [
         (b"\xdc\xf8\xf1\x73", Some((0, Why::Short))),
         (b"\xdc\xf8\xf1\x73\0\0\0\0", None),
@@ -75,8 +155,9 @@ fn faults_have_their_places(rt: HostRuntime) {
     let alloc = rt.alloc();
     for (body, want) in rows {
         assert!(rt; is_container(body));
-        assert_eq!(rt; fault_of(alloc, body), want);
+        assert_eq!(rt; fault_of(alloc, body)?, want);
     }
+    Ok(())
 }
 
 #[test]
@@ -193,6 +274,18 @@ fn limits_are_taken(rt: HostRuntime) -> Result<(), Fail> {
 
 #[test]
 fn faults_are_told(rt: HostRuntime) -> Result<(), Fail> {
+    let rows = [
+        (Why::Nested, "a container in a container"),
+        (Why::NotBelow, "a number that isn't below the container's"),
+        (Why::Odd, "a length that isn't a multiple of 4"),
+        (Why::Short, "too few bytes"),
+        (Why::TooMany, "too many messages"),
+        (Why::Extra, "bytes behind the last message"),
+    ];
+    for (why, want) in rows {
+        let told = format!(in rt.alloc(); "{why}")?;
+        assert_eq!(rt; told.as_str(), want);
+    }
     let fault = ContainerFault {
         place: 1,
         why: Why::Extra,
@@ -202,5 +295,62 @@ fn faults_are_told(rt: HostRuntime) -> Result<(), Fail> {
         told.as_str(),
         "bytes behind the last message at message 1 of a container"
     );
+    Ok(())
+}
+
+#[test]
+#[tactic(auto, unfolding(crate::specs::Container::begins_container))]
+fn packed_is_unfolded_again(rt: HostRuntime) -> Result<(), Fail> {
+    let alloc = rt.alloc();
+    let body = Octets::copy(alloc, b"abcd")?;
+    let messages = [Message {
+        number: 4,
+        seq: 1,
+        body,
+    }];
+    match unfolded_again(alloc, 12, &messages)? {
+        Unfolded::Messages(inner) => assert_eq!(rt; inner.as_slice().len(), 1),
+        Unfolded::Invalid { .. } | Unfolded::Memory => return Err(Fail::new("not unfolded")),
+    }
+    Ok(())
+}
+
+#[test]
+#[tactic(auto, unfolding(crate::specs::Container::begins_container))]
+fn list_is_unfolded_again(rt: HostRuntime) -> Result<(), Fail> {
+    let alloc = rt.alloc();
+    let body = Octets::copy(alloc, b"abcd")?;
+    let mut messages = Messages::new(alloc);
+    messages.push(
+        alloc,
+        Message {
+            number: 4,
+            seq: 1,
+            body,
+        },
+    )?;
+    match list_unfolded_again(alloc, 12, &messages)? {
+        Unfolded::Messages(inner) => assert_eq!(rt; inner.as_slice().len(), 1),
+        Unfolded::Invalid { .. } | Unfolded::Memory => return Err(Fail::new("not unfolded")),
+    }
+    Ok(())
+}
+
+#[test]
+fn messages_are_packed_as_they_come(rt: HostRuntime) -> Result<(), Fail> {
+    let alloc = rt.alloc();
+    let mut packer = Packer::new(alloc);
+    for seq in 0..1_021 {
+        let message = Message {
+            number: 4,
+            seq,
+            body: Octets::copy(alloc, b"")?,
+        };
+        assert!(rt; keeps_rules(100, &message));
+        assert!(rt; packer.add(alloc, message)? == (seq < 1_020));
+    }
+    let mut text = Octets::new(alloc);
+    assert!(rt; packer.pack(alloc, &mut text)?);
+    assert_eq!(rt; text.as_slice().len(), 16_328);
     Ok(())
 }

@@ -6,7 +6,7 @@ ghost use Rattle.draws.specs.Steps.{step_word};
 use crate::draw::{Draw, Seeded};
 use std::marker::Model;
 
-/// What is added from one word to the next, modulo 2^64. It is odd, so that no word comes twice.
+/// What is added from one word to the next, modulo 2^64. It is odd, so that no word comes twice among 2^64 words.
 const STEP: u64 = 6_364_136_223_846_793_005;
 
 /// A draw whose word i, from 1, is i times one odd number, modulo 2^64, whatever the seed. Contracts see how many words

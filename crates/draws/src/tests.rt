@@ -25,7 +25,8 @@ fn step_words(rt: HostRuntime) {
     assert_eq!(rt; draw.place(), 2);
 }
 
-// The key stream of RFC 8439, A.1, of a key and a nonce of zeros: words 0 and 1 of block 0, words 0 and 1 of block 1.
+// The key stream of RFC 8439, A.1, vectors 1 to 4, of a nonce of zeros: words 0 and 1 of blocks 0 and 1 of a key of zeros,
+// of block 1 of a key that ends in 1, and of block 2 of a key whose second byte is 0xff.
 #[test]
 fn chacha_words(rt: HostRuntime) {
     let mut draw: ChaChaDraw = Seeded::at(&[0; 32], 0);
@@ -40,6 +41,22 @@ fn chacha_words(rt: HostRuntime) {
         &rt,
         &mut draw,
         &[0x7a38_5155_bee7_079f, 0x0d08_2d73_7c97_ba98],
+    );
+    let mut seed = [0; 32];
+    seed[31] = 1;
+    let mut draw: ChaChaDraw = Seeded::at(&seed, 8);
+    gives(
+        &rt,
+        &mut draw,
+        &[0x9249_f8ec_2452_eb3a, 0xddd4_ceb1_8d82_9d9b],
+    );
+    let mut seed = [0; 32];
+    seed[1] = 0xff;
+    let mut draw: ChaChaDraw = Seeded::at(&seed, 16);
+    gives(
+        &rt,
+        &mut draw,
+        &[0x4bc4_2ef1_fb4d_d572, 0x327f_1394_df92_2636],
     );
 }
 

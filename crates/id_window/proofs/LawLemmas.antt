@@ -1,5 +1,5 @@
 -- What the laws say.
-use Rattle.std.proofs.Common.{◌≡◌, ◌≢◌, ◌∙◌, ℕ, ◌<◌, ◌≤◌, true, false, eqb, Some, List, [], ◌∷◌, map, length, get_or, ap, refl, sym, inl, inr, arith, All}
+use Rattle.std.proofs.Common.{◌≡◌, ◌≢◌, ◌∙◌, ℕ, zero, suc, ◌<◌, ◌≤◌, true, false, eqb, Some, List, [], ◌∷◌, map, length, get_or, ap, refl, sym, inl, inr, arith, All}
 use Rattle.std.specs.List.{list_any, AllZip}
 use Rattle.std.specs.Option.{IsSomeAnd}
 use Rattle.std.proofs.lemmas.Bool.{cases_lt, eq-eqb, eqb-false, or_parts, or_left, or_right}

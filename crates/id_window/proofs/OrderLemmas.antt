@@ -1,17 +1,12 @@
 -- What is put into ascending lists, and what stays in order.
-use Rattle.std.proofs.Common.{◌≡◌, ◌≢◌, ◌∙◌, ℕ, suc, ◌-◌, ◌^◌, ◌<◌, ◌≤◌, Bool, true, false, ◌&&◌, ltb, leb, eqb, cond, Option, Some, None, List, [], ◌∷◌, ◌++◌, map, length, drop, get_or, ap, subst, refl, sym, inl, inr, arith, IfSome}
+use Rattle.std.proofs.Common.{◌≡◌, ◌≢◌, ◌∙◌, ℕ, suc, ◌<◌, ◌≤◌, true, false, ◌&&◌, ltb, eqb, Option, Some, None, List, [], ◌∷◌, ◌++◌, map, length, ap, refl, sym, inl, inr, arith}
 use Rattle.std.specs.List.{list_any, filter_map, cons_option}
-use Rattle.std.proofs.lemmas.Bool.{cases_lt, cases_eq, cases_Bool, lt-ltb, le-ltb, le-leb, lt-leb, ltb-false, eq-eqb, ne_eqb, or_parts}
-use Rattle.std.proofs.lemmas.List.{map-id, length-map}
-use Rattle.id_window.specs.declared.cross.Cross.TheVariants.{None as Apart}
-use Rattle.id_window.specs.declared.mark.Mark.{Mark}
+use Rattle.std.proofs.lemmas.Bool.{cases_lt, cases_eq, lt-ltb, le-ltb, ltb-false, eq-eqb, ne_eqb, or_parts}
 use Rattle.id_window.specs.declared.rows.Row.{Row}
 use Rattle.id_window.specs.declared.rows.Accepted.{Accepted}
-use Rattle.id_window.specs.Marks.{is_accepted}
 use Rattle.id_window.specs.History.{inserted}
-use Rattle.id_window.specs.Crossing.{is_odd, is_past, is_short, makes_low, makes_high, crossing}
-use Rattle.id_window.specs.Window.{IsAbove, Rises, IsFrom, SeqsNeverFall, IsInOrder, accepted_number, mark_in, with_mark, room_in}
-use Rattle.id_window.proofs.CrossingLemmas.{none_low, none_high}
+use Rattle.id_window.specs.Crossing.{is_odd, is_past, is_short, makes_low, makes_high}
+use Rattle.id_window.specs.Window.{IsAbove, Rises, IsFrom, SeqsNeverFall, mark_in}
 use Rattle.id_window.proofs.PlaceLemmas.{row_number, accepted_key, above_lower}
 
 -- the number is none of these

@@ -51,13 +51,17 @@ inserted key x (y ∷ ys) = if nat_lt (key y) (key x) then y ∷ inserted key x 
 abbrev pub ascending : History → History
 ascending history = fold (λ sorted judgement. inserted (λ judged. judged.number) judgement sorted) [] history
 
--- 16,384 numbers are kept, the greatest: the last ones in ascending order
+-- how many numbers are kept at most
+abbrev pub window_numbers : ℕ
+window_numbers = 16384
+
+-- the kept numbers are the greatest: the last ones in ascending order
 unfoldable pub kept : History → History
-kept history = drop (length history - 16384) (ascending history)
+kept history = drop (length history - window_numbers) (ascending history)
 
 -- the others
 unfoldable pub forgotten : History → History
-forgotten history = take (length history - 16384) (ascending history)
+forgotten history = take (length history - window_numbers) (ascending history)
 
 abbrev pub is_kept : ℕ → History → Bool
 is_kept number history = list_any (λ judgement. judgement.number == number) (kept history)
@@ -83,7 +87,7 @@ found number history marks = if is_kept number history then mark_of number marks
 -- than are kept
 abbrev pub newly_forgotten : History → Marks → Option (ℕ × Mark)
 newly_forgotten history marks =
-    if nat_lt 16384 (length history) then option_map (λ mark. (floor history, mark)) (mark_of (floor history) marks) else None
+    if nat_lt window_numbers (length history) then option_map (λ mark. (floor history, mark)) (mark_of (floor history) marks) else None
 
 -- ---- crossing
 

@@ -5,7 +5,7 @@ use Rattle.id_window.specs.declared.mark.Mark.{Mark}
 use Rattle.id_window.specs.declared.rows.Row.{Row}
 use Rattle.id_window.specs.declared.rows.Accepted.{Accepted}
 use Rattle.id_window.specs.Marks.{Marks, is_accepted, mark_of}
-use Rattle.id_window.specs.History.{History, FirstJudgement, EachOnce, was_accepted, kept, floor, accepted_of}
+use Rattle.id_window.specs.History.{History, FirstJudgement, EachOnce, was_accepted, window_numbers, kept, floor, accepted_of}
 
 -- what contracts see of a window: its numbers with their marks, those that were accepted with their seqs, the floor,
 -- and for how many more notes room is reserved
@@ -86,8 +86,8 @@ pub record IsInOrder (floor : ℕ) (rows : List Row) (accepted : List Accepted) 
   pub rising : Rises (floor ∷ map (λ row. row.number) rows)
   pub same_accepted : map (λ one. one.number) accepted ≡ filter_map accepted_number rows
   pub seqs : SeqsNeverFall accepted
-  pub size : length rows ≤ 16384
+  pub size : length rows ≤ window_numbers
 
 -- for how many more entries there is room: no end of them where all that a window can have find room
 abbrev pub room_in : ℕ → ℕ → ℕ
-room_in capacity count = if nat_le 16384 capacity then 2 ^ 64 else capacity - count
+room_in capacity count = if nat_le window_numbers capacity then 2 ^ 64 else capacity - count

@@ -1,10 +1,10 @@
 //! What a window tells of the history that it stands for, for callers that have the history and not the window. Each
 //! law is the contract of a function that does nothing.
 
-ghost use Rattle.std.specs.Prelude.{◌≡◌, ◌≢◌, ◌<◌, ◌≤◌, ℕ, Bool, true, false, All, IsSomeAnd, length};
+ghost use Rattle.std.specs.Prelude.{◌≡◌, ◌≢◌, ◌<◌, ◌≤◌, ℕ, Bool, true, false, All, IsSomeAnd, length, min};
 ghost use Rattle.id_window.specs.Marks.{Marks, mark_of, is_accepted};
 ghost use Rattle.id_window.specs.Crossing.{crossing};
-ghost use Rattle.id_window.specs.History.{History, EachOnce, was_accepted, kept, is_kept, found, floor, crosses};
+ghost use Rattle.id_window.specs.History.{History, EachOnce, was_accepted, window_numbers, kept, is_kept, found, floor, crosses};
 ghost use Rattle.id_window.specs.Window.{Contents, Stands, mark_in};
 
 use crate::rows::WINDOW_NUMBERS;
@@ -35,6 +35,12 @@ pub fn other_marks_count_nothing()
         → Stands window history others }
 {}
 
+/// Reserved room says nothing of what a window stands for.
+pub fn room_counts_nothing()
+    ensures { (window : Contents) (history : History) (marks : Marks) (room : ℕ) → Stands window history marks
+        → Stands record window { room = room } history marks }
+{}
+
 /// No number was judged twice, and one that is above the floor and isn't kept was never judged.
 pub fn numbers_are_judged_once()
     ensures once { (window : Contents) (history : History) (marks : Marks) → Stands window history marks → EachOnce history }
@@ -47,8 +53,8 @@ pub fn others_are_not_above_the_floor()
     ensures { (history : History) → All (λ judgement. is_kept judgement.number history ≡ false → judgement.number ≤ floor history) history }
 {}
 
-/// 16,384 numbers are kept at most.
+/// All of up to 16,384 numbers are kept, and 16,384 of more.
 pub fn sixteen_thousand_are_kept()
-    ensures limit { WINDOW_NUMBERS ≡ 16384 }
-    ensures kept { (history : History) → length (kept history) ≤ WINDOW_NUMBERS }
+    ensures limit { WINDOW_NUMBERS ≡ window_numbers }
+    ensures kept { (history : History) → length (kept history) ≡ min (length history) window_numbers }
 {}

@@ -8,9 +8,9 @@ ghost use Rattle.id_window.specs.Window.{Rises};
 ghost use Rattle.id_window.specs.Places.{place};
 
 use crate::mark::Mark;
+use octets::Memory;
 use std::alloc::Global;
 use std::collections::VecDeque;
-use octets::Memory;
 
 /// How many numbers a window keeps.
 pub const WINDOW_NUMBERS: usize = 16_384;

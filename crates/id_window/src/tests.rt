@@ -6,9 +6,9 @@ ghost use Rattle.id_window.specs.History.{History, AcceptedCall, noted, found};
 ghost use Rattle.id_window.specs.Window.{Stands};
 
 use crate::{Cross, Mark, WINDOW_NUMBERS, Window};
+use octets::Memory;
 use std::alloc::Global;
 use std::test::Fail;
-use octets::Memory;
 
 // Notes a call where it is new and crosses nothing, and says whether it did.
 fn accept_call(window: &mut Window, alloc: Global, number: u64, seq: u32) -> Result<bool, Memory>

@@ -8,10 +8,10 @@ use crate::neighbours::{first_above, is_past, is_short, last_below};
 use crate::rows::{
     Accepted, Row, WINDOW_NUMBERS, copy_of, enter, missing_room, place_of, take_least,
 };
+use octets::Memory;
 use std::alloc::Global;
 use std::collections::VecDeque;
 use std::marker::Model;
-use octets::Memory;
 
 /// For how many numbers a fresh window takes room.
 const FIRST_NUMBERS: usize = 16;

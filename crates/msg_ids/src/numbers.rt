@@ -1,6 +1,7 @@
 //! The numbers and seqs that one sender gives to its messages.
 
-ghost use Rattle.std.specs.Prelude.{◌≡◌, ◌+◌, ◌<◌, ◌≤◌, IfNone, IfSome, IsSome, OnSome};
+ghost use Rattle.std.specs.Prelude.{◌≡◌, ◌+◌, ◌<◌, ◌≤◌, IfNone, IfSome, IsSome, OnSome, Some, None, if◌then◌else◌};
+ghost use Rattle.msg_ids.specs.Run.{IsFourfold, has_next};
 ghost use Rattle.msg_ids.specs.Counters.{HasNext, IsSpent, none_given, next_number, seq_of, after_next, room};
 
 use crate::moment::Moment;
@@ -29,12 +30,13 @@ pub struct Numbers {
 impl Model for Numbers {
     ghost use Rattle.std.specs.Prelude.{◌≤◌};
     ghost use Rattle.msg_ids.specs.Counters.{Counters, greatest_number, most_content_messages};
+    ghost use Rattle.msg_ids.specs.Run.{IsFourfold};
 
     ghost Value = { Counters };
 
     ghost view = { λ numbers. record { last = numbers.last; content_messages = numbers.content_messages } };
 
-    ghost invariant = { λ numbers. (numbers.last ≤ greatest_number) × (numbers.content_messages ≤ most_content_messages) };
+    ghost invariant = { λ numbers. (numbers.last ≤ greatest_number) × (numbers.content_messages ≤ most_content_messages) × IsFourfold numbers.last };
 
     ghost inverse = { λ counters. record { last = counters.last; content_messages = counters.content_messages } };
 }
@@ -59,6 +61,8 @@ impl Numbers {
         ensures next { IfSome result (λ given. given ≡ (next_number self.old.last at, seq_of self.old.content_messages content)) }
         ensures counted { OnSome result (self.new ≡ after_next self.old at content) }
         ensures unchanged { IfNone result (self.new ≡ self.old) }
+        ensures answer { result ≡ (if has_next self.old at then Some (next_number self.old.last at, seq_of self.old.content_messages content) else None) }
+        ensures fourfold { IfSome result (λ given. IsFourfold given.0) }
 
         // While there is room there is a next number, and it takes one of the room at most.
         ensures in_room { 0 < room self.old → IsSome result }

@@ -4,6 +4,8 @@
 
 mod ciphers;
 mod request;
+#[cfg(test)]
+mod tests;
 mod text;
 
 use crate::request::{Asked, Request, read};
@@ -50,7 +52,8 @@ fn answer(rt: &HostRuntime, request: Option<Request>) -> io::Result<u8> {
         Some(Request::Help) => println!(rt; "{USAGE}")?,
         Some(Request::Version) => println!(rt; "mtp_bench 1")?,
         None => {
-            eprintln!(rt; "{USAGE}")?;
+            // The status says it too, where standard error takes no line.
+            let _told = eprintln!(rt; "{USAGE}");
             return Ok(FAULTY);
         }
     }

@@ -40,8 +40,8 @@ salt_rows_from-more line period (suc n) =
 
 -- rows that end early enough have times of 32 bits
 pub early-salt_rows_from : (line : Line) (period n : ℕ) → line.start + 1800 * (period + n) + 3600 ≤ 4294967295
-    → All (λ row. row.until < 2 ^ 32) (salt_rows_from line period n)
+    → All (λ row. (row.since < row.until) × (row.until < 2 ^ 32)) (salt_rows_from line period n)
 early-salt_rows_from line period zero early = All-nil _
 early-salt_rows_from line period (suc n) early =
-    All-cons (λ row. row.until < 2 ^ 32) (salt_row line.start period (word_in period line.rows)) _ (omega arith)
+    All-cons (λ row. (row.since < row.until) × (row.until < 2 ^ 32)) (salt_row line.start period (word_in period line.rows)) _ (omega arith, omega arith)
     (early-salt_rows_from line (suc period) n (omega arith))

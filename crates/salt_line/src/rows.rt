@@ -5,12 +5,12 @@ ghost use Rattle.circular_buffer.specs.Buffer.{buffer};
 ghost use Rattle.draws.specs.Draws.{draw_after};
 ghost use Rattle.salt_line.specs.Rows.{Row};
 ghost use Rattle.salt_line.specs.Needed.{needed, needed_from, word_in};
-ghost use Rattle.salt_line.specs.Held.{rows_of, AreHeld, IsIn};
+ghost use Rattle.salt_line.specs.Held.{rows_of, rows_max, AreHeld, IsIn};
 
 use circular_buffer::HeapCircularBuffer;
 use draws::Draw;
-use std::alloc::Global;
 use octets::Memory;
+use std::alloc::Global;
 
 /// How many rows there is room for: those of 64 periods to come and the one before.
 const ROWS_MAX: usize = 65;
@@ -27,7 +27,7 @@ impl Rows {
     /// The row of period 0, with room for the others.
     pub(crate) fn new(alloc: Global, word: u64) -> Result<Rows, Memory>
         ensures first { IfOk result (λ rows. rows.first ≡ 0) }
-        ensures words { IfOk result (λ rows. rows.words ≡ buffer (word ∷ []) 65) }
+        ensures words { IfOk result (λ rows. rows.words ≡ buffer (word ∷ []) rows_max) }
     {
         let mut words = HeapCircularBuffer::with_capacity(alloc, ROWS_MAX)?;
         let _ = words.push_back(word);
@@ -36,9 +36,9 @@ impl Rows {
 
     /// The same rows, with the same room.
     pub(crate) fn copy(&self, alloc: Global) -> Result<Rows, Memory>
-        requires { length self.now.words.items ≤ 65 }
+        requires { length self.now.words.items ≤ rows_max }
         ensures first { IfOk result (λ rows. rows.first ≡ self.now.first) }
-        ensures words { IfOk result (λ rows. rows.words ≡ buffer self.now.words.items 65) }
+        ensures words { IfOk result (λ rows. rows.words ≡ buffer self.now.words.items rows_max) }
     {
         let mut words = HeapCircularBuffer::with_capacity(alloc, ROWS_MAX)?;
         let (front, back) = self.words.as_slices();

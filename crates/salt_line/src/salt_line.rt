@@ -1,7 +1,8 @@
 //! Salt lines.
 
 ghost use Rattle.std.specs.Prelude.{◌≡◌, ◌+◌, ◌-◌, ◌*◌, ◌^◌, ◌<◌, ◌≤◌, ◌++◌, ◌↔◌, min, take, drop, length, All, IsTrue, IfOk};
-ghost use Rattle.salt_line.specs.Rows.{period_at};
+ghost use Rattle.msg_ids.specs.Moments.{latest_moment};
+ghost use Rattle.salt_line.specs.Rows.{period_seconds, future_rows_max, period_at};
 ghost use Rattle.salt_line.specs.Needed.{needed_from};
 ghost use Rattle.salt_line.specs.Held.{rows_of, AreHeld};
 ghost use Rattle.salt_line.specs.Future.{salt_rows_from};
@@ -9,9 +10,9 @@ ghost use Rattle.salt_line.specs.Future.{salt_rows_from};
 use crate::rows::Rows;
 use draws::Draw;
 use msg_ids::Moment;
+use octets::Memory;
 use std::alloc::Global;
 use std::marker::Model;
-use octets::Memory;
 
 /// How many seconds after one period the next begins.
 const PERIOD_SECONDS: u64 = 1800;
@@ -92,16 +93,19 @@ impl SaltLine {
         })
     }
 
-    /// Whether a salt is valid at this moment.
+    /// Whether a salt is valid at this moment, which is no earlier than the start and each moment that `current` and
+    /// `future` were given.
     pub fn judge(&self, now: Moment, salt: u64) -> bool
         requires { self.now.latest ≤ now }
-        ensures { (line : Line) → Stands self.now line → (IsTrue result ↔ IsValidSalt line now salt) }
+        ensures judged { (line : Line) → Stands self.now line → (IsTrue result ↔ IsValidSalt line now salt) }
+        ensures started { self.now.start ≤ self.now.latest }
     {
         let period = (now.seconds() - self.start) / PERIOD_SECONDS;
         salt != 0 && self.rows.has(period, salt)
     }
 
-    /// The salt of this moment. Its word is drawn where that wasn't needed before.
+    /// The salt of this moment, which is no earlier than the start and each moment given before. Its word is drawn where
+    /// that wasn't needed before.
     pub fn current<D: Draw>(&mut self, now: Moment, draw: &mut D) -> u64
         requires { self.old.latest ≤ now }
         ensures line { (line : Line) → Stands self.old line → Stands self.new (line_after D.step now 1 line draw.old) }
@@ -109,13 +113,15 @@ impl SaltLine {
         ensures salt { (line : Line) → Stands self.old line → result ≡ current_salt (line_after D.step now 1 line draw.old) now }
         ensures start { self.new.start ≡ self.old.start }
         ensures latest { self.new.latest ≡ now }
+        ensures started { self.new.start ≤ now }
     {
         let period = self.come_to(now.seconds());
         self.rows.word(period, draw)
     }
 
     /// The rows of `n` periods, at most 64, from that of this moment on, at the front of `into`; how many they are. Words that
-    /// weren't needed before are drawn, in order. What follows in `into` stays.
+    /// weren't needed before are drawn, in order. What follows in `into` stays. The moment is no earlier than the start and
+    /// each moment given before.
     pub fn future<D: Draw>(
         &mut self,
         now: Moment,
@@ -124,16 +130,17 @@ impl SaltLine {
         into: &mut [SaltRow; 64],
     ) -> usize
         requires { self.old.latest ≤ now }
-        ensures count { result ≡ min n 64 }
+        ensures count { result ≡ min n future_rows_max }
         ensures rows { (line : Line) → Stands self.old line
-            → take (min n 64) into.new ≡ salt_rows (line_after D.step now (min n 64) line draw.old) now (min n 64) }
-        ensures others { drop (min n 64) into.new ≡ drop (min n 64) into.old }
-        ensures early { All (λ row. row.until < 2 ^ 32) (take (min n 64) into.new) }
+            → take (min n future_rows_max) into.new ≡ salt_rows (line_after D.step now (min n future_rows_max) line draw.old) now (min n future_rows_max) }
+        ensures others { drop (min n future_rows_max) into.new ≡ drop (min n future_rows_max) into.old }
+        ensures early { All (λ row. (row.since < row.until) × (row.until < 2 ^ 32)) (take (min n future_rows_max) into.new) }
 
-        ensures line { (line : Line) → Stands self.old line → Stands self.new (line_after D.step now (min n 64) line draw.old) }
-        ensures draw { (line : Line) → Stands self.old line → draw.new ≡ draw_after_rows D.step now (min n 64) line draw.old }
+        ensures line { (line : Line) → Stands self.old line → Stands self.new (line_after D.step now (min n future_rows_max) line draw.old) }
+        ensures draw { (line : Line) → Stands self.old line → draw.new ≡ draw_after_rows D.step now (min n future_rows_max) line draw.old }
         ensures start { self.new.start ≡ self.old.start }
         ensures latest { self.new.latest ≡ now }
+        ensures started { self.new.start ≤ now }
     {
         let count = n.min(FUTURE_ROWS_MAX);
         let period = self.come_to(now.seconds());
@@ -144,7 +151,7 @@ impl SaltLine {
     /// Comes to a moment: the rows that have ended go. The period of the moment.
     fn come_to(&mut self, now: u64) -> u64
         requires in_order { self.old.latest ≤ now }
-        requires early { now ≤ 4000000000 }
+        requires early { now ≤ latest_moment }
         ensures line { (line : Line) → Stands self.old line → Stands self.new line }
         ensures start { self.new.start ≡ self.old.start }
         ensures latest { self.new.latest ≡ now }
@@ -167,9 +174,9 @@ fn hand_out<D: Draw>(
     into: &mut [SaltRow],
 )
     requires held { AreHeld period rows.old.first (length rows.old.words.items) rows.old.words.capacity }
-    requires few { count ≤ 64 }
+    requires few { count ≤ future_rows_max }
     requires fits { count ≤ length into.old }
-    requires early { start + 1800 * period ≤ 4000000000 }
+    requires early { start + period_seconds * period ≤ latest_moment }
     ensures needed { (rows_of rows.new.first rows.new.words.items, draw.new)
         ≡ needed_from D.step period count (rows_of rows.old.first rows.old.words.items, draw.old) }
     ensures rows { take count into.new

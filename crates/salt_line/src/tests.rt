@@ -1,11 +1,12 @@
-ghost use Rattle.std.specs.Prelude.{◌≡◌, ◌<◌, IfOk};
+ghost use Rattle.std.specs.Prelude.{◌≡◌, ◌<◌, IfOk, IsTrue};
 
+use crate::laws::current_salts_are_valid;
 use crate::{SaltLine, SaltRow};
 use draws::{Draw, StepDraw};
 use msg_ids::Moment;
+use octets::Memory;
 use std::alloc::Global;
 use std::test::Fail;
-use octets::Memory;
 
 const NO_ROW: SaltRow = SaltRow {
     since: 0,
@@ -79,6 +80,19 @@ fn rows_drawn_ahead(rt: HostRuntime) -> Result<(), Fail> {
     Ok(())
 }
 
+// What a server session does with its salts: it gives the current one to a client, and judges a packet that comes with
+// it while it is the current one.
+fn gives_and_judges<D: Draw>(alloc: Global, draw: &mut D) -> Result<bool, Memory>
+    ensures { IfOk result (λ valid. IsTrue valid) }
+{
+    current_salts_are_valid::<D>();
+    let first = draw.word();
+    let mut line = SaltLine::new(alloc, Moment::new(1_000), first)?;
+    let at = Moment::new(2_800);
+    let salt = line.current(at, draw);
+    Ok(salt == 0 || line.judge(at, salt))
+}
+
 // What a server session does with its salts: it asks for the current one, takes a packet, hands out rows, is copied.
 fn salts_of_a_session<D: Draw>(alloc: Global, draw: &mut D) -> Result<usize, Memory>
     ensures { IfOk result (λ count. count ≡ 4) }
@@ -97,6 +111,7 @@ fn salts_of_a_session<D: Draw>(alloc: Global, draw: &mut D) -> Result<usize, Mem
 
 #[test]
 fn a_session(rt: HostRuntime) -> Result<(), Fail> {
+    assert!(rt; gives_and_judges(rt.alloc(), &mut StepDraw::new())?);
     assert_eq!(rt; salts_of_a_session(rt.alloc(), &mut StepDraw::new())?, 4);
     Ok(())
 }

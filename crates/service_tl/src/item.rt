@@ -4,7 +4,7 @@ use crate::lists::{FutureSaltList, Messages};
 use tl_codec::{IdList, Octets};
 
 /// The item of a message body. A variant for each constructor of the schema, with its fields in the
-/// schema's order, and what a body is beside these.
+/// schema's order, and what a body is beside these. A message's number is its message identifier.
 #[derive(Debug, Drop)]
 pub enum Item {
     /// The answer to a call: the result is the rest of the body.

@@ -88,7 +88,7 @@ impl Clone for FutureSaltList {
 /// A message of a container.
 #[derive(Debug, Drop)]
 pub struct Message {
-    /// Its number.
+    /// Its number: the message identifier.
     pub number: u64,
     /// Its sequence number.
     pub seq: u32,
@@ -145,7 +145,8 @@ impl Messages {
         }
     }
 
-    /// No message yet, and room for `count` of them.
+    /// No message yet, and room for `count` of them. Contracts promise the empty list; the room is
+    /// only asked for, so a push after it may still answer `Memory`.
     ///
     /// # Errors
     ///

@@ -1,6 +1,7 @@
 //! One body of each constructor, worked out from the standard's schema, and bodies that are none.
 
-ghost use Rattle.std.specs.Prelude.{◌≡◌, IfOk};
+ghost use Rattle.std.specs.Prelude.{◌≡◌, ◌++◌, ◌∷◌, [], IfOk, IfSome, None};
+ghost use Rattle.service_tl.specs.declared.item.Item.TheVariants.{MsgsAck, Pong};
 ghost use Rattle.service_tl.specs.Items.{spelling_of, IsWritable, IsOfSchema};
 ghost use Rattle.service_tl.specs.ItemOf.{item_of};
 
@@ -21,20 +22,25 @@ fn written_and_parsed(alloc: Global, item: &Item) -> Result<Item, Memory>
     parse(alloc, text.as_slice())
 }
 
-// What is parsed of a body in the writer's own spelling and written is that body.
-fn parsed_and_written(alloc: Global, body: &[u8]) -> Result<Octets, Memory>
-    requires of_schema { IsOfSchema (item_of body.now) }
-    requires spelling { spelling_of (item_of body.now) ≡ body.now }
-    ensures { IfOk result (λ text. text ≡ body.now) }
+// A body that is an item of the schema, in the writer's spelling: it says the same.
+fn spelt_anew(alloc: Global, body: &[u8]) -> Result<Option<Octets>, Memory>
+    ensures said { IfOk result (λ anew. IfSome anew (λ text. item_of text ≡ item_of body.now)) }
+    ensures other { IfOk result (λ anew. anew ≡ None → IsOfSchema (item_of body.now) → ⊥) }
 {
     let item = parse(alloc, body)?;
+    if !item.is_of_schema() {
+        return Ok(None);
+    }
     let mut text = Octets::new(alloc);
     write(alloc, &item, &mut text)?;
-    Ok(text)
+    items_again();
+    Ok(Some(text))
 }
 
 // An item that the caller makes is written with no word of the schema.
-fn ack_and_pong(alloc: Global, number: u64, ping_id: u64) -> Result<Octets, Memory> {
+fn ack_and_pong(alloc: Global, number: u64, ping_id: u64) -> Result<Octets, Memory>
+    ensures { IfOk result (λ text. text ≡ spelling_of (MsgsAck (number ∷ [])) ++ spelling_of (Pong number ping_id)) }
+{
     let mut text = Octets::new(alloc);
     let msg_ids = IdList::copy(alloc, &[number])?;
     write(alloc, &Item::MsgsAck { msg_ids }, &mut text)?;
@@ -226,4 +232,79 @@ fn bodies_that_are_read_otherwise(rt: HostRuntime) -> Result<(), Fail> {
 fn service_numbers_are_told(rt: HostRuntime) {
     assert!(rt; is_service(0x3072cfa1) && is_service(0xf35c6d01) && is_service(0xcdd42a05));
     assert!(rt; !is_service(0x75a3f765) && !is_service(0x0a1b2c01) && !is_service(0));
+}
+
+#[test]
+fn what_was_written_is_parsed(rt: HostRuntime) -> Result<(), Fail> {
+    let alloc = rt.alloc();
+    let again = written_and_parsed(alloc, &Item::Ping { ping_id: 7 })?;
+    assert!(rt; is_shown(alloc, &again, "Ping { ping_id: 7 }")?);
+    Ok(())
+}
+
+#[test]
+fn two_items_stand_in_one_text(rt: HostRuntime) -> Result<(), Fail> {
+    let alloc = rt.alloc();
+    let text = ack_and_pong(alloc, 4, 7)?;
+    let want = hex::decode(
+        alloc,
+        "59b4d66215c4b51c010000000400000000000000c573773404000000000000000700000000000000",
+    )
+    .ok()
+    .ok_or("hexadecimal digits")?;
+    assert!(rt; text.as_slice() == want.as_slice());
+    Ok(())
+}
+
+#[test]
+fn other_spellings_are_spelt_anew(rt: HostRuntime) -> Result<(), Fail> {
+    let alloc = rt.alloc();
+    let rows = [
+        // a string in the long form
+        (
+            "19ca442190010000fe03000041424300",
+            "Some(Octets { bytes: [25, 202, 68, 33, 144, 1, 0, 0, 3, 65, 66, 67] })",
+        ),
+        // a call
+        ("01020304", "None"),
+    ];
+    for (text, want) in rows {
+        let body = hex::decode(alloc, text).ok().ok_or("hexadecimal digits")?;
+        let shown = format!(in alloc; "{:?}", spelt_anew(alloc, &body)?)?;
+        assert_eq!(rt; shown.as_str(), want);
+    }
+    Ok(())
+}
+
+#[test]
+fn lists_are_cloned(rt: HostRuntime) -> Result<(), Fail> {
+    let alloc = rt.alloc();
+    let mut salts = FutureSaltList::new(alloc);
+    salts.push(
+        alloc,
+        FutureSalt {
+            valid_since: 0,
+            valid_until: 3_600,
+            salt: 7,
+        },
+    )?;
+    let copy = salts.clone()?;
+    assert!(rt; copy.as_slice() == salts.as_slice());
+    let message = Message {
+        number: 8,
+        seq: 1,
+        body: Octets::copy(alloc, b"abcd")?,
+    };
+    let want = "Message { number: 8, seq: 1, body: Octets { bytes: [97, 98, 99, 100] } }";
+    let shown = format!(in alloc; "{:?}", message.clone()?)?;
+    assert_eq!(rt; shown.as_str(), want);
+    let mut messages = Messages::with_capacity(alloc, 1)?;
+    messages.push(alloc, message)?;
+    let copies = messages.clone()?;
+    for copy in copies.as_slice() {
+        let shown = format!(in alloc; "{copy:?}")?;
+        assert_eq!(rt; shown.as_str(), want);
+    }
+    assert_eq!(rt; copies.as_slice().len(), 1);
+    Ok(())
 }

@@ -34,4 +34,5 @@ mod ServerTests
 mod Tests
 mod Runs
 mod Stays
+mod Lasts
 mod OddRuns

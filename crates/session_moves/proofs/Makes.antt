@@ -1,5 +1,5 @@
 -- What a part of a packet up, and an item that is heard, make of a world.
-use Rattle.std.proofs.Common.{◌≡◌, ◌≢◌, ℕ, ◌<◌, ◌≤◌, ◌==◌, Bool, true, false, List, [], ◌∷◌, length, inl, inr, refl, ap, ◌∙◌, eq-eqb, ne_eqb}
+use Rattle.std.proofs.Common.{◌≡◌, ◌≢◌, ℕ, ◌<◌, ◌≤◌, ◌==◌, Bool, true, false, ◌&&◌, if◌then◌else◌, List, [], ◌∷◌, length, inl, inr, refl, ap, ◌∙◌, eq-eqb, ne_eqb}
 use Rattle.std.proofs.lemmas.Bool.{cases_Bool, cases_eq, lt-ltb, le-ltb}
 use Rattle.std.specs.List.{Contains, list_any}
 use Rattle.session_moves.specs.Table.{CallId, State, Name, Item, call_at}
@@ -42,7 +42,7 @@ pub learnt_full : (w : World) (client unique salt : ℕ)
 learnt_full w client unique salt none full =
     rw (fresh (w.clients client).learnt unique none, le-ltb (length (w.clients client).learnt) LEARNT_MAX full) refl
 
-heard_by_ended : (w : World) (client : ℕ) (item : Item) (takes : Bool) → (w.clients client).ended ≡ true → after_heard w client item takes ≡ w
+pub heard_by_ended : (w : World) (client : ℕ) (item : Item) (takes : Bool) → (w.clients client).ended ≡ true → after_heard w client item takes ≡ w
 heard_by_ended w client item takes ended = rw ended refl
 
 pub ended_leaves : (w : World) (client : ℕ) (items : List Item) (takes : List Bool)
@@ -82,5 +82,37 @@ pub leaves_unsent : (w : World) (client number : ℕ) (state : State) (call : Ca
 leaves_unsent w client number state call differs =
     elim (cases_eq call.client client) [
       | inl same ↦ rw (eq-eqb call.client client same, not_sent (w.calls call).state differs) refl
+      | inr other ↦ rw (ne_eqb call.client client other) refl
+    ]
+
+pub learnt_unsent : (w : World) (client unique salt : ℕ) (call : CallId)
+    → (w.calls call).state ≢ Sent → (after_learnt w client unique salt).calls call ≡ w.calls call
+learnt_unsent w client unique salt call differs =
+    elim (cases_eq call.client client) [
+      | inl same ↦ rw (eq-eqb call.client client same, not_sent (w.calls call).state differs) refl
+      | inr other ↦ rw (ne_eqb call.client client other) refl
+    ]
+
+-- a call stays whose newest name isn't the one
+unnamed : (state new : State) (test : Bool) → test ≡ false → (if is_sent state && test then new else state) ≡ state
+unnamed state new test fails =
+    elim (cases_Bool (is_sent state)) [ inl sent ↦ rw (sent, fails) refl | inr unsent ↦ rw unsent refl ]
+
+another : (name : Name) (session number : ℕ)
+    → (name.session ≡ session → name.number ≢ number) → (name.session == session) && (name.number == number) ≡ false
+another name session number differs =
+    elim (cases_eq name.session session) [
+      | inl same ↦ rw (eq-eqb name.session session same) (ne_eqb name.number number (differs same))
+      | inr other ↦ rw (ne_eqb name.session session other) refl
+    ]
+
+pub leaves_others : (w : World) (client number : ℕ) (state : State) (call : CallId) (name : Name) (older : List Name)
+    → (w.calls call).names ≡ name ∷ older
+    → (name.session ≡ (w.clients client).present → name.number ≢ number)
+    → (after_settled w client number state).calls call ≡ w.calls call
+leaves_others w client number state call name older names differs =
+    let stays = unnamed (w.calls call).state state _ (another name (w.clients client).present number differs) in
+    elim (cases_eq call.client client) [
+      | inl same ↦ rw (eq-eqb call.client client same, names, stays) refl
       | inr other ↦ rw (ne_eqb call.client client other) refl
     ]

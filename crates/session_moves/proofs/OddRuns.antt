@@ -1,17 +1,17 @@
 -- Each odd run is lawful but for its one move, and breaks the law.
-use Rattle.std.proofs.Common.{◌≡◌, ℕ, ◌<◌, List, [], ◌∷◌, inl, inr, refl, sym, ap, ◌∙◌, subst, arith}
+use Rattle.std.proofs.Common.{◌≡◌, ℕ, ◌<◌, List, [], ◌∷◌, None, inl, inr, refl, sym, ap, ◌∙◌, subst, arith}
 use Rattle.std.specs.List.{Contains}
-use Rattle.session_moves.specs.Table.{CallId, Text, Name, Status, Packet, Entry, call_at}
-use Rattle.session_moves.specs.Table.Item.{NewSession, Notice}
+use Rattle.session_moves.specs.Table.{CallId, Text, Name, Message, Status, Packet, Entry, call_at}
+use Rattle.session_moves.specs.Table.Item.{NewSession, Notice, WrongSalt}
 use Rattle.session_moves.specs.Table.State.{Queued, Done, Refused}
 use Rattle.session_moves.specs.Table.Status.{Unmade, Standing, Lost}
-use Rattle.session_moves.specs.World.{World, start}
+use Rattle.session_moves.specs.World.{World, Owns, start}
 use Rattle.session_moves.specs.Reached.{Reached}
 use Rattle.session_moves.specs.Once.{AtMostOne, Once, IsOfName, IsOfCall, older_names}
 use Rattle.session_moves.specs.Safe.{OneTaker}
 use Rattle.session_moves.specs.Witness.{question, reply, entry_of, lost}
-use Rattle.session_moves.specs.Needed.{Breaks, BreaksOneTaker, world_before, world_after, RunsTwice, requeued, rerun, taken_session, given_up_sent, given_again, not_queued, two_at_once, salt_of_zero, drawn_again, invented_message, judged_again, other_body, foreign_salt, outcome_of_twenty, early_forget, other_request, answered_again, names_another, invented_result, early_result, invented_notice, invented_wrong_salt, foreign_new_salt, silent, invented_packet}
-use Rattle.session_moves.proofs.Basics.{contains_first, contains_rest, contains_none, choice_of}
+use Rattle.session_moves.specs.Needed.{Breaks, BreaksOneTaker, world_before, world_after, RunsTwice, requeued, rerun, taken_session, taken_by_renewal, made_again, given_up_sent, given_again, not_queued, again_unsent, other_number, old_number, number_of_a_call, two_at_once, salt_of_zero, drawn_again, invented_message, judged_elsewhere, judged_again, other_body, foreign_salt, outcome_of_twenty, early_forget, other_request, answered_again, names_another, foreign_first_salt, invented_result, early_result, invented_notice, invented_wrong_salt, foreign_new_salt, silent, invented_packet, foreign_packet}
+use Rattle.session_moves.proofs.Basics.{contains_first, contains_rest, contains_none, contains_cases, choice_of, call_added_cases}
 use Rattle.session_moves.proofs.AfterAll.{kept_if_reached}
 use Rattle.session_moves.proofs.OnceKept.{once_if_kept}
 use Rattle.session_moves.proofs.SafeKept.{one_taker_if_kept}
@@ -68,6 +68,10 @@ old_ran w call newest name older entry more names entries of once =
     (listed (older_names (w.calls call).names) name older (ap older_names names))
     (listed w.entries entry more entries) of
 
+-- what a list of one thing holds is that thing
+only : {A : Type 0} (x y : A) → Contains (x ∷ []) y → y ≡ x
+only x y h = elim (contains_cases y x [] h) [ inl is ↦ is | inr none ↦ absurd (contains_none y none) ]
+
 done_unrun : (w : World) (call : CallId) (answer : Text) → (w.calls call).state ≡ Done answer → w.entries ≡ [] → Once w → ⊥
 done_unrun w call answer done entries once =
     let entry = once.done call answer done in contains_none entry.0 (subst (λ list. Contains list entry.0) entries entry.1)
@@ -117,6 +121,23 @@ taken_session_breaks =
     queued_ran (world_after taken_session) (call_at 1 0) (name_at 4 9 (11 ∷ [])) [] (entry_of 11 4) [] refl refl refl (refl, refl)
     )
 
+pub taken_by_renewal_breaks : Breaks taken_by_renewal
+taken_by_renewal_breaks =
+    breaks Once taken_by_renewal once_holds refl refl refl (
+    queued_ran (world_after taken_by_renewal) (call_at 1 0) (name_at 4 10 (11 ∷ [])) [] (entry_of 11 4) [] refl refl refl (refl, refl)
+    )
+
+pub made_again_breaks : Breaks made_again
+made_again_breaks =
+    breaks Once made_again once_holds refl refl refl (
+    λ once.
+    let w : World = world_after made_again in
+    let sent = once.as_sent (entry_of 11 4) (contains_first (entry_of 11 4) []) in
+    let is : call ≡ sent.0 = sent.4 call (name, contains_first name [], (refl, refl)) in
+    let owns : Owns (w.clients 0) 1 = subst (λ (c : CallId). Owns (w.clients c.client) 1) (sym is) sent.3 in
+    elim owns.1 [ inl present ↦ let never : 1 ≡ 2 = present in omega arith | inr former ↦ contains_none 1 former ]
+    )
+
 pub given_up_sent_breaks : Breaks given_up_sent
 given_up_sent_breaks =
     breaks Once given_up_sent once_holds refl refl refl (
@@ -135,6 +156,51 @@ pub not_queued_breaks : Breaks not_queued
 not_queued_breaks =
     breaks Once not_queued once_holds refl refl refl (
     old_ran (world_after not_queued) call (name_at 8 9 (11 ∷ [])) name [] (entry_of 11 4) [] refl refl (refl, refl)
+    )
+
+pub again_unsent_breaks : Breaks again_unsent
+again_unsent_breaks =
+    breaks Once again_unsent once_holds refl refl refl (
+    queued_ran (world_after again_unsent) call name [] (entry_of 12 4) [] refl refl refl (refl, refl)
+    )
+
+pub other_number_breaks : Breaks other_number
+other_number_breaks =
+    breaks Once other_number once_holds refl refl refl (
+    λ once.
+    let sent = once.as_sent (entry_of 11 8) (contains_first (entry_of 11 8) []) in
+    let of_call : IsOfCall (world_after other_number) sent.0 (entry_of 11 8) = sent.1 in
+    elim (call_added_cases of_call.0 name [] sent.0 call of_call.1) [
+      | inl its ↦
+          let number : 8 ≡ of_call.0.number = of_call.2.1 in
+          let never : 8 ≡ 4 = number ∙ ap (λ (n : Name). n.number) its.1 in
+          omega arith
+      | inr none ↦ contains_none of_call.0 none
+    ]
+    )
+
+-- the message of the next two runs, which server session 12 can accept
+abbrev under_both : Message
+under_both = record { session = 1; salt = 22; number = 4; call = None; known = 12 ∷ 11 ∷ [] }
+
+pub old_number_breaks : BreaksOneTaker old_number
+old_number_breaks =
+    breaks OneTaker old_number (λ w reached. one_taker_if_kept w.time w (kept_if_reached w reached)) refl refl refl (
+    λ taker.
+    let before : List Message = (world_before old_number).ups in
+    let stood = taker.can_accept call name 12 under_both (contains_first name []) (contains_first under_both before) (refl, refl) refl refl (contains_first 22 []) in
+    let made : 10 < 6 = stood.0 in
+    omega arith
+    )
+
+pub number_of_a_call_breaks : BreaksOneTaker number_of_a_call
+number_of_a_call_breaks =
+    breaks OneTaker number_of_a_call (λ w reached. one_taker_if_kept w.time w (kept_if_reached w reached)) refl refl refl (
+    λ taker.
+    let before : List Message = (world_before number_of_a_call).ups in
+    let stood = taker.can_accept call name 12 under_both (contains_first name []) (contains_first under_both before) (refl, refl) refl refl (contains_first 22 []) in
+    let made : 10 < 6 = stood.0 in
+    omega arith
     )
 
 pub two_at_once_breaks : Breaks two_at_once
@@ -159,6 +225,23 @@ pub invented_message_breaks : Breaks invented_message
 invented_message_breaks =
     breaks Once invented_message once_holds refl refl refl (
     λ once. let sent = once.as_sent (entry_of 11 4) (contains_first (entry_of 11 4) []) in contains_none sent.1.0 sent.1.1
+    )
+
+pub judged_elsewhere_breaks : BreaksOneTaker judged_elsewhere
+judged_elsewhere_breaks =
+    breaks OneTaker judged_elsewhere (λ w reached. one_taker_if_kept w.time w (kept_if_reached w reached)) refl refl refl (
+    λ taker.
+    let packet : Packet = record { server = 12; items = NewSession 12 22 ∷ WrongSalt 4 22 ∷ [] } in
+    let its_name : Name = record { session = 2; number = 4; first = 16; known = 12 ∷ [] } in
+    let stood = taker.noticed 1 (call_at 1 0) its_name [] packet (NewSession 12 22 ∷ []) [] (WrongSalt 4 22) [] (contains_first packet (world_before judged_elsewhere).downs) refl refl refl refl refl refl refl in
+    elim stood.1 [
+      | inl standing ↦ let never : Lost 15 ≡ Standing = standing in cc
+      | inr lost_at ↦
+          let is : Lost 15 ≡ Lost lost_at.0 = lost_at.1 in
+          let at : 15 ≡ lost_at.0 = cc in
+          let after : 16 < lost_at.0 = lost_at.2 in
+          omega arith
+    ]
     )
 
 pub judged_again_breaks : Breaks judged_again
@@ -226,6 +309,12 @@ names_another_breaks =
     ]
     )
 
+pub foreign_first_salt_breaks : Breaks foreign_first_salt
+foreign_first_salt_breaks =
+    breaks Once foreign_first_salt once_holds refl refl refl (
+    queued_ran (world_after foreign_first_salt) call name [] (entry_of 12 4) [] refl refl refl (refl, refl)
+    )
+
 pub invented_result_breaks : Breaks invented_result
 invented_result_breaks =
     breaks Once invented_result once_holds refl refl refl (done_unrun (world_after invented_result) call reply refl refl)
@@ -261,6 +350,22 @@ silent_breaks =
 pub invented_packet_breaks : Breaks invented_packet
 invented_packet_breaks =
     breaks Once invented_packet once_holds refl refl refl (done_unrun (world_after invented_packet) call reply refl refl)
+
+pub foreign_packet_breaks : Breaks foreign_packet
+foreign_packet_breaks =
+    breaks Once foreign_packet once_holds refl refl refl (
+    λ once.
+    let w : World = world_after foreign_packet in
+    let other : Name = record { session = 2; number = 4; first = 11; known = [] } in
+    let entry = once.done (call_at 1 0) reply refl in
+    let its_entry : IsOfCall w (call_at 1 0) entry.0 = entry.2 in
+    let its_name : its_entry.0 ≡ other = only other its_entry.0 its_entry.1 in
+    let is : entry.0 ≡ entry_of 11 4 = only (entry_of 11 4) entry.0 entry.1 in
+    let session : (w.servers 11).session ≡ 2 =
+    sym (ap (λ (e : Entry). (w.servers e.server).session) is) ∙ its_entry.2.0 ∙ ap (λ (n : Name). n.session) its_name in
+    let never : 1 ≡ 2 = session in
+    omega arith
+    )
 
 pub runs_twice : RunsTwice
 runs_twice = (

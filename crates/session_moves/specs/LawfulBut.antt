@@ -1,5 +1,5 @@
 -- The conditions of a lawful move without one of them. A condition is told by its place among the move's conditions, from 0; where a place
--- has none, nothing is left out.
+-- has none, nothing is left out. The messages of a packet up share their places, and so do the items of a packet down
 use Rattle.std.specs.Prelude.{ℕ, ◌≡◌, ◌≢◌, ◌==◌, List, [], ◌∷◌, Some, ◌⊎◌}
 use Rattle.std.specs.List.{Contains, All}
 use Rattle.std.specs.Bool.{OnFalse}

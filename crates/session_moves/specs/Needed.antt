@@ -6,8 +6,8 @@ use Rattle.session_moves.specs.Table.Item.{NewSession, Result, Notice, WrongSalt
 use Rattle.session_moves.specs.Table.Outcome.{AcceptedCall, AcceptedOther, Noticed}
 use Rattle.session_moves.specs.World.{World, start}
 use Rattle.session_moves.specs.Move.{Move}
-use Rattle.session_moves.specs.Move.OwnAct.{NewClient, Submit, GiveUp}
-use Rattle.session_moves.specs.Move.Part.{First, Again, Other}
+use Rattle.session_moves.specs.Move.OwnAct.{NewClient, Renew, Submit, GiveUp}
+use Rattle.session_moves.specs.Move.Part.{First, Again, Other, OtherAgain}
 use Rattle.session_moves.specs.Move.Move.{Own, Send, Make, Draw, Judge, Forget, Answer, Speak, Hear, Lose}
 use Rattle.session_moves.specs.After.{after}
 use Rattle.session_moves.specs.Lawful.{IsLawful}
@@ -15,7 +15,7 @@ use Rattle.session_moves.specs.LawfulBut.{IsLawfulBut}
 use Rattle.session_moves.specs.Reached.{AreLawful, after_all}
 use Rattle.session_moves.specs.Once.{AtMostOne, Once, IsOfCall}
 use Rattle.session_moves.specs.Safe.{OneTaker}
-use Rattle.session_moves.specs.Witness.{question, reply, told, opened, asked, no_call_of, ran, replaced, lost}
+use Rattle.session_moves.specs.Witness.{question, reply, told_to, told, opened, asked, no_call_of, ran, replaced, lost}
 
 -- lawful moves, one move that lacks the condition at one place, and lawful moves after it
 pub record OddRun : Type 0 where
@@ -75,6 +75,20 @@ taken_session =
           );
     }
 
+-- the same of a client that renews
+abbrev pub taken_by_renewal : OddRun
+taken_by_renewal =
+    record {
+      before = opened (Own (NewClient 1 2) ∷ []);
+      odd = Own (Renew 1 1);
+      lacks = 2;
+      rest = taken_session.rest;
+    }
+
+-- a client is made that was made already: an entry's session number is nobody's
+abbrev pub made_again : OddRun
+made_again = record { before = opened (ran []); odd = Own (NewClient 0 2); lacks = 0; rest = [] }
+
 -- a call that was sent, and ran, is given up
 abbrev pub given_up_sent : OddRun
 given_up_sent = record { before = opened (ran []); odd = Own (GiveUp (call_at 0 0)); lacks = 0; rest = [] }
@@ -95,11 +109,46 @@ given_again =
 abbrev pub not_queued : OddRun
 not_queued = record { before = opened (ran []); odd = Send 0 (First 0 8 ∷ []); lacks = 1; rest = [] }
 
--- A server session is made, and draws salts
-
--- a message that the client sends when it knows both server sessions of the run below
+-- a message that the client sends when it knows both server sessions, 11 and 12
 abbrev pub known_to_both : ℕ → Message
 known_to_both salt = record { session = 1; salt = salt; number = 4; call = Some question; known = 12 ∷ 11 ∷ [] }
+
+-- a call is sent again that is queued: it runs
+abbrev pub again_unsent : OddRun
+again_unsent =
+    record {
+      before =
+          opened (
+          Send 0 (First 0 4 ∷ [])
+          ∷ Judge 11 (asked 21 4) (Noticed 48)
+          ∷ told 11 (NewSession 11 21 ∷ WrongSalt 4 21 ∷ []) [] (
+          replaced (Draw 12 22 ∷ told 12 (NewSession 12 22 ∷ []) [] [])
+          )
+          );
+      odd = Send 0 (Again 0 4 ∷ []);
+      lacks = 1;
+      rest = Judge 12 (known_to_both 22) (AcceptedCall question) ∷ Answer 12 4 question reply ∷ [];
+    }
+
+-- a call is sent again under a number that isn't its own: its entry is of no call
+abbrev pub other_number : OddRun
+other_number =
+    record {
+      before = opened (Send 0 (First 0 4 ∷ []) ∷ []);
+      odd = Send 0 (Again 0 8 ∷ []);
+      lacks = 2;
+      rest = Judge 11 (asked 21 8) (AcceptedCall question) ∷ Answer 11 8 question reply ∷ [];
+    }
+
+-- what is no call gets the number of a call: a later server session can accept the number
+abbrev pub old_number : OddRun
+old_number = record { before = lost; odd = Send 0 (Other 4 ∷ []); lacks = 2; rest = [] }
+
+-- the same of what is no call, and is sent again
+abbrev pub number_of_a_call : OddRun
+number_of_a_call = record { before = lost; odd = Send 0 (OtherAgain 4 ∷ []); lacks = 2; rest = [] }
+
+-- A server session is made, and draws salts
 
 -- a server session is made where one stands: a call that is sent under the salts of both runs twice
 abbrev pub two_at_once : OddRun
@@ -167,6 +216,24 @@ invented_message =
       odd = Judge 11 (asked 21 4) (AcceptedCall question);
       lacks = 1;
       rest = Answer 11 4 question reply ∷ [];
+    }
+
+-- a message of another session number is judged: a notice on a call comes from a server session that was lost before the call was sent
+abbrev pub judged_elsewhere : OddRun
+judged_elsewhere =
+    record {
+      before =
+          opened (
+          Send 0 (First 0 4 ∷ [])
+          ∷ Own (NewClient 1 2)
+          ∷ Own (Submit 1 question)
+          ∷ Make 12 2
+          ∷ Draw 12 22
+          ∷ told_to 1 12 (NewSession 12 22 ∷ []) [] []
+          );
+      odd = Judge 12 (asked 21 4) (Noticed 48);
+      lacks = 2;
+      rest = Speak 12 (NewSession 12 22 ∷ WrongSalt 4 22 ∷ []) ∷ Lose 12 ∷ Send 1 (First 0 4 ∷ []) ∷ [];
     }
 
 -- a message that was refused is judged again: a call that is queued runs
@@ -251,6 +318,23 @@ names_another =
       rest = Hear 0 (record { server = 11; items = NewSession 12 21 ∷ [] }) [] ∷ [];
     }
 
+-- a `new_session_created` has a salt that isn't the server session's own: it refuses the call for its salt, so the call is queued, and a later
+-- one draws the salt and runs the call
+abbrev pub foreign_first_salt : OddRun
+foreign_first_salt =
+    record {
+      before = Own (NewClient 0 1) ∷ Own (Submit 0 question) ∷ Make 11 1 ∷ Draw 11 21 ∷ [];
+      odd = Speak 11 (NewSession 11 22 ∷ []);
+      lacks = 2;
+      rest =
+          Hear 0 (record { server = 11; items = NewSession 11 22 ∷ [] }) []
+          ∷ Send 0 (First 0 4 ∷ [])
+          ∷ Judge 11 (asked 22 4) (Noticed 48)
+          ∷ told 11 (NewSession 11 21 ∷ WrongSalt 4 21 ∷ []) (false ∷ true ∷ []) (
+          replaced (Draw 12 22 ∷ Judge 12 (asked 22 4) (AcceptedCall question) ∷ Answer 12 4 question reply ∷ [])
+          );
+    }
+
 -- a result that is no entry's reply: a call is done that never ran
 abbrev pub invented_result : OddRun
 invented_result =
@@ -324,6 +408,21 @@ invented_packet =
       before = opened (Send 0 (First 0 4 ∷ []) ∷ []);
       odd = Hear 0 (record { server = 11; items = Result 4 reply ∷ [] }) [];
       lacks = 0;
+      rest = [];
+    }
+
+-- a packet of another session number: the call of another client that has the same number is done, and never ran
+abbrev pub foreign_packet : OddRun
+foreign_packet =
+    record {
+      before =
+          opened (
+          ran (
+          Own (NewClient 1 2) ∷ Own (Submit 1 question) ∷ Send 1 (First 0 4 ∷ []) ∷ Speak 11 (Result 4 reply ∷ []) ∷ []
+          )
+          );
+      odd = Hear 1 (record { server = 11; items = Result 4 reply ∷ [] }) [];
+      lacks = 1;
       rest = [];
     }
 

@@ -103,13 +103,22 @@ two_clients =
     )
     )
 
--- the call's number is refused as too high, so the call is held; the client renews, and the call runs under the new session number
-abbrev pub held : List Move
-held =
+-- the call's number is refused as too high, so the call is held
+abbrev pub too_high : List Move → List Move
+too_high rest =
     opened (
     Send 0 (First 0 (2 ^ 40) ∷ [])
     ∷ Judge 11 (asked 21 (2 ^ 40)) (Noticed 17)
-    ∷ told 11 (NewSession 11 21 ∷ Notice (2 ^ 40) 17 ∷ []) [] (
+    ∷ told 11 (NewSession 11 21 ∷ Notice (2 ^ 40) 17 ∷ []) [] rest
+    )
+
+abbrev pub held_at_first : List Move
+held_at_first = too_high []
+
+-- then the client renews, and the call runs under the new session number
+abbrev pub held : List Move
+held =
+    too_high (
     Own (Renew 0 2)
     ∷ Make 12 2
     ∷ Draw 12 22
@@ -118,7 +127,6 @@ held =
     ∷ Judge 12 (record { session = 2; salt = 22; number = 4; call = Some question; known = 12 ∷ [] }) (AcceptedCall question)
     ∷ Answer 12 4 question reply
     ∷ told 12 (Result 4 reply ∷ []) [] []
-    )
     )
     )
 

@@ -1,19 +1,19 @@
 //! What holds of every list of lawful moves, what a list of moves leaves as it was, and runs.
 
-ghost use Rattle.std.specs.Prelude.{◌≡◌, ◌≢◌, ℕ, suc, ◌^◌, ◌<◌, ◌≤◌, Bool, length, List, [], ◌∷◌, ◌++◌, ◌⊎◌, map, Some, None, true, false};
-ghost use Rattle.std.specs.List.{Contains, All, AllPairs};
-ghost use Rattle.session_moves.specs.Table.State.{Queued, Sent, Done, Refused, Unknown};
+ghost use Rattle.std.specs.Prelude.{◌≡◌, ◌≢◌, ℕ, suc, ◌^◌, ◌<◌, ◌≤◌, ◌==◌, Bool, ◌||◌, length, List, [], ◌∷◌, ◌++◌, ◌⊎◌, map, Some, None, true, false};
+ghost use Rattle.std.specs.List.{Contains, All, AllPairs, list_all};
+ghost use Rattle.session_moves.specs.Table.State.{Queued, Sent, Held, Done, Refused, Unknown};
 ghost use Rattle.session_moves.specs.Table.Status.{Unmade, Standing, Lost};
 ghost use Rattle.session_moves.specs.Table.Cause.{ServerSessionLost, Ended, Forgotten};
 ghost use Rattle.session_moves.specs.Table.Outcome.{AcceptedOther};
-ghost use Rattle.session_moves.specs.Table.Item.{Result};
-ghost use Rattle.session_moves.specs.Table.{CallId, Text, State, Name, Message, Outcome, Item, Entry, call_at};
-ghost use Rattle.session_moves.specs.World.{World, IsName, start};
-ghost use Rattle.session_moves.specs.Move.{Move};
+ghost use Rattle.session_moves.specs.Table.Item.{NewSession, Result, Notice, WrongSalt};
+ghost use Rattle.session_moves.specs.Table.{CallId, Text, State, Name, Message, Outcome, Item, Packet, Entry, call_at};
+ghost use Rattle.session_moves.specs.World.{World, Owns, IsName, start};
+ghost use Rattle.session_moves.specs.Move.{Part, Move};
 ghost use Rattle.session_moves.specs.Move.OwnAct.{NewClient, Renew, Submit, GiveUp, End};
 ghost use Rattle.session_moves.specs.Move.Part.{First, Again, Other, OtherAgain};
-ghost use Rattle.session_moves.specs.Move.Move.{Own, Make, Draw, Judge, Forget, Answer, Speak, Lose};
-ghost use Rattle.session_moves.specs.After.{after, after_part, message_of, name_of, after_settled, after_learnt, end_client, learn, after_items, state_renewed, state_ended, LEARNT_MAX};
+ghost use Rattle.session_moves.specs.Move.Move.{Own, Send, Make, Draw, Judge, Forget, Answer, Speak, Hear, Lose};
+ghost use Rattle.session_moves.specs.After.{after, after_part, after_parts, message_of, name_of, after_settled, state_noticed, newest_salts, state_learnt, after_learnt, end_client, learn, after_salt, after_item, after_heard, after_items, state_renewed, state_ended, LEARNT_MAX};
 ghost use Rattle.session_moves.specs.Lawful.{IsLawful, MaySay};
 ghost use Rattle.session_moves.specs.LawfulBut.{IsLawfulBut, NO_PLACE};
 ghost use Rattle.session_moves.specs.Reached.{Reached, AreLawful, after_all};
@@ -21,8 +21,8 @@ ghost use Rattle.session_moves.specs.Extends.{Extends, LeavesServers, LeavesClie
 ghost use Rattle.session_moves.specs.Given.{given, Rises};
 ghost use Rattle.session_moves.specs.Once.{Once, IsDecided};
 ghost use Rattle.session_moves.specs.Safe.{Salts, Numbers, OneTaker};
-ghost use Rattle.session_moves.specs.Needed.{Breaks, BreaksOneTaker, RunsTwice, taken_session, given_up_sent, given_again, not_queued, two_at_once, salt_of_zero, drawn_again, invented_message, judged_again, other_body, foreign_salt, outcome_of_twenty, early_forget, other_request, answered_again, names_another, invented_result, early_result, invented_notice, invented_wrong_salt, foreign_new_salt, silent, invented_packet};
-ghost use Rattle.session_moves.specs.Witness.{reply, entry_of, refusal, resent, lost, first_contact, two_clients, held, ended, given_up, forgotten, sent_again};
+ghost use Rattle.session_moves.specs.Needed.{Breaks, BreaksOneTaker, RunsTwice, taken_session, taken_by_renewal, made_again, given_up_sent, given_again, not_queued, again_unsent, other_number, old_number, number_of_a_call, two_at_once, salt_of_zero, drawn_again, invented_message, judged_elsewhere, judged_again, other_body, foreign_salt, outcome_of_twenty, early_forget, other_request, answered_again, names_another, foreign_first_salt, invented_result, early_result, invented_notice, invented_wrong_salt, foreign_new_salt, silent, invented_packet, foreign_packet};
+ghost use Rattle.session_moves.specs.Witness.{reply, entry_of, refusal, resent, lost, first_contact, two_clients, held_at_first, held, ended, given_up, forgotten, sent_again};
 
 /// Whatever lawful moves clients and servers make, each call is executed at most once and reported as it was, and
 /// salts, numbers and server sessions are as that needs.
@@ -54,6 +54,19 @@ pub fn decisions_stay()
 /// forgotten numbers.
 pub fn moves_only_add()
     ensures { (w : World) (moves : List Move) → AreLawful w moves → Extends w (after_all w moves) }
+{}
+
+/// What lasts for good: a client that was made stays made, owns its session numbers and stays ended, and a call that was
+/// submitted keeps its body.
+pub fn clients_and_bodies_last()
+    ensures made { (w : World) (moves : List Move) (client : ℕ) → AreLawful w moves → (w.clients client).present ≢ 0
+        → ((after_all w moves).clients client).present ≢ 0 }
+    ensures owned { (w : World) (moves : List Move) (client session : ℕ) → AreLawful w moves → (w.clients client).present ≢ 0
+        → Owns (w.clients client) session → Owns ((after_all w moves).clients client) session }
+    ensures ended { (w : World) (moves : List Move) (client : ℕ) → AreLawful w moves → (w.clients client).present ≢ 0
+        → (w.clients client).ended ≡ true → ((after_all w moves).clients client).ended ≡ true }
+    ensures bodies { (w : World) (moves : List Move) (call : CallId) → AreLawful w moves → call.place < w.submitted call.client
+        → ((after_all w moves).calls call).body ≡ (w.calls call).body }
 {}
 
 /// The parts of a world that a list of moves, lawful or not, leaves as they were.
@@ -109,8 +122,19 @@ pub fn own_acts_make()
         ≡ record (w.calls (call_at client place)) { state = state_ended (w.calls (call_at client place)).state } }
 {}
 
-/// What one message of a packet up makes of the messages and of its client's calls.
+/// Each move takes one step of time.
+pub fn time_goes_on()
+    ensures { (w : World) (move : Move) → (after w move).time ≡ suc w.time }
+{}
+
+/// What one message of a packet up makes of the messages and of its client's calls, and a packet of its messages in turn.
 pub fn parts_make()
+    ensures sent { (w : World) (client : ℕ) (parts : List Part) → after w (Send client parts)
+        ≡ record (after_parts w client parts) { time = suc w.time } }
+    ensures no_part { (w : World) (client : ℕ) → after_parts w client [] ≡ w }
+    ensures each_part { (w : World) (client : ℕ) (part : Part) (parts : List Part) → after_parts w client (part ∷ parts)
+        ≡ after_parts (after_part w client part) client parts }
+
     ensures first_message { (w : World) (client place number : ℕ) → (after_part w client (First place number)).ups
         ≡ message_of (w.clients client) number (Some (w.calls (call_at client place)).body) ∷ w.ups }
     ensures first_call { (w : World) (client place number : ℕ) → (after_part w client (First place number)).calls (call_at client place)
@@ -124,6 +148,37 @@ pub fn parts_make()
         ≡ record w { ups = message_of (w.clients client) number None ∷ w.ups } }
     ensures other_again { (w : World) (client number : ℕ) → after_part w client (OtherAgain number)
         ≡ record w { ups = message_of (w.clients client) number None ∷ w.ups } }
+{}
+
+/// What a client makes of a packet: one item after another, with what `takes` says of it, or false where that says nothing.
+pub fn packets_make()
+    ensures heard { (w : World) (client : ℕ) (packet : Packet) (takes : List Bool) → after w (Hear client packet takes)
+        ≡ record (after_items w client packet.items takes) { time = suc w.time } }
+    ensures no_item { (w : World) (client : ℕ) (takes : List Bool) → after_items w client [] takes ≡ w }
+    ensures each_item { (w : World) (client : ℕ) (item : Item) (items : List Item) (take : Bool) (takes : List Bool)
+        → after_items w client (item ∷ items) (take ∷ takes) ≡ after_items (after_heard w client item take) client items takes }
+    ensures each_other { (w : World) (client : ℕ) (item : Item) (items : List Item)
+        → after_items w client (item ∷ items) [] ≡ after_items (after_heard w client item false) client items [] }
+
+    // A client that has ended leaves an item.
+    ensures left { (w : World) (client : ℕ) (item : Item) (takes : Bool) → (w.clients client).ended ≡ true
+        → after_heard w client item takes ≡ w }
+    ensures taken { (w : World) (client : ℕ) (item : Item) (takes : Bool) → (w.clients client).ended ≡ false
+        → after_heard w client item takes ≡ after_item w client item takes }
+
+    // Which item does what.
+    ensures item_new { (w : World) (client unique salt : ℕ) (takes : Bool)
+        → after_item w client (NewSession unique salt) takes ≡ learn w client unique salt }
+    ensures item_result { (w : World) (client number : ℕ) (reply : Text) (takes : Bool)
+        → after_item w client (Result number reply) takes ≡ after_settled w client number (Done reply) }
+    ensures item_notice { (w : World) (client number code : ℕ) (takes : Bool)
+        → after_item w client (Notice number code) takes ≡ after_settled w client number (state_noticed code) }
+    ensures item_wrong_salt { (w : World) (client number salt : ℕ) (takes : Bool) → after_item w client (WrongSalt number salt) takes
+        ≡ after_salt (after_settled w client number (state_noticed 48)) client salt takes }
+    ensures noticed_again { (state_noticed 16 ≡ Queued) × (state_noticed 48 ≡ Queued) }
+    ensures noticed_high { state_noticed 17 ≡ Held }
+    ensures noticed_old { state_noticed 20 ≡ Unknown Forgotten }
+    ensures noticed_other { (code : ℕ) → code ≢ 16 → code ≢ 48 → code ≢ 17 → code ≢ 20 → state_noticed code ≡ Refused code }
 {}
 
 /// What an item that is heard makes of a client and of its calls.
@@ -146,6 +201,53 @@ pub fn items_make()
         → (after_settled w client number state).calls call ≡ record (w.calls call) { state = state } }
     ensures unsent { (w : World) (client number : ℕ) (state : State) (call : CallId) → (w.calls call).state ≢ Sent
         → (after_settled w client number state).calls call ≡ w.calls call }
+    ensures others_stay { (w : World) (client number : ℕ) (state : State) (call : CallId) (name : Name) (older : List Name)
+        → (w.calls call).names ≡ name ∷ older → (name.session ≡ (w.clients client).present → name.number ≢ number)
+        → (after_settled w client number state).calls call ≡ w.calls call }
+    ensures of_others { (w : World) (client number : ℕ) (state : State) (call : CallId) → call.client ≢ client
+        → (after_settled w client number state).calls call ≡ w.calls call }
+    ensures settled_clients { (w : World) (client number : ℕ) (state : State) → (after_settled w client number state).clients ≡ w.clients }
+
+    // A new salt: the client takes it over, or doesn't; calls stay.
+    ensures salt_taken { (w : World) (client salt : ℕ) → (after_salt w client salt true).clients client
+        ≡ record (w.clients client) { salt = salt } }
+    ensures salt_left { (w : World) (client salt : ℕ) → (after_salt w client salt false).clients client ≡ w.clients client }
+    ensures salt_calls { (w : World) (client salt : ℕ) (takes : Bool) → (after_salt w client salt takes).calls ≡ w.calls }
+{}
+
+/// What a unique number that a client learns makes of the client and of its calls.
+pub fn what_is_learnt_makes()
+    ensures learnt_client { (w : World) (client unique salt : ℕ) → (after_learnt w client unique salt).clients client
+        ≡ record (w.clients client) { salt = salt; learnt = unique ∷ (w.clients client).learnt } }
+    ensures learnt_calls { (w : World) (client unique salt : ℕ) (call : CallId) → call.client ≡ client → (w.calls call).state ≡ Sent
+        → (after_learnt w client unique salt).calls call
+        ≡ record (w.calls call) { state = state_learnt (w.clients client).learnt salt (newest_salts w.ups (w.calls call).names) } }
+    ensures unsent { (w : World) (client unique salt : ℕ) (call : CallId) → (w.calls call).state ≢ Sent
+        → (after_learnt w client unique salt).calls call ≡ w.calls call }
+    ensures of_others { (w : World) (client unique salt : ℕ) (call : CallId) → call.client ≢ client
+        → (after_learnt w client unique salt).calls call ≡ w.calls call }
+
+    // A call that was sent under these salts: under 0 alone; under 0 and the new one, where it is the first that is learnt;
+    // else.
+    ensures unsalted { (learnt salts : List ℕ) (salt : ℕ) → list_all (λ under. under == 0) salts ≡ true
+        → state_learnt learnt salt salts ≡ Queued }
+    ensures salted { (salts : List ℕ) (salt : ℕ) → list_all (λ under. under == 0) salts ≡ false
+        → list_all (λ under. (under == 0) || (under == salt)) salts ≡ true → state_learnt [] salt salts ≡ Sent }
+    ensures salted_else { (salts : List ℕ) (salt : ℕ) → list_all (λ under. under == 0) salts ≡ false
+        → list_all (λ under. (under == 0) || (under == salt)) salts ≡ false → state_learnt [] salt salts ≡ Unknown ServerSessionLost }
+    ensures learnt_before { (unique : ℕ) (learnt salts : List ℕ) (salt : ℕ) → list_all (λ under. under == 0) salts ≡ false
+        → state_learnt (unique ∷ learnt) salt salts ≡ Unknown ServerSessionLost }
+{}
+
+/// What wasn't made yet has nothing: a call that wasn't submitted has no name, a server session that wasn't made no salt,
+/// outcome or forgotten number, and a client that wasn't made no former session number.
+pub fn what_was_not_made_is_blank()
+    ensures calls { (w : World) (call : CallId) → Reached w → w.submitted call.client ≤ call.place
+        → ((w.calls call).names ≡ []) × ((w.calls call).state ≡ Refused 0) }
+    ensures servers { (w : World) (unique : ℕ) → Reached w → (w.servers unique).status ≡ Unmade
+        → ((w.servers unique).salts ≡ []) × ((w.servers unique).judged ≡ []) × ((w.servers unique).forgotten ≡ []) }
+    ensures clients { (w : World) (client : ℕ) → Reached w → (w.clients client).present ≡ 0
+        → ((w.clients client).former ≡ []) × ((w.clients client).ended ≡ false) }
 {}
 
 /// The salt of a message is 0, or belongs to a server session that was made. So what is no server session's salt, and
@@ -202,9 +304,10 @@ pub fn clients_can_be_two()
     ensures second_done { ((after_all start two_clients).calls (call_at 1 0)).state ≡ Done reply }
 {}
 
-/// A call whose number was too high may run once its client has renewed.
+/// A call whose number was too high is held, and may run once its client has renewed.
 pub fn calls_can_be_held()
     ensures lawful { AreLawful start held }
+    ensures held { ((after_all start held_at_first).calls (call_at 0 0)).state ≡ Held }
     ensures renumbered { map (λ name. name.number) ((after_all start held).calls (call_at 0 0)).names ≡ 4 ∷ 2 ^ 40 ∷ [] }
     ensures executed { (after_all start held).entries ≡ entry_of 12 4 ∷ [] }
     ensures done { ((after_all start held).calls (call_at 0 0)).state ≡ Done reply }
@@ -242,16 +345,23 @@ pub fn conditions_are_needed()
     ensures whole { (w : World) (move : Move) → IsLawfulBut NO_PLACE w move → IsLawful w move }
 
     ensures taken_session { Breaks taken_session }
+    ensures taken_by_renewal { Breaks taken_by_renewal }
+    ensures made_again { Breaks made_again }
     ensures given_up_sent { Breaks given_up_sent }
 
     ensures given_again { Breaks given_again }
     ensures not_queued { Breaks not_queued }
+    ensures again_unsent { Breaks again_unsent }
+    ensures other_number { Breaks other_number }
+    ensures old_number { BreaksOneTaker old_number }
+    ensures number_of_a_call { BreaksOneTaker number_of_a_call }
 
     ensures two_at_once { Breaks two_at_once }
     ensures salt_of_zero { Breaks salt_of_zero }
     ensures drawn_again { Breaks drawn_again }
 
     ensures invented_message { Breaks invented_message }
+    ensures judged_elsewhere { BreaksOneTaker judged_elsewhere }
     ensures judged_again { Breaks judged_again }
     ensures other_body { Breaks other_body }
     ensures foreign_salt { Breaks foreign_salt }
@@ -261,6 +371,7 @@ pub fn conditions_are_needed()
     ensures other_request { Breaks other_request }
     ensures answered_again { Breaks answered_again }
     ensures names_another { Breaks names_another }
+    ensures foreign_first_salt { Breaks foreign_first_salt }
     ensures invented_result { Breaks invented_result }
     ensures early_result { Breaks early_result }
     ensures invented_notice { Breaks invented_notice }
@@ -269,6 +380,7 @@ pub fn conditions_are_needed()
     ensures silent { Breaks silent }
 
     ensures invented_packet { Breaks invented_packet }
+    ensures foreign_packet { Breaks foreign_packet }
 
     ensures queued_again { RunsTwice }
 {}

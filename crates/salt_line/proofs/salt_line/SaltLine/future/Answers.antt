@@ -81,6 +81,6 @@ returns-clause-early g c =
     c.come_to-period.ensures.period ∙ ap (λ s. period_at s c.seconds.result) (sym start)
     ∙ ap (period_at c.self.inside.start) c.seconds.ensures.value in
     let few = c.min-count.ensures in
-    subst (All (λ (row : SaltRow). row.until < 2 ^ 32))
+    subst (All (λ (row : SaltRow). (row.since < row.until) × (row.until < 2 ^ 32)))
     (sym (ap (λ m. take m c.hand_out.new.into) (sym c.min-count.ensures) ∙ c.hand_out.ensures.rows))
     (early-salt_rows_from line c.come_to-period.result c.min-count.result (omega arith))

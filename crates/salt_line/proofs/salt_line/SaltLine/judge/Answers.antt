@@ -6,8 +6,8 @@ use Rattle.salt_line.specs.Line.{Kept, Stands}
 use Rattle.salt_line.proofs.StandsLemmas.{valid-from_kept, kept-from_valid}
 use Rattle.salt_line.proofs.salt_line.SaltLine.judge.Goals as goal
 
-pub returns-then-salt-ne0 : goal.returns-then-salt-ne0
-returns-then-salt-ne0 c = λ line stands.
+pub returns-then-salt-ne0-clause-judged : goal.returns-then-salt-ne0-clause-judged
+returns-then-salt-ne0-clause-judged c = λ line stands.
     let rows = rows_of c.self.inside.rows.first c.self.inside.rows.words.items in
     let kept : Kept = record { start = c.self.inside.start; latest = c.self.inside.latest; rows = rows } in
     let there = subst (λ (k : Kept). Stands k line) (sym c.self.view_is) stands in

@@ -1,0 +1,5 @@
+pub mod TableTests
+pub mod BitLaws
+pub mod Tables
+pub mod TextLaws
+pub mod EightLaws

@@ -1,0 +1,10 @@
+-- The code's tables: one computed test over the entries of a table, and the rule at each of them.
+use Rattle.std.proofs.Common.{◌≡◌, ℕ, ◌<◌, List, true, slice_index}
+use Rattle.std.specs.Prelude.{◌==◌}
+use Rattle.std.proofs.lemmas.Bool.{eqb-true}
+use Rattle.crc_core.specs.Crc32.{fed_bits}
+use Rattle.crc_core.proofs.TableTests.{passes_below, passes_at}
+
+pub entry_at : (table : List ℕ) (n : ℕ) → passes_below (λ b. slice_index table b == fed_bits n b 0) 256 ≡ true
+    → (b : ℕ) → b < 256 → slice_index table b ≡ fed_bits n b 0
+entry_at table n test b h = eqb-true _ _ (passes_at _ 256 test b h)

@@ -1,0 +1,99 @@
+-- Messages and their drafts are judged alike, and what was heard stays heard.
+use Rattle.std.proofs.Common.{◌≡◌, ℕ, Bool, true, false, cond, ◌||◌, List, [], ◌∷◌, ◌++◌, map, Option, Some, None, refl, sym, ◌∙◌, ap, subst, arith}
+use Rattle.std.proofs.lemmas.List.Folds.{list_any-append}
+use Rattle.service_tl.specs.declared.lists.Message.{Message}
+use Rattle.id_window.specs.History.{History, FirstJudgement, Outcome, Refused, AcceptedContainer, AcceptedCall, AcceptedOther, was_accepted, noted}
+use Rattle.id_window.specs.Marks.{Marks}
+use Rattle.id_window.specs.Window.{Contents, Stands as WindowStands}
+use Rattle.inbox.specs.declared.draft.Draft.{Draft}
+use Rattle.inbox.specs.declared.judged.Verdict.{Verdict}
+use Rattle.inbox.specs.declared.judged.Verdict.TheVariants.{Accepted, Again, Noticed}
+use Rattle.inbox.specs.declared.judged.Judgement.{Judgement}
+use Rattle.inbox.specs.declared.kind.Kind.{Kind}
+use Rattle.inbox.specs.declared.kind.Kind.TheVariants.{Container, Unlawful, Acknowledgement, Call, Other}
+use Rattle.inbox.specs.Kinds.{inner_messages}
+use Rattle.inbox.specs.Judging.{Session, is_accepted, is_recorded, recorded, remembered, outcome_of, inner_judgements, inner_session, unfolded}
+use Rattle.inbox.specs.Inbox.{was_heard, without_room}
+use Rattle.inbox.specs.Drafts.{draft_of, draft_judgement, draft_session, draft_judgements, drafts_session, draft_verdict}
+
+pub inner_judged : (session : Session) (messages : List Message) → draft_judgements session (map draft_of messages) ≡ inner_judgements session messages
+inner_judged session [] = refl
+inner_judged session (message ∷ messages) =
+    ap (λ (rest : List Judgement). draft_judgement None session (draft_of message) ∷ rest)
+    (inner_judged (draft_session None session (draft_of message)) messages)
+
+pub inner_settled : (session : Session) (messages : List Message) → drafts_session session (map draft_of messages) ≡ inner_session session messages
+inner_settled session [] = refl
+inner_settled session (message ∷ messages) = inner_settled (draft_session None session (draft_of message)) messages
+
+-- what is unfolded of an accepted message, and of another
+pub accepted_unfolded : (verdict : Verdict) (message : Message) → is_accepted verdict ≡ true → unfolded verdict message ≡ inner_messages message
+accepted_unfolded (Accepted item) message is = refl
+accepted_unfolded (Again mark) message is = cc
+accepted_unfolded (Noticed code) message is = cc
+
+pub others_unfolded : (verdict : Verdict) (message : Message) → is_accepted verdict ≡ false → unfolded verdict message ≡ []
+others_unfolded (Accepted item) message is = cc
+others_unfolded (Again mark) message is = refl
+others_unfolded (Noticed code) message is = refl
+
+-- ---- what was heard
+
+or_false : (b : Bool) → (b || false) ≡ b
+or_false true = refl
+or_false false = refl
+
+or_true : (b : Bool) → (b || true) ≡ true
+or_true true = refl
+or_true false = refl
+
+pub heard-noted : (number seq : ℕ) (outcome : Outcome) (history : History) → was_heard (noted number seq outcome history) ≡ (was_heard history || was_accepted outcome)
+heard-noted number seq outcome history =
+    list_any-append (λ (judgement : FirstJudgement). was_accepted judgement.outcome) history (record { number = number; seq = seq; outcome = outcome } ∷ [])
+    ∙ ap (λ (b : Bool). was_heard history || b) (or_false (was_accepted outcome))
+
+stays : (number seq : ℕ) (outcome : Outcome) (history : History) → was_heard history ≡ true → was_heard (noted number seq outcome history) ≡ true
+stays number seq outcome history heard = heard-noted number seq outcome history ∙ ap (λ (b : Bool). b || was_accepted outcome) heard
+
+pub heard_stays : (number seq : ℕ) (outcome : Option Outcome) (session : Session) → was_heard session.history ≡ true → was_heard (remembered number seq outcome session).history ≡ true
+heard_stays number seq None session heard = heard
+heard_stays number seq (Some outcome) session heard = stays number seq outcome session.history heard
+
+pub heard_inside : (session : Session) (drafts : List Draft) → was_heard session.history ≡ true → was_heard (drafts_session session drafts).history ≡ true
+heard_inside session [] heard = heard
+heard_inside session (draft ∷ drafts) heard =
+    heard_inside (draft_session None session draft) drafts (heard_stays draft.number draft.seq (recorded draft.kind (draft_verdict None session draft)) session heard)
+
+noticed : (number seq code : ℕ) (is : Bool) (session : Session) → was_heard (remembered number seq (cond is (Some (Refused code)) None) session).history ≡ was_heard session.history
+noticed number seq code true session = heard-noted number seq (Refused code) session.history ∙ or_false (was_heard session.history)
+noticed number seq code false session = refl
+
+pub heard_refused : (number seq : ℕ) (kind : Kind) (verdict : Verdict) (session : Session) → is_accepted verdict ≡ false → was_heard (remembered number seq (recorded kind verdict) session).history ≡ was_heard session.history
+heard_refused number seq kind (Accepted item) session is = cc
+heard_refused number seq kind (Again mark) session is = refl
+heard_refused number seq kind (Noticed code) session is = noticed number seq code (is_recorded code) session
+
+accepted_as : (kind : Kind) → was_accepted (outcome_of kind) ≡ true
+accepted_as Container = refl
+accepted_as Unlawful = refl
+accepted_as Acknowledgement = refl
+accepted_as Call = refl
+accepted_as Other = refl
+
+pub heard_accepted : (number seq : ℕ) (kind : Kind) (verdict : Verdict) (session : Session) → is_accepted verdict ≡ true → was_heard (remembered number seq (recorded kind verdict) session).history ≡ true
+heard_accepted number seq kind (Accepted item) session is =
+    heard-noted number seq (outcome_of kind) session.history
+    ∙ ap (λ (b : Bool). was_heard session.history || b) (accepted_as kind)
+    ∙ or_true (was_heard session.history)
+heard_accepted number seq kind (Again mark) session is = cc
+heard_accepted number seq kind (Noticed code) session is = cc
+
+-- ---- reserved room says nothing of what a window stands for
+
+pub with_room : (window : Contents) (history : History) (marks : Marks) → WindowStands (without_room window) history marks → WindowStands window history marks
+unfolding WindowStands
+with_room window history marks stands = record { rows = stands.rows; accepted = stands.accepted; floor = stands.floor; once = stands.once }
+
+pub room_left_out : (window : Contents) (history : History) (marks : Marks) → WindowStands window history marks → WindowStands (without_room window) history marks
+unfolding WindowStands
+room_left_out window history marks stands = record { rows = stands.rows; accepted = stands.accepted; floor = stands.floor; once = stands.once }

@@ -1,0 +1,99 @@
+-- A message with what is inside it, judged by its drafts.
+use Rattle.std.proofs.Common.{◌≡◌, ℕ, Bool, true, false, List, [], ◌∷◌, ◌++◌, map, Option, Some, None, refl, sym, ◌∙◌, ap, subst, arith}
+use Rattle.std.specs.Prelude.{slice_get}
+use Rattle.service_tl.specs.declared.lists.Message.{Message}
+use Rattle.salt_line.specs.Line.{Line}
+use Rattle.id_window.specs.Window.{Contents, Stands as WindowStands}
+use Rattle.inbox.specs.declared.draft.Draft.{Draft}
+use Rattle.inbox.specs.declared.judged.Verdict.{Verdict}
+use Rattle.inbox.specs.declared.judged.Verdict.TheVariants.{Accepted}
+use Rattle.inbox.specs.declared.judged.Judgement.{Judgement}
+use Rattle.inbox.specs.Kinds.{kind_of, inner_messages, item_told}
+use Rattle.inbox.specs.Refusals.{Way, InEnvelope, by_envelope}
+use Rattle.inbox.specs.Judging.{Session, judge, is_accepted, recorded, judged_session, judgement_on, inner_judgements, inner_session, unfolded, judgements, session_after}
+use Rattle.inbox.specs.Inbox.{Stands, was_heard, without_room}
+use Rattle.inbox.specs.Drafts.{draft_of, draft_judgement, draft_session, draft_judgements, drafts_session, draft_verdict}
+use Rattle.inbox.specs.Acceptance.{IsAcceptable}
+use Rattle.inbox.proofs.DraftLemmas.{inner_judged, inner_settled, accepted_unfolded, others_unfolded, heard_refused, heard_accepted, heard_inside, room_left_out}
+use Rattle.inbox.proofs.AcceptanceLemmas.{acceptable_judged}
+
+-- the draft of an envelope's message was judged
+pub record Settled (way : Way) (session : Session) (message : Message) (envelope : Option ℕ) (draft : Draft) (judgement : Judgement) : Type 0 where
+  pub envelope_is : envelope ≡ by_envelope way message.number
+  pub draft_is : draft ≡ draft_of message
+  pub judgement_is : judgement ≡ draft_judgement envelope session draft
+
+module _ (way : Way) (session : Session) (message : Message) (envelope : Option ℕ) (draft : Draft) (judgement : Judgement) (settled : Settled way session message envelope draft judgement) where
+  pub on_message : judgement ≡ judgement_on way session message
+  on_message =
+      settled.judgement_is
+      ∙ ap (λ (e : Option ℕ). draft_judgement e session draft) settled.envelope_is
+      ∙ ap (λ (d : Draft). draft_judgement (by_envelope way message.number) session d) settled.draft_is
+
+  pub session_on : draft_session envelope session draft ≡ judged_session way session message
+  session_on =
+      ap (λ (e : Option ℕ). draft_session e session draft) settled.envelope_is
+      ∙ ap (λ (d : Draft). draft_session (by_envelope way message.number) session d) settled.draft_is
+
+  accepted_as : (taken : Bool) → is_accepted judgement.verdict ≡ taken → is_accepted (judge way session message) ≡ taken
+  accepted_as taken is = ap (λ (j : Judgement). is_accepted j.verdict) (sym on_message) ∙ is
+
+  -- it wasn't accepted
+
+  pub alone_judged : (js0 js1 : List Judgement) → is_accepted judgement.verdict ≡ false → js0 ≡ [] → js1 ≡ js0 ++ judgement ∷ [] → js1 ≡ judgements way session message
+  alone_judged js0 js1 is empty pushed =
+      pushed
+      ∙ ap (λ (js : List Judgement). js ++ judgement ∷ []) empty
+      ∙ ap (λ (j : Judgement). j ∷ []) on_message
+      ∙ ap (λ (ms : List Message). judgement_on way session message ∷ inner_judgements (judged_session way session message) ms) (sym (others_unfolded (judge way session message) message (accepted_as false is)))
+
+  pub alone_stands : (w : Contents) (heard : Bool) → is_accepted judgement.verdict ≡ false → heard ≡ was_heard session.history
+      → WindowStands w (draft_session envelope session draft).history (draft_session envelope session draft).marks
+      → Stands (record { window = without_room w; heard = heard }) (session_after way session message).history (session_after way session message).marks
+  alone_stands w heard is heard_is stands =
+      let unaccepted = accepted_as false is in
+      let after : session_after way session message ≡ judged_session way session message = ap (inner_session (judged_session way session message)) (others_unfolded (judge way session message) message unaccepted) in
+      let still : was_heard (judged_session way session message).history ≡ was_heard session.history = heard_refused message.number message.seq (kind_of message) (judge way session message) session unaccepted in
+      subst (λ (s : Session). Stands (record { window = without_room w; heard = heard }) s.history s.marks) (sym after) (record {
+        window = room_left_out w _ _ (subst (λ (s : Session). WindowStands w s.history s.marks) session_on stands);
+        heard = heard_is ∙ sym still;
+      })
+
+  -- it was accepted
+
+  pub all_judged : (drafts : List Draft) (js0 js1 js2 : List Judgement) → is_accepted judgement.verdict ≡ true → drafts ≡ map draft_of (inner_messages message)
+      → js0 ≡ [] → js1 ≡ js0 ++ judgement ∷ [] → js2 ≡ js1 ++ draft_judgements (draft_session envelope session draft) drafts → js2 ≡ judgements way session message
+  all_judged drafts js0 js1 js2 is drafts_are empty pushed settled_inside =
+      let now = judged_session way session message in
+      settled_inside
+      ∙ ap (λ (js : List Judgement). js ++ draft_judgements (draft_session envelope session draft) drafts) (pushed ∙ ap (λ (js : List Judgement). js ++ judgement ∷ []) empty)
+      ∙ ap (λ (j : Judgement). j ∷ draft_judgements (draft_session envelope session draft) drafts) on_message
+      ∙ ap (λ (s : Session). judgement_on way session message ∷ draft_judgements s drafts) session_on
+      ∙ ap (λ (ds : List Draft). judgement_on way session message ∷ draft_judgements (judged_session way session message) ds) drafts_are
+      ∙ ap (λ (js : List Judgement). judgement_on way session message ∷ js) (inner_judged (judged_session way session message) (inner_messages message))
+      ∙ ap (λ (ms : List Message). judgement_on way session message ∷ inner_judgements (judged_session way session message) ms) (sym (accepted_unfolded (judge way session message) message (accepted_as true is)))
+
+  pub all_stands : (w : Contents) (drafts : List Draft) → is_accepted judgement.verdict ≡ true → drafts ≡ map draft_of (inner_messages message)
+      → WindowStands w (drafts_session (draft_session envelope session draft) drafts).history (drafts_session (draft_session envelope session draft) drafts).marks
+      → Stands (record { window = without_room w; heard = true }) (session_after way session message).history (session_after way session message).marks
+  all_stands w drafts is drafts_are stands =
+      let taken = accepted_as true is in
+      let inside : drafts_session (draft_session envelope session draft) drafts ≡ drafts_session (judged_session way session message) drafts = ap (λ (s : Session). drafts_session s drafts) session_on in
+      let after : drafts_session (judged_session way session message) drafts ≡ session_after way session message =
+      ap (λ (ds : List Draft). drafts_session (judged_session way session message) ds) drafts_are
+      ∙ inner_settled (judged_session way session message) (inner_messages message)
+      ∙ ap (λ (ms : List Message). inner_session (judged_session way session message) ms) (sym (accepted_unfolded (judge way session message) message taken)) in
+      let heard : was_heard (drafts_session (judged_session way session message) drafts).history ≡ true =
+      heard_inside (judged_session way session message) drafts (heard_accepted message.number message.seq (kind_of message) (judge way session message) session taken) in
+      record {
+        window = room_left_out w _ _ (subst (λ (s : Session). WindowStands w s.history s.marks) (inside ∙ after) stands);
+        heard = sym (subst (λ (s : Session). was_heard s.history ≡ true) after heard);
+      }
+
+-- what nothing refuses is the first judgement, and is an acceptance
+pub first_accepted : (now : ℕ) (line : Line) (salt : ℕ) (session : Session) (message : Message) (js : List Judgement) → IsAcceptable now line salt session message
+    → js ≡ judgements (InEnvelope now line salt) session message
+    → slice_get js 0 ≡ Some (record { number = message.number; seq = message.seq; verdict = Accepted (item_told message.body) })
+first_accepted now line salt session message js is js_are =
+    ap (λ (all : List Judgement). slice_get all 0) js_are
+    ∙ ap (λ (v : Verdict). Some (record { number = message.number; seq = message.seq; verdict = v })) (acceptable_judged now line salt session message is)

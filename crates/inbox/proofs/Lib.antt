@@ -1,0 +1,5 @@
+pub mod TestLemmas
+pub mod DraftLemmas
+pub mod SettledLemmas
+pub mod AcceptanceLemmas
+pub mod JudgeLemmas

@@ -1,0 +1,82 @@
+use Rattle.std.proofs.Common.{◌≡◌, ◌∙◌, true, false, List, ◌++◌, ◌∷◌, [], refl, sym, ap, rules, arith}
+use Rattle.std.proofs.lemmas.Bool.Decides.{nat_tests}
+use Rattle.id_window.specs.Window.{Stands as WindowStands}
+use Rattle.inbox.specs.declared.judged.Judgement.{Judgement}
+use Rattle.inbox.specs.Refusals.{InEnvelope}
+use Rattle.inbox.specs.Judging.{Session, is_accepted}
+use Rattle.inbox.specs.Inbox.{Stands, Kept, message_in}
+use Rattle.inbox.specs.Drafts.{draft_session}
+use Rattle.inbox.proofs.DraftLemmas.{with_room}
+use Rattle.inbox.proofs.JudgeLemmas.{Settled, alone_judged, alone_stands, all_judged, all_stands, first_accepted}
+use Rattle.inbox.proofs.inbox.Inbox.judge.Goals as goal
+
+-- ---- a message that isn't accepted
+
+pub returns-then-not-accepted-clause-judged : goal.returns-then-not-accepted-clause-judged
+returns-then-not-accepted-clause-judged c session salts stands line_stands =
+    let old = rw (← c.self.view_is) at stands in
+    let w0 = with_room c.self.inside.window session.history session.marks old.window in
+    let w1 = c.in_ok-reserve.ensures.stands session.history session.marks w0 in
+    let way = InEnvelope c.args.now salts c.args.outer.now.salt in
+    let settled : Settled way session (message_in c.args.outer.now) c.by_envelope-envelope.result c.in_ok-message.message c.settle-judgement.result = record {
+      envelope_is = c.by_envelope-envelope.ensures salts line_stands;
+      draft_is = c.in_ok-message.ensures.message;
+      judgement_is = c.settle-judgement.ensures.judged session w1;
+    } in
+    let unaccepted : is_accepted c.settle-judgement.result.verdict ≡ false = first_of (cc, search rules, grind (arith, nat_tests)) in
+    alone_judged way session (message_in c.args.outer.now) _ _ _ settled _ _ unaccepted c.in_ok-judgements.ensures.items c.push_reserved.ensures.items
+
+pub returns-then-not-accepted-clause-accepts : goal.returns-then-not-accepted-clause-accepts
+returns-then-not-accepted-clause-accepts c session salts stands line_stands is =
+    first_accepted c.args.now salts c.args.outer.now.salt session (message_in c.args.outer.now) _ is
+    (returns-then-not-accepted-clause-judged c session salts stands line_stands)
+
+pub returns-then-not-accepted-clause-recorded : goal.returns-then-not-accepted-clause-recorded
+returns-then-not-accepted-clause-recorded c session salts stands line_stands =
+    let old = rw (← c.self.view_is) at stands in
+    let w0 = with_room c.self.inside.window session.history session.marks old.window in
+    let w1 = c.in_ok-reserve.ensures.stands session.history session.marks w0 in
+    let way = InEnvelope c.args.now salts c.args.outer.now.salt in
+    let settled : Settled way session (message_in c.args.outer.now) c.by_envelope-envelope.result c.in_ok-message.message c.settle-judgement.result = record {
+      envelope_is = c.by_envelope-envelope.ensures salts line_stands;
+      draft_is = c.in_ok-message.ensures.message;
+      judgement_is = c.settle-judgement.ensures.judged session w1;
+    } in
+    let unaccepted : is_accepted c.settle-judgement.result.verdict ≡ false = first_of (cc, search rules, grind (arith, nat_tests)) in
+    alone_stands way session (message_in c.args.outer.now) _ _ _ settled c.settle-judgement.new.window c.self.inside.heard unaccepted old.heard (c.settle-judgement.ensures.stands session w1)
+
+-- ---- an accepted one
+
+pub returns-clause-judged : goal.returns-clause-judged
+returns-clause-judged c session salts stands line_stands =
+    let old = rw (← c.self.view_is) at stands in
+    let w0 = with_room c.self.inside.window session.history session.marks old.window in
+    let w1 = c.in_ok-reserve.ensures.stands session.history session.marks w0 in
+    let way = InEnvelope c.args.now salts c.args.outer.now.salt in
+    let settled : Settled way session (message_in c.args.outer.now) c.by_envelope-envelope.result c.in_ok-message.message c.settle-judgement.result = record {
+      envelope_is = c.by_envelope-envelope.ensures salts line_stands;
+      draft_is = c.in_ok-message.ensures.message;
+      judgement_is = c.settle-judgement.ensures.judged session w1;
+    } in
+    let accepted : is_accepted c.settle-judgement.result.verdict ≡ true = first_of (cc, search rules, grind (arith, nat_tests)) in
+    all_judged way session (message_in c.args.outer.now) _ _ _ settled c.in_ok-message.inner.items _ _ _ accepted c.in_ok-message.ensures.inner c.in_ok-judgements.ensures.items c.push_reserved.ensures.items
+    (c.settle_inner.ensures.judged (draft_session c.by_envelope-envelope.result session c.in_ok-message.message) (c.settle-judgement.ensures.stands session w1))
+
+pub returns-clause-accepts : goal.returns-clause-accepts
+returns-clause-accepts c session salts stands line_stands is =
+    first_accepted c.args.now salts c.args.outer.now.salt session (message_in c.args.outer.now) _ is (returns-clause-judged c session salts stands line_stands)
+
+pub returns-clause-recorded : goal.returns-clause-recorded
+returns-clause-recorded c session salts stands line_stands =
+    let old = rw (← c.self.view_is) at stands in
+    let w0 = with_room c.self.inside.window session.history session.marks old.window in
+    let w1 = c.in_ok-reserve.ensures.stands session.history session.marks w0 in
+    let way = InEnvelope c.args.now salts c.args.outer.now.salt in
+    let settled : Settled way session (message_in c.args.outer.now) c.by_envelope-envelope.result c.in_ok-message.message c.settle-judgement.result = record {
+      envelope_is = c.by_envelope-envelope.ensures salts line_stands;
+      draft_is = c.in_ok-message.ensures.message;
+      judgement_is = c.settle-judgement.ensures.judged session w1;
+    } in
+    let accepted : is_accepted c.settle-judgement.result.verdict ≡ true = first_of (cc, search rules, grind (arith, nat_tests)) in
+    all_stands way session (message_in c.args.outer.now) _ _ _ settled c.settle_inner.new.window c.in_ok-message.inner.items accepted c.in_ok-message.ensures.inner
+    (c.settle_inner.ensures.stands (draft_session c.by_envelope-envelope.result session c.in_ok-message.message) (c.settle-judgement.ensures.stands session w1))

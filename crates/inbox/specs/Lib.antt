@@ -1,0 +1,7 @@
+pub mod Kinds
+pub mod Refusals
+pub mod Judging
+pub mod Inbox
+pub mod States
+pub mod Acceptance
+pub mod Drafts

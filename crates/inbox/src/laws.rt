@@ -1,0 +1,29 @@
+//! Laws of judging, each the contract of a function that does nothing.
+
+ghost use Rattle.std.specs.Prelude.{◌≡◌, ◌↔◌, ℕ, IsTrue};
+ghost use Rattle.salt_line.specs.Line.{Line, IsValidSalt};
+ghost use Rattle.service_tl.specs.declared.lists.Message.{Message};
+ghost use Rattle.id_window.specs.Marks.{given};
+ghost use Rattle.id_window.specs.History.{noted};
+ghost use Rattle.inbox.specs.declared.judged.Verdict.{Verdict};
+ghost use Rattle.inbox.specs.declared.judged.Verdict.TheVariants.{Accepted};
+ghost use Rattle.inbox.specs.Kinds.{kind_of, item_told};
+ghost use Rattle.inbox.specs.Refusals.{InEnvelope, is_valid_salt};
+ghost use Rattle.inbox.specs.Judging.{Session, judge, judged_session, outcome_of, first_mark};
+ghost use Rattle.inbox.specs.Acceptance.{IsAcceptable};
+
+/// A message that nothing refuses is accepted and recorded.
+pub fn acceptable_messages_are_accepted()
+    ensures accepted { (now : ℕ) (line : Line) (salt : ℕ) (session : Session) (message : Message) → IsAcceptable now line salt session message
+        → judge (InEnvelope now line salt) session message ≡ Accepted (item_told message.body) }
+    ensures recorded { (now : ℕ) (line : Line) (salt : ℕ) (session : Session) (message : Message) → IsAcceptable now line salt session message
+        → judged_session (InEnvelope now line salt) session message ≡ record {
+          history = noted message.number message.seq (outcome_of (kind_of message)) session.history;
+          marks = given message.number (first_mark (outcome_of (kind_of message))) session.marks;
+        } }
+{}
+
+/// The test of salts in the definition of judging is the definition of valid salts.
+pub fn salts_are_tested()
+    ensures { (line : Line) (now salt : ℕ) → IsTrue (is_valid_salt line now salt) ↔ IsValidSalt line now salt }
+{}
