@@ -28,6 +28,14 @@ impl From<Memory> for NoMemory {
     }
 }
 
+impl From<NoMemory> for Memory {
+    ghost from_gives = { λ _ _. ⊤ };
+
+    fn from(_no_memory: NoMemory) -> Memory {
+        Memory
+    }
+}
+
 /// What runs the calls of a server's sessions. A reply and the state after it are a function of the state
 /// and of the request.
 pub trait Service: Sized + Drop {
