@@ -35,7 +35,8 @@ with_sum sums name sum = insert_entry (slice_cmp nat_cmp) sums name sum
 abbrev pub has_place : Sums → List ℕ → Bool
 has_place sums name = is_some (find sums name) || nat_lt (length sums) names_max
 
--- what an add is answered, and the sums after it
+-- What an add is answered, and the sums after it. The amount is below 2^64, so TOO_LARGE needs a name that
+-- is there; TOO_MANY needs one that isn't, so the two exclude one another.
 abbrev pub added : Sums → List ℕ → ℕ → List ℕ × Sums
 added sums name amount =
     let sum = sum_of sums name + amount in
