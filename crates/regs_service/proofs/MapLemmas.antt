@@ -1,5 +1,5 @@
 -- The names and sums of a map's entries.
-use Rattle.std.proofs.Common.{◌≡◌, ◌∙◌, ℕ, suc, List, [], ◌∷◌, length, map, cond, true, nat_lt, ◌||◌, ◌+◌, ◌≤◌, Option, Some, None, is_some, arith, refl, sym, ap, Vec, Global}
+use Rattle.std.proofs.Common.{◌≡◌, ◌∙◌, ℕ, suc, List, [], ◌∷◌, length, cond, true, nat_lt, ◌||◌, ◌+◌, ◌≤◌, Option, Some, None, is_some, arith, refl, sym, ap, Vec, Global}
 use Rattle.std.specs.List.{AllZip}
 use Rattle.std.specs.BTreeMap.{insert_entry, is_at}
 use Rattle.std.specs.Map.{lookup}

@@ -1,5 +1,5 @@
 -- The requests of the registers.
-use Rattle.std.specs.Prelude.{ℕ, ◌==◌, nat_lt, ◌&&◌, ◌||◌, Bool, if◌then◌else◌, List, length, Option, Some, None, Result, Ok, Err}
+use Rattle.std.specs.Prelude.{ℕ, ◌==◌, nat_lt, nat_le, ◌&&◌, ◌||◌, Bool, if◌then◌else◌, List, length, Option, Some, None, Result, Ok, Err}
 use Rattle.std.specs.List.{list_all}
 use Rattle.std.specs.Int.{is_in_range}
 use Rattle.tl_codec.specs.declared.fault.TlFault.{TlFault}
@@ -27,9 +27,13 @@ name_of (Get name) = name
 abbrev pub is_name_byte : ℕ → Bool
 is_name_byte byte = is_in_range 97 122 byte || is_in_range 48 57 byte
 
--- 1 to 32 of these
+-- the most bytes of a name
+abbrev pub name_bytes_max : ℕ
+name_bytes_max = 32
+
+-- at least one of these, and at most that many
 abbrev pub is_name : List ℕ → Bool
-is_name name = nat_lt 0 (length name) && (nat_lt (length name) 33 && list_all is_name_byte name)
+is_name name = nat_lt 0 (length name) && (nat_le (length name) name_bytes_max && list_all is_name_byte name)
 
 -- The request at the front of a text and what follows it. It is read as TL is read: the long form of a
 -- string and any padding are taken.

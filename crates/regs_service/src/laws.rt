@@ -1,22 +1,24 @@
 //! Laws of services, each the contract of a function that does nothing.
 
 ghost use Rattle.std.specs.Prelude.{◌≡◌, List, [], ◌∷◌, ◌++◌};
-ghost use Rattle.regs_service.specs.Served.{Served, Ran, state_after, requests_of};
-ghost use Rattle.regs_service.specs.Requests.{add_number, get_number};
+ghost use Rattle.regs_service.specs.Served.{Served, Ran, state_after, requests_of, reply_bytes_max};
+ghost use Rattle.regs_service.specs.Requests.{add_number, get_number, name_bytes_max};
 ghost use Rattle.regs_service.specs.Replies.{value_number};
 ghost use Rattle.regs_service.specs.Registers.{names_max};
 
 use crate::registers::NAMES_MAX;
 use crate::reply::VALUE;
-use crate::request::{ADD, GET};
-use crate::service::Service;
+use crate::request::{ADD, GET, NAME_BYTES_MAX};
+use crate::service::{REPLY_BYTES_MAX, Service};
 
 /// The constants are the numbers and limits that the definitions stand on.
 pub fn constants_of_the_registers()
     ensures add { ADD ≡ add_number }
     ensures get { GET ≡ get_number }
     ensures value { VALUE ≡ value_number }
+    ensures name_bytes { NAME_BYTES_MAX ≡ name_bytes_max }
     ensures names { NAMES_MAX ≡ names_max }
+    ensures reply_bytes { REPLY_BYTES_MAX ≡ reply_bytes_max }
 {}
 
 /// What was served stays so with one more request: its reply is that of the state after all before.

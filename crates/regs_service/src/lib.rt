@@ -10,8 +10,10 @@ mod request;
 mod service;
 
 pub use octets::Octets;
-pub use registers::Regs;
-pub use service::{NoMemory, Service};
+pub use registers::{NAMES_MAX, Regs};
+pub use reply::VALUE;
+pub use request::{ADD, GET, NAME_BYTES_MAX, is_register_name};
+pub use service::{NoMemory, REPLY_BYTES_MAX, Service};
 
 #[cfg(test)]
 mod tests;

@@ -13,8 +13,8 @@ use std::alloc::Global;
 use std::collections::BTreeMap;
 use std::marker::Model;
 
-/// The most names.
-pub(crate) const NAMES_MAX: usize = 65_536;
+/// The most names that registers have.
+pub const NAMES_MAX: usize = 65_536;
 
 /// Named sums, at first none, at most 65,536. Contracts see the names in order, each with its sum.
 ///

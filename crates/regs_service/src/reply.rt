@@ -10,8 +10,8 @@ use service_tl::{Item, write};
 use std::alloc::Global;
 use tl_codec::fill;
 
-/// The constructor of a reply with a value.
-pub(crate) const VALUE: u32 = 0x0a1b_2c03;
+/// The constructor of a reply with a value, which is behind it.
+pub const VALUE: u32 = 0x0a1b_2c03;
 
 /// The code of each error.
 const ERROR_CODE: u32 = 400;

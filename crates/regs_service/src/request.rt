@@ -7,14 +7,14 @@ ghost use Rattle.regs_service.specs.Kept.{asked, Tells};
 
 use tl_codec::{Reader, TlFault};
 
-/// The constructor of a request that adds.
-pub(crate) const ADD: u32 = 0x0a1b_2c01;
+/// The constructor of a request that adds: a name and an amount are behind it.
+pub const ADD: u32 = 0x0a1b_2c01;
 
-/// The constructor of a request that gets.
-pub(crate) const GET: u32 = 0x0a1b_2c02;
+/// The constructor of a request that gets: a name is behind it.
+pub const GET: u32 = 0x0a1b_2c02;
 
-/// The most bytes of a name.
-pub(crate) const NAME_BYTES_MAX: usize = 32;
+/// The most bytes of a register's name.
+pub const NAME_BYTES_MAX: usize = 32;
 
 /// A request, whose name is lent from its bytes.
 #[derive(Clone, Copy, Debug)]
@@ -73,8 +73,8 @@ fn name<'a>(request: &Request<'a>) -> &'a [u8]
     }
 }
 
-// Whether the bytes are a name: 1 to 32 of `a` to `z` and `0` to `9`.
-fn is_register_name(bytes: &[u8]) -> bool
+/// Whether the bytes are a register's name: 1 to 32 of `a` to `z` and `0` to `9`.
+pub fn is_register_name(bytes: &[u8]) -> bool
     ensures { result ≡ is_name bytes.now }
 {
     !bytes.is_empty()

@@ -8,6 +8,9 @@ use std::alloc::Global;
 use std::error::Error;
 use std::fmt;
 
+/// The most bytes of a reply, of any service.
+pub const REPLY_BYTES_MAX: usize = 262_144;
+
 /// Memory ran out. The service is as it was.
 #[derive(Clone, Copy, Debug, PartialEq, Eq)]
 pub struct NoMemory;
