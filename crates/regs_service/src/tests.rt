@@ -1,26 +1,41 @@
 //! The worked rows of the registers, and what a server does with a service.
 
-ghost use Rattle.std.specs.Prelude.{[], ◌∷◌, IfOk};
-ghost use Rattle.regs_service.specs.Served.{Served};
+ghost use Rattle.std.specs.Prelude.{◌≡◌, List, [], ◌∷◌, ◌++◌, IfOk, OnErr};
+ghost use Rattle.regs_service.specs.Served.{Served, Ran, state_after, requests_of};
 
 use super::*;
+use octets::Memory;
 use std::alloc::Global;
 use std::test::*;
 
-// What a server does: it runs one request and then another.
-fn runs_two<V: Service>(
+// One more run of a server that keeps what it served.
+fn one_more<V: Service>(alloc: Global, service: &mut V, request: &[u8]) -> Result<Octets, NoMemory>
+    ensures goes_on { (runs : List Ran) → Served V.step V.fresh_state runs
+        → service.old ≡ state_after V.step V.fresh_state (requests_of runs)
+        → IfOk result (λ reply. Served V.step V.fresh_state (runs ++ record { request = request.now; reply = reply } ∷ [])) }
+    ensures state { (runs : List Ran)
+        → service.old ≡ state_after V.step V.fresh_state (requests_of runs)
+        → IfOk result (λ reply. service.new ≡ state_after V.step V.fresh_state (requests_of (runs ++ record { request = request.now; reply = reply } ∷ []))) }
+    ensures failed { OnErr result (service.new ≡ service.old) }
+{
+    laws::served_grows::<V>();
+    service.run(alloc, request)
+}
+
+// A run that failed, then another on a copy: the second alone was served.
+fn fails_and_goes_on<V: Service>(
     alloc: Global,
     first: &[u8],
     second: &[u8],
-) -> Result<(Octets, Octets), NoMemory>
-    ensures { IfOk result (λ replies. Served V.step V.fresh_state
-        (record { request = first.now; reply = replies.0 } ∷ record { request = second.now; reply = replies.1 } ∷ [])) }
+) -> Result<Octets, Memory>
+    ensures { IfOk result (λ reply. Served V.step V.fresh_state (record { request = second.now; reply = reply } ∷ [])) }
 {
     let mut service = V::fresh(alloc);
-    let one = service.run(alloc, first)?;
-    let mut other = service.copy(alloc)?;
-    let two = other.run(alloc, second)?;
-    Ok((one, two))
+    if service.run(alloc, first).is_ok() {
+        return Err(Memory);
+    }
+    let mut copy = service.copy(alloc)?;
+    Ok(copy.run(alloc, second)?)
 }
 
 const GET_X: &[u8] = b"\x02\x2c\x1b\x0a\x01x\0\0";
@@ -71,9 +86,11 @@ fn sums_and_refusals(rt: HostRuntime) -> Result<(), Fail> {
         let reply = regs.run(alloc, request)?;
         assert_eq!(rt; reply.as_slice(), want);
     }
-    let (one, two) = runs_two::<Regs>(alloc, ADD_X_5, GET_X)?;
-    assert_eq!(rt; one.as_slice(), VALUE_5);
-    assert_eq!(rt; two.as_slice(), VALUE_5);
+    let mut copy = regs.copy(alloc)?;
+    let reply = one_more(alloc, &mut copy, GET_X)?;
+    assert_eq!(rt; reply.as_slice(), VALUE_5);
+    assert!(rt; is_register_name(b"x"));
+    assert!(rt; fails_and_goes_on::<Regs>(alloc, ADD_X_5, GET_X).is_err());
     Ok(())
 }
 
