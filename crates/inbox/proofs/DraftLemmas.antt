@@ -1,5 +1,5 @@
 -- Messages and their drafts are judged alike, and what was heard stays heard.
-use Rattle.std.proofs.Common.{◌≡◌, ℕ, Bool, true, false, cond, ◌||◌, List, [], ◌∷◌, ◌++◌, map, Option, Some, None, refl, sym, ◌∙◌, ap, subst, arith}
+use Rattle.std.proofs.Common.{◌≡◌, ℕ, suc, Bool, true, false, cond, ◌||◌, List, [], ◌∷◌, ◌++◌, length, map, Option, Some, None, refl, sym, ◌∙◌, ap, subst, arith}
 use Rattle.std.proofs.lemmas.List.Folds.{list_any-append}
 use Rattle.service_tl.specs.declared.lists.Message.{Message}
 use Rattle.id_window.specs.History.{History, FirstJudgement, Outcome, Refused, AcceptedContainer, AcceptedCall, AcceptedOther, was_accepted, noted}
@@ -12,7 +12,8 @@ use Rattle.inbox.specs.declared.judged.Judgement.{Judgement}
 use Rattle.inbox.specs.declared.kind.Kind.{Kind}
 use Rattle.inbox.specs.declared.kind.Kind.TheVariants.{Container, Unlawful, Acknowledgement, Call, Other}
 use Rattle.inbox.specs.Kinds.{inner_messages}
-use Rattle.inbox.specs.Judging.{Session, is_accepted, is_recorded, recorded, remembered, outcome_of, inner_judgements, inner_session, unfolded}
+use Rattle.inbox.specs.Judging.{Session, is_accepted, is_recorded, recorded, remembered, outcome_of, judged_session, inner_judgements, inner_session, unfolded}
+use Rattle.inbox.specs.Refusals.{InContainer}
 use Rattle.inbox.specs.Inbox.{was_heard, without_room}
 use Rattle.inbox.specs.Drafts.{draft_of, draft_judgement, draft_session, draft_judgements, drafts_session, draft_verdict}
 
@@ -25,6 +26,20 @@ inner_judged session (message ∷ messages) =
 pub inner_settled : (session : Session) (messages : List Message) → drafts_session session (map draft_of messages) ≡ inner_session session messages
 inner_settled session [] = refl
 inner_settled session (message ∷ messages) = inner_settled (draft_session None session (draft_of message)) messages
+
+pub inner_lengths : (session : Session) (messages : List Message) → length (inner_judgements session messages) ≡ length messages
+inner_lengths session [] = refl
+inner_lengths session (message ∷ messages) = ap suc (inner_lengths (judged_session InContainer session message) messages)
+
+pub inner_numbers : (session : Session) (messages : List Message) → map (λ judgement. judgement.number) (inner_judgements session messages) ≡ map (λ message. message.number) messages
+inner_numbers session [] = refl
+inner_numbers session (message ∷ messages) =
+    ap (λ (rest : List ℕ). message.number ∷ rest) (inner_numbers (judged_session InContainer session message) messages)
+
+pub inner_seqs : (session : Session) (messages : List Message) → map (λ judgement. judgement.seq) (inner_judgements session messages) ≡ map (λ message. message.seq) messages
+inner_seqs session [] = refl
+inner_seqs session (message ∷ messages) =
+    ap (λ (rest : List ℕ). message.seq ∷ rest) (inner_seqs (judged_session InContainer session message) messages)
 
 -- what is unfolded of an accepted message, and of another
 pub accepted_unfolded : (verdict : Verdict) (message : Message) → is_accepted verdict ≡ true → unfolded verdict message ≡ inner_messages message

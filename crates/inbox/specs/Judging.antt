@@ -54,7 +54,7 @@ is_accepted _ = false
 
 -- ---- what is recorded of it
 
--- what an accepted message was accepted as, and its first mark
+-- what an accepted message was accepted as (an unlawful one is never accepted), and its first mark
 abbrev pub outcome_of : Kind → Outcome
 outcome_of Container = AcceptedContainer
 outcome_of Unlawful = AcceptedContainer

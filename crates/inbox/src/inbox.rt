@@ -56,8 +56,8 @@ impl Inbox {
     }
 
     /// Judges a message that an envelope brought at this moment to a session with this line of salts, and where it is
-    /// accepted the messages inside it. Each that wasn't judged before is remembered. All memory is taken before the
-    /// first one is.
+    /// accepted the messages inside it. Each that is new and above the floor is remembered. All memory is taken before
+    /// the first one is.
     ///
     /// # Errors
     ///

@@ -41,7 +41,7 @@ impl Kind {
         matches!(self, Kind::Container | Kind::Unlawful)
     }
 
-    /// Whether its sequence number is even.
+    /// Whether its sequence number has to be even.
     pub(crate) fn needs_even(self) -> bool
         ensures { result ≡ needs_even self }
     {
@@ -51,7 +51,7 @@ impl Kind {
         )
     }
 
-    /// Whether its sequence number is odd.
+    /// Whether its sequence number has to be odd.
     pub(crate) fn needs_odd(self) -> bool
         ensures { result ≡ needs_odd self }
     {

@@ -8,7 +8,7 @@ ghost use Rattle.inbox.specs.Refusals.{InEnvelope};
 ghost use Rattle.inbox.specs.Judging.{Session, session_after};
 ghost use Rattle.inbox.specs.Inbox.{Stands, Remembers, message_in};
 
-use crate::{Inbox, Mark, Outer, Verdict};
+use crate::{Inbox, Judged, Mark, Outer, Verdict};
 use msg_ids::Moment;
 use octets::{IdList, Memory, Octets};
 use salt_line::SaltLine;
@@ -50,7 +50,27 @@ fn told(verdict: &Verdict) -> u32 {
     }
 }
 
-// Judges a message that came in an envelope of this moment: what became of it, and how many messages were judged.
+// Judges a message that came in an envelope of this moment.
+fn judged(
+    inbox: &mut Inbox,
+    alloc: Global,
+    seconds: u64,
+    number: u64,
+    seq: u32,
+    salt: u64,
+    body: &[u8],
+) -> Result<Judged, Memory> {
+    let line = SaltLine::new(alloc, Moment::new(0), SALT)?;
+    let outer = Outer {
+        number,
+        seq,
+        salt,
+        body: Octets::copy(alloc, body)?,
+    };
+    inbox.judge(alloc, Moment::new(seconds), &line, &outer)
+}
+
+// Judges it: what became of it, and how many messages were judged.
 fn judge(
     inbox: &mut Inbox,
     alloc: Global,
@@ -60,18 +80,15 @@ fn judge(
     salt: u64,
     body: &[u8],
 ) -> Result<(u32, usize), Memory> {
-    let line = SaltLine::new(alloc, Moment::new(0), SALT)?;
-    let outer = Outer {
-        number,
-        seq,
-        salt,
-        body: Octets::copy(alloc, body)?,
-    };
-    let judged = inbox.judge(alloc, Moment::new(seconds), &line, &outer)?;
+    Ok(counted(&judged(inbox, alloc, seconds, number, seq, salt, body)?))
+}
+
+// What became of a message, and how many were judged.
+fn counted(judged: &Judged) -> (u32, usize) {
     let judgements = judged.as_slice();
     match judgements {
-        [first, ..] => Ok((told(&first.verdict), judgements.len())),
-        [] => Ok((u32::MAX, 0)),
+        [first, ..] => (told(&first.verdict), judgements.len()),
+        [] => (u32::MAX, 0),
     }
 }
 
@@ -115,6 +132,7 @@ fn row_after_call(number: u64, seq: u32, body: &'static [u8], wanted: u32) -> Ro
 fn messages_are_judged_by_the_first_case(rt: HostRuntime) -> Result<(), Fail> {
     let alloc = rt.alloc();
     let rows = [
+        alone(1_000 * SECOND, 1, SALT, &CALL, ACCEPTED),
         alone(700 * SECOND, 1, SALT, &CALL, ACCEPTED),
         alone(699 * SECOND, 1, SALT, &CALL, 16),
         alone(1_030 * SECOND, 1, SALT, &CALL, ACCEPTED),
@@ -149,6 +167,48 @@ fn messages_are_judged_by_the_first_case(rt: HostRuntime) -> Result<(), Fail> {
         assert_eq!(rt; count, 1);
         assert_eq!(rt; inbox.heard(), row.after_call || row.wanted == ACCEPTED);
     }
+    Ok(())
+}
+
+// Judges these messages in one inbox, one after the other: whether each becomes what is wanted.
+fn judged_as_wanted(inbox: &mut Inbox, alloc: Global, rows: &[Row]) -> Result<bool, Memory> {
+    for row in rows {
+        let (told, count) = judge(
+            inbox,
+            alloc,
+            row.seconds,
+            row.number,
+            row.seq,
+            row.salt,
+            row.body,
+        )?;
+        if told != row.wanted || count != 1 {
+            return Ok(false);
+        }
+    }
+    Ok(true)
+}
+
+#[test]
+fn a_call_keeps_its_mark(rt: HostRuntime) -> Result<(), Fail> {
+    let alloc = rt.alloc();
+    let again = [
+        alone(1_000 * SECOND, 1, SALT, &CALL, ACCEPTED),
+        alone(1_000 * SECOND, 1, SALT, &CALL, AGAIN_WAITING),
+    ];
+    let mut inbox = Inbox::new(alloc)?;
+    assert!(rt; judged_as_wanted(&mut inbox, alloc, &again)?);
+    let container_between = [
+        row_after_call(8, 1, &CALL, ACCEPTED),
+        row_after_call(8, 2, &EMPTY_CONTAINER, 19),
+        row_after_call(8, 1, &CALL, AGAIN_WAITING),
+    ];
+    let mut inbox = Inbox::new(alloc)?;
+    assert!(rt; judged_as_wanted(&mut inbox, alloc, &container_between)?);
+    assert!(rt; matches!(inbox.mark(8), Some(Mark::Waiting)));
+    let copy = inbox.copy(alloc)?;
+    assert!(rt; matches!(copy.mark(8), Some(Mark::Waiting)));
+    assert!(rt; copy.heard());
     Ok(())
 }
 
@@ -192,9 +252,16 @@ fn containers_are_judged_with_their_messages(rt: HostRuntime) -> Result<(), Fail
         let body = container(alloc, messages, last_length)?;
         let bytes = body.as_slice();
         let kept = bytes.len().saturating_sub(cut);
-        let (told, count) = judge(&mut inbox, alloc, 0, number, seq, SALT, &bytes[..kept])?;
-        assert_eq!(rt; told, wanted);
-        assert_eq!(rt; count, wanted_count);
+        let judged = judged(&mut inbox, alloc, 0, number, seq, SALT, &bytes[..kept])?;
+        assert_eq!(rt; counted(&judged), (wanted, wanted_count));
+        for place in 1..=messages as usize {
+            let accepted = match judged.as_slice().get(place) {
+                Some(inner) => inner.number == 4 * place as u64 && inner.verdict.is_accepted(),
+                None => false,
+            };
+            assert_eq!(rt; accepted, wanted == ACCEPTED);
+        }
+        assert_eq!(rt; inbox.mark(4).is_none(), wanted == 64 || messages == 0);
         let (again, _) = judge(&mut inbox, alloc, 0, number, seq, SALT, &bytes[..kept])?;
         let wanted_again = if wanted == ACCEPTED {
             AGAIN_CONTAINER
