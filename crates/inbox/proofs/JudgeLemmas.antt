@@ -3,6 +3,8 @@ use Rattle.std.proofs.Common.{◌≡◌, ℕ, Bool, true, false, List, [], ◌�
 use Rattle.std.specs.Prelude.{slice_get}
 use Rattle.service_tl.specs.declared.lists.Message.{Message}
 use Rattle.salt_line.specs.Line.{Line}
+use Rattle.id_window.specs.History.{History}
+use Rattle.id_window.specs.Marks.{Marks}
 use Rattle.id_window.specs.Window.{Contents, Stands as WindowStands}
 use Rattle.inbox.specs.declared.draft.Draft.{Draft}
 use Rattle.inbox.specs.declared.judged.Verdict.{Verdict}
@@ -14,8 +16,12 @@ use Rattle.inbox.specs.Judging.{Session, judge, is_accepted, recorded, judged_se
 use Rattle.inbox.specs.Inbox.{Stands, was_heard, without_room}
 use Rattle.inbox.specs.Drafts.{draft_of, draft_judgement, draft_session, draft_judgements, drafts_session, draft_verdict}
 use Rattle.inbox.specs.Acceptance.{IsAcceptable}
-use Rattle.inbox.proofs.DraftLemmas.{inner_judged, inner_settled, accepted_unfolded, others_unfolded, heard_refused, heard_accepted, heard_inside, room_left_out}
+use Rattle.inbox.proofs.DraftLemmas.{inner_judged, inner_settled, accepted_unfolded, others_unfolded, heard_refused, heard_accepted, heard_inside}
 use Rattle.inbox.proofs.AcceptanceLemmas.{acceptable_judged}
+
+-- reserved room says nothing of what a window stands for
+abbrev pub RoomCountsNothing : Type 0
+RoomCountsNothing = (window : Contents) (history : History) (marks : Marks) (room : ℕ) → WindowStands window history marks → WindowStands (record window { room = room }) history marks
 
 -- the draft of an envelope's message was judged
 pub record Settled (way : Way) (session : Session) (message : Message) (envelope : Option ℕ) (draft : Draft) (judgement : Judgement) : Type 0 where
@@ -47,15 +53,15 @@ module _ (way : Way) (session : Session) (message : Message) (envelope : Option 
       ∙ ap (λ (j : Judgement). j ∷ []) on_message
       ∙ ap (λ (ms : List Message). judgement_on way session message ∷ inner_judgements (judged_session way session message) ms) (sym (others_unfolded (judge way session message) message (accepted_as false is)))
 
-  pub alone_stands : (w : Contents) (heard : Bool) → is_accepted judgement.verdict ≡ false → heard ≡ was_heard session.history
+  pub alone_stands : (w : Contents) (heard : Bool) → RoomCountsNothing → is_accepted judgement.verdict ≡ false → heard ≡ was_heard session.history
       → WindowStands w (draft_session envelope session draft).history (draft_session envelope session draft).marks
       → Stands (record { window = without_room w; heard = heard }) (session_after way session message).history (session_after way session message).marks
-  alone_stands w heard is heard_is stands =
+  alone_stands w heard law is heard_is stands =
       let unaccepted = accepted_as false is in
       let after : session_after way session message ≡ judged_session way session message = ap (inner_session (judged_session way session message)) (others_unfolded (judge way session message) message unaccepted) in
       let still : was_heard (judged_session way session message).history ≡ was_heard session.history = heard_refused message.number message.seq (kind_of message) (judge way session message) session unaccepted in
       subst (λ (s : Session). Stands (record { window = without_room w; heard = heard }) s.history s.marks) (sym after) (record {
-        window = room_left_out w _ _ (subst (λ (s : Session). WindowStands w s.history s.marks) session_on stands);
+        window = law w _ _ 0 (subst (λ (s : Session). WindowStands w s.history s.marks) session_on stands);
         heard = heard_is ∙ sym still;
       })
 
@@ -73,10 +79,10 @@ module _ (way : Way) (session : Session) (message : Message) (envelope : Option 
       ∙ ap (λ (js : List Judgement). judgement_on way session message ∷ js) (inner_judged (judged_session way session message) (inner_messages message))
       ∙ ap (λ (ms : List Message). judgement_on way session message ∷ inner_judgements (judged_session way session message) ms) (sym (accepted_unfolded (judge way session message) message (accepted_as true is)))
 
-  pub all_stands : (w : Contents) (drafts : List Draft) → is_accepted judgement.verdict ≡ true → drafts ≡ map draft_of (inner_messages message)
+  pub all_stands : (w : Contents) (drafts : List Draft) → RoomCountsNothing → is_accepted judgement.verdict ≡ true → drafts ≡ map draft_of (inner_messages message)
       → WindowStands w (drafts_session (draft_session envelope session draft) drafts).history (drafts_session (draft_session envelope session draft) drafts).marks
       → Stands (record { window = without_room w; heard = true }) (session_after way session message).history (session_after way session message).marks
-  all_stands w drafts is drafts_are stands =
+  all_stands w drafts law is drafts_are stands =
       let taken = accepted_as true is in
       let inside : drafts_session (draft_session envelope session draft) drafts ≡ drafts_session (judged_session way session message) drafts = ap (λ (s : Session). drafts_session s drafts) session_on in
       let after : drafts_session (judged_session way session message) drafts ≡ session_after way session message =
@@ -86,7 +92,7 @@ module _ (way : Way) (session : Session) (message : Message) (envelope : Option 
       let heard : was_heard (drafts_session (judged_session way session message) drafts).history ≡ true =
       heard_inside (judged_session way session message) drafts (heard_accepted message.number message.seq (kind_of message) (judge way session message) session taken) in
       record {
-        window = room_left_out w _ _ (subst (λ (s : Session). WindowStands w s.history s.marks) (inside ∙ after) stands);
+        window = law w _ _ 0 (subst (λ (s : Session). WindowStands w s.history s.marks) (inside ∙ after) stands);
         heard = sym (subst (λ (s : Session). was_heard s.history ≡ true) after heard);
       }
 
