@@ -1,18 +1,21 @@
 -- A message with what is inside it, judged by its drafts.
-use Rattle.std.proofs.Common.{◌≡◌, ℕ, Bool, true, false, List, [], ◌∷◌, ◌++◌, map, Option, Some, None, refl, sym, ◌∙◌, ap, subst, arith}
+use Rattle.std.proofs.Common.{◌≡◌, ℕ, Bool, true, false, cond, ◌&&◌, List, [], ◌∷◌, ◌++◌, map, Option, Some, None, refl, sym, ◌∙◌, ap, subst, arith}
 use Rattle.std.specs.Prelude.{slice_get}
 use Rattle.service_tl.specs.declared.lists.Message.{Message}
 use Rattle.salt_line.specs.Line.{Line}
+use Rattle.service_tl.specs.declared.item.Item.{Item}
+use Rattle.id_window.specs.declared.mark.Mark.{Mark}
+use Rattle.inbox.specs.declared.kind.Kind.{Kind}
 use Rattle.id_window.specs.History.{History}
 use Rattle.id_window.specs.Marks.{Marks}
 use Rattle.id_window.specs.Window.{Contents, Stands as WindowStands}
 use Rattle.inbox.specs.declared.draft.Draft.{Draft}
 use Rattle.inbox.specs.declared.judged.Verdict.{Verdict}
-use Rattle.inbox.specs.declared.judged.Verdict.TheVariants.{Accepted}
+use Rattle.inbox.specs.declared.judged.Verdict.TheVariants.{Accepted, Again, Noticed}
 use Rattle.inbox.specs.declared.judged.Judgement.{Judgement}
 use Rattle.inbox.specs.Kinds.{kind_of, inner_messages, item_told}
 use Rattle.inbox.specs.Refusals.{Way, InEnvelope, by_envelope}
-use Rattle.inbox.specs.Judging.{Session, judge, is_accepted, recorded, judged_session, judgement_on, inner_judgements, inner_session, unfolded, judgements, session_after}
+use Rattle.inbox.specs.Judging.{Session, judge, verdict_by, is_container, is_uncontained, is_accepted, recorded, judged_session, judgement_on, inner_judgements, inner_session, unfolded, judgements, session_after}
 use Rattle.inbox.specs.Inbox.{Stands, was_heard, without_room}
 use Rattle.inbox.specs.Drafts.{draft_of, draft_judgement, draft_session, draft_judgements, drafts_session, draft_verdict}
 use Rattle.inbox.specs.Acceptance.{IsAcceptable}
@@ -22,6 +25,15 @@ use Rattle.inbox.proofs.AcceptanceLemmas.{acceptable_judged}
 -- reserved room says nothing of what a window stands for
 abbrev pub RoomCountsNothing : Type 0
 RoomCountsNothing = (window : Contents) (history : History) (marks : Marks) (room : ℕ) → WindowStands window history marks → WindowStands (record window { room = room }) history marks
+
+came_again : (taken : Bool) (mark : Mark) → is_accepted (cond taken (Noticed 19) (Again mark)) ≡ true → false ≡ true
+came_again true mark is = is
+came_again false mark is = is
+
+-- a message that was accepted is new
+pub accepted_new : (mark : Option Mark) (code : Option ℕ) (kind : Kind) (item : Item) → is_accepted (verdict_by mark code kind item) ≡ true → mark ≡ None
+accepted_new None code kind item is = refl
+accepted_new (Some mark) code kind item is = let no = came_again (is_container kind && is_uncontained mark) mark is in cc
 
 -- the draft of an envelope's message was judged
 pub record Settled (way : Way) (session : Session) (message : Message) (envelope : Option ℕ) (draft : Draft) (judgement : Judgement) : Type 0 where

@@ -84,7 +84,8 @@ impl Inbox {
     {
         room_counts_nothing();
         let envelope = by_envelope(now, line, outer.number, outer.salt);
-        let (message, inner) = drafts_of(alloc, outer)?;
+        let is_new = self.window.find(outer.number).is_none();
+        let (message, inner) = drafts_of(alloc, outer, is_new)?;
         let mut judgements = Vec::with_capacity(alloc, 1 + inner.len())?;
         self.window.reserve(alloc, 1 + inner.len())?;
         let judgement = settle(&mut self.window, envelope, message);

@@ -1,4 +1,4 @@
-use Rattle.std.proofs.Common.{◌≡◌, ◌∙◌, true, false, List, ◌++◌, ◌∷◌, [], refl, sym, ap, rules, arith}
+use Rattle.std.proofs.Common.{◌≡◌, ◌∙◌, true, false, List, None, ◌++◌, ◌∷◌, [], refl, sym, ap, rules, arith}
 use Rattle.std.proofs.lemmas.Bool.Decides.{nat_tests}
 use Rattle.id_window.specs.Window.{Stands as WindowStands}
 use Rattle.inbox.specs.declared.judged.Judgement.{Judgement}
@@ -6,7 +6,7 @@ use Rattle.inbox.specs.Refusals.{InEnvelope}
 use Rattle.inbox.specs.Judging.{Session, is_accepted}
 use Rattle.inbox.specs.Inbox.{Stands, Kept, message_in, without_room}
 use Rattle.inbox.specs.Drafts.{draft_session}
-use Rattle.inbox.proofs.JudgeLemmas.{Settled, alone_judged, alone_stands, all_judged, all_stands, first_accepted}
+use Rattle.inbox.proofs.JudgeLemmas.{Settled, alone_judged, alone_stands, all_judged, all_stands, first_accepted, accepted_new, on_message}
 use Rattle.inbox.proofs.inbox.Inbox.judge.Goals as goal
 
 -- ---- a message that isn't accepted
@@ -58,7 +58,10 @@ returns-clause-judged c session salts stands line_stands =
       judgement_is = c.settle-judgement.ensures.judged session w1;
     } in
     let accepted : is_accepted c.settle-judgement.result.verdict ≡ true = first_of (cc, search rules, grind (arith, nat_tests)) in
-    all_judged way session (message_in c.args.outer.now) _ _ _ settled c.in_ok-message.inner.items _ _ _ accepted c.in_ok-message.ensures.inner c.in_ok-judgements.ensures.items c.push_reserved.ensures.items
+    let unseen = accepted_new _ _ _ _ (ap (λ (j : Judgement). is_accepted j.verdict) (sym (on_message way session (message_in c.args.outer.now) _ _ _ settled)) ∙ accepted) in
+    let unfound : c.find.result ≡ None = c.find.ensures.stands session.history session.marks w0 ∙ unseen in
+    let is_new : c.is_none-is_new.result ≡ true = first_of (cc, search rules, grind (arith, nat_tests)) in
+    all_judged way session (message_in c.args.outer.now) _ _ _ settled c.in_ok-message.inner.items _ _ _ accepted (c.in_ok-message.ensures.inner is_new) c.in_ok-judgements.ensures.items c.push_reserved.ensures.items
     (c.settle_inner.ensures.judged (draft_session c.by_envelope-envelope.result session c.in_ok-message.message) (c.settle-judgement.ensures.stands session w1))
 
 pub returns-clause-accepts : goal.returns-clause-accepts
@@ -77,5 +80,8 @@ returns-clause-recorded c session salts stands line_stands =
       judgement_is = c.settle-judgement.ensures.judged session w1;
     } in
     let accepted : is_accepted c.settle-judgement.result.verdict ≡ true = first_of (cc, search rules, grind (arith, nat_tests)) in
-    all_stands way session (message_in c.args.outer.now) _ _ _ settled c.settle_inner.new.window c.in_ok-message.inner.items c.room_counts_nothing.ensures accepted c.in_ok-message.ensures.inner
+    let unseen = accepted_new _ _ _ _ (ap (λ (j : Judgement). is_accepted j.verdict) (sym (on_message way session (message_in c.args.outer.now) _ _ _ settled)) ∙ accepted) in
+    let unfound : c.find.result ≡ None = c.find.ensures.stands session.history session.marks w0 ∙ unseen in
+    let is_new : c.is_none-is_new.result ≡ true = first_of (cc, search rules, grind (arith, nat_tests)) in
+    all_stands way session (message_in c.args.outer.now) _ _ _ settled c.settle_inner.new.window c.in_ok-message.inner.items c.room_counts_nothing.ensures accepted (c.in_ok-message.ensures.inner is_new)
     (c.settle_inner.ensures.stands (draft_session c.by_envelope-envelope.result session c.in_ok-message.message) (c.settle-judgement.ensures.stands session w1))
