@@ -102,13 +102,3 @@ heard_accepted number seq kind (Accepted item) session is =
     ∙ or_true (was_heard session.history)
 heard_accepted number seq kind (Again mark) session is = cc
 heard_accepted number seq kind (Noticed code) session is = cc
-
--- ---- reserved room says nothing of what a window stands for
-
-pub with_room : (window : Contents) (history : History) (marks : Marks) → WindowStands (without_room window) history marks → WindowStands window history marks
-unfolding WindowStands
-with_room window history marks stands = record { rows = stands.rows; accepted = stands.accepted; floor = stands.floor; once = stands.once }
-
-pub room_left_out : (window : Contents) (history : History) (marks : Marks) → WindowStands window history marks → WindowStands (without_room window) history marks
-unfolding WindowStands
-room_left_out window history marks stands = record { rows = stands.rows; accepted = stands.accepted; floor = stands.floor; once = stands.once }

@@ -1,21 +1,39 @@
 -- A message with what is inside it, judged by its drafts.
-use Rattle.std.proofs.Common.{◌≡◌, ℕ, Bool, true, false, List, [], ◌∷◌, ◌++◌, map, Option, Some, None, refl, sym, ◌∙◌, ap, subst, arith}
+use Rattle.std.proofs.Common.{◌≡◌, ℕ, Bool, true, false, cond, ◌&&◌, List, [], ◌∷◌, ◌++◌, map, Option, Some, None, refl, sym, ◌∙◌, ap, subst, arith}
 use Rattle.std.specs.Prelude.{slice_get}
 use Rattle.service_tl.specs.declared.lists.Message.{Message}
 use Rattle.salt_line.specs.Line.{Line}
+use Rattle.service_tl.specs.declared.item.Item.{Item}
+use Rattle.id_window.specs.declared.mark.Mark.{Mark}
+use Rattle.inbox.specs.declared.kind.Kind.{Kind}
+use Rattle.id_window.specs.History.{History}
+use Rattle.id_window.specs.Marks.{Marks}
 use Rattle.id_window.specs.Window.{Contents, Stands as WindowStands}
 use Rattle.inbox.specs.declared.draft.Draft.{Draft}
 use Rattle.inbox.specs.declared.judged.Verdict.{Verdict}
-use Rattle.inbox.specs.declared.judged.Verdict.TheVariants.{Accepted}
+use Rattle.inbox.specs.declared.judged.Verdict.TheVariants.{Accepted, Again, Noticed}
 use Rattle.inbox.specs.declared.judged.Judgement.{Judgement}
 use Rattle.inbox.specs.Kinds.{kind_of, inner_messages, item_told}
 use Rattle.inbox.specs.Refusals.{Way, InEnvelope, by_envelope}
-use Rattle.inbox.specs.Judging.{Session, judge, is_accepted, recorded, judged_session, judgement_on, inner_judgements, inner_session, unfolded, judgements, session_after}
+use Rattle.inbox.specs.Judging.{Session, judge, verdict_by, is_container, is_uncontained, is_accepted, recorded, judged_session, judgement_on, inner_judgements, inner_session, unfolded, judgements, session_after}
 use Rattle.inbox.specs.Inbox.{Stands, was_heard, without_room}
 use Rattle.inbox.specs.Drafts.{draft_of, draft_judgement, draft_session, draft_judgements, drafts_session, draft_verdict}
 use Rattle.inbox.specs.Acceptance.{IsAcceptable}
-use Rattle.inbox.proofs.DraftLemmas.{inner_judged, inner_settled, accepted_unfolded, others_unfolded, heard_refused, heard_accepted, heard_inside, room_left_out}
+use Rattle.inbox.proofs.DraftLemmas.{inner_judged, inner_settled, accepted_unfolded, others_unfolded, heard_refused, heard_accepted, heard_inside}
 use Rattle.inbox.proofs.AcceptanceLemmas.{acceptable_judged}
+
+-- reserved room says nothing of what a window stands for
+abbrev pub RoomCountsNothing : Type 0
+RoomCountsNothing = (window : Contents) (history : History) (marks : Marks) (room : ℕ) → WindowStands window history marks → WindowStands (record window { room = room }) history marks
+
+came_again : (taken : Bool) (mark : Mark) → is_accepted (cond taken (Noticed 19) (Again mark)) ≡ true → false ≡ true
+came_again true mark is = is
+came_again false mark is = is
+
+-- a message that was accepted is new
+pub accepted_new : (mark : Option Mark) (code : Option ℕ) (kind : Kind) (item : Item) → is_accepted (verdict_by mark code kind item) ≡ true → mark ≡ None
+accepted_new None code kind item is = refl
+accepted_new (Some mark) code kind item is = let no = came_again (is_container kind && is_uncontained mark) mark is in cc
 
 -- the draft of an envelope's message was judged
 pub record Settled (way : Way) (session : Session) (message : Message) (envelope : Option ℕ) (draft : Draft) (judgement : Judgement) : Type 0 where
@@ -47,15 +65,15 @@ module _ (way : Way) (session : Session) (message : Message) (envelope : Option 
       ∙ ap (λ (j : Judgement). j ∷ []) on_message
       ∙ ap (λ (ms : List Message). judgement_on way session message ∷ inner_judgements (judged_session way session message) ms) (sym (others_unfolded (judge way session message) message (accepted_as false is)))
 
-  pub alone_stands : (w : Contents) (heard : Bool) → is_accepted judgement.verdict ≡ false → heard ≡ was_heard session.history
+  pub alone_stands : (w : Contents) (heard : Bool) → RoomCountsNothing → is_accepted judgement.verdict ≡ false → heard ≡ was_heard session.history
       → WindowStands w (draft_session envelope session draft).history (draft_session envelope session draft).marks
       → Stands (record { window = without_room w; heard = heard }) (session_after way session message).history (session_after way session message).marks
-  alone_stands w heard is heard_is stands =
+  alone_stands w heard law is heard_is stands =
       let unaccepted = accepted_as false is in
       let after : session_after way session message ≡ judged_session way session message = ap (inner_session (judged_session way session message)) (others_unfolded (judge way session message) message unaccepted) in
       let still : was_heard (judged_session way session message).history ≡ was_heard session.history = heard_refused message.number message.seq (kind_of message) (judge way session message) session unaccepted in
       subst (λ (s : Session). Stands (record { window = without_room w; heard = heard }) s.history s.marks) (sym after) (record {
-        window = room_left_out w _ _ (subst (λ (s : Session). WindowStands w s.history s.marks) session_on stands);
+        window = law w _ _ 0 (subst (λ (s : Session). WindowStands w s.history s.marks) session_on stands);
         heard = heard_is ∙ sym still;
       })
 
@@ -73,10 +91,10 @@ module _ (way : Way) (session : Session) (message : Message) (envelope : Option 
       ∙ ap (λ (js : List Judgement). judgement_on way session message ∷ js) (inner_judged (judged_session way session message) (inner_messages message))
       ∙ ap (λ (ms : List Message). judgement_on way session message ∷ inner_judgements (judged_session way session message) ms) (sym (accepted_unfolded (judge way session message) message (accepted_as true is)))
 
-  pub all_stands : (w : Contents) (drafts : List Draft) → is_accepted judgement.verdict ≡ true → drafts ≡ map draft_of (inner_messages message)
+  pub all_stands : (w : Contents) (drafts : List Draft) → RoomCountsNothing → is_accepted judgement.verdict ≡ true → drafts ≡ map draft_of (inner_messages message)
       → WindowStands w (drafts_session (draft_session envelope session draft) drafts).history (drafts_session (draft_session envelope session draft) drafts).marks
       → Stands (record { window = without_room w; heard = true }) (session_after way session message).history (session_after way session message).marks
-  all_stands w drafts is drafts_are stands =
+  all_stands w drafts law is drafts_are stands =
       let taken = accepted_as true is in
       let inside : drafts_session (draft_session envelope session draft) drafts ≡ drafts_session (judged_session way session message) drafts = ap (λ (s : Session). drafts_session s drafts) session_on in
       let after : drafts_session (judged_session way session message) drafts ≡ session_after way session message =
@@ -86,7 +104,7 @@ module _ (way : Way) (session : Session) (message : Message) (envelope : Option 
       let heard : was_heard (drafts_session (judged_session way session message) drafts).history ≡ true =
       heard_inside (judged_session way session message) drafts (heard_accepted message.number message.seq (kind_of message) (judge way session message) session taken) in
       record {
-        window = room_left_out w _ _ (subst (λ (s : Session). WindowStands w s.history s.marks) (inside ∙ after) stands);
+        window = law w _ _ 0 (subst (λ (s : Session). WindowStands w s.history s.marks) (inside ∙ after) stands);
         heard = sym (subst (λ (s : Session). was_heard s.history ≡ true) after heard);
       }
 

@@ -1,6 +1,6 @@
 //! Messages that are read and not judged yet. Reading them takes all the memory that judging needs.
 
-ghost use Rattle.std.specs.Prelude.{◌≡◌, IfOk, map};
+ghost use Rattle.std.specs.Prelude.{◌≡◌, true, IfOk, map};
 ghost use Rattle.inbox.specs.Kinds.{item_told, inner_messages};
 ghost use Rattle.inbox.specs.Drafts.{draft_of};
 ghost use Rattle.inbox.specs.Inbox.{message_in};
@@ -22,14 +22,18 @@ pub(crate) struct Draft {
     pub item: Item,
 }
 
-/// An envelope's message, and those inside it.
+/// An envelope's message, and those inside it where it is new.
 ///
 /// # Errors
 ///
 /// `Memory`.
-pub(crate) fn drafts_of(alloc: Global, outer: &Outer) -> Result<(Draft, Vec<Draft>), Memory>
+pub(crate) fn drafts_of(
+    alloc: Global,
+    outer: &Outer,
+    is_new: bool,
+) -> Result<(Draft, Vec<Draft>), Memory>
     ensures message { IfOk result (λ drafts. drafts.0 ≡ draft_of (message_in outer.now)) }
-    ensures inner { IfOk result (λ drafts. drafts.1.items ≡ map draft_of (inner_messages (message_in outer.now))) }
+    ensures inner { is_new ≡ true → IfOk result (λ drafts. drafts.1.items ≡ map draft_of (inner_messages (message_in outer.now))) }
 {
     let body = outer.body.as_slice();
     let container = container_in(outer.number, body);
@@ -40,7 +44,7 @@ pub(crate) fn drafts_of(alloc: Global, outer: &Outer) -> Result<(Draft, Vec<Draf
         item: item_told(alloc, body)?,
     };
     let inner = match container {
-        Some(Ok(parts)) => inner_drafts(alloc, parts)?,
+        Some(Ok(parts)) if is_new => inner_drafts(alloc, parts)?,
         _ => Vec::new(alloc),
     };
     Ok((message, inner))

@@ -8,6 +8,7 @@ use crate::judged::Judged;
 use crate::outer::Outer;
 use crate::refusal::by_envelope;
 use crate::settling::{settle, settle_inner};
+use id_window::laws::room_counts_nothing;
 use id_window::{Mark, Window};
 use msg_ids::Moment;
 use octets::{IdList, Memory, Octets};
@@ -81,8 +82,10 @@ impl Inbox {
             → IfOk result (λ judged. slice_get judged 0 ≡ Some (acceptance_of (message_in outer.now))) }
         ensures unchanged_on_memory { OnErr result (self.new ≡ self.old) }
     {
+        room_counts_nothing();
         let envelope = by_envelope(now, line, outer.number, outer.salt);
-        let (message, inner) = drafts_of(alloc, outer)?;
+        let is_new = self.window.find(outer.number).is_none();
+        let (message, inner) = drafts_of(alloc, outer, is_new)?;
         let mut judgements = Vec::with_capacity(alloc, 1 + inner.len())?;
         self.window.reserve(alloc, 1 + inner.len())?;
         let judgement = settle(&mut self.window, envelope, message);
@@ -104,6 +107,7 @@ impl Inbox {
         ensures stands { (history : History) (marks : Marks) → Stands self.old history marks → Stands self.new history (given number mark marks) }
         ensures unchanged { mark_in number self.old.window.rows ≡ None → self.new ≡ self.old }
     {
+        room_counts_nothing();
         self.window.set(number, mark);
     }
 
@@ -112,6 +116,7 @@ impl Inbox {
         ensures value { result ≡ mark_in number self.now.window.rows }
         ensures stands { (history : History) (marks : Marks) → Stands self.now history marks → result ≡ found number history marks }
     {
+        room_counts_nothing();
         self.window.find(number)
     }
 
@@ -120,6 +125,7 @@ impl Inbox {
         ensures value { result ≡ self.now.window.floor }
         ensures stands { (history : History) (marks : Marks) → Stands self.now history marks → result ≡ floor history }
     {
+        room_counts_nothing();
         self.window.floor()
     }
 
@@ -150,6 +156,7 @@ impl Inbox {
     fn state(&self, number: u64) -> u8
         ensures { (history : History) (marks : Marks) → Stands self.now history marks → result ≡ state_byte history marks number }
     {
+        room_counts_nothing();
         state_by(
             self.window.find(number),
             self.window.floor(),

@@ -1,8 +1,8 @@
 use Rattle.std.proofs.Common.{◌≡◌, ◌∙◌, ℕ, Option, ap}
-use Rattle.inbox.proofs.DraftLemmas.{with_room, room_left_out}
+use Rattle.inbox.specs.Inbox.{without_room}
 use Rattle.inbox.proofs.inbox.Inbox.floor.Goals as goal
 
 pub returns-clause-stands : goal.returns-clause-stands
 returns-clause-stands c history marks stands =
     let old = rw (← c.self.view_is) at stands in
-    c.floor.ensures.stands history marks (with_room c.self.inside.window history marks old.window)
+    c.floor.ensures.stands history marks (c.room_counts_nothing.ensures (without_room c.self.inside.window) history marks c.self.inside.window.room old.window)

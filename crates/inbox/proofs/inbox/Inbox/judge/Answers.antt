@@ -1,13 +1,12 @@
-use Rattle.std.proofs.Common.{◌≡◌, ◌∙◌, true, false, List, ◌++◌, ◌∷◌, [], refl, sym, ap, rules, arith}
+use Rattle.std.proofs.Common.{◌≡◌, ◌∙◌, true, false, List, None, ◌++◌, ◌∷◌, [], refl, sym, ap, rules, arith}
 use Rattle.std.proofs.lemmas.Bool.Decides.{nat_tests}
 use Rattle.id_window.specs.Window.{Stands as WindowStands}
 use Rattle.inbox.specs.declared.judged.Judgement.{Judgement}
 use Rattle.inbox.specs.Refusals.{InEnvelope}
 use Rattle.inbox.specs.Judging.{Session, is_accepted}
-use Rattle.inbox.specs.Inbox.{Stands, Kept, message_in}
+use Rattle.inbox.specs.Inbox.{Stands, Kept, message_in, without_room}
 use Rattle.inbox.specs.Drafts.{draft_session}
-use Rattle.inbox.proofs.DraftLemmas.{with_room}
-use Rattle.inbox.proofs.JudgeLemmas.{Settled, alone_judged, alone_stands, all_judged, all_stands, first_accepted}
+use Rattle.inbox.proofs.JudgeLemmas.{Settled, alone_judged, alone_stands, all_judged, all_stands, first_accepted, accepted_new, on_message}
 use Rattle.inbox.proofs.inbox.Inbox.judge.Goals as goal
 
 -- ---- a message that isn't accepted
@@ -15,7 +14,7 @@ use Rattle.inbox.proofs.inbox.Inbox.judge.Goals as goal
 pub returns-then-not-accepted-clause-judged : goal.returns-then-not-accepted-clause-judged
 returns-then-not-accepted-clause-judged c session salts stands line_stands =
     let old = rw (← c.self.view_is) at stands in
-    let w0 = with_room c.self.inside.window session.history session.marks old.window in
+    let w0 = c.room_counts_nothing.ensures (without_room c.self.inside.window) session.history session.marks c.self.inside.window.room old.window in
     let w1 = c.in_ok-reserve.ensures.stands session.history session.marks w0 in
     let way = InEnvelope c.args.now salts c.args.outer.now.salt in
     let settled : Settled way session (message_in c.args.outer.now) c.by_envelope-envelope.result c.in_ok-message.message c.settle-judgement.result = record {
@@ -34,7 +33,7 @@ returns-then-not-accepted-clause-accepts c session salts stands line_stands is =
 pub returns-then-not-accepted-clause-recorded : goal.returns-then-not-accepted-clause-recorded
 returns-then-not-accepted-clause-recorded c session salts stands line_stands =
     let old = rw (← c.self.view_is) at stands in
-    let w0 = with_room c.self.inside.window session.history session.marks old.window in
+    let w0 = c.room_counts_nothing.ensures (without_room c.self.inside.window) session.history session.marks c.self.inside.window.room old.window in
     let w1 = c.in_ok-reserve.ensures.stands session.history session.marks w0 in
     let way = InEnvelope c.args.now salts c.args.outer.now.salt in
     let settled : Settled way session (message_in c.args.outer.now) c.by_envelope-envelope.result c.in_ok-message.message c.settle-judgement.result = record {
@@ -43,14 +42,14 @@ returns-then-not-accepted-clause-recorded c session salts stands line_stands =
       judgement_is = c.settle-judgement.ensures.judged session w1;
     } in
     let unaccepted : is_accepted c.settle-judgement.result.verdict ≡ false = first_of (cc, search rules, grind (arith, nat_tests)) in
-    alone_stands way session (message_in c.args.outer.now) _ _ _ settled c.settle-judgement.new.window c.self.inside.heard unaccepted old.heard (c.settle-judgement.ensures.stands session w1)
+    alone_stands way session (message_in c.args.outer.now) _ _ _ settled c.settle-judgement.new.window c.self.inside.heard c.room_counts_nothing.ensures unaccepted old.heard (c.settle-judgement.ensures.stands session w1)
 
 -- ---- an accepted one
 
 pub returns-clause-judged : goal.returns-clause-judged
 returns-clause-judged c session salts stands line_stands =
     let old = rw (← c.self.view_is) at stands in
-    let w0 = with_room c.self.inside.window session.history session.marks old.window in
+    let w0 = c.room_counts_nothing.ensures (without_room c.self.inside.window) session.history session.marks c.self.inside.window.room old.window in
     let w1 = c.in_ok-reserve.ensures.stands session.history session.marks w0 in
     let way = InEnvelope c.args.now salts c.args.outer.now.salt in
     let settled : Settled way session (message_in c.args.outer.now) c.by_envelope-envelope.result c.in_ok-message.message c.settle-judgement.result = record {
@@ -59,7 +58,10 @@ returns-clause-judged c session salts stands line_stands =
       judgement_is = c.settle-judgement.ensures.judged session w1;
     } in
     let accepted : is_accepted c.settle-judgement.result.verdict ≡ true = first_of (cc, search rules, grind (arith, nat_tests)) in
-    all_judged way session (message_in c.args.outer.now) _ _ _ settled c.in_ok-message.inner.items _ _ _ accepted c.in_ok-message.ensures.inner c.in_ok-judgements.ensures.items c.push_reserved.ensures.items
+    let unseen = accepted_new _ _ _ _ (ap (λ (j : Judgement). is_accepted j.verdict) (sym (on_message way session (message_in c.args.outer.now) _ _ _ settled)) ∙ accepted) in
+    let unfound : c.find.result ≡ None = c.find.ensures.stands session.history session.marks w0 ∙ unseen in
+    let is_new : c.is_none-is_new.result ≡ true = first_of (cc, search rules, grind (arith, nat_tests)) in
+    all_judged way session (message_in c.args.outer.now) _ _ _ settled c.in_ok-message.inner.items _ _ _ accepted (c.in_ok-message.ensures.inner is_new) c.in_ok-judgements.ensures.items c.push_reserved.ensures.items
     (c.settle_inner.ensures.judged (draft_session c.by_envelope-envelope.result session c.in_ok-message.message) (c.settle-judgement.ensures.stands session w1))
 
 pub returns-clause-accepts : goal.returns-clause-accepts
@@ -69,7 +71,7 @@ returns-clause-accepts c session salts stands line_stands is =
 pub returns-clause-recorded : goal.returns-clause-recorded
 returns-clause-recorded c session salts stands line_stands =
     let old = rw (← c.self.view_is) at stands in
-    let w0 = with_room c.self.inside.window session.history session.marks old.window in
+    let w0 = c.room_counts_nothing.ensures (without_room c.self.inside.window) session.history session.marks c.self.inside.window.room old.window in
     let w1 = c.in_ok-reserve.ensures.stands session.history session.marks w0 in
     let way = InEnvelope c.args.now salts c.args.outer.now.salt in
     let settled : Settled way session (message_in c.args.outer.now) c.by_envelope-envelope.result c.in_ok-message.message c.settle-judgement.result = record {
@@ -78,5 +80,8 @@ returns-clause-recorded c session salts stands line_stands =
       judgement_is = c.settle-judgement.ensures.judged session w1;
     } in
     let accepted : is_accepted c.settle-judgement.result.verdict ≡ true = first_of (cc, search rules, grind (arith, nat_tests)) in
-    all_stands way session (message_in c.args.outer.now) _ _ _ settled c.settle_inner.new.window c.in_ok-message.inner.items accepted c.in_ok-message.ensures.inner
+    let unseen = accepted_new _ _ _ _ (ap (λ (j : Judgement). is_accepted j.verdict) (sym (on_message way session (message_in c.args.outer.now) _ _ _ settled)) ∙ accepted) in
+    let unfound : c.find.result ≡ None = c.find.ensures.stands session.history session.marks w0 ∙ unseen in
+    let is_new : c.is_none-is_new.result ≡ true = first_of (cc, search rules, grind (arith, nat_tests)) in
+    all_stands way session (message_in c.args.outer.now) _ _ _ settled c.settle_inner.new.window c.in_ok-message.inner.items c.room_counts_nothing.ensures accepted (c.in_ok-message.ensures.inner is_new)
     (c.settle_inner.ensures.stands (draft_session c.by_envelope-envelope.result session c.in_ok-message.message) (c.settle-judgement.ensures.stands session w1))
