@@ -18,7 +18,7 @@ pub use front::is_container;
 pub use limits::{
     CONTAINER_BYTES_MAX, CONTAINER_HEAD_BYTES, CONTAINER_MESSAGES_MAX, MESSAGE_HEAD_BYTES,
 };
-pub use packing::{container, container_of_parts, fits};
+pub use packing::{container, container_into, container_of_parts, container_size, fits};
 pub use part::Part;
 pub use parts::Parts;
 pub use service_tl::{Message, Messages};

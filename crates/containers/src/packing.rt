@@ -68,13 +68,37 @@ pub fn container_of_parts(
     ensures appended { OnOk result (into.new ≡ into.old ++ container_of (map message_of parts.now)) }
     ensures unchanged_on_memory { OnErr result (into.new ≡ into.old) }
 {
-    let mut buffer = Buffer::after(alloc, into, size_of_parts(parts))?;
-    put_head(&mut buffer, parts.len());
-    for part in parts {
-        put(&mut buffer, part.number, part.seq, part.body);
-    }
+    let mut buffer = Buffer::after(alloc, into, container_size(parts))?;
+    container_into(parts, &mut buffer);
     *into = buffer.into_octets();
     Ok(())
+}
+
+/// Puts the container of lent messages at the end, into room that is there. Each body is copied once.
+/// Takes no memory.
+pub fn container_into(parts: &[Part<'_>], buffer: &mut Buffer)
+    requires some { 0 < length parts.now }
+    requires within { AreWithin (map message_of parts.now) }
+    requires room { size_of (map message_of parts.now) ≤ buffer.old.room }
+    ensures written { buffer.new.bytes ≡ buffer.old.bytes ++ container_of (map message_of parts.now) }
+    ensures room { buffer.new.room + size_of (map message_of parts.now) ≡ buffer.old.room }
+{
+    put_head(buffer, parts.len());
+    for part in parts {
+        put(buffer, part.number, part.seq, part.body);
+    }
+}
+
+/// How many bytes the container of lent messages has. Takes no memory.
+pub fn container_size(parts: &[Part<'_>]) -> usize
+    requires { AreWithin (map message_of parts.now) }
+    ensures { result ≡ size_of (map message_of parts.now) }
+{
+    let mut size = CONTAINER_HEAD_BYTES;
+    for part in parts {
+        size += MESSAGE_HEAD_BYTES + part.body.len();
+    }
+    size
 }
 
 // How many bytes the container of these messages has.
@@ -85,17 +109,6 @@ fn size(messages: &[Message]) -> usize
     let mut size = CONTAINER_HEAD_BYTES;
     for message in messages {
         size += MESSAGE_HEAD_BYTES + message.body.as_slice().len();
-    }
-    size
-}
-
-fn size_of_parts(parts: &[Part<'_>]) -> usize
-    requires { AreWithin (map message_of parts.now) }
-    ensures { result ≡ size_of (map message_of parts.now) }
-{
-    let mut size = CONTAINER_HEAD_BYTES;
-    for part in parts {
-        size += MESSAGE_HEAD_BYTES + part.body.len();
     }
     size
 }

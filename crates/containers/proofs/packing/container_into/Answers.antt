@@ -1,18 +1,15 @@
 use Rattle.std.proofs.Common.{◌+◌, ◌++◌, List, ℕ, length, map, drop, sym, ap, append_assoc, length-append, arith}
 use Rattle.std.specs.List.{flat_map}
-use Rattle.octets.specs.Draft.{Draft}
 use Rattle.containers.specs.Container.{row}
 use Rattle.containers.specs.Lent.{message_of}
 use Rattle.containers.proofs.Rows.{length-row, rows_left, flat_map-map, container_of-map, size_of-rows}
-use Rattle.containers.proofs.packing.container_of_parts.Goals as goal
+use Rattle.containers.proofs.packing.container_into.Goals as goal
 
 pub loop-part-init : goal.loop-part-init
 loop-part-init c =
     let parts = c.args.parts.now in
-    let room = ap (λ (draft : Draft). draft.room) c.in_ok-buffer.ensures.taken in
-    let bytes = ap (λ (draft : Draft). draft.bytes) c.in_ok-buffer.ensures.taken in
     record {
-      so_far = rw (c.put_head.ensures.written, bytes, append_assoc) (ap (λ (text : List ℕ). c.args.into.now ++ text) (sym (container_of-map message_of parts)));
+      so_far = rw (c.put_head.ensures.written, append_assoc) (ap (λ (text : List ℕ). c.args.buffer.now.bytes ++ text) (sym (container_of-map message_of parts)));
       room = omega (arith, size_of-rows (map message_of parts), ap length (flat_map-map message_of parts));
     }
 
