@@ -1,6 +1,7 @@
 //! Lists of identifiers that own their memory.
 
-ghost use Rattle.std.specs.Prelude.{◌≡◌, ◌<◌, ◌^◌, ◌*◌, ◌++◌, [], length, IfOk, OnOk, OnErr};
+ghost use Rattle.std.specs.Prelude.{◌≡◌, ◌<◌, ◌^◌, ◌*◌, ◌++◌, ◌==◌, not, [], length, IfOk, OnOk, OnErr};
+ghost use Rattle.std.specs.List.{filter};
 ghost use Rattle.octets.specs.Bytes.{AreLongs};
 
 use crate::memory::Memory;
@@ -59,6 +60,13 @@ impl IdList {
     {
         self.numbers.extend_from_slice(numbers)?;
         Ok(())
+    }
+
+    /// Takes out a number wherever it stands; the others stay in order. Takes no memory.
+    pub fn remove_all(&mut self, number: u64)
+        ensures { self.new ≡ filter (λ other. not (other == number)) self.old }
+    {
+        self.numbers.retain(|other| *other != number);
     }
 
     /// The numbers in order. Takes no memory.

@@ -1,0 +1,7 @@
+use Rattle.std.proofs.Common.{◌≡◌, take}
+use Rattle.std.specs.VecDeque.{deque_len, deque_capacity}
+use Rattle.waits.proofs.queue.copy_of.Given as goal
+
+-- those that are passed are copied
+abbrev pub invariant-loop-place : goal.invariant-loop-place
+invariant-loop-place l = (l.copy.items ≡ take l.place l.queue.items) × (deque_len l.copy ≡ l.place) × (deque_capacity l.copy ≡ deque_capacity l.queue)

@@ -1,0 +1,12 @@
+-- What a search looks for: words of private contracts, which are no promise of this crate.
+use Rattle.std.specs.Prelude.{Bool}
+use Rattle.waits.specs.declared.job.Unfinished.{Unfinished}
+use Rattle.waits.specs.declared.queue.Wanted.{Wanted}
+use Rattle.waits.specs.declared.queue.Wanted.TheVariants.{Failed, Overdue, Call}
+use Rattle.waits.specs.Jobs.{has_failed, is_overdue, is_call}
+
+-- a job is what is looked for
+abbrev pub is_wanted : Wanted → Unfinished → Bool
+is_wanted Failed one = has_failed one
+is_wanted (Overdue now) one = is_overdue now one
+is_wanted (Call key session number) one = is_call key session number one

@@ -1,0 +1,178 @@
+//! The unfinished jobs of a server.
+
+ghost use Rattle.std.specs.Prelude.{◌≡◌, ◌+◌, ◌<◌, ◌≤◌, [], Some, length, max, IfOk, OnOk, OnErr};
+ghost use Rattle.std.specs.List.{list_any};
+ghost use Rattle.waits.specs.Limits.{most_jobs, most_job_bytes};
+ghost use Rattle.waits.specs.Jobs.{accepted, is_call, is_overdue, has_failed, ready_count, ready_job, without_ready, first_job, without_first, settled, without_session, job_count, job_bytes, load_of};
+
+use crate::job::{Job, Unfinished};
+use crate::queue::{self, Wanted};
+use msg_ids::Moment;
+use octets::Memory;
+use std::alloc::Global;
+use std::collections::VecDeque;
+use std::marker::Model;
+
+/// How many unfinished jobs a session has at most.
+pub const JOBS_MAX: usize = 4_096;
+
+/// How many bytes the loads of a session's unfinished jobs have at most.
+pub const JOB_BYTES_MAX: usize = 4_194_304;
+
+/// How many seconds a job waits for others before it is answered instead.
+pub const WAIT_SECONDS: u64 = 30;
+
+/// The unfinished jobs of a server, in order of acceptance over all sessions.
+#[derive(Debug, Drop)]
+pub struct Jobs {
+    queue: VecDeque<Unfinished>,
+    room: usize,
+}
+
+impl Model for Jobs {
+    ghost use Rattle.std.specs.Prelude.{◌+◌, ◌≤◌};
+    ghost use Rattle.std.specs.VecDeque.{deque_len, deque_capacity};
+    ghost use Rattle.waits.specs.Jobs.{AreWithinLimits};
+    ghost use Rattle.waits.specs.Held.{Held};
+
+    ghost Value = { Held };
+
+    ghost view = { λ jobs. record { jobs = jobs.queue.items; room = jobs.room } };
+
+    ghost invariant = { λ jobs. AreWithinLimits jobs.queue.items × (deque_len jobs.queue + jobs.room ≤ deque_capacity jobs.queue) };
+}
+
+impl Jobs {
+    /// No job yet. Takes no memory.
+    pub fn new(alloc: Global) -> Jobs
+        ensures { result ≡ record { jobs = []; room = 0 } }
+    {
+        Jobs {
+            queue: VecDeque::new(alloc),
+            room: 0,
+        }
+    }
+
+    /// Takes room for so many further jobs, or keeps more room that is there.
+    ///
+    /// # Errors
+    ///
+    /// `Memory`, and then nothing has changed.
+    pub fn reserve(&mut self, _alloc: Global, count: usize) -> Result<(), Memory>
+        ensures reserved { OnOk result (self.new ≡ record self.old { room = max self.old.room count }) }
+        ensures unchanged_on_memory { OnErr result (self.new ≡ self.old) }
+    {
+        let room = self.room.max(count);
+        self.queue.reserve(room)?;
+        self.room = room;
+        Ok(())
+    }
+
+    /// Puts a job behind all others. Takes no memory.
+    pub fn add(&mut self, job: Job)
+        requires room { 0 < self.old.room }
+        requires fits { job_count job.key job.session self.old.jobs < most_jobs }
+        requires bytes_fit { job_bytes job.key job.session self.old.jobs + load_of job ≤ most_job_bytes }
+        ensures added { self.new.jobs ≡ accepted job self.old.jobs }
+        ensures room { self.new.room + 1 ≡ self.old.room }
+    {
+        self.room -= 1;
+        self.queue
+            .push_back_reserved(Unfinished { job, failed: false });
+    }
+
+    /// How many jobs are ready: they wait for no call, and none that they waited for was answered otherwise than well.
+    pub fn ready(&self) -> usize
+        ensures count { result ≡ ready_count self.now.jobs }
+    {
+        queue::count_ready(&self.queue)
+    }
+
+    /// Takes out the ready job of this place among the ready ones, from 0 in order of acceptance. Takes no memory.
+    pub fn take(&mut self, k: usize) -> Job
+        requires { k < ready_count self.old.jobs }
+        ensures job { ready_job k self.old.jobs ≡ Some result }
+        ensures others { self.new ≡ record self.old { jobs = without_ready k self.old.jobs } }
+    {
+        queue::take_ready(&mut self.queue, k)
+    }
+
+    /// Tells the jobs of this session that wait for the call of this number that it was answered. Where it was
+    /// answered well they wait for it no more; else they have failed. Takes no memory.
+    pub fn settle(&mut self, key: u64, session: u64, number: u64, ok: bool)
+        ensures { self.new ≡ record self.old { jobs = settled key session number ok self.old.jobs } }
+    {
+        queue::settle_all(&mut self.queue, key, session, number, ok);
+    }
+
+    /// Takes out the first job that has failed; `None` where none has. Takes no memory.
+    pub fn failed(&mut self) -> Option<Job>
+        ensures job { result ≡ first_job has_failed self.old.jobs }
+        ensures others { self.new ≡ record self.old { jobs = without_first has_failed self.old.jobs } }
+    {
+        queue::take_first(&mut self.queue, &Wanted::Failed)
+    }
+
+    /// Takes out the first job that waits for a call and was accepted `WAIT_SECONDS` or more before `now`, whether it has
+    /// failed or not; `None` where there is none. Takes no memory.
+    pub fn expired(&mut self, now: Moment) -> Option<Job>
+        ensures job { result ≡ first_job (is_overdue now) self.old.jobs }
+        ensures others { self.new ≡ record self.old { jobs = without_first (is_overdue now) self.old.jobs } }
+    {
+        queue::take_first(&mut self.queue, &Wanted::Overdue(now))
+    }
+
+    /// Takes out the first job of this number in this session; `None` where there is none. Takes no memory.
+    pub fn cancel(&mut self, key: u64, session: u64, number: u64) -> Option<Job>
+        ensures job { result ≡ first_job (is_call key session number) self.old.jobs }
+        ensures others { self.new ≡ record self.old { jobs = without_first (is_call key session number) self.old.jobs } }
+    {
+        queue::take_first(&mut self.queue, &Wanted::Call(key, session, number))
+    }
+
+    /// Forgets all jobs of a session. Takes no memory.
+    pub fn forget(&mut self, key: u64, session: u64)
+        ensures { self.new ≡ record self.old { jobs = without_session key session self.old.jobs } }
+    {
+        queue::forget_session(&mut self.queue, key, session);
+    }
+
+    /// How many jobs a session has, and the bytes of their loads: of each the length of its request, and 8 bytes for
+    /// each number that it waits for.
+    pub fn load(&self, key: u64, session: u64) -> (usize, usize)
+        ensures count { result.0 ≡ job_count key session self.now.jobs }
+        ensures bytes { result.1 ≡ job_bytes key session self.now.jobs }
+        ensures jobs_within { result.0 ≤ most_jobs }
+        ensures bytes_within { result.1 ≤ most_job_bytes }
+    {
+        queue::load_of_session(&self.queue, key, session)
+    }
+
+    /// Whether an unfinished job has this number in this session.
+    pub fn has(&self, key: u64, session: u64, number: u64) -> bool
+        ensures { result ≡ list_any (is_call key session number) self.now.jobs }
+    {
+        queue::first_place(&self.queue, &Wanted::Call(key, session, number)) < self.queue.len()
+    }
+
+    /// How many unfinished jobs there are.
+    pub fn len(&self) -> usize
+        ensures { result ≡ length self.now.jobs }
+    {
+        self.queue.len()
+    }
+
+    /// The same jobs, and the same room reserved.
+    ///
+    /// # Errors
+    ///
+    /// `Memory`.
+    pub fn copy(&self, alloc: Global) -> Result<Jobs, Memory>
+        ensures { IfOk result (λ jobs. jobs ≡ self.now) }
+    {
+        Ok(Jobs {
+            queue: queue::copy_of(alloc, &self.queue)?,
+            room: self.room,
+        })
+    }
+}

@@ -1,0 +1,17 @@
+//! The unfinished jobs of a server: calls that were accepted and aren't answered yet, in order of acceptance over all
+//! sessions (core.telegram.org/api/invoking#saving-query-order).
+//!
+//! Contracts see `Jobs` as that list and the room that is reserved (`specs/Held.antt`), and each call as a step over
+//! the list (`specs/Jobs.antt`).
+#![tactic(auto)]
+
+mod job;
+mod jobs;
+pub mod laws;
+mod queue;
+
+pub use job::Job;
+pub use jobs::{JOB_BYTES_MAX, JOBS_MAX, Jobs, WAIT_SECONDS};
+
+#[cfg(test)]
+mod tests;
