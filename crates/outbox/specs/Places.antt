@@ -39,17 +39,17 @@ number_answering call answered = option_map (λ one. one.number) (find (λ one. 
 abbrev pub number_to : ℕ → Replies → Option ℕ
 number_to call replies = option_map (λ kept. kept.number) (by_call call replies)
 
--- no two replies answer one call
-abbrev pub EachCallOnce : Replies → Type 0
-EachCallOnce [] = Unit {0}
-EachCallOnce (kept ∷ others) = (by_call kept.call others ≡ None) × EachCallOnce others
+-- no two entries have one key
+abbrev pub EachOnce : {X : Type 0} → (X → ℕ) → List X → Type 0
+EachOnce key [] = Unit {0}
+EachOnce key (x ∷ xs) = (find (λ other. key other == key x) xs ≡ None) × EachOnce key xs
 
 -- the numbers rise in order of making, as those of a server session do, each call has one reply, and the index has
 -- these calls in ascending order with the numbers of their replies
 pub record AreInOrder (answered : List Answered) (replies : Replies) : Type 0 where
   pub numbers : Rises (numbers_of replies)
   pub calls : Rises (calls_of answered)
-  pub once : EachCallOnce replies
+  pub once : EachOnce (λ kept. kept.call) replies
   pub same : (call : ℕ) → number_answering call answered ≡ number_to call replies
   pub count : length answered ≡ length replies
 
@@ -58,12 +58,23 @@ abbrev pub IsIndex : Bool → List Answered → Replies → Type 0
 IsIndex true answered replies = AreInOrder answered replies
 IsIndex _ answered replies = answered ≡ []
 
+-- each of these numbers is below this one
+abbrev pub IsBelow : ℕ → List ℕ → Type 0
+IsBelow number [] = Unit {0}
+IsBelow number (first ∷ others) = (first < number) × IsBelow number others
+
+-- a further reply leaves the replies in order
+pub record GoesOn (one : Answered) (answered : List Answered) (replies : Replies) : Type 0 where
+  pub order : AreInOrder answered replies
+  pub above : IsBelow one.number (numbers_of replies)
+  pub new : by_call one.call replies ≡ None
+
 -- for how many more entries there is room: no end of them where all that an outbox can have find room
 abbrev pub room_in : ℕ → ℕ → ℕ
 room_in capacity count = if nat_le kept_replies_max capacity then 2 ^ 64 else capacity - count
 
 -- what is kept beside the replies is theirs
-pub record Holds (replies : Replies) (answered : List Answered) (in_order : Bool) (bytes : ℕ) : Type 0 where
+pub record Holds (replies : Replies) (answered : List Answered) (in_order : Bool) (total : ℕ) : Type 0 where
   pub within : IsWithin replies
-  pub bytes : bytes ≡ bytes_of replies
+  pub bytes : total ≡ bytes_of replies
   pub index : IsIndex in_order answered replies

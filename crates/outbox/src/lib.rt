@@ -11,4 +11,5 @@ mod rows;
 
 pub use bytes::Bytes;
 pub use kept::Kept;
-pub use outbox::{KEPT_BYTES_MAX, KEPT_REPLIES_MAX, Outbox};
+pub use outbox::{KEPT_BYTES_MAX, Outbox};
+pub use rows::KEPT_REPLIES_MAX;
