@@ -1,0 +1,3 @@
+pub mod PlaceLemmas
+pub mod RemoveLemmas
+pub mod OrderLemmas
