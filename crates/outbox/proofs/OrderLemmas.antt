@@ -1,17 +1,16 @@
 -- The index of replies in order: what is found in it, and that it stays theirs.
-use Rattle.std.proofs.Common.{◌≡◌, ◌≢◌, ◌∙◌, sym, ℕ, zero, suc, ◌+◌, ◌<◌, ◌≤◌, Bool, true, false, ltb, eqb, Option, Some, None, option_map, List, [], ◌∷◌, ◌++◌, map, length, get_or, remove, ap, subst, refl, inl, inr, arith, cond, length-append}
+use Rattle.std.proofs.Common.{◌≡◌, ◌≢◌, ◌∙◌, sym, ℕ, zero, suc, ◌+◌, ◌<◌, ◌≤◌, true, false, ltb, eqb, Option, Some, None, option_map, List, [], ◌∷◌, ◌++◌, length, get_or, remove, ap, subst, refl, inl, inr, arith, cond, length-append}
 use Rattle.std.specs.List.{position_or_len, find}
 use Rattle.std.specs.Option.{option_or}
 use Rattle.std.proofs.lemmas.Bool.{cases_lt, cases_eq, lt-ltb, le-ltb, eq-eqb, ne_eqb, eqb-true}
 use Rattle.std.proofs.lemmas.List.Edits.{length-remove}
-use Rattle.std.proofs.lemmas.List.Sums.{passes_at_first, sum_by-remove}
-use Rattle.std.proofs.lemmas.List.Folds.{find-append, find_at}
-use Rattle.std.proofs.lemmas.Option.{slice_get-get_or}
+use Rattle.std.proofs.lemmas.List.Sums.{passes_at_first}
+use Rattle.std.proofs.lemmas.List.Folds.{find-append}
 use Rattle.outbox.specs.declared.kept.Kept.{Kept}
 use Rattle.outbox.specs.declared.rows.Answered.{Answered}
-use Rattle.outbox.specs.Replies.{Replies, by_call, by_number, with_kept, without_number, bytes_of}
-use Rattle.outbox.specs.Places.{IsAbove, IsBelow, Rises, EachOnce, inserted, numbers_of, calls_of, number_answering, number_to, AreInOrder, IsIndex, GoesOn}
-use Rattle.outbox.proofs.RemoveLemmas.{found_at, none_found, none_removed, found_removed, some_found, rises_removed, once_removed, once_rising, gone}
+use Rattle.outbox.specs.Replies.{Replies, by_call, by_number, with_kept, without_number}
+use Rattle.outbox.specs.Places.{IsAbove, IsBelow, Rises, EachOnce, inserted, numbers_of, calls_of, number_answering, number_to, AreInOrder, GoesOn}
+use Rattle.outbox.proofs.RemoveLemmas.{found_at, none_found, found_removed, some_found, rises_removed, once_removed, once_rising, gone}
 
 abbrev pub reply_call : Kept → ℕ
 reply_call kept = kept.call

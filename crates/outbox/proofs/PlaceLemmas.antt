@@ -1,8 +1,8 @@
 -- Places in ascending lists.
-use Rattle.std.proofs.Common.{◌≡◌, ◌≢◌, ℕ, zero, suc, ◌+◌, ◌<◌, ◌≤◌, true, false, ltb, eqb, None, List, [], ◌∷◌, map, length, get_or, insert, ap, refl, inl, inr, arith, add-one}
-use Rattle.std.specs.List.{AllWithin, position_or_len, find}
+use Rattle.std.proofs.Common.{◌≡◌, ◌≢◌, ℕ, zero, suc, ◌+◌, ◌<◌, ◌≤◌, true, false, ltb, eqb, List, [], ◌∷◌, map, length, get_or, insert, ap, refl, inl, inr, arith, add-one}
+use Rattle.std.specs.List.{AllWithin, position_or_len}
 use Rattle.std.specs.List.Sorted.{IsNonDecreasingBy}
-use Rattle.std.proofs.lemmas.Bool.{cases_lt, cases_eq, lt-ltb, le-ltb, eq-eqb, ne_eqb}
+use Rattle.std.proofs.lemmas.Bool.{cases_lt, lt-ltb, le-ltb, eq-eqb, ne_eqb}
 use Rattle.outbox.specs.Places.{IsAbove, Rises, place, inserted}
 
 module _ {X : Type 0} (key : X → ℕ) where

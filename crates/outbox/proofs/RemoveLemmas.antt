@@ -1,5 +1,5 @@
 -- What is found by a key, and what stays where an entry is taken out.
-use Rattle.std.proofs.Common.{◌≡◌, ◌≢◌, ◌∙◌, sym, ℕ, zero, suc, ◌+◌, ◌<◌, ◌≤◌, Bool, true, false, ltb, eqb, Some, None, unwrap_or, List, [], ◌∷◌, ◌++◌, map, length, get_or, remove, ap, refl, inl, inr, arith, cond}
+use Rattle.std.proofs.Common.{◌≡◌, ◌≢◌, ◌∙◌, sym, ℕ, zero, suc, ◌+◌, ◌<◌, ◌≤◌, Bool, true, false, ltb, eqb, Some, None, unwrap_or, List, [], ◌∷◌, map, length, get_or, remove, ap, refl, inl, inr, arith, cond}
 use Rattle.std.specs.List.{position_or_len, position, find, slice_get}
 use Rattle.std.proofs.lemmas.Bool.{cases_Bool, cases_lt, cases_eq, lt-ltb, le-ltb, eq-eqb, ne_eqb}
 use Rattle.std.proofs.lemmas.List.Folds.{find_at}

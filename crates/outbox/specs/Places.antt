@@ -1,6 +1,5 @@
 -- What the code keeps true beside the list of replies. Scaffolding for proofs: no public contract stands on it.
-use Rattle.std.specs.Prelude.{◌≡◌, ℕ, ◌+◌, ◌-◌, ◌<◌, ◌≤◌, ◌^◌, nat_lt, nat_le, ◌==◌, Bool, true, if◌then◌else◌, Option, None, option_map, List, [], ◌∷◌, length, map, find}
-use Rattle.outbox.specs.declared.kept.Kept.{Kept}
+use Rattle.std.specs.Prelude.{◌≡◌, ℕ, ◌+◌, ◌-◌, ◌<◌, ◌^◌, nat_lt, nat_le, ◌==◌, Bool, true, if◌then◌else◌, Option, None, option_map, List, [], ◌∷◌, length, map, find}
 use Rattle.outbox.specs.declared.rows.Answered.{Answered}
 use Rattle.outbox.specs.Replies.{Replies, by_call, bytes_of, kept_replies_max, IsWithin}
 

@@ -1,4 +1,4 @@
-use Rattle.std.proofs.Common.{◌≡◌, ◌≢◌, ◌∙◌, sym, ap, arith, get_or, subst}
+use Rattle.std.proofs.Common.{◌≡◌, ◌≢◌, ◌∙◌, sym, ap, arith, get_or}
 use Rattle.outbox.proofs.PlaceLemmas.{place_of_key, no_key_past, no_key_at}
 use Rattle.outbox.proofs.rows.find_key.Goals.{else-place-len-via-then-place-len+else-key, else-place-len-via-else-place-len}
 use Rattle.outbox.proofs.rows.find_key.Goals as goal

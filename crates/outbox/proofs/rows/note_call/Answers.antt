@@ -1,4 +1,4 @@
-use Rattle.std.proofs.Common.{◌≡◌, refl}
+use Rattle.std.proofs.Common.{refl}
 use Rattle.outbox.specs.declared.rows.Answered.{Answered}
 use Rattle.outbox.specs.Replies.{with_kept}
 use Rattle.outbox.specs.Places.{AreInOrder, GoesOn, inserted}

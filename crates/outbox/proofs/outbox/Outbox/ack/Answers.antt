@@ -1,7 +1,6 @@
-use Rattle.std.proofs.Common.{◌≡◌, ◌∙◌, sym, ap, eqb, arith, Some, get_or, ◌<◌, length}
-use Rattle.std.specs.List.{position_or_len}
+use Rattle.std.proofs.Common.{◌≡◌, ◌∙◌, sym, ap, eqb, arith, Some, get_or}
 use Rattle.outbox.specs.declared.kept.Kept.{Kept}
-use Rattle.outbox.specs.Replies.{Contents, Replies, by_number, call_of}
+use Rattle.outbox.specs.Replies.{Replies, by_number, call_of}
 use Rattle.outbox.proofs.RemoveLemmas.{first_within, found_at, none_found}
 use Rattle.outbox.proofs.OrderLemmas.{without_is, without_none}
 use Rattle.outbox.proofs.outbox.Outbox.ack.Goals as goal

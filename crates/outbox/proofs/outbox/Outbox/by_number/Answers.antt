@@ -1,5 +1,5 @@
 use Rattle.std.proofs.Common.{◌≡◌, ◌∙◌, sym, ap, eqb}
-use Rattle.std.specs.List.{position_or_len, find, slice_get}
+use Rattle.std.specs.List.{slice_get}
 use Rattle.std.specs.Option.{option_copied}
 use Rattle.std.proofs.lemmas.List.Folds.{find_at}
 use Rattle.outbox.specs.declared.kept.Kept.{Kept}
