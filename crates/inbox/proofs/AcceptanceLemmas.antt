@@ -1,21 +1,17 @@
 -- A message that nothing refuses is accepted.
-use Rattle.std.proofs.Common.{◌≡◌, ◌≢◌, ℕ, ◌+◌, ◌%◌, ◌<◌, ◌≤◌, Bool, true, false, cond, nat_eq, nat_lt, nat_le, Option, Some, None, refl, sym, ◌∙◌, ap, subst, arith}
+use Rattle.std.proofs.Common.{◌≡◌, ◌≢◌, ℕ, ◌+◌, ◌%◌, ◌<◌, ◌≤◌, Bool, true, false, cond, nat_eq, nat_lt, Option, Some, None, refl, ◌∙◌, ap, arith}
 use Rattle.std.specs.Option.{option_or}
 use Rattle.std.proofs.lemmas.Bool.Decides.{nat_tests}
-use Rattle.service_tl.specs.declared.item.Item.{Item}
 use Rattle.service_tl.specs.declared.lists.Message.{Message}
-use Rattle.salt_line.specs.Line.{Line, IsValidSalt}
+use Rattle.salt_line.specs.Line.{Line}
 use Rattle.id_window.specs.declared.mark.Mark.{Mark}
-use Rattle.id_window.specs.declared.cross.Cross.{Cross}
-use Rattle.id_window.specs.declared.cross.Cross.TheVariants.{None as Apart, Low, High}
 use Rattle.id_window.specs.Marks.{mark_of}
-use Rattle.id_window.specs.History.{is_kept, floor, found, crosses}
+use Rattle.id_window.specs.History.{is_kept, floor}
 use Rattle.inbox.specs.declared.kind.Kind.{Kind}
 use Rattle.inbox.specs.declared.kind.Kind.TheVariants.{Container, Unlawful, Acknowledgement, Call, Other}
-use Rattle.inbox.specs.declared.judged.Verdict.{Verdict}
 use Rattle.inbox.specs.declared.judged.Verdict.TheVariants.{Accepted}
 use Rattle.inbox.specs.Kinds.{kind_of, item_told}
-use Rattle.inbox.specs.Refusals.{Way, InEnvelope, second_of, is_valid_salt, needs_even, needs_odd, by_number, by_envelope, by_parity, by_neighbours, by_body, first_code, refusal}
+use Rattle.inbox.specs.Refusals.{InEnvelope, second_of, is_valid_salt, needs_even, needs_odd, by_number, by_neighbours, by_body, refusal}
 use Rattle.inbox.specs.Judging.{Session, verdict_by, judge}
 use Rattle.inbox.specs.Acceptance.{IsAcceptable}
 use Rattle.inbox.proofs.TestLemmas.{valid_passes}

@@ -1,10 +1,8 @@
 -- Messages and their drafts are judged alike, and what was heard stays heard.
-use Rattle.std.proofs.Common.{◌≡◌, ℕ, suc, Bool, true, false, cond, ◌||◌, List, [], ◌∷◌, ◌++◌, length, map, Option, Some, None, refl, sym, ◌∙◌, ap, subst, arith}
+use Rattle.std.proofs.Common.{◌≡◌, ℕ, suc, Bool, true, false, cond, ◌||◌, List, [], ◌∷◌, length, map, Option, Some, None, refl, ◌∙◌, ap}
 use Rattle.std.proofs.lemmas.List.Folds.{list_any-append}
 use Rattle.service_tl.specs.declared.lists.Message.{Message}
-use Rattle.id_window.specs.History.{History, FirstJudgement, Outcome, Refused, AcceptedContainer, AcceptedCall, AcceptedOther, was_accepted, noted}
-use Rattle.id_window.specs.Marks.{Marks}
-use Rattle.id_window.specs.Window.{Contents, Stands as WindowStands}
+use Rattle.id_window.specs.History.{History, FirstJudgement, Outcome, Refused, was_accepted, noted}
 use Rattle.inbox.specs.declared.draft.Draft.{Draft}
 use Rattle.inbox.specs.declared.judged.Verdict.{Verdict}
 use Rattle.inbox.specs.declared.judged.Verdict.TheVariants.{Accepted, Again, Noticed}
@@ -14,7 +12,7 @@ use Rattle.inbox.specs.declared.kind.Kind.TheVariants.{Container, Unlawful, Ackn
 use Rattle.inbox.specs.Kinds.{inner_messages}
 use Rattle.inbox.specs.Judging.{Session, is_accepted, is_recorded, recorded, remembered, outcome_of, judged_session, inner_judgements, inner_session, unfolded}
 use Rattle.inbox.specs.Refusals.{InContainer}
-use Rattle.inbox.specs.Inbox.{was_heard, without_room}
+use Rattle.inbox.specs.Inbox.{was_heard}
 use Rattle.inbox.specs.Drafts.{draft_of, draft_judgement, draft_session, draft_judgements, drafts_session, draft_verdict}
 
 pub inner_judged : (session : Session) (messages : List Message) → draft_judgements session (map draft_of messages) ≡ inner_judgements session messages

@@ -1,5 +1,5 @@
 -- A message with what is inside it, judged by its drafts.
-use Rattle.std.proofs.Common.{◌≡◌, ℕ, Bool, true, false, cond, ◌&&◌, List, [], ◌∷◌, ◌++◌, map, Option, Some, None, refl, sym, ◌∙◌, ap, subst, arith}
+use Rattle.std.proofs.Common.{◌≡◌, ℕ, Bool, true, false, cond, ◌&&◌, List, [], ◌∷◌, ◌++◌, map, Option, Some, None, refl, sym, ◌∙◌, ap, subst}
 use Rattle.std.specs.Prelude.{slice_get}
 use Rattle.service_tl.specs.declared.lists.Message.{Message}
 use Rattle.salt_line.specs.Line.{Line}
@@ -15,9 +15,9 @@ use Rattle.inbox.specs.declared.judged.Verdict.TheVariants.{Accepted, Again, Not
 use Rattle.inbox.specs.declared.judged.Judgement.{Judgement}
 use Rattle.inbox.specs.Kinds.{kind_of, inner_messages, item_told}
 use Rattle.inbox.specs.Refusals.{Way, InEnvelope, by_envelope}
-use Rattle.inbox.specs.Judging.{Session, judge, verdict_by, is_container, is_uncontained, is_accepted, recorded, judged_session, judgement_on, inner_judgements, inner_session, unfolded, judgements, session_after}
+use Rattle.inbox.specs.Judging.{Session, judge, verdict_by, is_container, is_uncontained, is_accepted, judged_session, judgement_on, inner_judgements, inner_session, judgements, session_after}
 use Rattle.inbox.specs.Inbox.{Stands, was_heard, without_room}
-use Rattle.inbox.specs.Drafts.{draft_of, draft_judgement, draft_session, draft_judgements, drafts_session, draft_verdict}
+use Rattle.inbox.specs.Drafts.{draft_of, draft_judgement, draft_session, draft_judgements, drafts_session}
 use Rattle.inbox.specs.Acceptance.{IsAcceptable}
 use Rattle.inbox.proofs.DraftLemmas.{inner_judged, inner_settled, accepted_unfolded, others_unfolded, heard_refused, heard_accepted, heard_inside}
 use Rattle.inbox.proofs.AcceptanceLemmas.{acceptable_judged}

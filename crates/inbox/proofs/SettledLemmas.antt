@@ -1,11 +1,11 @@
 -- Judging of one draft after the other.
-use Rattle.std.proofs.Common.{◌≡◌, ◌≢◌, ℕ, ◌<◌, ◌≤◌, Bool, true, false, cond, List, [], ◌∷◌, ◌++◌, length, Option, Some, None, refl, sym, ◌∙◌, ap, subst, append_assoc, arith}
+use Rattle.std.proofs.Common.{◌≡◌, ℕ, Bool, true, false, cond, List, [], ◌∷◌, ◌++◌, length, Option, Some, None, refl, sym, ◌∙◌, ap, subst, append_assoc, arith}
 use Rattle.std.proofs.lemmas.List.{append-nil}
 use Rattle.service_tl.specs.declared.item.Item.{Item}
 use Rattle.id_window.specs.declared.mark.Mark.{Mark}
 use Rattle.id_window.specs.declared.mark.Mark.TheVariants.{Noticed as MarkNoticed}
 use Rattle.id_window.specs.Marks.{given, is_accepted}
-use Rattle.id_window.specs.History.{History, Refused, found, floor, crosses, noted, was_accepted}
+use Rattle.id_window.specs.History.{Refused, found, floor, crosses, noted, was_accepted}
 use Rattle.id_window.specs.Window.{Contents, Stands}
 use Rattle.inbox.specs.declared.draft.Draft.{Draft}
 use Rattle.inbox.specs.declared.kind.Kind.{Kind}

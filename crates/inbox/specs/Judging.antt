@@ -8,7 +8,7 @@ use Rattle.id_window.specs.declared.mark.Mark.TheVariants.{Noticed as MarkNotice
 use Rattle.id_window.specs.Marks.{Marks, given}
 use Rattle.id_window.specs.History.{History, Outcome, Refused, AcceptedContainer, AcceptedCall, AcceptedOther, noted, found}
 use Rattle.inbox.specs.declared.kind.Kind.{Kind}
-use Rattle.inbox.specs.declared.kind.Kind.TheVariants.{Container, Unlawful, Acknowledgement, Call, Other}
+use Rattle.inbox.specs.declared.kind.Kind.TheVariants.{Container, Unlawful, Call}
 use Rattle.inbox.specs.declared.judged.Verdict.{Verdict}
 use Rattle.inbox.specs.declared.judged.Verdict.TheVariants.{Accepted, Again, Noticed}
 use Rattle.inbox.specs.declared.judged.Judgement.{Judgement}

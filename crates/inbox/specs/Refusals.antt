@@ -1,6 +1,6 @@
 -- Why a new message is refused: the notices of the standard, in the order in which they are looked for
 -- (core.telegram.org/mtproto/service_messages_about_messages, "Notice of Ignored Error Message").
-use Rattle.std.specs.Prelude.{◌≡◌, ℕ, ◌+◌, ◌*◌, ◌/◌, ◌%◌, ◌^◌, ◌==◌, ◌&&◌, nat_lt, nat_le, Bool, true, false, if◌then◌else◌, List, Option, Some, None}
+use Rattle.std.specs.Prelude.{ℕ, ◌+◌, ◌/◌, ◌%◌, ◌^◌, ◌==◌, ◌&&◌, nat_lt, nat_le, Bool, true, false, if◌then◌else◌, Option, Some, None}
 use Rattle.std.specs.List.{list_any}
 use Rattle.std.specs.Option.{option_or}
 use Rattle.salt_line.specs.Rows.{Row, since, until}
@@ -11,7 +11,7 @@ use Rattle.id_window.specs.Crossing.{is_odd}
 use Rattle.id_window.specs.History.{History, floor, crosses}
 use Rattle.service_tl.specs.declared.lists.Message.{Message}
 use Rattle.inbox.specs.declared.kind.Kind.{Kind}
-use Rattle.inbox.specs.declared.kind.Kind.TheVariants.{Container, Unlawful, Acknowledgement, Call, Other}
+use Rattle.inbox.specs.declared.kind.Kind.TheVariants.{Container, Unlawful, Acknowledgement, Call}
 use Rattle.inbox.specs.Kinds.{kind_of}
 
 -- how a message came: in an envelope at this moment, to a session with this line of salts, under this salt; or inside

@@ -2,7 +2,7 @@
 -- Messages").
 use Rattle.std.specs.Prelude.{ℕ, nat_le, if◌then◌else◌, Option, Some, None}
 use Rattle.id_window.specs.declared.mark.Mark.{Mark}
-use Rattle.id_window.specs.declared.mark.Mark.TheVariants.{Noticed, Service, Container, Waiting, Replied, Acked, Dropped}
+use Rattle.id_window.specs.declared.mark.Mark.TheVariants.{Waiting, Replied, Acked, Dropped}
 use Rattle.id_window.specs.Marks.{Marks}
 use Rattle.id_window.specs.History.{History, found, floor, greatest}
 

@@ -1,8 +1,6 @@
-use Rattle.std.proofs.Common.{◌≡◌, ◌==◌, true, false, cond, rules, arith}
-use Rattle.std.specs.List.{list_any}
+use Rattle.std.proofs.Common.{◌≡◌, false, rules, arith}
 use Rattle.std.proofs.lemmas.Bool.Decides.{nat_tests}
 use Rattle.service_tl.specs.Schema.{service_numbers}
-use Rattle.inbox.specs.Kinds.{calling_numbers}
 use Rattle.inbox.proofs.TestLemmas.{list_any-is, not_service}
 use Rattle.inbox.proofs.kind.begins_call.Goals as goal
 

@@ -1,7 +1,7 @@
 use Rattle.std.proofs.Common.{◌≡◌, ◌∙◌, ℕ, ap, rules, arith}
 use Rattle.std.proofs.lemmas.Grind.{common_steps}
 use Rattle.id_window.specs.declared.cross.Cross.{Cross}
-use Rattle.id_window.specs.History.{floor, crosses}
+use Rattle.id_window.specs.History.{floor}
 use Rattle.inbox.specs.Refusals.{first_code}
 use Rattle.inbox.proofs.refusal.refusal.Goals as goal
 

@@ -1,4 +1,4 @@
-use Rattle.std.proofs.Common.{◌≡◌, ◌<◌, length, ap, arith}
+use Rattle.std.proofs.Common.{◌≡◌, length, arith}
 use Rattle.std.specs.Vec.Iter.{into_iter_items}
 use Rattle.inbox.proofs.SettledLemmas.{begins, goes_on, ends_judged, ends_stands}
 use Rattle.inbox.proofs.settling.settle_inner.Goals as goal

@@ -1,10 +1,9 @@
-use Rattle.std.proofs.Common.{◌≡◌, ◌∙◌, true, false, List, None, ◌++◌, ◌∷◌, [], refl, sym, ap, rules, arith}
+use Rattle.std.proofs.Common.{◌≡◌, ◌∙◌, true, false, None, sym, ap, rules, arith}
 use Rattle.std.proofs.lemmas.Bool.Decides.{nat_tests}
-use Rattle.id_window.specs.Window.{Stands as WindowStands}
 use Rattle.inbox.specs.declared.judged.Judgement.{Judgement}
 use Rattle.inbox.specs.Refusals.{InEnvelope}
-use Rattle.inbox.specs.Judging.{Session, is_accepted}
-use Rattle.inbox.specs.Inbox.{Stands, Kept, message_in, without_room}
+use Rattle.inbox.specs.Judging.{is_accepted}
+use Rattle.inbox.specs.Inbox.{message_in, without_room}
 use Rattle.inbox.specs.Drafts.{draft_session}
 use Rattle.inbox.proofs.JudgeLemmas.{Settled, alone_judged, alone_stands, all_judged, all_stands, first_accepted, accepted_new, on_message}
 use Rattle.inbox.proofs.inbox.Inbox.judge.Goals as goal

@@ -1,4 +1,3 @@
-use Rattle.std.proofs.Common.{◌≡◌, ◌∙◌, ℕ, Option, ap}
 use Rattle.inbox.specs.Inbox.{without_room}
 use Rattle.inbox.proofs.inbox.Inbox.set_mark.Goals as goal
 

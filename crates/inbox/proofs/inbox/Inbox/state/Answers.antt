@@ -1,7 +1,7 @@
-use Rattle.std.proofs.Common.{◌≡◌, ◌∙◌, ℕ, Option, ap}
+use Rattle.std.proofs.Common.{◌∙◌, ℕ, Option, ap}
 use Rattle.inbox.specs.Inbox.{without_room}
 use Rattle.id_window.specs.declared.mark.Mark.{Mark}
-use Rattle.id_window.specs.History.{found, floor, greatest}
+use Rattle.id_window.specs.History.{found, floor}
 use Rattle.inbox.specs.States.{state_by}
 use Rattle.inbox.proofs.inbox.Inbox.state.Goals as goal
 
