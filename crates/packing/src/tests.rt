@@ -78,21 +78,6 @@ fn one_goes_alone_and_two_in_a_container(rt: HostRuntime) -> Result<(), Fail> {
     Ok(())
 }
 
-// How many messages each packet has, for messages of so many bytes each.
-fn counts(alloc: Global, messages: &[Part<'_>]) -> Result<Vec<usize>, Memory> {
-    let mut counts = Vec::new(alloc);
-    let mut rest = messages;
-    for _ in 0..messages.len() {
-        if rest.is_empty() {
-            break;
-        }
-        let count = front(rest);
-        counts.push(count)?;
-        rest = &rest[count..];
-    }
-    Ok(counts)
-}
-
 #[test]
 fn fifteen_great_results_go_by_threes(rt: HostRuntime) -> Result<(), Fail> {
     let alloc = rt.alloc();
@@ -102,17 +87,23 @@ fn fifteen_great_results_go_by_threes(rt: HostRuntime) -> Result<(), Fail> {
         seq: 1,
         body: body.as_slice(),
     };
+    let great = [result; 15];
+    assert_eq!(rt; front(&great), 3);
+    assert_eq!(rt; front(&great[3..]), 3);
+    assert_eq!(rt; front(&great[12..]), 3);
+    assert_eq!(rt; packed_size(&great[..3]), 786_524);
+    Ok(())
+}
+
+#[test]
+fn small_messages_go_by_1020(rt: HostRuntime) -> Result<(), Fail> {
     let small = Part {
         number: 5,
         seq: 1,
         body: b"",
     };
-    let great = [result; 15];
-    assert_eq!(rt;
-        counts(alloc, &great)?.as_slice(),
-        [3, 3, 3, 3, 3].as_slice()
-    );
     let many = [small; 1_021];
-    assert_eq!(rt; counts(alloc, &many)?.as_slice(), [1_020, 1].as_slice());
+    assert_eq!(rt; front(&many), 1_020);
+    assert_eq!(rt; front(&many[1_020..]), 1);
     Ok(())
 }

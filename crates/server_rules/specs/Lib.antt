@@ -1,0 +1,10 @@
+pub mod Server
+pub mod Event
+pub mod Speaking
+pub mod Waiting
+pub mod Calls
+pub mod Rows
+pub mod Sending
+pub mod Answer
+pub mod Events
+pub mod Witness
