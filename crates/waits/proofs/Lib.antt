@@ -1,3 +1,5 @@
 pub mod Totals
 pub mod Places
 pub mod Limits
+pub mod Counts
+pub mod Taken

@@ -111,6 +111,10 @@ one_if holds = if holds then 1 else 0
 abbrev pub ready_count : Queue → ℕ
 ready_count queue = total (λ one. one_if (is_ready one)) queue
 
+-- how many jobs aren't
+abbrev pub blocked_count : Queue → ℕ
+blocked_count queue = total (λ one. one_if (not (is_ready one))) queue
+
 -- what a job counts against the bytes of its session
 abbrev pub load_of : Job → ℕ
 load_of job = length job.request + number_bytes * length job.after

@@ -4,6 +4,7 @@ ghost use Rattle.std.specs.Prelude.{◌≡◌, ◌+◌, ◌<◌, ◌≤◌, [], 
 ghost use Rattle.std.specs.List.{list_any};
 ghost use Rattle.waits.specs.Limits.{most_jobs, most_job_bytes};
 ghost use Rattle.waits.specs.Jobs.{accepted, is_call, is_overdue, has_failed, ready_count, ready_job, without_ready, first_job, without_first, settled, without_session, job_count, job_bytes, load_of};
+ghost use Rattle.waits.specs.Wanted.{is_wanted};
 
 use crate::job::{Job, Unfinished};
 use crate::queue::{self, Wanted};
@@ -22,24 +23,26 @@ pub const JOB_BYTES_MAX: usize = 4_194_304;
 /// How many seconds a job waits for others before it is answered instead.
 pub const WAIT_SECONDS: u64 = 30;
 
-/// The unfinished jobs of a server, in order of acceptance over all sessions.
+/// The unfinished jobs of a server, in order of acceptance over all sessions. It knows how many of them aren't ready:
+/// where all are, answers are told to none and none is looked for.
 #[derive(Debug, Drop)]
 pub struct Jobs {
     queue: VecDeque<Unfinished>,
+    blocked: usize,
     room: usize,
 }
 
 impl Model for Jobs {
-    ghost use Rattle.std.specs.Prelude.{◌+◌, ◌≤◌};
+    ghost use Rattle.std.specs.Prelude.{◌≡◌, ◌+◌, ◌≤◌};
     ghost use Rattle.std.specs.VecDeque.{deque_len, deque_capacity};
-    ghost use Rattle.waits.specs.Jobs.{AreWithinLimits};
+    ghost use Rattle.waits.specs.Jobs.{AreWithinLimits, blocked_count};
     ghost use Rattle.waits.specs.Held.{Held};
 
     ghost Value = { Held };
 
     ghost view = { λ jobs. record { jobs = jobs.queue.items; room = jobs.room } };
 
-    ghost invariant = { λ jobs. AreWithinLimits jobs.queue.items × (deque_len jobs.queue + jobs.room ≤ deque_capacity jobs.queue) };
+    ghost invariant = { λ jobs. AreWithinLimits jobs.queue.items × (deque_len jobs.queue + jobs.room ≤ deque_capacity jobs.queue) × (jobs.blocked ≡ blocked_count jobs.queue.items) };
 }
 
 impl Jobs {
@@ -49,6 +52,7 @@ impl Jobs {
     {
         Jobs {
             queue: VecDeque::new(alloc),
+            blocked: 0,
             room: 0,
         }
     }
@@ -76,16 +80,18 @@ impl Jobs {
         ensures added { self.new.jobs ≡ accepted job self.old.jobs }
         ensures room { self.new.room + 1 ≡ self.old.room }
     {
+        let one = Unfinished { job, failed: false };
+        let blocked = queue::one_unless(one.is_ready());
         self.room -= 1;
-        self.queue
-            .push_back_reserved(Unfinished { job, failed: false });
+        self.queue.push_back_reserved(one);
+        self.blocked += blocked;
     }
 
     /// How many jobs are ready: they wait for no call, and none that they waited for was answered otherwise than well.
     pub fn ready(&self) -> usize
         ensures count { result ≡ ready_count self.now.jobs }
     {
-        queue::count_ready(&self.queue)
+        self.queue.len() - self.blocked
     }
 
     /// Takes out the ready job of this place among the ready ones, from 0 in order of acceptance. Takes no memory.
@@ -102,7 +108,10 @@ impl Jobs {
     pub fn settle(&mut self, key: u64, session: u64, number: u64, ok: bool)
         ensures { self.new ≡ record self.old { jobs = settled key session number ok self.old.jobs } }
     {
-        queue::settle_all(&mut self.queue, key, session, number, ok);
+        if self.blocked > 0 {
+            queue::settle_all(&mut self.queue, key, session, number, ok);
+            self.blocked = queue::count_blocked(&self.queue);
+        }
     }
 
     /// Takes out the first job that has failed; `None` where none has. Takes no memory.
@@ -110,7 +119,10 @@ impl Jobs {
         ensures job { result ≡ first_job has_failed self.old.jobs }
         ensures others { self.new ≡ record self.old { jobs = without_first has_failed self.old.jobs } }
     {
-        queue::take_first(&mut self.queue, &Wanted::Failed)
+        if self.blocked == 0 {
+            return None;
+        }
+        self.take_wanted(&Wanted::Failed)
     }
 
     /// Takes out the first job that waits for a call and was accepted `WAIT_SECONDS` or more before `now`, whether it has
@@ -119,7 +131,10 @@ impl Jobs {
         ensures job { result ≡ first_job (is_overdue now) self.old.jobs }
         ensures others { self.new ≡ record self.old { jobs = without_first (is_overdue now) self.old.jobs } }
     {
-        queue::take_first(&mut self.queue, &Wanted::Overdue(now))
+        if self.blocked == 0 {
+            return None;
+        }
+        self.take_wanted(&Wanted::Overdue(now))
     }
 
     /// Takes out the first job of this number in this session; `None` where there is none. Takes no memory.
@@ -127,7 +142,7 @@ impl Jobs {
         ensures job { result ≡ first_job (is_call key session number) self.old.jobs }
         ensures others { self.new ≡ record self.old { jobs = without_first (is_call key session number) self.old.jobs } }
     {
-        queue::take_first(&mut self.queue, &Wanted::Call(key, session, number))
+        self.take_wanted(&Wanted::Call(key, session, number))
     }
 
     /// Forgets all jobs of a session. Takes no memory.
@@ -135,6 +150,7 @@ impl Jobs {
         ensures { self.new ≡ record self.old { jobs = without_session key session self.old.jobs } }
     {
         queue::forget_session(&mut self.queue, key, session);
+        self.blocked = queue::count_blocked(&self.queue);
     }
 
     /// How many jobs a session has, and the bytes of their loads: of each the length of its request, and 8 bytes for
@@ -172,7 +188,19 @@ impl Jobs {
     {
         Ok(Jobs {
             queue: queue::copy_of(alloc, &self.queue)?,
+            blocked: self.blocked,
             room: self.room,
         })
+    }
+
+    /// Takes out the first job that is wanted; `None` where none is.
+    fn take_wanted(&mut self, wanted: &Wanted) -> Option<Job>
+        ensures job { result ≡ first_job (is_wanted wanted.now) self.old.jobs }
+        ensures others { self.new ≡ record self.old { jobs = without_first (is_wanted wanted.now) self.old.jobs } }
+    {
+        let one = queue::take_first(&mut self.queue, wanted)?;
+        self.blocked -= queue::one_unless(one.is_ready());
+        let Unfinished { job, failed: _ } = one;
+        Some(job)
     }
 }

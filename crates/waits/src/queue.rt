@@ -1,9 +1,9 @@
 //! Searches over the unfinished jobs in order of acceptance.
 
-ghost use Rattle.std.specs.Prelude.{◌≡◌, ◌+◌, ◌<◌, ◌≤◌, ℕ, true, false, length, take, slice_index_or, IfOk};
+ghost use Rattle.std.specs.Prelude.{◌≡◌, ◌+◌, ◌<◌, ◌≤◌, ℕ, true, false, not, Some, None, length, take, slice_index_or, IfOk, IfSome, IfNone};
 ghost use Rattle.std.specs.VecDeque.{deque_len, deque_capacity};
 ghost use Rattle.waits.specs.declared.job.Unfinished.{Unfinished as One};
-ghost use Rattle.waits.specs.Jobs.{is_ready, ready_count, job_count, job_bytes, first_job, without_first, ready_job, without_ready, settled, without_session, AreWithinLimits};
+ghost use Rattle.waits.specs.Jobs.{is_ready, one_if, ready_count, blocked_count, job_count, job_bytes, first_job, without_first, ready_job, without_ready, settled, without_session, AreWithinLimits};
 ghost use Rattle.waits.specs.Wanted.{is_wanted};
 
 use crate::job::{Job, Unfinished};
@@ -51,34 +51,36 @@ pub(crate) fn first_place(queue: &VecDeque<Unfinished>, wanted: &Wanted) -> usiz
     queue.len()
 }
 
-/// Takes out the first job that is wanted.
-pub(crate) fn take_first(queue: &mut VecDeque<Unfinished>, wanted: &Wanted) -> Option<Job>
+/// Takes out the first job that is wanted; `None` where none is.
+pub(crate) fn take_first(queue: &mut VecDeque<Unfinished>, wanted: &Wanted) -> Option<Unfinished>
     requires { AreWithinLimits queue.old.items }
-    ensures job { result ≡ first_job (is_wanted wanted.now) queue.old.items }
+    ensures job { IfSome result (λ one. first_job (is_wanted wanted.now) queue.old.items ≡ Some one.job) }
+    ensures none { IfNone result (first_job (is_wanted wanted.now) queue.old.items ≡ None) }
+    ensures unchanged { IfNone result (queue.new.items ≡ queue.old.items) }
     ensures others { queue.new.items ≡ without_first (is_wanted wanted.now) queue.old.items }
+    ensures blocked { IfSome result (λ one. blocked_count queue.new.items + one_if (not (is_ready one)) ≡ blocked_count queue.old.items) }
     ensures limits { AreWithinLimits queue.new.items }
     ensures len { deque_len queue.new ≤ deque_len queue.old }
     ensures capacity { deque_capacity queue.new ≡ deque_capacity queue.old }
 {
     let place = first_place(queue, wanted);
-    match queue.remove(place) {
-        Some(one) => {
-            let Unfinished { job, failed: _ } = one;
-            Some(job)
-        }
-        None => None,
-    }
+    queue.remove(place)
 }
 
-/// How many jobs are ready.
-pub(crate) fn count_ready(queue: &VecDeque<Unfinished>) -> usize
-    ensures { result ≡ ready_count queue.now.items }
+/// 1 for a job that isn't ready, 0 for one that is.
+pub(crate) fn one_unless(ready: bool) -> usize
+    ensures { result ≡ one_if (not ready) }
+{
+    if ready { 0 } else { 1 }
+}
+
+/// How many jobs aren't ready.
+pub(crate) fn count_blocked(queue: &VecDeque<Unfinished>) -> usize
+    ensures { result ≡ blocked_count queue.now.items }
 {
     let mut count = 0;
     for place in 0..queue.len() {
-        if queue[place].is_ready() {
-            count += 1;
-        }
+        count += one_unless(queue[place].is_ready());
     }
     count
 }
@@ -108,6 +110,7 @@ pub(crate) fn take_ready(queue: &mut VecDeque<Unfinished>, k: usize) -> Job
     requires ready { k < ready_count queue.old.items }
     ensures job { ready_job k queue.old.items ≡ Some result }
     ensures others { queue.new.items ≡ without_ready k queue.old.items }
+    ensures blocked { blocked_count queue.new.items ≡ blocked_count queue.old.items }
     ensures limits { AreWithinLimits queue.new.items }
     ensures len { deque_len queue.new ≤ deque_len queue.old }
     ensures capacity { deque_capacity queue.new ≡ deque_capacity queue.old }
