@@ -27,7 +27,7 @@ const LONG_BYTES: usize = 8;
 pub struct CallLine {
     /// The bytes of the body.
     pub body: Octets,
-    /// The call that it waits for.
+    /// The call that it waits for, as `after` names it.
     pub after: Option<u64>,
 }
 

@@ -31,7 +31,7 @@ pub enum Event {
         client: u64,
         at: u64,
     },
-    /// A client submits a call, which may wait for an earlier one.
+    /// A client submits a call, which may wait for another one.
     Call {
         client: u64,
         body: Octets,
@@ -58,21 +58,21 @@ pub enum Event {
     Work {
         job: u64,
     },
-    /// The server's clock ticks.
+    /// A tick at the server.
     TickServer,
-    /// A client's clock ticks.
+    /// A tick at a client.
     TickClient {
         client: u64,
     },
-    /// The server attaches a client's present session.
+    /// An attach at the server, for a client's present session.
     AttachServer {
         client: u64,
     },
-    /// A client attaches.
+    /// An attach at a client.
     AttachClient {
         client: u64,
     },
-    /// A client pings.
+    /// A client sends a ping.
     Ping {
         client: u64,
     },

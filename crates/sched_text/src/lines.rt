@@ -40,6 +40,7 @@ impl<'a> Lines<'a> {
     /// The next line and its number, where one is left.
     pub fn next(&mut self) -> Option<(u32, &'a [u8])>
         ensures none { IfNone result (self.old ≡ []) }
+        ensures ended { IfNone result (self.new ≡ []) }
         ensures line { IfSome result (λ line. self.old ≡ record { number = line.0; text = line.1.now } ∷ self.new) }
     {
         while !self.rest.is_empty() {

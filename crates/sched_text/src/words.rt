@@ -38,7 +38,7 @@ impl<'a> Words<'a> {
     /// The next word, where one is left.
     pub(crate) fn next(&mut self) -> Option<&'a [u8]>
         ensures none { IfNone result (self.old ≡ []) }
-        ensures done { IfNone result (self.new ≡ []) }
+        ensures ended { IfNone result (self.new ≡ []) }
         ensures word { IfSome result (λ word. self.old ≡ word.now ∷ self.new) }
     {
         let (word, rest) = first_word(self.rest?);
