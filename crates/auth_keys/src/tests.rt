@@ -1,0 +1,1 @@
+//! What no clause says, and each call once.
