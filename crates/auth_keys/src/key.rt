@@ -25,13 +25,13 @@ pub struct AuthKey {
 
 impl Model for AuthKey {
     ghost use Rattle.std.specs.Prelude.{◌≡◌, ℕ, List};
-    ghost use Rattle.auth_keys.specs.Keys.{identifier};
+    ghost use Rattle.auth_keys.specs.Keys.{IsKey, identifier};
 
     ghost Value = { List ℕ };
 
     ghost view = { λ key. key.bytes };
 
-    ghost invariant = { λ key. key.id ≡ identifier key.bytes };
+    ghost invariant = { λ key. IsKey key.bytes × (key.id ≡ identifier key.bytes) };
 }
 
 impl fmt::Debug for AuthKey {

@@ -9,7 +9,7 @@ ghost use Rattle.auth_keys.specs.declared.ring.RingKey.{RingKey};
 
 use crate::fault::KeyFault;
 use crate::key::{AuthKey, KeyKind};
-use crate::ring::{RING_KEYS_MAX, RingKey};
+use crate::ring::{RING_KEYS_MAX, RingKey, place_of_id};
 use itoa::Buffer;
 use msg_ids::Moment;
 use octets::Memory;
@@ -56,13 +56,6 @@ fn append(keys: &mut Vec<RingKey>, last: RingKey) -> Result<(), Memory>
 {
     keys.push(last)?;
     Ok(())
-}
-
-/// The place of the key with this identifier, from 0, where there is one.
-fn place_of_id(keys: &[RingKey], id: u64) -> Option<usize>
-    ensures found { IfSome result (λ place. place < length keys.now) }
-{
-    keys.iter().position(|entry| entry.key.id() == id)
 }
 
 /// The first line of a text that isn't empty, and what follows its newline.

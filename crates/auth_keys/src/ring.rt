@@ -1,7 +1,7 @@
 //! Rings of keys.
 
-ghost use Rattle.std.specs.Prelude.{◌≡◌, ℕ, ◌≤◌, ◌<◌, ◌^◌, ◌↔◌, List, length, IsTrue, IfOk, IfErr, IfSome, IfNone, Some, None};
-ghost use Rattle.auth_keys.specs.Keys.{IsKey};
+ghost use Rattle.std.specs.Prelude.{◌≡◌, ◌≢◌, ℕ, ◌≤◌, ◌<◌, ◌^◌, ◌↔◌, List, length, IsTrue, IfOk, IfErr, IfSome, IfNone, Some, None, All, HoldsAt};
+ghost use Rattle.auth_keys.specs.Keys.{identifier};
 ghost use Rattle.auth_keys.specs.Rings.{IsRing, entry_of, kind_in};
 ghost use Rattle.auth_keys.specs.KeyFile.{IsRingOf, IsFaultOf};
 
@@ -65,7 +65,7 @@ impl Ring {
         ensures none { IfNone result (entry_of id self.now ≡ None) }
         ensures lawful { IsRing self.now }
     {
-        self.entry(id).map(|entry| &entry.key)
+        Some(&self.entry(id)?.key)
     }
 
     /// How long the key with this identifier is good, or `None` where the ring has no such key.
@@ -73,7 +73,7 @@ impl Ring {
         ensures value { result ≡ kind_in (entry_of id self.now) }
         ensures lawful { IsRing self.now }
     {
-        self.entry(id).map(|entry| entry.kind)
+        Some(self.entry(id)?.kind)
     }
 
     /// How many keys there are.
@@ -95,7 +95,18 @@ impl Ring {
     fn entry(&self, id: u64) -> Option<&RingKey>
         ensures found { IfSome result (λ entry. entry_of id self.now ≡ Some entry.now) }
         ensures none { IfNone result (entry_of id self.now ≡ None) }
+        ensures lawful { IsRing self.now }
     {
-        self.keys.iter().find(|entry| entry.key.id() == id)
+        let place = place_of_id(&self.keys, id)?;
+        Some(&self.keys[place])
     }
+}
+
+/// The place of the key with this identifier, from 0, where there is one.
+pub fn place_of_id(keys: &[RingKey], id: u64) -> Option<usize>
+    ensures found { IfSome result (λ place. (place < length keys.now) × HoldsAt (λ entry. identifier entry.key ≡ id) keys.now place) }
+    ensures first { IfSome result (λ place. (k : ℕ) → k < place → HoldsAt (λ entry. identifier entry.key ≢ id) keys.now k) }
+    ensures none { IfNone result (All (λ entry. identifier entry.key ≢ id) keys.now) }
+{
+    keys.iter().position(|entry| entry.key.id() == id)
 }

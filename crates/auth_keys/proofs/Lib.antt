@@ -1,0 +1,6 @@
+mod LineLemmas
+mod NumberLemmas
+mod WordLemmas
+mod KeyLemmas
+mod RingLemmas
+mod Readings
