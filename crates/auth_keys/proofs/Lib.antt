@@ -1,0 +1,7 @@
+mod DigestLemmas
+mod LineLemmas
+mod NumberLemmas
+mod WordLemmas
+mod KeyLemmas
+mod RingLemmas
+mod Readings

@@ -1,0 +1,3 @@
+pub mod Keys
+pub mod Rings
+pub mod KeyFile
