@@ -1,0 +1,1 @@
+//! What a table tells of the list of calls that it stands for.
