@@ -1,0 +1,5 @@
+pub mod PlaceLemmas
+pub mod GroupLemmas
+pub mod IndexLemmas
+pub mod StandsLemmas
+pub mod HeldLemmas

@@ -1,7 +1,7 @@
 -- What a `Calls` keeps of a table. It keeps no name that was replaced, and of the salts of a living name only whether
 -- there is none but 0, one other, or more.
-use Rattle.std.specs.Prelude.{◌≡◌, ℕ, ◌-◌, ◌<◌, Bool, true, false, ◌==◌, ◌||◌, if◌then◌else◌, Option, Some, None, option_map, IfSome, List, [], ◌∷◌, ◌++◌}
-use Rattle.std.specs.List.{AllByRecursion, AllZip}
+use Rattle.std.specs.Prelude.{◌≡◌, ℕ, ◌<◌, Bool, false, ◌==◌, ◌||◌, if◌then◌else◌, Option, Some, None, option_map, IfSome, List, [], ◌∷◌}
+use Rattle.std.specs.List.{AllZip}
 use Rattle.call_table.specs.declared.call.CallNo.{CallNo}
 use Rattle.call_table.specs.declared.call.CallState.{CallState}
 use Rattle.call_table.specs.declared.call.CallState.TheVariants as told
@@ -17,7 +17,7 @@ use Rattle.call_table.specs.declared.packet.Packet.{Packet}
 use Rattle.call_table.specs.declared.row.Progress.{Progress}
 use Rattle.call_table.specs.declared.row.Progress.TheVariants as progress
 use Rattle.call_table.specs.declared.row.Row.{Row}
-use Rattle.call_table.specs.Table.{State, Queued, Sent, Held, Done, Refused, Unknown, Name, Call, Table, no_flags, is_queued, is_sent, is_held, is_open, under_of, call_no, at, changed, places_from, first_from}
+use Rattle.call_table.specs.Table.{State, Queued, Sent, Held, Done, Refused, Unknown, Name, Call, Table, no_flags, is_queued, is_sent, is_held, is_open, under_of, call_no, changed, first_from}
 
 -- what contracts see of a `Calls`: its rows, one a call, the waiting acknowledgements, the remembered packets, and for
 -- how many more sendings room is reserved

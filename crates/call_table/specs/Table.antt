@@ -2,7 +2,7 @@
 -- acknowledgements that wait, and the packets that are remembered
 -- (core.telegram.org/mtproto/service_messages_about_messages, "Acknowledgment of Receipt" and "Notice of Ignored
 -- Error Message"; core.telegram.org/mtproto/description, "Message Identifier" and "Server Salt").
-use Rattle.std.specs.Prelude.{◌≡◌, ℕ, zero, suc, ◌+◌, ◌-◌, ◌<◌, ◌≤◌, Bool, true, false, not, ◌==◌, ◌&&◌, if◌then◌else◌, Option, Some, None, option_map, List, [], ◌∷◌, ◌++◌, length, drop, filter, map, fold, slice_get}
+use Rattle.std.specs.Prelude.{ℕ, zero, suc, ◌+◌, ◌-◌, ◌<◌, ◌≤◌, Bool, true, false, not, ◌==◌, if◌then◌else◌, Option, Some, None, option_map, List, [], ◌∷◌, ◌++◌, length, drop, filter, map, fold, slice_get}
 use Rattle.std.specs.List.{list_all}
 use Rattle.call_table.specs.declared.call.CallNo.{CallNo}
 use Rattle.call_table.specs.declared.call.Cause.{Cause}

@@ -1,10 +1,10 @@
 //! The places of the calls of each group, in call order. They are searched by halving; where a place enters or leaves,
 //! those behind it or before it move, whichever are fewer.
 
-ghost use Rattle.std.specs.Prelude.{◌≡◌, ◌<◌, ◌≤◌, ◌^◌, [], IfOk, OnOk, length};
+ghost use Rattle.std.specs.Prelude.{◌≡◌, ◌<◌, ◌≤◌, ◌^◌, ◌==◌, [], IfOk, OnOk, length, slice_get};
 ghost use Rattle.std.specs.VecDeque.{deque_capacity};
 ghost use Rattle.call_table.specs.declared.call.Group.{Group};
-ghost use Rattle.call_table.specs.Kept.{is_row_in};
+ghost use Rattle.call_table.specs.Kept.{is_row_in, passes};
 ghost use Rattle.call_table.specs.Held.{AreGrouped, HaveRoom, Rises, capacity_in, place, places_in, with_member};
 
 use crate::call::Group;
@@ -22,6 +22,13 @@ fn place_of(places: &VecDeque<u32>, member: u32) -> usize
     places.partition_point(|one| *one < member)
 }
 
+/// Whether this member stands at a place of the list.
+fn is_at(places: &VecDeque<u32>, at: usize, member: u32) -> bool
+    ensures { result ≡ passes (λ one. one == member) (slice_get places.now.items at) }
+{
+    at < places.len() && places[at] == member
+}
+
 /// Puts a place among the others, or takes it out.
 pub(crate) fn put(places: &mut VecDeque<u32>, member: u32, enters: bool)
     requires ascending { Rises places.old.items }
@@ -30,14 +37,14 @@ pub(crate) fn put(places: &mut VecDeque<u32>, member: u32, enters: bool)
     ensures capacity { deque_capacity places.old ≤ deque_capacity places.new }
 {
     let at = place_of(places, member);
-    let is_there = at < places.len() && places[at] == member;
-    if is_there == enters {
-        return;
-    }
+    let is_there = is_at(places, at, member);
     if enters {
+        if is_there {
+            return;
+        }
         let placed: Result<_, _> = places.insert(at, member);
         placed.unwrap();
-    } else {
+    } else if is_there {
         places.remove(at);
     }
 }

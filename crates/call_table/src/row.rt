@@ -33,7 +33,10 @@ impl Row {
     {
         match &self.progress {
             Progress::Queued => CallState::Queued,
-            Progress::Sent { living: _, under: _ } => CallState::Sent,
+            Progress::Sent {
+                living: _,
+                under: _,
+            } => CallState::Sent,
             Progress::Held => CallState::Held,
             Progress::Done(bytes) => CallState::Done(bytes.as_slice()),
             Progress::Refused(code) => CallState::Refused(*code),
