@@ -1,8 +1,9 @@
 -- The places of the calls that pass a test.
-use Rattle.std.proofs.Common.{◌≡◌, ◌∙◌, ℕ, zero, suc, ◌+◌, ◌<◌, ◌≤◌, Bool, true, false, cond, ltb, eqb, None, List, [], ◌∷◌, ◌++◌, length, map, set, get_or, ap, refl, inl, inr, arith}
+use Rattle.std.proofs.Common.{◌≡◌, ◌∙◌, ℕ, zero, suc, ◌+◌, ◌<◌, ◌≤◌, Bool, true, false, cond, ltb, eqb, None, List, [], ◌∷◌, ◌++◌, length, map, set, get_or, ap, refl, inl, inr, arith, Some, ◌-◌, sym, subst, Option}
 use Rattle.std.proofs.lemmas.Bool.{cases_Bool, lt-ltb, le-ltb, eq-eqb, ne_eqb}
 use Rattle.std.specs.Prelude.{slice_get, option_map}
 use Rattle.call_table.specs.Table.{places_from}
+use Rattle.call_table.specs.Kept.{passes}
 use Rattle.call_table.specs.Held.{IsAbove, Rises, with_member}
 
 -- they are all at or behind the first one
@@ -87,3 +88,47 @@ pub get_past : {X : Type 0} (xs : List X) (k : ℕ) → length xs ≤ k → slic
 get_past [] k past = refl
 get_past (x ∷ xs) zero past = absurd (omega arith)
 get_past (x ∷ xs) (suc k) past = get_past xs k (omega arith)
+
+pub get_at : {X : Type 0} (xs : List X) (k : ℕ) (x : X) → k < length xs → x ≡ get_or xs k x → slice_get xs k ≡ Some x
+get_at [] k x within is = absurd (omega arith)
+get_at (x' ∷ xs) zero x within is = ap Some (sym is)
+get_at (x' ∷ xs) (suc k) x within is = get_at xs k x (omega arith) is
+
+pub get_push : {X : Type 0} (xs : List X) (x : X) → slice_get (xs ++ x ∷ []) (length xs) ≡ Some x
+get_push [] x = refl
+get_push (x' ∷ xs) x = get_push xs x
+
+-- what stands at a place of them passes
+record IsPlace {X : Type 0} (test : X → Bool) (first place : ℕ) (xs : List X) : Type 0 where
+  behind : first ≤ place
+  passing : passes test (slice_get xs (place - first)) ≡ true
+
+next_place : {X : Type 0} (test : X → Bool) (first place : ℕ) (x : X) (xs : List X) → IsPlace test (first + 1) place xs → IsPlace test first place (x ∷ xs)
+next_place test first place x xs h =
+    let low : first + 1 ≤ place = h.behind in
+    let e : place - first ≡ suc (place - (first + 1)) = omega arith in
+    record { behind = omega arith; passing = subst (λ (j : ℕ). passes test (slice_get (x ∷ xs) j) ≡ true) (sym e) h.passing }
+
+place_is : {X : Type 0} (test : X → Bool) (first : ℕ) (xs : List X) (k place : ℕ) → slice_get (places_from test first xs) k ≡ Some place → IsPlace test first place xs
+place_is test first [] k place h = cc
+place_is test first (x ∷ xs) zero place h = elim (cases_Bool (test x)) [
+  | inl pass ↦
+      let e : Some first ≡ Some place = rw pass at h in
+      let same : first ≡ place = cc in
+      let none : place - first ≡ 0 = omega arith in
+      record { behind = omega arith; passing = subst (λ (j : ℕ). passes test (slice_get (x ∷ xs) j) ≡ true) (sym none) pass }
+  | inr fail ↦
+      let e : slice_get (places_from test (first + 1) xs) 0 ≡ Some place = rw fail at h in
+      next_place test first place x xs (place_is test (first + 1) xs 0 place e)
+]
+place_is test first (x ∷ xs) (suc k) place h = elim (cases_Bool (test x)) [
+  | inl pass ↦
+      let e : slice_get (places_from test (first + 1) xs) k ≡ Some place = rw pass at h in
+      next_place test first place x xs (place_is test (first + 1) xs k place e)
+  | inr fail ↦
+      let e : slice_get (places_from test (first + 1) xs) (suc k) ≡ Some place = rw fail at h in
+      next_place test first place x xs (place_is test (first + 1) xs (suc k) place e)
+]
+
+pub place_passes : {X : Type 0} (test : X → Bool) (xs : List X) (k place : ℕ) → slice_get (places_from test 0 xs) k ≡ Some place → passes test (slice_get xs place) ≡ true
+place_passes test xs k place h = subst (λ (j : ℕ). passes test (slice_get xs j) ≡ true) (omega arith) (place_is test 0 xs k place h).passing

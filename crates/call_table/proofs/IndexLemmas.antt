@@ -208,7 +208,7 @@ first_at number first (row ∷ rows) (suc k) place at is alone =
     let e : is_number number (number_in row.progress) ≡ false = is_number_no number (number_in row.progress) (λ here. let f : 0 ≡ suc k = alone 0 here in absurd (omega arith)) in
     rw e (first_at number (first + 1) rows k place (omega arith) is (λ j told. let f : suc j ≡ suc k = alone (suc j) told in omega arith))
 
-number_found : (rows : List Row) (names : List Named) (number place : ℕ) → AllByRecursion (λ one. number_at one.place rows ≡ Some one.number) names → found number names ≡ Some place → number_at place rows ≡ Some number
+pub number_found : (rows : List Row) (names : List Named) (number place : ℕ) → AllByRecursion (λ one. number_at one.place rows ≡ Some one.number) names → found number names ≡ Some place → number_at place rows ≡ Some number
 number_found rows [] number place h is = cc
 number_found rows (one ∷ names) number place h is = elim (cases_eq one.number number) [
   | inl same ↦
@@ -227,3 +227,45 @@ pub found_is_first : (rows : List Row) (names : List Named) (number : ℕ) (own 
 found_is_first rows names number None h is = sym (none_first number 0 rows (λ k told. let e : None ≡ Some k = is ∙ h.complete k number told in cc))
 found_is_first rows names number (Some place) h is =
     sym (first_at number 0 rows place place (omega arith) (number_found rows names number place h.sound (sym is)) (λ j told. let e : Some place ≡ Some j = is ∙ h.complete j number told in let f : place ≡ j = cc in sym f))
+
+-- ---- what is above every living number
+
+-- the last one is below, and so all are
+pub all_below_last : (number : ℕ) (names : List Named) (k : ℕ) (d : Named) → Rises (map number_of names) → length names ≡ suc k → (get_or names k d).number < number → AllByRecursion (λ one. one.number < number) names
+all_below_last number [] k d rises long below = tt
+all_below_last number (one ∷ []) zero d rises long below = (below, tt)
+all_below_last number (one ∷ []) (suc k) d rises long below = absurd (omega arith)
+all_below_last number (one ∷ (two ∷ names)) zero d rises long below = absurd (omega arith)
+all_below_last number (one ∷ (two ∷ names)) (suc k) d rises long below =
+    let rest = all_below_last number (two ∷ names) k d rises.1 (omega arith) below in
+    (omega (arith, rises.0.0, rest.0), rest)
+
+pub below_each : (number : ℕ) (names : List Named) (k : ℕ) (d : Named) → k < length names → AllByRecursion (λ one. one.number < number) names → (get_or names k d).number < number
+below_each number [] k d within h = absurd (omega arith)
+below_each number (one ∷ names) zero d within h = h.0
+below_each number (one ∷ names) (suc k) d within h = below_each number names k d (omega arith) h.1
+
+found_below : (number : ℕ) (names : List Named) (own place : ℕ) → AllByRecursion (λ one. one.number < number) names → found own names ≡ Some place → own < number
+found_below number [] own place h is = cc
+found_below number (one ∷ names) own place h is = elim (cases_eq one.number own) [
+  | inl same ↦ omega (arith, h.0)
+  | inr other ↦
+      let e : eqb one.number own ≡ false = ne_eqb one.number own other in
+      let rest : found own names ≡ Some place = rw e at is in
+      found_below number names own place h.1 rest
+]
+
+own_below : (number : ℕ) (own : Option ℕ) → ((n : ℕ) → own ≡ Some n → n < number) → IfSome own (λ living. living < number)
+own_below number None h = tt
+own_below number (Some n) h = h n refl
+
+rows_below : (number : ℕ) (rows : List Row) → ((k n : ℕ) → number_at k rows ≡ Some n → n < number) → AllByRecursion (IsBelow number) rows
+rows_below number [] h = tt
+rows_below number (row ∷ rows) h = (own_below number (number_in row.progress) (λ n is. h 0 n is), rows_below number rows (λ k n is. h (suc k) n is))
+
+-- all names are below where all living numbers are
+pub names_are_below : (number : ℕ) (rows : List Row) (names : List Named) → IsIndexed rows names → AllByRecursion (IsBelow number) rows → AllByRecursion (λ one. one.number < number) names
+names_are_below number rows names h below = names_below number rows names below h.sound
+
+pub rows_are_below : (number : ℕ) (rows : List Row) (names : List Named) → IsIndexed rows names → AllByRecursion (λ one. one.number < number) names → AllByRecursion (IsBelow number) rows
+rows_are_below number rows names h below = rows_below number rows (λ k n is. found_below number names n k below (h.complete k n is))

@@ -3,3 +3,4 @@ pub mod GroupLemmas
 pub mod IndexLemmas
 pub mod StandsLemmas
 pub mod HeldLemmas
+pub mod LawLemmas

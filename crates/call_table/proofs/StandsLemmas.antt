@@ -16,7 +16,7 @@ use Rattle.call_table.specs.declared.row.Progress.{Progress}
 use Rattle.call_table.specs.declared.row.Progress.TheVariants as progress
 use Rattle.call_table.specs.declared.row.Row.{Row}
 use Rattle.call_table.specs.Table.{State, Name, Call, Table, new_call, added, is_queued, is_sent, is_held, is_open, living_name_in, living_name, under_others, under_of, sent, sent_again, with_salt, state_after, settled, flagged, changed_at, places_from, first_from, is_number_of, is_in}
-use Rattle.call_table.specs.Kept.{Contents, state_of, living_in, under_in, number_in, is_row_in, is_row_open, passes, is_number, new_row, under_again, sent_row, progress_again, again_row, progress_after, settled_row, flagged_row, IsProgressOf, IsRowOf, IsBelow, Stands}
+use Rattle.call_table.specs.Kept.{Contents, state_of, living_in, under_in, number_in, is_row_in, passes, is_number, new_row, under_again, sent_row, progress_again, again_row, progress_after, settled_row, flagged_row, IsProgressOf, IsRowOf, IsBelow, Stands}
 
 -- ---- lists that agree
 
@@ -236,12 +236,6 @@ stands_pushed kept after table body earlier rows acks packets h = record {
 }
 
 -- ---- what the conditions ask
-
-pub open_stands : (k : ℕ) (kept : Contents) (table : Table) → Stands kept table → passes is_row_open (slice_get kept.rows k) ≡ passes (λ call. is_open call.state) (slice_get table.calls k)
-open_stands k kept table h = zip_passes IsRowOf is_row_open (λ call. is_open call.state) (λ row call is. ap is_open (row_state row call is)) k kept.rows table.calls h.rows
-
-pub member_stands : (g : Group) (k : ℕ) (kept : Contents) (table : Table) → Stands kept table → passes (is_row_in g) (slice_get kept.rows k) ≡ passes (is_in g) (slice_get table.calls k)
-member_stands g k kept table h = zip_passes IsRowOf (is_row_in g) (is_in g) (row_group g) k kept.rows table.calls h.rows
 
 below_progress : (number : ℕ) (p : Progress) (s : State) (names : List Name) → IsProgressOf p s names → IfSome (living_name_in s names) (λ name. name.message.number < number) → IfSome (number_in p) (λ living. living < number)
 below_progress number progress.Queued s names h below = tt

@@ -1,5 +1,5 @@
 -- Scaffolding, no promise: how the orders beside the rows are held.
-use Rattle.std.specs.Prelude.{◌≡◌, ℕ, zero, suc, ◌+◌, ◌<◌, ◌≤◌, Bool, nat_lt, ◌==◌, if◌then◌else◌, Option, Some, None, List, [], ◌∷◌, map, length}
+use Rattle.std.specs.Prelude.{◌≡◌, ℕ, zero, suc, ◌+◌, ◌<◌, ◌≤◌, Bool, false, nat_lt, ◌==◌, if◌then◌else◌, Option, Some, None, List, [], ◌∷◌, map, length}
 use Rattle.std.specs.List.{AllByRecursion}
 use Rattle.call_table.specs.declared.names.Named.{Named}
 use Rattle.std.specs.VecDeque.{deque_capacity}
@@ -7,8 +7,8 @@ use Rattle.call_table.specs.declared.row.Row.{Row}
 use Rattle.call_table.specs.declared.groups.Groups.{Groups}
 use Rattle.call_table.specs.declared.call.Group.{Group}
 use Rattle.call_table.specs.declared.call.Group.TheVariants as group
-use Rattle.call_table.specs.Table.{calls_max, acks_max, packets_max, places_from}
-use Rattle.call_table.specs.Kept.{number_in, is_row_in}
+use Rattle.call_table.specs.Table.{calls_max, acks_max, packets_max, is_sent, no_flags, places_from}
+use Rattle.call_table.specs.Kept.{number_in, is_row_in, state_of}
 
 -- each of these numbers is above this one
 abbrev pub IsAbove : ℕ → List ℕ → Type 0
@@ -82,9 +82,14 @@ AreGrouped rows groups = (group : Group) → places_in group groups ≡ places_f
 abbrev pub HaveRoom : ℕ → Groups → Type 0
 HaveRoom count groups = (group : Group) → count < capacity_in group groups
 
+-- where a call isn't sent, nothing is to be done about it
+abbrev pub IsUnmarked : Row → Type 0
+IsUnmarked row = is_sent (state_of row.progress) ≡ false → row.flags ≡ no_flags
+
 -- what stands beside the rows
 pub record IsHeld (rows : List Row) (names : List Named) (groups : Groups) (acks_capacity packets_capacity : ℕ) : Type 0 where
   pub indexed : IsIndexed rows names
+  pub unmarked : AllByRecursion IsUnmarked rows
   pub grouped : AreGrouped rows groups
   pub group_room : HaveRoom (length rows) groups
   pub few : length rows ≤ calls_max

@@ -1,6 +1,6 @@
 -- What a `Calls` keeps of a table. It keeps no name that was replaced, and of the salts of a living name only whether
 -- there is none but 0, one other, or more.
-use Rattle.std.specs.Prelude.{◌≡◌, ℕ, ◌<◌, Bool, false, ◌==◌, ◌||◌, if◌then◌else◌, Option, Some, None, option_map, IfSome, List, [], ◌∷◌}
+use Rattle.std.specs.Prelude.{◌≡◌, ℕ, ◌<◌, Bool, true, false, ◌==◌, ◌||◌, if◌then◌else◌, Option, Some, None, option_map, IfSome, List, [], ◌∷◌}
 use Rattle.std.specs.List.{AllZip}
 use Rattle.call_table.specs.declared.call.CallNo.{CallNo}
 use Rattle.call_table.specs.declared.call.CallState.{CallState}
@@ -17,7 +17,7 @@ use Rattle.call_table.specs.declared.packet.Packet.{Packet}
 use Rattle.call_table.specs.declared.row.Progress.{Progress}
 use Rattle.call_table.specs.declared.row.Progress.TheVariants as progress
 use Rattle.call_table.specs.declared.row.Row.{Row}
-use Rattle.call_table.specs.Table.{State, Queued, Sent, Held, Done, Refused, Unknown, Name, Call, Table, no_flags, is_queued, is_sent, is_held, is_open, under_of, call_no, changed, first_from}
+use Rattle.call_table.specs.Table.{State, Queued, Sent, Held, Done, Refused, Unknown, Name, Call, Table, no_flags, is_queued, is_sent, is_held, is_open, under_of, call_no, at, changed, first_from}
 
 -- what contracts see of a `Calls`: its rows, one a call, the waiting acknowledgements, the remembered packets, and for
 -- how many more sendings room is reserved
@@ -59,14 +59,9 @@ abbrev pub number_in : Progress → Option ℕ
 number_in (progress.Sent living under) = Some living.number
 number_in _ = None
 
-abbrev pub is_row_queued : Row → Bool
-is_row_queued row = is_queued (state_of row.progress)
-
-abbrev pub is_row_sent : Row → Bool
-is_row_sent row = is_sent (state_of row.progress)
-
-abbrev pub is_row_open : Row → Bool
-is_row_open row = is_open (state_of row.progress)
+-- the state of a call, by its row
+abbrev pub state_in : CallNo → List Row → Option State
+state_in call rows = option_map (λ row. state_of row.progress) (at call rows)
 
 abbrev pub is_row_in : Group → Row → Bool
 is_row_in group.Queued row = is_queued (state_of row.progress)
@@ -75,10 +70,18 @@ is_row_in group.Held row = is_held (state_of row.progress)
 is_row_in group.Alone row = row.flags.alone
 is_row_in group.Dropping row = row.flags.dropping
 
--- the row of a call passes a test
+-- there is one, and it passes a test
 abbrev pub passes : {X : Type 0} → (X → Bool) → Option X → Bool
 passes test None = false
 passes test (Some x) = test x
+
+-- a call is one of a group
+abbrev pub IsMember : Group → CallNo → List Row → Type 0
+IsMember group.Queued call rows = state_in call rows ≡ Some Queued
+IsMember group.Outstanding call rows = state_in call rows ≡ Some Sent
+IsMember group.Held call rows = state_in call rows ≡ Some Held
+IsMember group.Alone call rows = (state_in call rows ≡ Some Sent) × (option_map (λ row. row.flags.alone) (at call rows) ≡ Some true)
+IsMember group.Dropping call rows = (state_in call rows ≡ Some Sent) × (option_map (λ row. row.flags.dropping) (at call rows) ≡ Some true)
 
 -- a row's call isn't outstanding under this message identifier or one above it
 abbrev pub IsBelow : ℕ → Row → Type 0

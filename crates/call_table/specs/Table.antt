@@ -2,8 +2,8 @@
 -- acknowledgements that wait, and the packets that are remembered
 -- (core.telegram.org/mtproto/service_messages_about_messages, "Acknowledgment of Receipt" and "Notice of Ignored
 -- Error Message"; core.telegram.org/mtproto/description, "Message Identifier" and "Server Salt").
-use Rattle.std.specs.Prelude.{ℕ, zero, suc, ◌+◌, ◌-◌, ◌<◌, ◌≤◌, Bool, true, false, not, ◌==◌, if◌then◌else◌, Option, Some, None, option_map, List, [], ◌∷◌, ◌++◌, length, drop, filter, map, fold, slice_get}
-use Rattle.std.specs.List.{list_all}
+use Rattle.std.specs.Prelude.{ℕ, zero, suc, ◌+◌, ◌-◌, ◌<◌, ◌≤◌, Bool, true, false, not, ◌==◌, if◌then◌else◌, Option, Some, None, option_map, IfSome, List, [], ◌∷◌, ◌++◌, length, drop, filter, map, fold, slice_get}
+use Rattle.std.specs.List.{AllByRecursion, list_all}
 use Rattle.call_table.specs.declared.call.CallNo.{CallNo}
 use Rattle.call_table.specs.declared.call.Cause.{Cause}
 use Rattle.call_table.specs.declared.call.Living.{Living}
@@ -133,6 +133,10 @@ IsGiven call calls = (0 < call.n) × (call.n ≤ length calls)
 abbrev pub at : {X : Type 0} → CallNo → List X → Option X
 at call calls = slice_get calls (call.n - 1)
 
+-- the state of a call
+abbrev pub state_at : CallNo → List Call → Option State
+state_at call calls = option_map (λ one. one.state) (at call calls)
+
 -- one of them is changed: the one with so many before it
 abbrev pub changed_at : {X : Type 0} → ℕ → (X → X) → List X → List X
 changed_at place change [] = []
@@ -159,6 +163,10 @@ is_number_of number (Some name) = name.message.number == number
 -- the outstanding call of a message identifier
 abbrev pub owner : ℕ → List Call → Option CallNo
 owner number calls = option_map call_no (first_from (λ call. is_number_of number (living_name call)) 0 calls)
+
+-- each living message identifier is below this one
+abbrev pub AreBelow : ℕ → List Call → Type 0
+AreBelow number calls = AllByRecursion (λ call. IfSome (living_name call) (λ name. name.message.number < number)) calls
 
 -- what the calls of a group have in common
 abbrev pub is_in : Group → Call → Bool

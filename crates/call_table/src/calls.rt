@@ -1,11 +1,11 @@
 //! The table of a client's calls.
 
-ghost use Rattle.std.specs.Prelude.{◌≡◌, ◌<◌, ◌≤◌, ◌-◌, ◌+◌, ◌++◌, ◌∷◌, [], true, max, length, map, slice_get, option_map, Some, None, IfOk, OnOk, OnErr, IfSome};
+ghost use Rattle.std.specs.Prelude.{◌≡◌, ◌≢◌, ◌↔◌, IsTrue, ◌<◌, ◌≤◌, ◌-◌, ◌+◌, ◌++◌, ◌∷◌, [], true, max, length, map, slice_get, option_map, Some, None, IfOk, OnOk, OnErr, IfSome};
 ghost use Rattle.std.specs.List.{AllByRecursion};
 
 use crate::call::{CallNo, CallState, Fate, Flags, Group, Living, Under};
 use crate::groups::Groups;
-use crate::names::{Named, find, forget};
+use crate::names::{Named, are_below, find, forget};
 use crate::packet::Packet;
 use crate::row::{Progress, Row, progress_after, under_again};
 use circular_buffer::HeapCircularBuffer;
@@ -64,8 +64,8 @@ impl Model for Calls {
 }
 
 impl Calls {
-    ghost use Rattle.call_table.specs.Table.{Table, IsGiven, acks_max, packets_max, calls_max, no_calls, added, with_call, at, sent, sent_again, settled, flagged, acknowledged, remembered, owner, inner_of, living_name, under_of, group_of, changed, newest, call_no, places_from};
-    ghost use Rattle.call_table.specs.Kept.{Stands, new_row, sent_row, again_row, settled_row, flagged_row, with_row, shown, state_of, living_in, under_in, owner_in, passes, is_row_queued, is_row_sent, is_row_open, is_row_in, IsBelow};
+    ghost use Rattle.call_table.specs.Table.{Table, Queued, Sent, IsGiven, acks_max, acknowledged, added, at, call_no, calls_max, flagged, group_of, inner_of, is_open, living_name, no_calls, no_flags, owner, places_from, remembered, sent, sent_again, settled, state_at, under_of, with_call};
+    ghost use Rattle.call_table.specs.Kept.{IsBelow, IsMember, Stands, again_row, flagged_row, is_row_in, living_in, new_row, owner_in, passes, sent_row, settled_row, shown, state_in, under_in, with_row};
 
     /// A table of no call. Takes the room for all acknowledgements and packets.
     ///
@@ -111,6 +111,8 @@ impl Calls {
         ensures call { IfOk result (λ call. call ≡ call_no (length self.old.rows)) }
         ensures kept { OnOk result (self.new ≡ record self.old { rows = self.old.rows ++ new_row body.now after ∷ [] }) }
         ensures stands { OnOk result ((table : Table) → Stands self.old table → Stands self.new (added body.now after table)) }
+        ensures given { IfOk result (λ call. IsGiven call self.new.rows) }
+        ensures queued { IfOk result (λ call. state_in call self.new.rows ≡ Some Queued) }
         ensures unchanged_on_memory { OnErr result (self.new ≡ self.old) }
     {
         let place = self.rows.len();
@@ -133,8 +135,8 @@ impl Calls {
     /// What became of a call that this table gave.
     pub fn state(&self, call: CallNo) -> CallState<'_>
         requires given { IsGiven call self.now.rows }
-        ensures kept { option_map (λ row. state_of row.progress) (at call self.now.rows) ≡ Some (shown result) }
-        ensures state { (table : Table) → Stands self.now table → option_map (λ one. one.state) (at call table.calls) ≡ Some (shown result) }
+        ensures kept { state_in call self.now.rows ≡ Some (shown result) }
+        ensures state { (table : Table) → Stands self.now table → state_at call table.calls ≡ Some (shown result) }
     {
         self.rows[place_of(call)].state()
     }
@@ -170,17 +172,18 @@ impl Calls {
     /// Under which salts the living message of a `Sent` call was sent.
     pub fn under(&self, call: CallNo) -> Under
         requires given { IsGiven call self.now.rows }
-        requires sent { passes is_row_sent (at call self.now.rows) ≡ true }
+        requires sent { state_in call self.now.rows ≡ Some Sent }
         ensures kept { option_map (λ row. under_in row.progress) (at call self.now.rows) ≡ Some (Some result) }
         ensures under { (table : Table) → Stands self.now table → option_map (λ one. option_map (λ name. under_of name.salts) (living_name one)) (at call table.calls) ≡ Some (Some result) }
     {
         self.rows[place_of(call)].under().unwrap()
     }
 
-    /// What is still to be done about a call that this table gave: nothing where it isn't `Sent`.
+    /// What is still to be done about a call that this table gave; nothing where it isn't `Sent`.
     pub fn flags(&self, call: CallNo) -> Flags
         requires given { IsGiven call self.now.rows }
         ensures kept { option_map (λ row. row.flags) (at call self.now.rows) ≡ Some result }
+        ensures unmarked { state_in call self.now.rows ≢ Some Sent → result ≡ no_flags }
         ensures flags { (table : Table) → Stands self.now table → option_map (λ one. one.flags) (at call table.calls) ≡ Some result }
     {
         self.rows[place_of(call)].flags
@@ -189,6 +192,8 @@ impl Calls {
     /// The outstanding call of a message identifier; none exactly where there is none.
     pub fn owner(&self, number: u64) -> Option<CallNo>
         ensures kept { result ≡ owner_in number self.now.rows }
+        ensures given { IfSome result (λ call. IsGiven call self.now.rows) }
+        ensures sent { IfSome result (λ call. state_in call self.now.rows ≡ Some Sent) }
         ensures owner { (table : Table) → Stands self.now table → result ≡ owner number table.calls }
     {
         let place = find(&self.names, number)?;
@@ -209,12 +214,21 @@ impl Calls {
     /// it.
     pub fn member(&self, group: Group, k: usize) -> Option<CallNo>
         ensures kept { result ≡ option_map call_no (slice_get (places_from (is_row_in group) 0 self.now.rows) k) }
+        ensures given { IfSome result (λ call. IsGiven call self.now.rows) }
+        ensures one { IfSome result (λ call. IsMember group call self.now.rows) }
         ensures member { (table : Table) → Stands self.now table → result ≡ slice_get (group_of group table.calls) k }
     {
         let place = *self.groups.of(group).get(k)?;
         Some(CallNo {
             n: place as u64 + 1,
         })
+    }
+
+    /// Whether a message identifier is above every living one, as `send` needs it.
+    pub fn is_above(&self, number: u64) -> bool
+        ensures { IsTrue result ↔ AllByRecursion (IsBelow number) self.now.rows }
+    {
+        are_below(&self.names, number)
     }
 
     /// Takes room for so many calls of `send` or `again`, or keeps more room that is there.
@@ -237,7 +251,7 @@ impl Calls {
     /// this salt. Room for it is reserved.
     pub fn send(&mut self, call: CallNo, session: u64, living: Living, salt: u64)
         requires given { IsGiven call self.old.rows }
-        requires queued { passes is_row_queued (at call self.old.rows) ≡ true }
+        requires queued { state_in call self.old.rows ≡ Some Queued }
         requires above { AllByRecursion (IsBelow living.number) self.old.rows }
         requires reserved { 0 < self.old.room }
         ensures kept { self.new ≡ with_row call (sent_row living salt) (record self.old { room = self.old.room - 1 }) }
@@ -260,7 +274,7 @@ impl Calls {
     /// The living message of a `Sent` call was sent once more, under this salt. Room for it is reserved.
     pub fn again(&mut self, call: CallNo, salt: u64)
         requires given { IsGiven call self.old.rows }
-        requires sent { passes is_row_sent (at call self.old.rows) ≡ true }
+        requires sent { state_in call self.old.rows ≡ Some Sent }
         requires reserved { 0 < self.old.room }
         ensures kept { self.new ≡ with_row call (again_row salt) (record self.old { room = self.old.room - 1 }) }
         ensures stands { (table : Table) → Stands self.old table → Stands self.new (with_call call (sent_again salt) table) }
@@ -272,7 +286,7 @@ impl Calls {
     /// Something becomes of a call that is `Queued`, `Sent` or `Held`. Nothing is to be done about it any more.
     pub fn settle(&mut self, call: CallNo, fate: Fate)
         requires given { IsGiven call self.old.rows }
-        requires open { passes is_row_open (at call self.old.rows) ≡ true }
+        requires open { passes is_open (state_in call self.old.rows) ≡ true }
         ensures kept { self.new ≡ with_row call (settled_row fate) self.old }
         ensures stands { (table : Table) → Stands self.old table → Stands self.new (with_call call (settled fate) table) }
     {
@@ -287,7 +301,7 @@ impl Calls {
     /// Says what is to be done about a `Sent` call, in place of what was said before.
     pub fn set_flags(&mut self, call: CallNo, flags: Flags)
         requires given { IsGiven call self.old.rows }
-        requires sent { passes is_row_sent (at call self.old.rows) ≡ true }
+        requires sent { state_in call self.old.rows ≡ Some Sent }
         ensures kept { self.new ≡ with_row call (flagged_row flags) self.old }
         ensures stands { (table : Table) → Stands self.old table → Stands self.new (with_call call (flagged flags) table) }
     {

@@ -1,6 +1,7 @@
 //! The living message identifiers in ascending order, with the places of their calls. They are searched by halving.
 
-ghost use Rattle.std.specs.Prelude.{◌≡◌, ◌<◌, ◌≤◌, IfSome, IsSome, map, length};
+ghost use Rattle.std.specs.Prelude.{◌≡◌, ◌↔◌, IsTrue, ◌<◌, ◌≤◌, IfSome, IsSome, map, length};
+ghost use Rattle.std.specs.List.{AllByRecursion};
 ghost use Rattle.std.specs.VecDeque.{deque_len, deque_capacity};
 ghost use Rattle.call_table.specs.Held.{Rises, found, place, without_own};
 
@@ -36,6 +37,18 @@ pub(crate) fn find(names: &VecDeque<Named>, number: u64) -> Option<u32>
         return None;
     }
     Some(one.place)
+}
+
+/// Whether every name has a number below this one.
+pub(crate) fn are_below(names: &VecDeque<Named>, number: u64) -> bool
+    requires { Rises (map (λ one. one.number) names.now.items) }
+    ensures { IsTrue result ↔ AllByRecursion (λ one. one.number < number) names.now.items }
+{
+    let count = names.len();
+    if count == 0 {
+        return true;
+    }
+    names[count - 1].number < number
 }
 
 /// Takes out the name of this number, where there is one.
