@@ -1,0 +1,11 @@
+//! The message key of a packet, and the AES key and initialisation vector that a packet is enciphered
+//! with (core.telegram.org/mtproto/description). Both come from the authorisation key by SHA-256. No
+//! call takes memory.
+#![tactic(auto)]
+
+mod derivation;
+pub mod laws;
+#[cfg(test)]
+mod tests;
+
+pub use crate::derivation::{DOWN, UP, aes_of, msg_key};
