@@ -1,7 +1,7 @@
 -- Messages that are taken into a packet one after the other.
-use Rattle.std.proofs.Common.{◌≡◌, ◌∙◌, ℕ, ◌+◌, ◌<◌, ◌≤◌, true, false, cond, List, [], ◌∷◌, ◌++◌, length, take, drop, get_or, ap, sym, refl, append_assoc, length-append, arith, inl, inr}
+use Rattle.std.proofs.Common.{◌≡◌, ◌∙◌, ℕ, ◌+◌, ◌<◌, ◌≤◌, true, false, List, [], ◌∷◌, ◌++◌, length, take, drop, get_or, ap, sym, refl, append_assoc, length-append, arith, inl, inr}
 use Rattle.std.specs.List.{AllByRecursion, flat_map}
-use Rattle.std.proofs.lemmas.Bool.{le-leb, lt-leb, leb-true, and_from, and_parts, cases_Bool}
+use Rattle.std.proofs.lemmas.Bool.{le-leb, leb-true, and_from, and_parts, cases_Bool}
 use Rattle.std.proofs.lemmas.List.{take_more, drop_more}
 use Rattle.msg_ids.specs.Counters.{Counters, room, most_content_messages}
 use Rattle.service_tl.specs.declared.lists.Message.{Message}

@@ -1,12 +1,11 @@
-use Rattle.std.proofs.Common.{◌≡◌, ◌∙◌, ◌<◌, ◌≤◌, ◌+◌, ◌++◌, ◌∷◌, [], ℕ, List, length, map, take, drop, get_or, ap, sym, refl, subst, arith}
+use Rattle.std.proofs.Common.{◌≡◌, ◌∙◌, ◌<◌, ◌+◌, ◌++◌, ◌∷◌, [], ℕ, List, length, map, take, get_or, ap, sym, subst, arith}
 use Rattle.std.proofs.lemmas.Bool.{both_ways}
 use Rattle.std.proofs.lemmas.List.{length-map, length-take, get_or-map}
 use Rattle.service_tl.specs.declared.lists.Message.{Message}
 use Rattle.containers.specs.declared.part.Part.{Part}
-use Rattle.containers.specs.Container.{AreWithin, size_of, message_head}
+use Rattle.containers.specs.Container.{AreWithin}
 use Rattle.containers.specs.Lent.{message_of}
-use Rattle.packing.specs.Packing.{IsPacket, groups, grouped}
-use Rattle.packing.proofs.Groups.{groups-first, front_more, grouped-taken, grouped-cut, packet-within}
+use Rattle.packing.proofs.Groups.{front_more, grouped-taken, grouped-cut, packet-within}
 use Rattle.packing.proofs.packing.front.Goals as goal
 
 -- the message of a part is that of its place

@@ -1,9 +1,9 @@
-use Rattle.std.proofs.Common.{◌≡◌, ◌∙◌, ◌<◌, ◌≤◌, ◌+◌, ◌-◌, ◌∷◌, ℕ, List, length, map, take, drop, ap, sym, refl, arith}
+use Rattle.std.proofs.Common.{◌≡◌, ◌∙◌, ◌+◌, ◌-◌, ◌∷◌, ℕ, List, length, map, take, drop, ap, sym, refl, arith}
 use Rattle.std.proofs.lemmas.List.{take_all, take-map, drop-map, drop-drop, length-drop, length_push}
 use Rattle.service_tl.specs.declared.lists.Message.{Message}
 use Rattle.containers.specs.declared.part.Part.{Part}
 use Rattle.containers.specs.Lent.{message_of}
-use Rattle.packing.specs.Packing.{IsPacket, groups}
+use Rattle.packing.specs.Packing.{groups}
 use Rattle.packing.proofs.Groups.{packets-more, counters-more, room_max}
 use Rattle.packing.proofs.packing.packets.Goals as goal
 
