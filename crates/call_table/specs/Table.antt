@@ -121,7 +121,7 @@ flagged flags call = record call { flags = flags }
 abbrev pub calls_max : ℕ
 calls_max = 65536
 
--- the call at a place, from 0
+-- the number of the call at a place, from 0
 abbrev pub call_no : ℕ → CallNo
 call_no place = record { n = place + 1 }
 
