@@ -101,11 +101,90 @@ fn state(calls: &Calls, n: u64) -> Result<CallState<'_>, Fail> {
     Ok(calls.state(CallNo { n }))
 }
 
+fn body(calls: &Calls, n: u64) -> Result<&[u8], Fail> {
+    if n == 0 || n > calls.count() as u64 {
+        return Err("no such call".into());
+    }
+    Ok(calls.body(CallNo { n }))
+}
+
+fn after(calls: &Calls, n: u64) -> Result<Option<CallNo>, Fail> {
+    if n == 0 || n > calls.count() as u64 {
+        return Err("no such call".into());
+    }
+    Ok(calls.after(CallNo { n }))
+}
+
 fn living(calls: &Calls, n: u64) -> Result<Option<Living>, Fail> {
     if n == 0 || n > calls.count() as u64 {
         return Err("no such call".into());
     }
     Ok(calls.living(CallNo { n }))
+}
+
+#[test]
+fn three_calls(rt: HostRuntime) -> Result<(), Fail> {
+    let alloc = rt.alloc();
+    let mut calls = Calls::new(alloc)?;
+    assert_eq!(rt; add(&mut calls, alloc, b"one.", None)?.n, 1);
+    assert_eq!(rt; add(&mut calls, alloc, b"two.", None)?.n, 2);
+    add(&mut calls, alloc, b"tri.", Some(CallNo { n: 1 }))?;
+    assert_eq!(rt; body(&calls, 3)?, b"tri.".as_slice());
+    assert_eq!(rt; after(&calls, 3)?, Some(CallNo { n: 1 }));
+    assert!(rt; send_first(&mut calls, alloc, message(4, 1), 7)?);
+    assert!(rt; send(&mut calls, alloc, CallNo { n: 2 }, message(8, 3), 0)?);
+    assert!(rt; !send(&mut calls, alloc, CallNo { n: 3 }, message(8, 5), 0)?);
+    assert_eq!(rt;
+        answer(&mut calls, 4, Fate::Done(Octets::copy(alloc, b"yes.")?)),
+        Some(CallNo { n: 1 })
+    );
+    assert_eq!(rt;
+        (calls.owner(4), calls.owner(8), calls.owner(12)),
+        (None, Some(CallNo { n: 2 }), None)
+    );
+    assert_eq!(rt; state(&calls, 1)?, CallState::Done(b"yes."));
+    assert_eq!(rt;
+        (state(&calls, 2)?, state(&calls, 3)?),
+        (CallState::Sent, CallState::Queued)
+    );
+    assert_eq!(rt;
+        (living(&calls, 1)?, living(&calls, 2)?),
+        (None, Some(message(8, 3)))
+    );
+    assert_eq!(rt;
+        (
+            calls.members(Group::Queued),
+            calls.members(Group::Outstanding)
+        ),
+        (1, 1)
+    );
+    assert_eq!(rt;
+        mark(
+            &mut calls,
+            8,
+            Flags {
+                alone: true,
+                dropping: false
+            }
+        ),
+        Some(Flags {
+            alone: true,
+            dropping: false
+        })
+    );
+    assert_eq!(rt;
+        (calls.member(Group::Alone, 0), calls.member(Group::Alone, 1)),
+        (Some(CallNo { n: 2 }), None)
+    );
+    assert_eq!(rt;
+        answer(&mut calls, 8, Fate::Unknown(Cause::Session)),
+        Some(CallNo { n: 2 })
+    );
+    assert_eq!(rt;
+        (calls.members(Group::Alone), state(&calls, 2)?),
+        (0, CallState::Unknown(Cause::Session))
+    );
+    Ok(())
 }
 
 // A message is sent under 0, 5, 0 and 6.
