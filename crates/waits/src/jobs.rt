@@ -23,11 +23,11 @@ pub const JOB_BYTES_MAX: usize = 4_194_304;
 /// How many seconds a job waits for others before it is answered instead.
 pub const WAIT_SECONDS: u64 = 30;
 
-/// The unfinished jobs of a server, in order of acceptance over all sessions. It knows how many of them aren't ready:
-/// where all are, answers are told to none and none is looked for.
+/// The unfinished jobs of a server, in order of acceptance over all sessions.
 #[derive(Debug, Drop)]
 pub struct Jobs {
     queue: VecDeque<Unfinished>,
+    // How many of them aren't ready. Only those wait, have failed or are overdue, so at 0 no search is made for one.
     blocked: usize,
     room: usize,
 }
@@ -72,7 +72,8 @@ impl Jobs {
         Ok(())
     }
 
-    /// Puts a job behind all others. Takes no memory.
+    /// Puts a job behind all others. Room for it has to be reserved, and with it its session has to have at most
+    /// `JOBS_MAX` jobs and `JOB_BYTES_MAX` bytes of loads. Takes no memory.
     pub fn add(&mut self, job: Job)
         requires room { 0 < self.old.room }
         requires fits { job_count job.key job.session self.old.jobs < most_jobs }
@@ -94,7 +95,8 @@ impl Jobs {
         self.queue.len() - self.blocked
     }
 
-    /// Takes out the ready job of this place among the ready ones, from 0 in order of acceptance. Takes no memory.
+    /// Takes out the ready job of this place among the ready ones, from 0 in order of acceptance. The place has to be
+    /// less than `ready()`. Takes no memory.
     pub fn take(&mut self, k: usize) -> Job
         requires { k < ready_count self.old.jobs }
         ensures job { ready_job k self.old.jobs ≡ Some result }
@@ -125,8 +127,8 @@ impl Jobs {
         self.take_wanted(&Wanted::Failed)
     }
 
-    /// Takes out the first job that waits for a call and was accepted `WAIT_SECONDS` or more before `now`, whether it has
-    /// failed or not; `None` where there is none. Takes no memory.
+    /// Takes out the first job that waits for a call and was accepted `WAIT_SECONDS` or more before `now`, whether it
+    /// has failed or not; `None` where there is none. Takes no memory.
     pub fn expired(&mut self, now: Moment) -> Option<Job>
         ensures job { result ≡ first_job (is_overdue now) self.old.jobs }
         ensures others { self.new ≡ record self.old { jobs = without_first (is_overdue now) self.old.jobs } }

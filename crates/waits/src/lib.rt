@@ -1,5 +1,5 @@
 //! The unfinished jobs of a server: calls that were accepted and aren't answered yet, in order of acceptance over all
-//! sessions (core.telegram.org/api/invoking#saving-query-order).
+//! sessions (core.telegram.org/api/invoking).
 //!
 //! Contracts see `Jobs` as that list and the room that is reserved (`specs/Held.antt`), and each call as a step over
 //! the list (`specs/Jobs.antt`).
