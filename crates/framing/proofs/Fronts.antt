@@ -1,5 +1,5 @@
 -- The front of a text, where one frame is due.
-use Rattle.std.proofs.Common.{◌≡◌, ℕ, ◌<◌, List, [], ◌∷◌, ◌++◌, length, refl, sym, ap, ap₂, subst, ◌∙◌, arith, inl, inr, append_assoc, append-nil, length-append}
+use Rattle.std.proofs.Common.{◌≡◌, ℕ, ◌+◌, ◌<◌, List, [], ◌∷◌, ◌++◌, length, refl, sym, ap, ap₂, subst, ◌∙◌, arith, inl, inr, append_assoc, append-nil, length-append}
 use Rattle.tl_codec.specs.declared.fault.FrameFault.{FrameFault}
 use Rattle.framing.specs.Streams.{Form, Frame, IsOutline, IsBegun, Shows}
 use Rattle.framing.specs.Laws.{IsForm}
@@ -30,12 +30,13 @@ module _ (form : Form) (lawful : IsForm form) where
   right_length : (x r text : List ℕ) (fault : FrameFault) → IsOutline form x → x ++ r ≡ text → form.wrong fault text → ⊥
   right_length x r text fault f e shown = lawful.apart (length x) fault text (sized_by (length x) x r text f e) shown
 
-  too_long : (x r more : List ℕ) → 0 < length more → x ≡ (x ++ r) ++ more → ⊥
-  too_long x r more some e =
-      let a = ap length e in
-      let b = length-append (x ++ r) more in
-      let c = length-append x r in
-      omega arith
+  -- an outline at the front isn't cut off
+  no_begun : (x r text : List ℕ) → IsOutline form x → x ++ r ≡ text → IsBegun form text → ⊥
+  no_begun x r text f e (inl cut) = lawful.unsized (length x) text cut (sized_by (length x) x r text f e)
+  no_begun x r text f e (inr short) =
+      let same = lawful.one_size (length x) short.size text (sized_by (length x) x r text f e) short.sized in
+      let long : length text ≡ length x + length r = ap length (sym e) ∙ length-append x r in
+      omega (arith, same, long, short.short)
 
   pub one_frame : (i : ℕ) (p q x y r s : List ℕ) → Frame form i p x → Frame form i q y → x ++ r ≡ y ++ s → (p ≡ q) × (x ≡ y)
   one_frame i p q x y r s f g e =
@@ -43,10 +44,7 @@ module _ (form : Form) (lawful : IsForm form) where
       (lawful.one_packet i p q y (subst (λ (t : List ℕ). Frame form i p t) same f) g, same)
 
   pub whole : (i : ℕ) (packet bytes rest : List ℕ) → Frame form i packet bytes → IsBegun form (bytes ++ rest) → ⊥
-  whole i packet bytes rest f begun =
-      too_long bytes rest begun.more begun.some
-      (one_outline bytes ((bytes ++ rest) ++ begun.more) (rest ++ begun.more) [] (lawful.outlined i packet bytes f) begun.outline
-      (sym (append_assoc bytes rest begun.more) ∙ sym (append-nil ((bytes ++ rest) ++ begun.more))))
+  whole i packet bytes rest f begun = no_begun bytes rest (bytes ++ rest) (lawful.outlined i packet bytes f) refl begun
 
   pub sound : (i : ℕ) (packet bytes rest : List ℕ) (fault : FrameFault) → Frame form i packet bytes → Shows form i fault (bytes ++ rest) → ⊥
   sound i packet bytes rest fault f (inl shown) = right_length bytes rest (bytes ++ rest) fault (lawful.outlined i packet bytes f) refl shown
@@ -55,15 +53,9 @@ module _ (form : Form) (lawful : IsForm form) where
       lawful.sound i packet bytes fault f (subst (λ (t : List ℕ). form.spoilt i fault t) same shown.spoilt)
 
   pub awaited : (i : ℕ) (bytes : List ℕ) (fault : FrameFault) → IsBegun form bytes → Shows form i fault bytes → ⊥
-  awaited i bytes fault begun (inl shown) =
-      right_length (bytes ++ begun.more) [] (bytes ++ begun.more) fault begun.outline (append-nil (bytes ++ begun.more))
-      (lawful.wrong_on fault bytes begun.more shown)
-  awaited i bytes fault begun (inr shown) =
-      let text : bytes ++ begun.more ≡ (shown.front ++ shown.rest) ++ begun.more = ap (λ (t : List ℕ). t ++ begun.more) shown.whole in
-      let same : shown.front ≡ bytes ++ begun.more =
-      one_outline shown.front (bytes ++ begun.more) (shown.rest ++ begun.more) [] shown.outline begun.outline
-      (sym (append_assoc shown.front shown.rest begun.more) ∙ sym text ∙ sym (append-nil (bytes ++ begun.more))) in
-      too_long shown.front shown.rest begun.more begun.some (same ∙ text)
+  awaited i bytes fault (inl cut) (inl shown) = lawful.unfaulted fault bytes cut shown
+  awaited i bytes fault (inr short) (inl shown) = lawful.apart short.size fault bytes short.sized shown
+  awaited i bytes fault begun (inr shown) = no_begun shown.front shown.rest bytes shown.outline (sym shown.whole) begun
 
   pub one_fault : (i : ℕ) (bytes : List ℕ) (one other : FrameFault) → Shows form i one bytes → Shows form i other bytes → one ≡ other
   one_fault i bytes one other (inl f) (inl g) = lawful.one_wrong one other bytes f g

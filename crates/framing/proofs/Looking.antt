@@ -30,18 +30,6 @@ whole_frame form i text size span there at =
     }
 
 module _ (form : Form) (lawful : IsForm form) where
-  -- fewer bytes than the length field says begin a frame
-  pub still_begun : (text : List ℕ) (size : ℕ) → form.sized size text → length text < size → IsBegun form text
-  still_begun text size h short =
-      let more = replicate (size - length text) 0 in
-      let count : length more ≡ size - length text = length-replicate (size - length text) 0 in
-      let long : size ≡ length (text ++ more) = omega (arith, length-append text more) in
-      record {
-        more = more;
-        some = omega arith;
-        outline = subst (λ (n : ℕ). form.sized n (text ++ more)) long (lawful.sized_on size text more h);
-      }
-
   pub outline_of : (text : List ℕ) (size : ℕ) → form.sized size text → size ≤ length text → IsOutline form (take size text)
   outline_of text size h there =
       subst (λ (n : ℕ). form.sized n (take size text)) (sym (length-take-le size text there)) (lawful.within size text h there)

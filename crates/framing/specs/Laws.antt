@@ -1,11 +1,15 @@
 -- What makes a form one that can be read: its length field is read in one way, a frame has the outline that
 -- its length field says, and what isn't a frame shows one fault. Each form proves it of itself, and the laws
 -- of streams follow.
-use Rattle.std.specs.Prelude.{◌≡◌, ◌<◌, ◌≤◌, ℕ, List, ◌++◌, length, take}
+use Rattle.std.specs.Prelude.{◌≡◌, ◌<◌, ◌≤◌, ℕ, List, [], ◌++◌, length, take}
 use Rattle.tl_codec.specs.declared.fault.FrameFault.{FrameFault}
 use Rattle.framing.specs.Streams.{Form, Frame, IsOutline}
 
 pub record IsForm (form : Form) : Type 0 where
+  -- no byte begins a frame, and a length field that is cut says nothing
+  pub empty : form.cut []
+  pub unsized : (size : ℕ) (bytes : List ℕ) → form.cut bytes → form.sized size bytes → ⊥
+  pub unfaulted : (fault : FrameFault) (bytes : List ℕ) → form.cut bytes → form.wrong fault bytes → ⊥
   -- a length field says one thing, and a frame has bytes
   pub some : (size : ℕ) (bytes : List ℕ) → form.sized size bytes → 0 < size
   pub one_size : (size other : ℕ) (bytes : List ℕ) → form.sized size bytes → form.sized other bytes → size ≡ other

@@ -10,7 +10,7 @@ use Rattle.framing.specs.declared.look.Look.TheVariants as seen
 -- what the length field at the front tells
 abbrev pub TellsLength : Form → List ℕ → lengths.Length → Type 0
 TellsLength form text (told.Size size) = form.sized size text
-TellsLength form text told.Awaited = IsBegun form text
+TellsLength form text told.Awaited = form.cut text
 TellsLength form text (told.Wrong fault) = form.wrong fault text
 
 -- the bytes are frame number i, whose packet stands there

@@ -7,6 +7,8 @@ use Rattle.tl_codec.specs.declared.fault.FrameFault.{FrameFault}
 pub record Form : Type 1 where
   -- the bytes spell this packet as frame number i
   pub frame : ℕ → List ℕ → List ℕ → Type 0
+  -- the bytes are fewer than their length field has
+  pub cut : List ℕ → Type 0
   -- the length field stands at the front, it shows no fault, and the frame that it begins has so many bytes
   pub sized : ℕ → List ℕ → Type 0
   -- the length field stands at the front and is no frame's, and this is its first fault
@@ -22,12 +24,16 @@ Frame form = form.frame
 abbrev pub IsOutline : Form → List ℕ → Type 0
 IsOutline form bytes = form.sized (length bytes) bytes
 
--- A proper prefix of a frame, the empty one among them. A frame that isn't whole is judged by its length
--- alone.
-pub record IsBegun (form : Form) (bytes : List ℕ) : Type 0 where
-  pub more : List ℕ
-  pub some : 0 < length more
-  pub outline : IsOutline form (bytes ++ more)
+-- the bytes are fewer than their length field says, and that shows no fault
+pub record IsShort (form : Form) (bytes : List ℕ) : Type 0 where
+  pub size : ℕ
+  pub sized : form.sized size bytes
+  pub short : length bytes < size
+
+-- A proper prefix of a frame, the empty one among them. A frame that isn't whole is judged by its length field
+-- alone, as soon as that is there.
+abbrev pub IsBegun : Form → List ℕ → Type 0
+IsBegun form bytes = form.cut bytes ⊎ IsShort form bytes
 
 -- the bytes at the front, as many as their length field says, show the fault, as soon as they are all there
 pub record ShowsWhole (form : Form) (i : ℕ) (fault : FrameFault) (bytes : List ℕ) : Type 0 where

@@ -15,7 +15,7 @@ pub const PAYLOAD_MAX: usize = 1_048_576;
 pub enum Length {
     /// The frame has so many bytes, those of its length field included.
     Size(usize),
-    /// The length field isn't whole.
+    /// More of the length field is awaited.
     Awaited,
     /// No frame has such a length.
     Wrong(FrameFault),

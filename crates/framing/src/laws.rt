@@ -24,12 +24,15 @@ pub fn one_reading<F: Framing>()
         → Faulty (F.form form) packets one bytes → Faulty (F.form form) others other bytes → (packets ≡ others) × (one ≡ other) }
 {}
 
-/// A stream goes on: frames stand behind frames, whatever follows a frame it is read again, and a fault lasts.
+/// A stream goes on: behind frames stands a frame, which is read again, whatever follows it, and a fault lasts.
 pub fn streams_go_on<F: Framing>()
-    ensures begins { (form : F) → Frames (F.form form) 0 [] [] }
+    ensures begins { (form : F) → Stream (F.form form) [] [] [] }
     ensures frame { (form : F) (packets : List (List ℕ)) (packet frames front : List ℕ)
         → Frames (F.form form) 0 packets frames → Frame (F.form form) (number_after (length packets)) packet front
         → Frames (F.form form) 0 (packets ++ packet ∷ []) (frames ++ front) }
+    ensures read_again { (form : F) (packets : List (List ℕ)) (packet frames front rest : List ℕ)
+        → Frames (F.form form) 0 packets frames → Frame (F.form form) (number_after (length packets)) packet front
+        → Begins (F.form form) (packets ++ packet ∷ []) (frames ++ front ++ rest) }
     ensures lasts { (form : F) (packets : List (List ℕ)) (fault : Shown) (bytes more : List ℕ)
         → Faulty (F.form form) packets fault bytes → Faulty (F.form form) packets fault (bytes ++ more) }
 {}

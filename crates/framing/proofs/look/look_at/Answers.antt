@@ -1,4 +1,5 @@
-use Rattle.framing.proofs.Looking.{whole_frame, still_begun, outline_of, spoilt_front}
+use Rattle.std.proofs.Common.{inr}
+use Rattle.framing.proofs.Looking.{whole_frame, outline_of, spoilt_front}
 use Rattle.framing.proofs.look.look_at.Goals as goal
 
 pub packet-requires : goal.packet-requires
@@ -6,8 +7,7 @@ packet-requires g c =
     outline_of (g.F.Framing.form c.args.form.now) (g.met.F.Framing.lawful c.args.form.now) c.args.text.now c.in-Size.size c.in-Size.ensures c.if-text-size.false
 
 pub returns-then-text-size : goal.returns-then-text-size
-returns-then-text-size g c =
-    still_begun (g.F.Framing.form c.args.form.now) (g.met.F.Framing.lawful c.args.form.now) c.args.text.now c.in-Size.size c.in-Size.ensures c.if-text-size.true
+returns-then-text-size g c = inr (record { size = c.in-Size.size; sized = c.in-Size.ensures; short = c.if-text-size.true })
 
 pub returns-in-Ok : goal.returns-in-Ok
 returns-in-Ok g c =
