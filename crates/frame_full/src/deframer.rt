@@ -1,0 +1,69 @@
+//! Reading a stream of full frames.
+
+use crate::full::FullForm;
+use framing::laws::buffers_stand;
+use framing::{Incoming, Next};
+use octets::Memory;
+use std::alloc::Global;
+use std::marker::Model;
+
+/// Reads a stream of full frames that comes in pieces.
+#[derive(Debug, Drop)]
+pub struct Deframer {
+    stream: Incoming,
+}
+
+impl Model for Deframer {
+    ghost use Rattle.framing.specs.Held.{Held};
+
+    ghost Value = { Held };
+
+    ghost view = { λ deframer. deframer.stream };
+}
+
+impl Deframer {
+    ghost use Rattle.std.specs.Prelude.{◌≡◌, ◌++◌, List, ℕ, [], Ok, IfSome, OnOk, OnErr};
+    ghost use Rattle.std.specs.Borrow.{sem};
+    ghost use Rattle.framing.specs.Held.{with_piece};
+    ghost use Rattle.framing.specs.Holding.{Stands, Answers, Rests, taken};
+    ghost use Rattle.frame_full.specs.Full.{full};
+    ghost use Rattle.frame_full.specs.contracts.deframer.Deframer.{the_row};
+
+    /// Reads a stream that has no byte yet. Takes no memory.
+    pub fn new(alloc: Global) -> Deframer
+        ensures { Stands full result [] [] }
+    {
+        buffers_stand::<FullForm>();
+        Deframer {
+            stream: Incoming::new(alloc),
+        }
+    }
+
+    /// Puts the next piece of the stream behind what came before. After a fault nothing is kept, and no memory taken.
+    ///
+    /// # Errors
+    ///
+    /// `Memory`, and then the stream is where it was.
+    pub fn feed(&mut self, alloc: Global, piece: &[u8]) -> Result<(), Memory>
+        ensures put { OnOk result (self.new ≡ with_piece piece.now self.old) }
+        ensures stands { OnOk result ((packets : List (List ℕ)) (bytes : List ℕ)
+            → Stands full self.old packets bytes → Stands full self.new packets (bytes ++ piece.now)) }
+        ensures nothing_after_a_fault { IfSome self.old.fault (λ _. result ≡ Ok tt) }
+        ensures unchanged_on_memory { OnErr result (self.new ≡ self.old) }
+    {
+        buffers_stand::<FullForm>();
+        self.stream.feed(alloc, piece)
+    }
+
+    /// What comes next in the stream: the next packet, `More` where a proper prefix of a frame is left, and maybe none
+    /// of its bytes, or the fault that is met, which comes again at each later call. A packet is lent until the next
+    /// call, and then the stream stands past it. Takes no memory.
+    pub fn next(&mut self) -> Next<'_>
+        ensures answers { (packets : List (List ℕ)) (bytes : List ℕ)
+            → Stands full self.old packets bytes → Answers full packets bytes result }
+        ensures* after { sem 𝓛 (Rests the_row self.entry (λ after. (packets : List (List ℕ)) (bytes : List ℕ)
+            → Stands full self.old packets bytes → Stands full after (taken packets result) bytes)) }
+    {
+        self.stream.next(&FullForm {})
+    }
+}

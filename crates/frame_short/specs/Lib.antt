@@ -1,0 +1,3 @@
+pub mod Abridged
+pub mod Heads
+pub mod Lawful

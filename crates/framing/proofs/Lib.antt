@@ -1,0 +1,4 @@
+pub mod Fronts
+pub mod Looking
+pub mod Readings
+pub mod Steps
