@@ -1,3 +1,4 @@
+mod DigestLemmas
 mod LineLemmas
 mod NumberLemmas
 mod WordLemmas

@@ -11,9 +11,13 @@ use Rattle.auth_keys.specs.declared.key.KeyKind.TheVariants.{Perm, Temp}
 abbrev pub IsKey : List ℕ → Type 0
 IsKey key = HasBytes 256 key
 
+-- "substr" of the standard: so many bytes of a list, from a place on
+abbrev pub substr : List ℕ → ℕ → ℕ → List ℕ
+substr bytes start count = take count (drop start bytes)
+
 -- "the 64 lower-order bits of the SHA1 hash of the authorization key": bytes 12 to 19 of the 20
 abbrev pub identifier_bytes : List ℕ → List ℕ
-identifier_bytes key = take 8 (drop 12 (sha1 key))
+identifier_bytes key = substr (sha1 key) 12 8
 
 -- these bytes as a `long` of TL
 abbrev pub identifier : List ℕ → ℕ

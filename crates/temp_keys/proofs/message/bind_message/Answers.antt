@@ -1,0 +1,30 @@
+use Rattle.std.proofs.Common.{◌≡◌, ◌∙◌, ◌++◌, length, ap}
+use Rattle.octets.specs.Draft.{Draft}
+use Rattle.temp_keys.specs.Messages.{plain_text, sealed}
+use Rattle.temp_keys.proofs.TextLemmas.{length-plain}
+use Rattle.temp_keys.proofs.message.bind_message.Goals as goal
+
+pub seal-requires-clause-plain : goal.seal-requires-clause-plain
+seal-requires-clause-plain g c =
+    let random = c.draw_bytes.new.into in
+    let padding = c.draw_bytes-2.new.into in
+    let text = plain_text random c.args.number c.args.inner.now padding in
+    let plain : c.fill.new.plain.bytes ≡ text = c.fill.ensures.written ∙ ap (λ (draft : Draft). draft.bytes ++ text) c.in_ok-plain.ensures in
+    ap length plain ∙ length-plain random c.args.number c.args.inner.now padding c.fill.ensures.random_bytes.count c.fill.ensures.padding_bytes.count
+
+pub returns-clause-says : goal.returns-clause-says
+returns-clause-says g c =
+    let random = c.draw_bytes.new.into in
+    let padding = c.draw_bytes-2.new.into in
+    let text = plain_text random c.args.number c.args.inner.now padding in
+    let plain : c.fill.new.plain.bytes ≡ text = c.fill.ensures.written ∙ ap (λ (draft : Draft). draft.bytes ++ text) c.in_ok-plain.ensures in
+    let written = c.seal.ensures.written ∙ ap (λ (draft : Draft). draft.bytes ++ sealed c.args.perm.now c.fill.new.plain.bytes) c.in_ok-message.ensures in
+    record {
+      random = random;
+      padding = padding;
+      random_bytes = c.fill.ensures.random_bytes;
+      padding_bytes = c.fill.ensures.padding_bytes;
+      number_fits = c.fill.ensures.fits.0;
+      inner_fits = c.fill.ensures.fits.1;
+      sealed = c.into_octets.ensures ∙ (written ∙ ap (sealed c.args.perm.now) plain);
+    }

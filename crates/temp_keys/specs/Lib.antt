@@ -1,0 +1,4 @@
+pub mod Derivation
+pub mod Messages
+pub mod Checking
+pub mod Below
