@@ -1,0 +1,6 @@
+pub mod Packet
+pub mod Opening
+pub mod Lawful
+pub mod Answers
+pub mod Lock
+pub mod Reading
