@@ -1,6 +1,6 @@
 //! The kept replies of a server session.
 
-ghost use Rattle.std.specs.Prelude.{◌≡◌, ◌<◌, ◌≤◌, ◌+◌, [], true, None, max, slice_get, length, IfOk, OnOk, OnErr};
+ghost use Rattle.std.specs.Prelude.{◌≡◌, ◌≢◌, ◌<◌, ◌≤◌, ◌+◌, [], true, None, max, slice_get, length, IfOk, OnOk, OnErr};
 ghost use Rattle.std.specs.Option.{option_copied};
 
 use crate::kept::{Kept, copies_of};
@@ -106,13 +106,15 @@ impl Outbox {
     }
 
     /// Where a further reply of this many bytes doesn't fit, the oldest reply is dropped and its call is given; `None`
-    /// where it fits. Reserved room stays. Takes no memory.
+    /// where it fits. Asked again and again, it comes to `None`: each call that it gives is one reply fewer. Reserved
+    /// room stays. Takes no memory.
     pub fn make_room(&mut self, len: usize) -> Option<u64>
         requires { len ≤ kept_bytes_max }
         ensures call { result ≡ call_of (dropped_for len self.old.replies) }
         ensures after { self.new ≡ record self.old { replies = with_room_for len self.old.replies } }
         ensures fits { result ≡ None → fits len self.new.replies ≡ true }
         ensures unchanged_where_it_fits { result ≡ None → self.new ≡ self.old }
+        ensures one_fewer { result ≢ None → length self.new.replies + 1 ≡ length self.old.replies }
     {
         if self.replies.len() < KEPT_REPLIES_MAX && len <= KEPT_BYTES_MAX - self.bytes {
             return None;

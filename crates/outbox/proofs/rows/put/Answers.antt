@@ -1,5 +1,4 @@
 use Rattle.std.proofs.Common.{◌≡◌, ◌∙◌, insert, ap}
-use Rattle.outbox.specs.Places.{place}
 use Rattle.outbox.proofs.PlaceLemmas.{insert_at_place}
 use Rattle.outbox.proofs.OrderLemmas.{answered_call}
 use Rattle.outbox.proofs.rows.put.Goals as goal
