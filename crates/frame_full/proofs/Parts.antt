@@ -1,16 +1,13 @@
 -- The parts of a whole frame whose sum and number are right.
-use Rattle.std.proofs.Common.{◌≡◌, ℕ, ◌+◌, ◌-◌, ◌%◌, ◌<◌, ◌≤◌, ◌^◌, List, [], ◌∷◌, ◌++◌, length, take, drop, zero, suc, refl, sym, ap, ap₂, subst, ◌∙◌, arith}
-use Rattle.std.specs.Prelude.{slice_range}
+use Rattle.std.proofs.Common.{◌≡◌, ℕ, ◌+◌, ◌-◌, ◌<◌, ◌^◌, List, [], ◌∷◌, ◌++◌, length, take, drop, zero, suc, sym, ap, ap₂, ◌∙◌, arith}
 use Rattle.std.proofs.Math.Seq.{take-add}
 use Rattle.std.proofs.lemmas.List.{take-append-drop, drop-drop, length-drop, length-take-le, take_rest}
 use Rattle.byteorder.specs.Endian.{little_bytes, little_number}
 use Rattle.octets.specs.Bytes.{IsBytes}
-use Rattle.framing.specs.declared.form.Span.{Span}
-use Rattle.framing.specs.Payload.{payload_max, IsPayload}
 use Rattle.framing.specs.Looks.{IsFrameAt}
 use Rattle.framing.specs.Fields.{field-spelled}
 use Rattle.crc_core.specs.Crc32.{crc32}
-use Rattle.frame_full.specs.Full.{overhead, body_of, FullFrame, FullSize, sum_in, sum_due, number_in, full}
+use Rattle.frame_full.specs.Full.{overhead, body_of, FullSize, sum_in, sum_due, number_in, full}
 
 pub bytes_behind : (n : ℕ) (text : List ℕ) → IsBytes text → IsBytes (drop n text)
 bytes_behind zero text fits = fits

@@ -1,10 +1,9 @@
 -- Scaffolding of proofs, and no promise: the parts of a full frame, by their places.
-use Rattle.std.proofs.Common.{◌≡◌, ℕ, ◌+◌, ◌-◌, ◌%◌, ◌<◌, ◌≤◌, ◌^◌, List, [], ◌∷◌, ◌++◌, length, take, drop, refl, sym, ap, ap₂, subst, ◌∙◌, arith, append_assoc, length-append}
+use Rattle.std.proofs.Common.{◌≡◌, ℕ, ◌+◌, ◌-◌, ◌<◌, ◌^◌, List, ◌++◌, length, take, drop, sym, ap, ◌∙◌, arith, append_assoc, length-append}
 use Rattle.std.proofs.lemmas.List.{take_at, drop_at}
 use Rattle.byteorder.specs.Endian.{little_bytes, little_number}
 use Rattle.byteorder.specs.Numbers.{length-bytes_low_first, little_number-reads_back}
-use Rattle.framing.specs.Payload.{payload_max, IsPayload}
-use Rattle.frame_full.specs.Full.{overhead, body_of, FullFrame, FullSize, sum_in, sum_due, number_in}
+use Rattle.frame_full.specs.Full.{overhead, body_of, FullFrame, sum_in, sum_due, number_in}
 use Rattle.crc_core.specs.Crc32.{crc32}
 
 length_body : (i : ℕ) (packet : List ℕ) → length (body_of i packet) ≡ 8 + length packet

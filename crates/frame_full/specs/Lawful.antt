@@ -1,14 +1,12 @@
 -- Scaffolding of proofs, and no promise: the full form is one that can be read.
-use Rattle.std.proofs.Common.{◌≡◌, ℕ, ◌+◌, ◌-◌, ◌%◌, ◌<◌, ◌≤◌, List, [], ◌++◌, length, take, drop, refl, sym, ap, ap₂, subst, ◌∙◌, arith, inl, inr, length-append}
-use Rattle.std.specs.Prelude.{◌≢◌, ◌⊎◌}
+use Rattle.std.proofs.Common.{◌≡◌, ℕ, ◌%◌, ◌<◌, ◌≤◌, List, ◌++◌, length, take, refl, sym, ap, ap₂, ◌∙◌, arith, inl, inr, length-append}
+use Rattle.std.specs.Prelude.{◌⊎◌}
 use Rattle.std.proofs.lemmas.List.{length-take-le}
-use Rattle.byteorder.specs.Endian.{little_number}
 use Rattle.byteorder.specs.Numbers.{little_from-append, little_from-take}
 use Rattle.tl_codec.specs.declared.fault.FrameFault.{FrameFault}
 use Rattle.tl_codec.specs.declared.fault.FrameFault.TheVariants.{TooLong, BadLength, Sum, Count}
-use Rattle.framing.specs.Payload.{payload_max, IsPayload}
 use Rattle.framing.specs.Laws.{IsForm}
-use Rattle.frame_full.specs.Full.{overhead, FullFrame, FullSize, FullTooLong, FullBadLength, full_wrong, WrongSum, WrongNumber, full_spoilt, sum_in, sum_due, full}
+use Rattle.frame_full.specs.Full.{FullFrame, FullSize, full_wrong, full_spoilt, sum_in, sum_due, full}
 use Rattle.frame_full.specs.Heads as parts
 
 not_bad : (size len : ℕ) → size ≡ len → 16 ≤ size → size % 4 ≡ 0 → (len < 16) ⊎ (0 < len % 4) → ⊥

@@ -12,3 +12,6 @@ pub use deframer::Deframer;
 pub use framer::Framer;
 pub use framing::{FrameFault, Next};
 pub use full::FullForm;
+
+#[cfg(test)]
+mod tests;

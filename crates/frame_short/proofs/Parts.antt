@@ -1,15 +1,13 @@
 -- The parts of a frame, and how a length field that is cut goes on.
-use Rattle.std.proofs.Common.{◌≡◌, ℕ, zero, suc, ◌+◌, ◌-◌, ◌*◌, ◌/◌, ◌%◌, ◌<◌, ◌≤◌, List, [], ◌∷◌, ◌++◌, length, take, drop, get_or, refl, sym, ap, ap₂, subst, ◌∙◌, arith, inl, inr, length-append}
+use Rattle.std.proofs.Common.{◌≡◌, ℕ, suc, ◌-◌, ◌*◌, ◌/◌, ◌<◌, ◌≤◌, List, [], ◌∷◌, ◌++◌, length, take, drop, get_or, sym, ap, ap₂, subst, ◌∙◌, arith, inl, inr}
 use Rattle.std.specs.Prelude.{slice_range}
 use Rattle.std.proofs.lemmas.List.{take-append-drop, take_rest, length-drop}
 use Rattle.byteorder.specs.Endian.{little_bytes, little_number}
 use Rattle.byteorder.specs.Numbers.{little_from-lt}
 use Rattle.octets.specs.Bytes.{IsBytes}
-use Rattle.framing.specs.declared.form.Span.{Span}
-use Rattle.framing.specs.Payload.{payload_max, IsPayload}
 use Rattle.framing.specs.Looks.{IsFrameAt}
 use Rattle.framing.specs.Fields.{field-spelled}
-use Rattle.frame_short.specs.Abridged.{IsHead, AbridgedFrame, SaysWords, AbridgedSize, abridged}
+use Rattle.frame_short.specs.Abridged.{IsHead, SaysWords, AbridgedSize, abridged}
 
 -- the head of a frame, as its first bytes
 head_is : (head words : ℕ) (bytes : List ℕ) → IsBytes bytes → SaysWords head words bytes → IsHead words (take head bytes)

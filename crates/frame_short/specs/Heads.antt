@@ -1,10 +1,9 @@
 -- Scaffolding of proofs, and no promise: the length field at the front of a text.
-use Rattle.std.proofs.Common.{◌≡◌, ℕ, zero, suc, ◌+◌, ◌-◌, ◌*◌, ◌/◌, ◌%◌, ◌<◌, ◌≤◌, List, [], ◌∷◌, ◌++◌, length, take, drop, get_or, refl, sym, ap, subst, ◌∙◌, arith, inl, inr, length-append}
+use Rattle.std.proofs.Common.{◌≡◌, ℕ, ◌+◌, ◌-◌, ◌<◌, ◌≤◌, List, [], ◌∷◌, ◌++◌, length, take, drop, get_or, refl, sym, ap, subst, ◌∙◌, arith, inl, inr, length-append}
 use Rattle.std.proofs.lemmas.List.{get_or-take, drop-take, length-take-le}
 use Rattle.byteorder.specs.Endian.{little_bytes, little_number}
 use Rattle.byteorder.specs.Numbers.{length-bytes_low_first, little_from-append, little_from-take, little_number-reads_back}
-use Rattle.framing.specs.Payload.{payload_max, IsPayload}
-use Rattle.frame_short.specs.Abridged.{IsHead, AbridgedFrame, SaysWords, AbridgedSize, AbridgedTooLong}
+use Rattle.frame_short.specs.Abridged.{IsHead, SaysWords}
 
 -- a length field says one thing
 pub one_head : (h w k v : ℕ) (bytes : List ℕ) → SaysWords h w bytes → SaysWords k v bytes → (h ≡ k) × (w ≡ v)

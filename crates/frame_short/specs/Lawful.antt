@@ -1,11 +1,10 @@
 -- Scaffolding of proofs, and no promise: the abridged form is one that can be read.
-use Rattle.std.proofs.Common.{◌≡◌, ℕ, ◌+◌, ◌-◌, ◌*◌, ◌/◌, ◌%◌, ◌<◌, ◌≤◌, List, [], ◌∷◌, ◌++◌, length, take, drop, get_or, refl, sym, ap, ap₂, subst, ◌∙◌, arith, inl, inr, length-append}
+use Rattle.std.proofs.Common.{◌≡◌, ℕ, ◌+◌, ◌*◌, ◌/◌, ◌<◌, ◌≤◌, List, ◌++◌, length, take, drop, refl, sym, ap, subst, ◌∙◌, arith, inl, inr, length-append}
 use Rattle.std.proofs.lemmas.List.{drop_at}
 use Rattle.tl_codec.specs.declared.fault.FrameFault.{FrameFault}
 use Rattle.tl_codec.specs.declared.fault.FrameFault.TheVariants.{TooLong, BadLength, Sum, Count}
-use Rattle.framing.specs.Payload.{payload_max, IsPayload}
 use Rattle.framing.specs.Laws.{IsForm}
-use Rattle.frame_short.specs.Abridged.{IsHead, AbridgedFrame, SaysWords, AbridgedCut, AbridgedSize, AbridgedTooLong, SaysNone, BeginsNone, abridged_wrong, abridged}
+use Rattle.frame_short.specs.Abridged.{AbridgedFrame, SaysWords, AbridgedCut, AbridgedSize, abridged_wrong, abridged}
 use Rattle.frame_short.specs.Heads.{one_head, first_of, first_on, head_on, head_within, head_says}
 
 unsaid : (head words : ℕ) (bytes : List ℕ) → AbridgedCut bytes → SaysWords head words bytes → ⊥

@@ -1,5 +1,5 @@
 -- The front of a text, where one frame is due.
-use Rattle.std.proofs.Common.{◌≡◌, ℕ, ◌+◌, ◌<◌, List, [], ◌∷◌, ◌++◌, length, refl, sym, ap, ap₂, subst, ◌∙◌, arith, inl, inr, append_assoc, append-nil, length-append}
+use Rattle.std.proofs.Common.{◌≡◌, ℕ, ◌+◌, List, [], ◌∷◌, ◌++◌, length, refl, sym, ap, ap₂, subst, ◌∙◌, arith, inl, inr, append_assoc, length-append}
 use Rattle.tl_codec.specs.declared.fault.FrameFault.{FrameFault}
 use Rattle.framing.specs.Streams.{Form, Frame, IsOutline, IsBegun, Shows}
 use Rattle.framing.specs.Laws.{IsForm}

@@ -1,10 +1,10 @@
 -- From what a form tells of a length field and of a whole frame to one look.
-use Rattle.std.proofs.Common.{◌≡◌, ℕ, ◌+◌, ◌-◌, ◌<◌, ◌≤◌, List, ◌++◌, length, take, drop, sym, ap, subst, ◌∙◌, arith, inr, length-append}
-use Rattle.std.specs.Prelude.{replicate, slice_range}
-use Rattle.std.proofs.lemmas.List.{drop-take, take-take, take-append-drop, length-replicate, length-take-le}
+use Rattle.std.proofs.Common.{◌≡◌, ℕ, ◌+◌, ◌-◌, ◌≤◌, List, length, take, drop, sym, ap, subst, ◌∙◌, arith, inr}
+use Rattle.std.specs.Prelude.{slice_range}
+use Rattle.std.proofs.lemmas.List.{drop-take, take-take, take-append-drop, length-take-le}
 use Rattle.tl_codec.specs.declared.fault.FrameFault.{FrameFault}
 use Rattle.framing.specs.declared.form.Span.{Span}
-use Rattle.framing.specs.Streams.{Form, Frame, IsOutline, IsBegun, Shows}
+use Rattle.framing.specs.Streams.{Form, Frame, IsOutline, Shows}
 use Rattle.framing.specs.Laws.{IsForm}
 use Rattle.framing.specs.Looks.{IsFrameAt, IsWholeFrame}
 

@@ -3,7 +3,7 @@
 ghost use Rattle.std.specs.Prelude.{◌≡◌, ◌++◌, ◌∷◌, [], ℕ, List, length};
 ghost use Rattle.tl_codec.specs.declared.fault.FrameFault.{FrameFault as Shown};
 ghost use Rattle.framing.specs.Payload.{payload_max};
-ghost use Rattle.framing.specs.Streams.{Frame, Frames, Stream, Faulty, Begins, IsBegun, number_after};
+ghost use Rattle.framing.specs.Streams.{Frame, Frames, Stream, Faulty, Begins, number_after};
 ghost use Rattle.framing.specs.Held.{Held, nothing, with_piece};
 ghost use Rattle.framing.specs.Holding.{Stands};
 

@@ -1,4 +1,4 @@
-use Rattle.std.proofs.Common.{◌≡◌, ◌++◌, List, ℕ, [], refl, sym, ap, ◌∙◌, append-nil, arith}
+use Rattle.std.proofs.Common.{[], refl, sym, ap, ◌∙◌, append-nil, arith}
 use Rattle.byteorder.specs.Endian.{little_bytes, little_number}
 use Rattle.byteorder.specs.Numbers.{length-bytes_low_first, little_number-reads_back}
 use Rattle.crc_core.specs.Crc32.{crc32}

@@ -1,0 +1,129 @@
+//! A caller's try, the worked rows, and each call once. The frames' checks are those of zlib.
+
+ghost use Rattle.std.specs.Prelude.{◌++◌, ◌∷◌, [], List, ℕ, IfOk};
+ghost use Rattle.std.specs.Bool.{OnTrue};
+ghost use Rattle.framing.specs.Holding.{Stands};
+ghost use Rattle.frame_full.specs.Full.{full};
+
+use crate::{Deframer, FrameFault, Framer, Next};
+use octets::{Memory, Octets};
+use std::alloc::Global;
+use std::test::*;
+
+// Feeds a piece and copies the packet that comes next, where there is one.
+fn take_packet(
+    deframer: &mut Deframer,
+    alloc: Global,
+    piece: &[u8],
+    into: &mut Octets,
+) -> Result<bool, Memory>
+    ensures taken { IfOk result (λ found. OnTrue found ((packets : List (List ℕ)) (bytes : List ℕ)
+        → Stands full deframer.old packets bytes → Stands full deframer.new (packets ++ into.new ∷ []) (bytes ++ piece.now))) }
+{
+    deframer.feed(alloc, piece)?;
+    match deframer.next() {
+        Next::Packet(packet) => {
+            *into = Octets::copy(alloc, packet)?;
+            Ok(true)
+        }
+        Next::More | Next::Fault(_) => Ok(false),
+    }
+}
+
+// The packets of a stream that is fed in pieces of this size, as one text, and its fault.
+fn read(
+    alloc: Global,
+    stream: &[u8],
+    size: usize,
+    want: &[u8],
+) -> Result<(bool, Option<FrameFault>), Fail> {
+    let mut deframer = Deframer::new(alloc);
+    let mut text = Octets::new(alloc);
+    for piece in stream.chunks(size.max(1)) {
+        deframer.feed(alloc, piece)?;
+        for _ in 0..stream.len() {
+            match deframer.next() {
+                Next::Packet(packet) => text.push_all(alloc, packet)?,
+                Next::More => break,
+                Next::Fault(fault) => return Ok((text.as_slice() == want, Some(fault))),
+            }
+        }
+    }
+    Ok((text.as_slice() == want, None))
+}
+
+#[test]
+fn frames_are_counted(rt: HostRuntime) -> Result<(), Fail> {
+    let alloc = rt.alloc();
+    let want =
+        b"\x10\0\0\0\0\0\0\0\x6c\xfe\xff\xff\x0d\x2f\x41\x07\x14\0\0\0\x01\0\0\0abcdefgh\x1a\x80\xc5\x8e";
+    let mut framer = Framer::new();
+    let mut stream = Octets::new(alloc);
+    framer.frame(alloc, b"\x6c\xfe\xff\xff", &mut stream)?;
+    framer.frame(alloc, b"abcdefgh", &mut stream)?;
+    assert_eq!(rt; stream.as_slice(), want.as_slice());
+    for size in [1, 7, 36] {
+        assert_eq!(rt;
+            read(alloc, want, size, b"\x6c\xfe\xff\xffabcdefgh")?,
+            (true, None)
+        );
+    }
+    Ok(())
+}
+
+#[test]
+fn rows_of_faults(rt: HostRuntime) -> Result<(), Fail> {
+    let alloc = rt.alloc();
+    let rows: [(&[u8], Option<FrameFault>); 8] = [
+        (b"\x0b\0\0", None),
+        (b"\x0b\0\0\0", Some(FrameFault::BadLength { len: 11 })),
+        (b"\x0c\0\0\0", Some(FrameFault::BadLength { len: 12 })),
+        (b"\x12\0\0\0", Some(FrameFault::BadLength { len: 18 })),
+        (b"\x0c\0\x10\0", None),
+        (
+            b"\x10\0\x10\0",
+            Some(FrameFault::TooLong { len: 1_048_592 }),
+        ),
+        (
+            b"\x10\0\0\0\0\0\0\0\x6c\xfe\xff\xff\x0d\x2f\x41\x87",
+            Some(FrameFault::Sum {
+                said: 0x87412f0d,
+                found: 0x07412f0d,
+            }),
+        ),
+        (
+            b"\x10\0\0\0\x01\0\0\0\x6c\xfe\xff\xff\x93\x2f\xeb\xcb",
+            Some(FrameFault::Count { said: 1, want: 0 }),
+        ),
+    ];
+    for (stream, fault) in rows {
+        for size in [1, 7, 16] {
+            assert_eq!(rt; read(alloc, stream, size, b"")?, (true, fault));
+        }
+    }
+    Ok(())
+}
+
+#[test]
+fn a_fault_stays(rt: HostRuntime) -> Result<(), Fail> {
+    let alloc = rt.alloc();
+    let mut deframer = Deframer::new(alloc);
+    let mut packet = Octets::new(alloc);
+    assert!(rt; !take_packet(&mut deframer, alloc, b"\x10\0\0\0\0\0\0\0", &mut packet)?);
+    assert!(rt;
+        take_packet(
+            &mut deframer,
+            alloc,
+            b"\x6c\xfe\xff\xff\x0d\x2f\x41\x07",
+            &mut packet
+        )?
+    );
+    assert_eq!(rt; packet.as_slice(), b"\x6c\xfe\xff\xff".as_slice());
+    let again = b"\x10\0\0\0\0\0\0\0\x6c\xfe\xff\xff\x0d\x2f\x41\x07";
+    deframer.feed(alloc, again)?;
+    let fault = FrameFault::Count { said: 0, want: 1 };
+    assert_eq!(rt; deframer.next(), Next::Fault(fault));
+    deframer.feed(alloc, again)?;
+    assert_eq!(rt; deframer.next(), Next::Fault(fault));
+    Ok(())
+}
