@@ -99,6 +99,10 @@ module _ (laws : SealLaws) where
   pub said-plain : (key message : List ℕ) (number : ℕ) (inner : Inner) → (h : Says key message number inner) → HasBytes 80 (plain_text h.random number inner h.padding)
   said-plain key message number inner h = plain-bytes h.random number inner h.padding h.random_bytes h.padding_bytes
 
+  -- a binding message has 104 bytes
+  pub length-said : (key message : List ℕ) (number : ℕ) (inner : Inner) → Says key message number inner → length message ≡ 104
+  length-said key message number inner h = ap length h.sealed ∙ length-sealed key (plain_text h.random number inner h.padding) (said-plain key message number inner h)
+
   pub says-plain : (key message plain : List ℕ) (number : ℕ) (inner : Inner) → HasBytes 80 plain → message ≡ sealed key plain → (h : Says key message number inner)
       → plain ≡ plain_text h.random number inner h.padding
   says-plain key message plain number inner bytes e h =

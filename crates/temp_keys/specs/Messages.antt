@@ -43,6 +43,10 @@ unfoldable pub plain_text : List ℕ → ℕ → Inner → List ℕ → List ℕ
 plain_text random number inner padding =
     random ++ long number ++ int 0 ++ int inner_bytes ++ inner_text inner ++ padding
 
+-- how many bytes a binding message has
+abbrev pub message_bytes : ℕ
+message_bytes = 104
+
 -- A plain text sealed: the key's identifier, the message key, and the text in infinite garble extension.
 unfoldable pub sealed : List ℕ → List ℕ → List ℕ
 sealed key plain =

@@ -1,7 +1,8 @@
 //! What a binding call binds.
 
-ghost use Rattle.std.specs.Prelude.{◌≡◌, ℕ, List, IfOk, IfErr, IfSome, IfNone, Ok, Err};
+ghost use Rattle.std.specs.Prelude.{◌≡◌, ℕ, ◌<◌, List, IsTrue, IfOk, IfErr, IfSome, IfNone, Ok, Err};
 ghost use Rattle.temp_keys.specs.Checking.{Binds, IsFaultOf, IsPermanent, call_of, first_difference, is_temporary};
+ghost use Rattle.temp_keys.specs.Messages.{Says};
 ghost use Rattle.temp_keys.specs.declared.binding.Bound.{Bound};
 ghost use Rattle.temp_keys.specs.declared.fault.BindFault.{BindFault};
 
@@ -33,6 +34,10 @@ pub fn check(
     ensures bound { IfOk result (Binds (call_of ring.now now temp session number binding.now)) }
     ensures fault { IfErr result (IsFaultOf (call_of ring.now now temp session number binding.now)) }
     ensures only_bound { (bound : Bound) → Binds (call_of ring.now now temp session number binding.now) bound → result ≡ Ok bound }
+    ensures takes { (key : List ℕ) → IsPermanent ring.now binding.now.perm key
+        → Says key binding.now.message number (record { nonce = binding.now.nonce; temp = temp; perm = binding.now.perm; session = session; expires = binding.now.expires })
+        → IsTrue (is_temporary ring.now temp) → now < binding.now.expires
+        → result ≡ Ok (record { temp = temp; perm = binding.now.perm; expires = binding.now.expires }) }
     ensures only_fault { (fault : BindFault) → IsFaultOf (call_of ring.now now temp session number binding.now) fault → result ≡ Err fault }
 {
     seal_laws();

@@ -1,20 +1,29 @@
 //! Laws of the definitions, each the contract of a function that does nothing.
 
-ghost use Rattle.std.specs.Prelude.{◌≡◌, ℕ, ◌<◌, List, IsTrue};
+ghost use Rattle.std.specs.Prelude.{◌≡◌, ℕ, ◌<◌, List, length, IsTrue};
 ghost use Rattle.temp_keys.specs.Checking.{Binds, Call, IsFaultOf, IsPermanent, bound_of, inner_of, is_temporary};
-ghost use Rattle.temp_keys.specs.Messages.{Says, inner_bytes, inner_constructor};
+ghost use Rattle.temp_keys.specs.Messages.{Says, inner_bytes, inner_constructor, message_bytes};
 ghost use Rattle.temp_keys.specs.declared.binding.Bound.{Bound};
 ghost use Rattle.temp_keys.specs.declared.binding.Inner.{Inner};
 ghost use Rattle.temp_keys.specs.declared.fault.BindFault.{BindFault};
 
 use crate::below::seal_laws;
+use crate::message::MESSAGE_BYTES;
 use crate::plain::{BIND_AUTH_KEY_INNER, INNER_BYTES};
 
 /// The constants of this crate are the numbers of the standard.
 pub fn constants_of_the_standard()
     ensures constructor { BIND_AUTH_KEY_INNER ≡ inner_constructor }
     ensures inner_bytes { INNER_BYTES ≡ inner_bytes }
+    ensures message_bytes { MESSAGE_BYTES ≡ message_bytes }
 {}
+
+/// A binding message has 104 bytes.
+pub fn sizes_of_messages()
+    ensures { (key message : List ℕ) (number : ℕ) (inner : Inner) → Says key message number inner → length message ≡ message_bytes }
+{
+    seal_laws();
+}
 
 /// A message says one number and one inner object under a key.
 pub fn one_inner_object()

@@ -3,7 +3,7 @@
 ghost use Rattle.std.specs.Prelude.{◌≡◌, ◌≢◌, ℕ, ◌≤◌, ◌++◌, List, length, IfOk, IfSome, IfNone, OnOk, OnErr};
 ghost use Rattle.octets.specs.Bytes.{HasBytes, IsBytes};
 ghost use Rattle.draws.specs.Draws.{draw_after, next_bytes};
-ghost use Rattle.temp_keys.specs.Messages.{Says, binding_message, sealed};
+ghost use Rattle.temp_keys.specs.Messages.{Says, binding_message, message_bytes, sealed};
 ghost use Rattle.temp_keys.specs.declared.binding.Inner.{Inner};
 
 use crate::below::seal_laws;
@@ -18,7 +18,7 @@ use octets::{Buffer, Memory, Octets};
 use std::alloc::Global;
 
 /// The bytes of a binding message.
-const MESSAGE_BYTES: usize = 104;
+pub const MESSAGE_BYTES: usize = 104;
 
 /// The bytes of a binding message before its text.
 const HEAD_BYTES: usize = 24;
@@ -38,9 +38,11 @@ pub fn bind_message<D: Draw>(
 ) -> Result<Octets, Memory>
     ensures message { IfOk result (λ message. message ≡ binding_message perm.now (next_bytes D.step 16 draw.old) number inner.now (next_bytes D.step 8 (draw_after D.step 2 draw.old))) }
     ensures says { IfOk result (λ message. Says perm.now message number inner.now) }
+    ensures size { IfOk result (λ message. length message ≡ message_bytes) }
     ensures drawn { OnOk result (draw.new ≡ draw_after D.step 3 draw.old) }
     ensures unchanged_on_memory { OnErr result (draw.new ≡ draw.old) }
 {
+    seal_laws();
     let mut message = Buffer::new(alloc, MESSAGE_BYTES)?;
     let mut plain = Buffer::new(alloc, PLAIN_BYTES)?;
     let mut random = [0; 16];

@@ -222,7 +222,6 @@ fn bound_again<D: Draw>(
     requires lasts { now < inner.now.expires }
     ensures { IfOk result (λ answer. answer ≡ Ok (record { temp = inner.now.temp; perm = inner.now.perm; expires = inner.now.expires })) }
 {
-    laws::made_messages_bind();
     let message = bind_message(alloc, perm, number, inner, draw)?;
     let binding = Binding {
         perm: inner.perm,
