@@ -3,7 +3,7 @@
 use crate::refusal::Refusal;
 use octets::Octets;
 
-/// Which way a packet goes. The two ways have keys of their own, so that no packet opens on its way back.
+/// Which way a packet goes. Each way has message keys and AES keys of its own.
 #[derive(Clone, Copy, Debug, PartialEq, Eq)]
 pub enum Dir {
     /// From the client to the server.

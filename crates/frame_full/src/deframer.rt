@@ -22,10 +22,11 @@ impl Model for Deframer {
 }
 
 impl Deframer {
-    ghost use Rattle.std.specs.Prelude.{◌≡◌, ◌++◌, List, ℕ, [], Ok, IfSome, OnOk, OnErr};
+    ghost use Rattle.std.specs.Prelude.{◌≡◌, ◌++◌, List, ℕ, [], Ok, Some, IfSome, OnOk, OnErr};
     ghost use Rattle.std.specs.Borrow.{sem};
+    ghost use Rattle.tl_codec.specs.declared.fault.FrameFault.{FrameFault};
     ghost use Rattle.framing.specs.Held.{with_piece};
-    ghost use Rattle.framing.specs.Holding.{Stands, Answers, Rests, taken};
+    ghost use Rattle.framing.specs.Holding.{Stands, Answers, IsFault, Rests, taken};
     ghost use Rattle.frame_full.specs.Full.{full};
     ghost use Rattle.frame_full.specs.contracts.deframer.Deframer.{the_row};
 
@@ -55,14 +56,16 @@ impl Deframer {
         self.stream.feed(alloc, piece)
     }
 
-    /// What comes next in the stream: the next packet, `More` where a proper prefix of a frame is left, and maybe none
-    /// of its bytes, or the fault that is met, which comes again at each later call. A packet is lent until the next
-    /// call, and then the stream stands past it. Takes no memory.
+    /// What comes next in the stream: the next packet, `More` where less is left than its length field says, or not
+    /// all of that, or the fault that is met, which is held and comes again at each later call. A packet is lent
+    /// until the next call, and then the stream stands past it. Takes no memory.
     pub fn next(&mut self) -> Next<'_>
         ensures answers { (packets : List (List ℕ)) (bytes : List ℕ)
             → Stands full self.old packets bytes → Answers full packets bytes result }
-        ensures* after { sem 𝓛 (Rests the_row self.entry (λ after. (packets : List (List ℕ)) (bytes : List ℕ)
-            → Stands full self.old packets bytes → Stands full after (taken packets result) bytes)) }
+        ensures* after { sem 𝓛 (Rests the_row self.entry (λ after.
+            ((packets : List (List ℕ)) (bytes : List ℕ)
+            → Stands full self.old packets bytes → Stands full after (taken packets result) bytes)
+            × ((fault : FrameFault) → IsFault fault result → after.fault ≡ Some fault))) }
     {
         self.stream.next(&FullForm {})
     }

@@ -14,8 +14,8 @@ pub record IsBehind (form : Form) (packets : List (List ℕ)) (left bytes : List
   pub each : Frames form 0 packets frames
   pub whole : bytes ≡ frames ++ left
 
--- The buffer stands for a stream of these bytes of which these packets were taken. Of a stream that shows
--- a fault nothing is kept but the fault.
+-- The buffer stands for a stream of these bytes of which these packets were taken. Once a fault was met, the
+-- fault alone tells of what is behind them.
 pub record Stands (form : Form) (held : Held) (packets : List (List ℕ)) (bytes : List ℕ) : Type 0 where
   pub number : held.number ≡ number_after (length packets)
   pub text : MatchOption held.fault (IsBehind form packets held.left bytes) (λ fault. Faulty form packets fault bytes)

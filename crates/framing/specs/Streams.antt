@@ -30,8 +30,8 @@ pub record IsShort (form : Form) (bytes : List ℕ) : Type 0 where
   pub sized : form.sized size bytes
   pub short : length bytes < size
 
--- A proper prefix of a frame, the empty one among them. A frame that isn't whole is judged by its length field
--- alone, as soon as that is there.
+-- A frame that isn't whole yet, the empty text among them. It is judged by its length field alone, as soon as that
+-- is there.
 abbrev pub IsBegun : Form → List ℕ → Type 0
 IsBegun form bytes = form.cut bytes ⊎ IsShort form bytes
 

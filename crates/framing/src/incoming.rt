@@ -29,11 +29,12 @@ impl Model for Incoming {
 }
 
 impl Incoming {
-    ghost use Rattle.std.specs.Prelude.{◌≡◌, List, ℕ, Ok, IfSome, OnOk, OnErr};
+    ghost use Rattle.std.specs.Prelude.{◌≡◌, List, ℕ, Ok, Some, IfSome, OnOk, OnErr};
     ghost use Rattle.std.specs.Borrow.{sem};
+    ghost use Rattle.tl_codec.specs.declared.fault.FrameFault.{FrameFault as StreamFault};
     ghost use Rattle.framing.specs.contracts.incoming.Incoming.{the_row};
     ghost use Rattle.framing.specs.Held.{nothing, with_piece};
-    ghost use Rattle.framing.specs.Holding.{Stands, Answers, Rests, taken};
+    ghost use Rattle.framing.specs.Holding.{Stands, Answers, IsFault, Rests, taken};
 
     /// The buffer of a stream that has no byte yet. Takes no memory.
     pub fn new(alloc: Global) -> Incoming
@@ -79,11 +80,13 @@ impl Incoming {
     }
 
     /// What comes next in the stream. A packet is lent until the stream is used again, and then the stream stands
-    /// past it.
+    /// past it. A fault is held from then on.
     pub fn next<F: Framing>(&mut self, form: &F) -> Next<'_>
         ensures answers { (packets : List (List ℕ)) (bytes : List ℕ) → Stands (F.form form.now) self.old packets bytes → Answers (F.form form.now) packets bytes result }
-        ensures* after { sem 𝓛 (Rests the_row self.entry (λ after. (packets : List (List ℕ)) (bytes : List ℕ)
-            → Stands (F.form form.now) self.old packets bytes → Stands (F.form form.now) after (taken packets result) bytes)) }
+        ensures* after { sem 𝓛 (Rests the_row self.entry (λ after.
+            ((packets : List (List ℕ)) (bytes : List ℕ)
+            → Stands (F.form form.now) self.old packets bytes → Stands (F.form form.now) after (taken packets result) bytes)
+            × ((fault : StreamFault) → IsFault fault result → after.fault ≡ Some fault))) }
     {
         if let Some(fault) = self.fault {
             return Next::Fault(fault);

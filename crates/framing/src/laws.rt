@@ -14,7 +14,7 @@ pub fn constants_of_the_standard()
     ensures { PAYLOAD_MAX ≡ payload_max }
 {}
 
-/// A stream has one reading: its packets and what is left behind them, or its packets and the fault behind them.
+/// A stream has one reading at most: its packets and what is left behind them, or its packets and the fault behind them.
 pub fn one_reading<F: Framing>()
     ensures stream { (form : F) (packets others : List (List ℕ)) (rest other bytes : List ℕ)
         → Stream (F.form form) packets rest bytes → Stream (F.form form) others other bytes → (packets ≡ others) × (rest ≡ other) }

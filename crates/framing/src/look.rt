@@ -14,7 +14,7 @@ pub(crate) enum Look {
         end: usize,
         size: usize,
     },
-    /// A proper prefix of a frame, and maybe none of its bytes.
+    /// Less than its length field says, or that isn't whole; maybe no byte.
     More,
     /// No frame, and no bytes behind it make it one.
     Fault(FrameFault),

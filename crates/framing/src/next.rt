@@ -7,8 +7,8 @@ use tl_codec::FrameFault;
 pub enum Next<'a> {
     /// The next packet, lent from the stream's buffer.
     Packet(&'a [u8]),
-    /// What is left is a proper prefix of a frame, and maybe none of its bytes: more are awaited.
+    /// What is left is less than its length field says, or that isn't whole; maybe it has no byte: more are awaited.
     More,
-    /// What is left is no frame and can't become one.
+    /// What is left shows a fault: no frame begins so.
     Fault(FrameFault),
 }

@@ -24,10 +24,11 @@ abbrev pub each_once : List ℕ → List ℕ
 each_once [] = []
 each_once (number ∷ numbers) = number ∷ filter (λ other. not (other == number)) (each_once numbers)
 
--- the key is a temporary one that is bound to no permanent one now
+-- the key is bound to a permanent one now
 abbrev pub is_bound : ℕ → ℕ → List Binding → Bool
 is_bound now key bindings = list_any (λ binding. (binding.temp == key) && nat_lt now binding.expires) bindings
 
+-- the key is a temporary one that is bound to none now
 abbrev pub is_unbound : {S : Type 0} → Setting S → Speaker S → Bool
 is_unbound setting speaker =
     setting.is_temporary speaker.session.key && not (is_bound setting.now speaker.session.key speaker.bindings)

@@ -1,6 +1,7 @@
 -- All that a server does: events one after the other.
 use Rattle.std.specs.Prelude.{ℕ, max, Option, Some, None, List, [], ◌++◌, fold}
 use Rattle.regs_service.specs.Served.{Step}
+use Rattle.msg_ids.specs.Moments.{moment_of}
 use Rattle.server_rules.specs.Server.{Server, Name, fresh_server}
 use Rattle.server_rules.specs.Event.{Setting, Envelope, Sent, Entry}
 use Rattle.server_rules.specs.Answer.{Answer, after_packet, after_work, after_tick, after_attach, after_loss, after_restart}
@@ -23,9 +24,9 @@ pub record Course (S V : Type 0) : Type 0 where
   pub packets : List Sent
   pub entries : List Entry
 
--- a core uses the greatest moment that it was given
+-- a core uses the greatest moment that it was given, where a later one than the latest counts as that
 abbrev pub setting_at : {S : Type 0} → Setting S → ℕ → Server → Setting S
-setting_at setting moment server = record setting { now = max server.now moment }
+setting_at setting moment server = record setting { now = max server.now (moment_of moment) }
 
 abbrev pub gone_on : {S V : Type 0} → Course S V → V → Answer S → Course S V
 gone_on course service answer =

@@ -24,7 +24,7 @@ says setting item speaker =
     owes_message (numbered setting.now speaker.session.counters item)
     (record speaker { session = record speaker.session { counters = after_item setting.now speaker.session.counters item } })
 
--- it says a kept reply, under the reply's own number, unless it said so in this event
+-- it has said the message of this number in this event
 abbrev pub has_said : {S : Type 0} → ℕ → Speaker S → Bool
 has_said number speaker =
     list_any (λ owed. is_same owed.name (name_of speaker.session) && (owed.message.number == number)) speaker.owed
@@ -32,6 +32,7 @@ has_said number speaker =
 abbrev pub message_of : Reply → Message
 message_of reply = record { number = reply.number; seq = reply.seq; body = (kept_of reply).body }
 
+-- it says a kept reply, under the reply's own number, unless it said so in this event
 abbrev pub says_again : {S : Type 0} → Reply → Speaker S → Speaker S
 says_again reply speaker = if has_said reply.number speaker then speaker else owes_message (message_of reply) speaker
 

@@ -89,14 +89,14 @@ pub fn salts_and_sessions()
     ensures stays { map (λ session. session.number) (shown.destroy 11).sessions ≡ 10 ∷ 9 ∷ [] }
 {}
 
-/// A 257th session takes the place of the one that was heard least recently.
+/// At a server of 256 sessions a further one takes the place of the one that was heard least recently.
 pub fn full_servers()
     ensures { map (λ session. session.number) shown.many_sessions.sessions
         ≡ map (λ session. session.number) (shown.numbered_from 101 255) ++ 9 ∷ [] }
 {}
 
-/// A call to a session of 4,096 unfinished jobs is answered so in place of running, unless its key isn't bound or its query
-/// isn't one for the service.
+/// A call to a session of 4,096 unfinished jobs is answered `JOBS_FULL` in place of running, unless its key isn't bound or
+/// its query isn't one for the service.
 pub fn full_sessions<D: Draw>()
     ensures { (setting : Setting D) (job : Job) (speaker : Speaker D) → is_unbound setting speaker ≡ false
         → query_refusal (constructor_of job.request) ≡ None → most_jobs ≤ job_count job.key job.session speaker.jobs
@@ -125,8 +125,8 @@ pub fn temporary_keys()
     ensures bound { shown.jobs_waiting shown.bound_call ≡ (12, []) ∷ [] }
 {}
 
-/// A tick answers each job that has waited 30 seconds, and no sooner, and after all these the jobs that fail by that. An attach sends all kept replies in order of making, or
-/// that the session is new.
+/// A tick answers each job that has waited 30 seconds, and no sooner, and after all these the jobs that fail by that. An
+/// attach sends all kept replies in order of making, or that the session is new.
 pub fn ticks_and_attaches()
     ensures early { shown.messages_owed (shown.ticked 29) ≡ [] }
     ensures late { shown.calls_entered (shown.ticked 30) ≡ (16, false) ∷ [] }
@@ -150,8 +150,8 @@ pub fn oldest_replies_are_dropped<D: Draw>()
         → IsWithin (kept_replies (answers setting call content speaker).session.replies) }
 {}
 
-/// The marks of a session follow its history and its replies: a further judgement gives its number the first mark of its
-/// outcome, and what becomes of a reply changes no mark but that of its call.
+/// The marks of a session follow its history and its replies: a further judgement of a number without a reply gives it the
+/// first mark of its outcome, and what becomes of a reply changes no mark but that of its call.
 pub fn marks_follow_history()
     ensures noted { (number seq : ℕ) (outcome : Outcome) (history : History) (replies : List Reply) → reply_to number replies ≡ None
         → marks_of (noted number seq outcome history) replies ≡ given number (first_mark outcome) (marks_of history replies) }
