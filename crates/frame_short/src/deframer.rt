@@ -58,8 +58,8 @@ impl Deframer {
     }
 
     /// What comes next in the stream: the next packet, `More` where a proper prefix of a frame is left, and maybe none
-    /// of its bytes, or the fault that is met, which is held and comes again at each later call. A packet is lent until the next
-    /// call, and then the stream stands past it. Takes no memory.
+    /// of its bytes, or the fault that is met, which is held and comes again at each later call. A packet is lent
+    /// until the next call, and then the stream stands past it. Takes no memory.
     pub fn next(&mut self) -> Next<'_>
         ensures answers { (packets : List (List ℕ)) (bytes : List ℕ)
             → Stands abridged self.old packets bytes → Answers abridged packets bytes result }
