@@ -1,3 +1,4 @@
 pub mod PlaceLemmas
 pub mod RemoveLemmas
 pub mod OrderLemmas
+pub mod Halves

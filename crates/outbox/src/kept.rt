@@ -3,7 +3,7 @@
 ghost use Rattle.std.specs.Prelude.{◌≡◌, IfOk};
 ghost use Rattle.std.specs.VecDeque.{deque_capacity};
 
-use bytes::Bytes;
+use crate::body::Body;
 use octets::Memory;
 use std::alloc::Global;
 use std::collections::VecDeque;
@@ -17,12 +17,12 @@ pub struct Kept {
     pub number: u64,
     /// Its own sequence number.
     pub seq: u32,
-    /// Its body, the bytes of an `rpc_result`. Contracts see it as a list of bytes.
-    pub body: Bytes,
+    /// Its body, that of an `rpc_result`. Contracts see it as a list of bytes.
+    pub body: Body,
 }
 
 impl Kept {
-    /// The same reply once more, which shares the body's bytes.
+    /// The same reply once more, which shares the body's rest.
     ///
     /// # Errors
     ///
@@ -34,7 +34,7 @@ impl Kept {
             call: self.call,
             number: self.number,
             seq: self.seq,
-            body: self.body.clone()?,
+            body: self.body.copy()?,
         })
     }
 }

@@ -4,11 +4,13 @@
 //! that is reserved for more; `specs/Replies.antt` says what each call does to that list.
 #![tactic(auto)]
 
+mod body;
 mod kept;
 pub mod laws;
 mod outbox;
 mod rows;
 
+pub use body::{Body, HEAD_BYTES, SHORT_BYTES};
 pub use bytes::Bytes;
 pub use kept::Kept;
 pub use outbox::{KEPT_BYTES_MAX, Outbox};

@@ -3,7 +3,7 @@
 ghost use Rattle.std.specs.Prelude.{◌≡◌, ◌≤◌, true, false, Ok, length, OnErr};
 ghost use Rattle.outbox.specs.Replies.{kept_bytes_max, with_kept, with_room_for};
 
-use crate::{Bytes, KEPT_BYTES_MAX, KEPT_REPLIES_MAX, Kept, Outbox};
+use crate::{Body, Bytes, KEPT_BYTES_MAX, KEPT_REPLIES_MAX, Kept, Outbox};
 use octets::Memory;
 use std::alloc::Global;
 use std::test::Fail;
@@ -42,7 +42,7 @@ fn calls(outbox: &Outbox) -> [Option<u64>; 4] {
 
 #[test]
 fn seventeen_replies(rt: HostRuntime) -> Result<(), Fail> {
-    let body: Bytes = Bytes::copy_from_slice(rt.alloc(), &[0; 262_156])?;
+    let body = Body::shared([0; 12], Bytes::copy_from_slice(rt.alloc(), &[0; 262_144])?);
     let mut outbox = Outbox::new(rt.alloc())?;
     let mut dropped = Vec::new(rt.alloc());
     for k in 1..18u64 {
@@ -53,7 +53,7 @@ fn seventeen_replies(rt: HostRuntime) -> Result<(), Fail> {
             call: 4 * k,
             number: 4 * k + 1,
             seq: 1,
-            body: body.clone()?,
+            body: body.copy()?,
         };
         if body.len() == 262_156 {
             assert_eq!(rt; keep_or_drop(&mut outbox, rt.alloc(), kept)?, true);
