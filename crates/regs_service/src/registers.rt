@@ -1,7 +1,8 @@
 //! The registers.
 
-ghost use Rattle.std.specs.Prelude.{◌≡◌, ◌≤◌, true, length, IfOk, OnOk, OnErr};
+ghost use Rattle.std.specs.Prelude.{◌≡◌, ◌≤◌, true, length, IfOk, IfErr, OnOk, OnErr};
 ghost use Rattle.regs_service.specs.Served.{IsReply};
+ghost use Rattle.regs_service.specs.Replies as replies;
 ghost use Rattle.regs_service.specs.Registers as registers;
 ghost use Rattle.regs_service.specs.Kept.{sums_of};
 
@@ -75,6 +76,22 @@ impl Regs {
         Ok(())
     }
 
+    // The sum of a name after an add, or why it is refused.
+    fn sum_after(&self, name: &[u8], amount: u64) -> Result<u64, Refusal>
+        ensures sum { IfOk result (λ sum. registers.added self.now name.now amount ≡ (replies.value_reply sum, registers.with_sum self.now name.now sum)) }
+        ensures place { OnOk result (registers.has_place self.now name.now ≡ true) }
+        ensures refused { IfErr result (λ refusal. registers.added self.now name.now amount ≡ (replies.refused refusal, self.now)) }
+    {
+        let Some(sum) = self.find(name).unwrap_or(0).checked_add(amount) else {
+            return Err(Refusal::TooLarge);
+        };
+        if self.has_place(name) {
+            Ok(sum)
+        } else {
+            Err(Refusal::TooMany)
+        }
+    }
+
     // Adds to a name's sum. The reply is there before the sum changes.
     fn add(&mut self, alloc: Global, name: &[u8], amount: u64) -> Result<Octets, Memory>
         ensures reply { IfOk result (λ reply. reply ≡ (registers.added self.old name.now amount).0) }
@@ -82,12 +99,10 @@ impl Regs {
         ensures after { OnOk result (self.new ≡ (registers.added self.old name.now amount).1) }
         ensures unchanged_on_memory { OnErr result (self.new ≡ self.old) }
     {
-        let Some(sum) = self.find(name).unwrap_or(0).checked_add(amount) else {
-            return error_reply(alloc, Refusal::TooLarge);
+        let sum = match self.sum_after(name, amount) {
+            Ok(sum) => sum,
+            Err(refusal) => return error_reply(alloc, refusal),
         };
-        if !self.has_place(name) {
-            return error_reply(alloc, Refusal::TooMany);
-        }
         let reply = value_reply(alloc, sum)?;
         self.put(alloc, name, sum)?;
         Ok(reply)
@@ -117,6 +132,18 @@ impl Service for Regs {
         Ok(Regs {
             sums: copy_of(&self.sums)?,
         })
+    }
+
+    fn foresee(&self, alloc: Global, request: &[u8]) -> Result<Octets, NoMemory> {
+        let reply = match read(request) {
+            Some(Request::Add { name, amount }) => match self.sum_after(name, amount) {
+                Ok(sum) => value_reply(alloc, sum)?,
+                Err(refusal) => error_reply(alloc, refusal)?,
+            },
+            Some(Request::Get { name }) => value_reply(alloc, self.find(name).unwrap_or(0))?,
+            None => error_reply(alloc, Refusal::BadRequest)?,
+        };
+        Ok(reply)
     }
 
     fn run(&mut self, alloc: Global, request: &[u8]) -> Result<Octets, NoMemory> {

@@ -60,6 +60,16 @@ pub trait Service: Sized + Drop {
     fn copy(&self, alloc: Global) -> Result<Self, NoMemory>
         ensures { IfOk result (λ copy. copy ≡ self.now) };
 
+    /// The reply that [`Service::run`] would give to a request now. So who has to keep the reply takes the memory for it
+    /// before the service runs.
+    ///
+    /// # Errors
+    ///
+    /// `NoMemory`.
+    fn foresee(&self, alloc: Global, request: &[u8]) -> Result<Octets, NoMemory>
+        ensures reply { IfOk result (λ reply. reply ≡ (step self.now request.now).0) }
+        ensures sized { IfOk result IsReply };
+
     /// Runs a request, the bytes of a call's body, and gives its reply: whole words of 4 bytes, at most
     /// 262,144 bytes.
     ///

@@ -83,6 +83,8 @@ fn sums_and_refusals(rt: HostRuntime) -> Result<(), Fail> {
     ];
     let mut regs = Regs::fresh(alloc);
     for (request, want) in rows {
+        let foreseen = regs.foresee(alloc, request)?;
+        assert_eq!(rt; foreseen.as_slice(), want);
         let reply = regs.run(alloc, request)?;
         assert_eq!(rt; reply.as_slice(), want);
     }
