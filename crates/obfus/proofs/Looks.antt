@@ -1,9 +1,9 @@
 -- What is sent begins as nothing else.
-use Rattle.std.proofs.Common.{◌≡◌, ℕ, ◌<◌, ◌≤◌, ◌+◌, List, [], ◌∷◌, ◌++◌, take, drop, length, refl, sym, ap, ap₂, ◌∙◌, arith, true, false, Bool, Option}
-use Rattle.std.proofs.lemmas.List.{take-take, drop-take, take_at, length-take-le}
+use Rattle.std.proofs.Common.{◌≡◌, ℕ, ◌≤◌, List, [], ◌∷◌, take, length, refl, sym, ap, ◌∙◌, arith, true, false, Bool, Option}
+use Rattle.std.proofs.lemmas.List.{take-take}
 use Rattle.std.specs.Prelude.{◌||◌, slice_set, if◌then◌else◌, nat_eq, replicate}
 use Rattle.std.specs.List.{starts_with}
-use Rattle.obfus.specs.Starts.{begins_as_another, begins_full, begins_plain, abridged_start, head_start, post_start, get_start, options_start, tls_start, padded_start, intermediate_start, first_mended, next_mended, tag_bytes, marked, start_of}
+use Rattle.obfus.specs.Starts.{begins_as_another, begins_full, begins_plain, abridged_start, head_start, post_start, get_start, options_start, tls_start, padded_start, intermediate_start, first_mended, next_mended, start_of}
 use Rattle.obfus.specs.Streams.{ciphered}
 use Rattle.obfus.specs.declared.tag.Tag.{Tag}
 use Rattle.obfus.proofs.Undone.{length-first, sent_front, start_long, start_front}

@@ -1,6 +1,6 @@
 -- Parts of a start, by their places.
-use Rattle.std.proofs.Common.{◌≡◌, ℕ, suc, ◌<◌, ◌≤◌, ◌+◌, List, [], ◌∷◌, ◌++◌, take, drop, length, reverse, refl, sym, ap, ap₂, ◌∙◌, arith, append_assoc, length-drop}
-use Rattle.std.proofs.lemmas.List.{take_at, drop_at, take_all, drop-drop, take-append-drop, take-append-le, drop-append-le, length-take-le, length-append, length-reverse, reverse-append, drop_all}
+use Rattle.std.proofs.Common.{◌≡◌, ℕ, suc, ◌≤◌, ◌+◌, List, [], ◌∷◌, ◌++◌, take, drop, length, refl, sym, ap, ap₂, ◌∙◌, arith, append_assoc, length-drop}
+use Rattle.std.proofs.lemmas.List.{take_at, drop_at, drop-drop, take-append-le, drop-append-le, length-take-le, length-append}
 use Rattle.std.specs.Prelude.{bit_xor}
 use Rattle.cipher_modes.specs.CounterMode.{ctr_stream, xor_stream, CtrState, applied}
 

@@ -1,10 +1,10 @@
 -- What is sent is deciphered, and read.
-use Rattle.std.proofs.Common.{◌≡◌, ℕ, ◌<◌, ◌≤◌, ◌+◌, ◌^◌, List, ◌++◌, take, drop, length, reverse, refl, sym, ap, ap₂, ◌∙◌, arith, true, false, Bool, Option}
+use Rattle.std.proofs.Common.{◌≡◌, ℕ, ◌<◌, ◌+◌, ◌^◌, List, ◌++◌, take, drop, length, reverse, refl, sym, ap, ap₂, ◌∙◌, arith, true, false, Bool, Option}
 use Rattle.std.specs.Prelude.{slice_range, slice_set, if◌then◌else◌}
 use Rattle.std.specs.Int.{w16, to_le_bytes, from_le_bytes}
 use Rattle.std.proofs.lemmas.List.{take_at, drop_at, take-append-drop, length-take-le, length-append, length-reverse, reverse-append, length-drop, length-set}
 use Rattle.cipher_modes.specs.CounterMode.{CtrState, applied}
-use Rattle.obfus.specs.Starts.{begins_as_another, begins_full, first_mended, next_mended, tag_bytes, marked, start_of}
+use Rattle.obfus.specs.Starts.{begins_as_another, begins_full, first_mended, next_mended, tag_bytes, start_of}
 use Rattle.obfus.specs.Streams.{key_of, up_stream, down_stream, ciphered}
 use Rattle.obfus.specs.Reads.{Reads}
 use Rattle.obfus.specs.declared.tag.Tag.{Tag}
@@ -172,7 +172,11 @@ dc_read dc fits = omega arith
 
 pub read_back : UndoesItself → (secret : Option (List ℕ)) (tag : Tag) (dc : ℕ) (drawn : List ℕ) → length drawn ≡ 64 → dc < 2 ^ 16
     → Reads secret (ciphered secret (start_of tag dc drawn)) (record {
-        tag = tag; dc = dc; up = up_stream secret (start_of tag dc drawn) 64; down = down_stream secret (start_of tag dc drawn) 0 })
+      tag = tag;
+      dc = dc;
+      up = up_stream secret (start_of tag dc drawn) 64;
+      down = down_stream secret (start_of tag dc drawn) 0;
+    })
 read_back undone secret tag dc drawn long fits =
     let start : List ℕ = start_of tag dc drawn in
     let start_long' : length start ≡ 64 = start_long tag dc drawn long in

@@ -28,7 +28,11 @@ pub fn ciphering_undoes_itself()
 pub fn starts_are_read()
     ensures { (secret : Option (List ℕ)) (tag : Tag) (dc : ℕ) (drawn : List ℕ) → length drawn ≡ 64 → dc < 2 ^ 16
         → Reads secret (ciphered secret (start_of tag dc drawn)) (record {
-            tag = tag; dc = dc; up = up_stream secret (start_of tag dc drawn) 64; down = down_stream secret (start_of tag dc drawn) 0 }) }
+          tag = tag;
+          dc = dc;
+          up = up_stream secret (start_of tag dc drawn) 64;
+          down = down_stream secret (start_of tag dc drawn) 0;
+        }) }
 {
     ctr_undoes_itself();
 }

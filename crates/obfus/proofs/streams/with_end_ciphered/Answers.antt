@@ -1,4 +1,4 @@
-use Rattle.std.proofs.Common.{◌≡◌, ◌++◌, ◌∙◌, ap, ap₂, List, [], ℕ, arith, length, take, drop, length-drop, append-nil}
+use Rattle.std.proofs.Common.{◌≡◌, ◌++◌, ◌∙◌, ap, ap₂, List, [], ℕ, arith, take, drop, length-drop, append-nil}
 use Rattle.std.proofs.lemmas.List.{take_all, drop_all}
 use Rattle.cipher_modes.specs.CounterMode.{applied}
 use Rattle.obfus.proofs.Parts.{length-applied}
