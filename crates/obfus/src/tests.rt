@@ -125,20 +125,20 @@ fn a_start_without_its_secret(rt: HostRuntime) -> Result<(), Fail> {
 // The first four bytes that no start may have, and some that it may.
 #[test]
 fn first_bytes(rt: HostRuntime) {
-    let rows = [
-        (5_383_791_521_531_687_434, [0x01, 0x00, 0x00, 0x00]),
-        (6_192_201_290_120_226_663, *b"\x01EAD"),
-        (10_715_563_388_864_732_815, *b"\x01OST"),
-        (6_431_618_291_855_638_210, *b"\x01ET "),
-        (10_117_145_984_160_373_482, *b"\x01PTI"),
-        (14_963_223_826_458_373_421, [0x01, 0x03, 0x01, 0x02]),
-        (7_510_082_978_430_617_456, [0x01, 0xdd, 0xdd, 0xdd]),
-        (3_138_705_716_797_845_349, [0x01, 0xee, 0xee, 0xee]),
-        (11_354_016_309_052_406_927, *b"PUT "),
+    let rows: [(u64, &[u8]); 9] = [
+        (5_383_791_521_531_687_434, b"\x01\0\0\0"),
+        (6_192_201_290_120_226_663, b"\x01EAD"),
+        (10_715_563_388_864_732_815, b"\x01OST"),
+        (6_431_618_291_855_638_210, b"\x01ET "),
+        (10_117_145_984_160_373_482, b"\x01PTI"),
+        (14_963_223_826_458_373_421, b"\x01\x03\x01\x02"),
+        (7_510_082_978_430_617_456, b"\x01\xdd\xdd\xdd"),
+        (3_138_705_716_797_845_349, b"\x01\xee\xee\xee"),
+        (11_354_016_309_052_406_927, b"PUT "),
     ];
     for (place, first) in rows {
         let made = Init::make(&mut words_from(place), Tag::Abridged, 1);
-        assert!(rt; made.wire.starts_with(&first), "at {place}");
+        assert!(rt; made.wire.starts_with(first), "at {place}");
         assert_eq!(rt; made.wire[4], 1);
     }
 }
