@@ -1,5 +1,5 @@
 -- What each short answer says.
-use Rattle.std.specs.Prelude.{ℕ, List, Bool, true}
+use Rattle.std.specs.Prelude.{ℕ, List}
 use Rattle.service_tl.specs.declared.item.Item.TheVariants.{RpcAnswerUnknown}
 use Rattle.service_tl.specs.Items.{spelling_of}
 use Rattle.server_rules.specs.Speaking as speaking

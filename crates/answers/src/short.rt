@@ -33,6 +33,7 @@ pub enum Short {
 
 impl Short {
     /// The content of the `rpc_result`. Takes no memory.
+    #[tactic(auto, unfolding(tl_codec::specs::Spelling::spelling))]
     pub fn content(self) -> &'static [u8]
         ensures content { result.now ≡ content_of self }
         ensures words { length (content_of self) % 4 ≡ 0 }
@@ -62,6 +63,7 @@ impl Short {
     }
 
     /// Whether a call that is answered so counts as answered well.
+    #[tactic(auto, unfolding(tl_codec::specs::Spelling::spelling))]
     pub fn is_good(self) -> bool
         ensures { result ≡ is_good (content_of self) }
     {

@@ -153,7 +153,10 @@ impl Inbox {
         Ok(Octets::from(states))
     }
 
-    fn state(&self, number: u64) -> u8
+    /// The byte for one number: how far its message is
+    /// (core.telegram.org/mtproto/service_messages_about_messages, "Informational Message regarding Status of Messages").
+    /// Takes no memory.
+    pub fn state(&self, number: u64) -> u8
         ensures { (history : History) (marks : Marks) → Stands self.now history marks → result ≡ state_byte history marks number }
     {
         room_counts_nothing();
