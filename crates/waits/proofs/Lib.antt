@@ -3,3 +3,5 @@ pub mod Places
 pub mod Limits
 pub mod Counts
 pub mod Taken
+pub mod Tallies
+pub mod Searches
