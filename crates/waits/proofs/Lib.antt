@@ -5,3 +5,4 @@ pub mod Counts
 pub mod Taken
 pub mod Tallies
 pub mod Searches
+pub mod Answering

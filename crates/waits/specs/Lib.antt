@@ -3,3 +3,4 @@ pub mod Jobs
 pub mod Held
 pub mod Wanted
 pub mod Tallies
+pub mod Answers
