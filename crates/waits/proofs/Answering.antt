@@ -1,9 +1,9 @@
 -- A job that is ready after answers was named by a good one for each number that it waited for.
-use Rattle.std.proofs.Common.{◌≡◌, ◌∙◌, ℕ, Bool, true, false, not, ◌&&◌, ◌||◌, ◌==◌, cond, if◌then◌else◌, List, [], ◌∷◌, map, ap, sym, refl, subst, arith}
+use Rattle.std.proofs.Common.{◌≡◌, ◌∙◌, ℕ, Bool, true, false, not, ◌&&◌, ◌||◌, ◌==◌, cond, if◌then◌else◌, List, [], ◌∷◌, map, ap, sym, refl, subst}
 use Rattle.std.specs.List.{filter, list_any}
-use Rattle.std.proofs.lemmas.Bool.{eqb-true, eqb-false, eq-eqb, ne_eqb, and_parts}
+use Rattle.std.proofs.lemmas.Bool.{eqb-true, and_parts}
 use Rattle.waits.specs.declared.job.Unfinished.{Unfinished}
-use Rattle.waits.specs.Jobs.{Queue, is_of, is_empty, is_ready, told, waits_for, after_answer, settled, first_job, without_first, without_ready, without_session}
+use Rattle.waits.specs.Jobs.{Queue, is_of, is_empty, is_ready, told, waits_for, after_answer, settled, without_first}
 use Rattle.waits.specs.Answers.{Answer, after_answers, all_settled, awaits, is_well}
 
 -- ---- all jobs are told the same

@@ -1,9 +1,7 @@
 -- How many jobs are ready and how many aren't, and what follows where all are.
-use Rattle.std.proofs.Common.{◌≡◌, ◌∙◌, ℕ, zero, suc, ◌+◌, ◌<◌, ◌≤◌, Bool, true, false, not, ◌&&◌, List, [], ◌∷◌, ◌++◌, length, get_or, remove, map, None, ap, sym, refl, arith}
-use Rattle.std.proofs.lemmas.Bool.{and_parts}
-use Rattle.std.specs.List.{list_any}
+use Rattle.std.proofs.Common.{◌≡◌, ℕ, zero, suc, ◌+◌, ◌<◌, ◌≤◌, Bool, true, false, not, [], ◌∷◌, length, get_or, remove, ap, refl, arith}
 use Rattle.waits.specs.declared.job.Unfinished.{Unfinished}
-use Rattle.waits.specs.Jobs.{Queue, is_of, is_empty, is_waiting, is_ready, one_if, total, told, waits_for, after_answer, settled, ready_count, blocked_count, first_job, without_first}
+use Rattle.waits.specs.Jobs.{Queue, is_ready, one_if, total, ready_count, blocked_count}
 
 pub one_if_le : (holds : Bool) → one_if holds ≤ 1
 one_if_le true = omega arith

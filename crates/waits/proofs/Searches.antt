@@ -1,10 +1,9 @@
 -- What is found, and what a call changes, where no job is of the kind that it looks for.
-use Rattle.std.proofs.Common.{◌≡◌, ◌∙◌, ℕ, zero, suc, ◌+◌, ◌-◌, ◌<◌, ◌≤◌, Bool, true, false, not, ◌&&◌, ◌||◌, ◌==◌, cond, List, [], ◌∷◌, ◌++◌, length, get_or, take, remove, map, None, ap, sym, refl, subst, arith}
-use Rattle.std.proofs.lemmas.Bool.{and_parts}
+use Rattle.std.proofs.Common.{◌≡◌, ◌∙◌, ℕ, zero, suc, ◌+◌, ◌-◌, ◌<◌, ◌≤◌, Bool, true, false, not, ◌&&◌, ◌==◌, cond, List, [], ◌∷◌, ◌++◌, length, get_or, take, remove, map, ap, sym, refl, subst, arith}
 use Rattle.std.proofs.lemmas.List.{take-append-le, length-append}
-use Rattle.std.specs.List.{filter, list_any}
+use Rattle.std.specs.List.{list_any}
 use Rattle.waits.specs.declared.job.Unfinished.{Unfinished}
-use Rattle.waits.specs.Jobs.{Queue, is_of, is_call, is_empty, is_waiting, is_ready, has_failed, one_if, total, told, waits_for, after_answer, settled, without_session, job_count, waiting_count, ready_count, blocked_count, failed_count, first_job, without_first, accepted, job_bytes, load_of, AreWithinLimits}
+use Rattle.waits.specs.Jobs.{Queue, is_of, is_call, is_empty, is_waiting, is_ready, has_failed, one_if, total, waits_for, after_answer, settled, without_session, job_count, waiting_count, ready_count, blocked_count, failed_count, accepted, job_bytes, load_of, AreWithinLimits}
 use Rattle.waits.specs.declared.tally.Tally.{Tally}
 use Rattle.waits.specs.Tallies.{IsTallied, Stands}
 use Rattle.waits.specs.declared.job.Job.{Job}
@@ -124,7 +123,7 @@ passed_less xs (suc n) i none =
     rw (suc-minus-one n) fewer
 
 pub passed_put : (xs : Queue) (x : Unfinished) (n : ℕ) → n ≤ length xs → ready_count (take n xs) ≡ 0 → ready_count (take n (xs ++ x ∷ [])) ≡ 0
-passed_put xs x n within none = ap ready_count (take-append-le n xs (x ∷ [])  within) ∙ none
+passed_put xs x n within none = ap ready_count (take-append-le n xs (x ∷ []) within) ∙ none
 
 -- ---- what stands where a job is taken out
 

@@ -1,5 +1,5 @@
 -- Tallies stay right where a job comes, goes or is told.
-use Rattle.std.proofs.Common.{◌≡◌, ◌∙◌, ℕ, zero, suc, ◌+◌, ◌-◌, ◌<◌, ◌≤◌, Bool, true, false, not, ◌&&◌, ◌||◌, ◌==◌, cond, nat_lt, if◌then◌else◌, List, [], ◌∷◌, ◌++◌, length, get_or, remove, map, ap, sym, refl, subst, arith}
+use Rattle.std.proofs.Common.{◌≡◌, ◌∙◌, ℕ, ◌+◌, ◌-◌, ◌<◌, ◌≤◌, Bool, true, false, not, ◌&&◌, ◌||◌, ◌==◌, cond, nat_lt, if◌then◌else◌, List, [], ◌∷◌, ◌++◌, length, get_or, remove, map, ap, sym, refl, subst, arith}
 use Rattle.std.specs.List.{filter, list_any}
 use Rattle.std.proofs.lemmas.Bool.{eqb-true, eqb-false, eq-eqb, ne_eqb, ltb-false, and_parts}
 use Rattle.std.proofs.lemmas.List.Folds.{list_any-append}
@@ -236,11 +236,11 @@ tallied_put xs tallies x tally load waits tallied is loads waiting =
     let tally' : Tally = record { key = tally.key; session = tally.session; count = tally.count + 1; bytes = tally.bytes + load; waiting = tally.waiting + waits } in
     let elsewhere : SameElsewhere key session xs (xs ++ x ∷ []) = record {
       same = λ other other_session apart.
-      (let none = measures_by other other_session x false apart in
-      let same_count = total_push (counts other other_session) xs x in
-      let same_bytes = total_push (weighs other other_session) xs x in
-      let same_waiting = total_push (awaits other other_session) xs x in
-      (omega (arith, none.one), omega (arith, none.load), omega (arith, none.waits)));
+          (let none = measures_by other other_session x false apart in
+          let same_count = total_push (counts other other_session) xs x in
+          let same_bytes = total_push (weighs other other_session) xs x in
+          let same_waiting = total_push (awaits other other_session) xs x in
+          (omega (arith, none.one), omega (arith, none.load), omega (arith, none.waits)));
     } in
     tallied_stored xs (xs ++ x ∷ []) tallies tally' tallied
     (right_at (xs ++ x ∷ []) key session tally' there.of_key there.of_session (omega (arith, there.count, own.one)) (omega (arith, there.bytes, own.load)) (omega (arith, there.waiting, own.waits)))
@@ -282,11 +282,11 @@ tallied_taken xs tallies i x tally load waits tallied within at is loads waiting
     let tally' : Tally = record { key = tally.key; session = tally.session; count = tally.count - 1; bytes = tally.bytes - load; waiting = tally.waiting - waits } in
     let elsewhere : SameElsewhere key session xs (remove xs i) = record {
       same = λ other other_session apart.
-      (let none = measures_by other other_session x false apart in
-      let same_count = total_without (counts other other_session) xs i x within at in
-      let same_bytes = total_without (weighs other other_session) xs i x within at in
-      let same_waiting = total_without (awaits other other_session) xs i x within at in
-      (omega (arith, none.one), omega (arith, none.load), omega (arith, none.waits)));
+          (let none = measures_by other other_session x false apart in
+          let same_count = total_without (counts other other_session) xs i x within at in
+          let same_bytes = total_without (weighs other other_session) xs i x within at in
+          let same_waiting = total_without (awaits other other_session) xs i x within at in
+          (omega (arith, none.one), omega (arith, none.load), omega (arith, none.waits)));
     } in
     tallied_stored xs (remove xs i) tallies tally' tallied
     (right_at (remove xs i) key session tally' there.of_key there.of_session (omega (arith, there.count, own.one)) (omega (arith, there.bytes, own.load)) (omega (arith, there.waiting, own.waits)))
@@ -316,9 +316,9 @@ total_same measure f same (x ∷ xs) = let here = same x in let later = total_sa
 pub settled_elsewhere : (key session number : ℕ) (ok : Bool) (xs : Queue) → SameElsewhere key session xs (settled key session number ok xs)
 settled_elsewhere key session number ok xs = record {
   same = λ other other_session apart.
-  (let told_by = λ (x : Unfinished). measures_told key session number other other_session ok x (waits_for key session number x) refl apart in
-  let f = after_answer key session number ok in
-  (total_same (counts other other_session) f (λ x. (told_by x).0) xs, total_same (weighs other other_session) f (λ x. (told_by x).1) xs, total_same (awaits other other_session) f (λ x. (told_by x).2) xs));
+      (let told_by = λ (x : Unfinished). measures_told key session number other other_session ok x (waits_for key session number x) refl apart in
+      let f = after_answer key session number ok in
+      (total_same (counts other other_session) f (λ x. (told_by x).0) xs, total_same (weighs other other_session) f (λ x. (told_by x).1) xs, total_same (awaits other other_session) f (λ x. (told_by x).2) xs));
 }
 
 pub tallied_again : (xs ys : Queue) (tallies : List Tally) (key session : ℕ) → IsTallied xs tallies → SameElsewhere key session xs ys → IsTallied ys (stored (counted_in ys key session) tallies)
@@ -349,9 +349,9 @@ apart_of key session other other_session x apart own =
 forgotten_elsewhere : (key session : ℕ) (xs : Queue) → SameElsewhere key session xs (without_session key session xs)
 forgotten_elsewhere key session xs = record {
   same = λ other other_session apart.
-  (let keeps = λ (x : Unfinished). not (is_of key session x) in
-  let none = λ (x : Unfinished) (own : keeps x ≡ false). measures_by other other_session x false (apart_of key session other other_session x apart own) in
-  (total_filtered (counts other other_session) keeps (λ x own. (none x own).one) xs, total_filtered (weighs other other_session) keeps (λ x own. (none x own).load) xs, total_filtered (awaits other other_session) keeps (λ x own. (none x own).waits) xs));
+      (let keeps = λ (x : Unfinished). not (is_of key session x) in
+      let none = λ (x : Unfinished) (own : keeps x ≡ false). measures_by other other_session x false (apart_of key session other other_session x apart own) in
+      (total_filtered (counts other other_session) keeps (λ x own. (none x own).one) xs, total_filtered (weighs other other_session) keeps (λ x own. (none x own).load) xs, total_filtered (awaits other other_session) keeps (λ x own. (none x own).waits) xs));
 }
 
 none_kept : (key session : ℕ) (x : Unfinished) (own : Bool) (ys : Queue) → is_of key session x ≡ own → job_count key session ys ≡ 0 → job_count key session (cond (not own) (x ∷ ys) ys) ≡ 0

@@ -1,6 +1,6 @@
 -- What is kept beside the jobs, so that few calls walk them: words of private contracts, which are no promise of this
 -- crate.
-use Rattle.std.specs.Prelude.{◌≡◌, ℕ, ◌+◌, ◌<◌, ◌≤◌, Bool, true, false, not, ◌==◌, ◌&&◌, nat_lt, if◌then◌else◌, unwrap_or, List, [], ◌∷◌, ◌++◌, length, take, find}
+use Rattle.std.specs.Prelude.{◌≡◌, ℕ, ◌≤◌, Bool, false, not, ◌==◌, ◌&&◌, nat_lt, if◌then◌else◌, unwrap_or, List, [], ◌∷◌, ◌++◌, length, take, find}
 use Rattle.std.specs.List.{filter, list_any}
 use Rattle.waits.specs.declared.tally.Tally.{Tally}
 use Rattle.waits.specs.Jobs.{Queue, job_count, job_bytes, waiting_count, ready_count, blocked_count, failed_count, AreWithinLimits}

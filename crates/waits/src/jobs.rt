@@ -25,6 +25,9 @@ pub const JOB_BYTES_MAX: usize = 4_194_304;
 pub const WAIT_SECONDS: u64 = 30;
 
 /// The unfinished jobs of a server, in order of acceptance over all sessions.
+///
+/// A count of each session's jobs is kept beside them. So what is asked of a session with no job, or told to one of which
+/// none waits, looks at no job, nor does a load, and a search for a ready job begins behind those that were passed.
 #[derive(Debug, Drop)]
 pub struct Jobs {
     queue: VecDeque<Unfinished>,
@@ -116,8 +119,11 @@ impl Jobs {
         ensures others { self.new ≡ record self.old { jobs = without_ready k self.old.jobs } }
     {
         let place = queue::ready_place(&self.queue, self.passed, k);
-        let Unfinished { job, failed: _ } =
-            queue::take_out(&mut self.queue, &mut self.tallies, place);
+        let Unfinished { job, failed: _ } = queue::take_out(
+            &mut self.queue,
+            &mut self.tallies,
+            place,
+        );
         if k == 0 {
             self.passed = place;
         }
@@ -130,14 +136,7 @@ impl Jobs {
         ensures { self.new ≡ record self.old { jobs = settled key session number ok self.old.jobs } }
     {
         if tally::find(&self.tallies, key, session).waiting > 0 {
-            queue::settle_counted(
-                &mut self.queue,
-                &mut self.tallies,
-                key,
-                session,
-                number,
-                ok,
-            );
+            queue::settle_counted(&mut self.queue, &mut self.tallies, key, session, number, ok);
             self.blocked = queue::count_of(&self.queue, &Wanted::Blocked);
             self.failing = queue::count_of(&self.queue, &Wanted::Failed);
             self.passed = 0;

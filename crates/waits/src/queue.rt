@@ -145,13 +145,7 @@ pub(crate) fn ready_place(queue: &VecDeque<Unfinished>, passed: usize, k: usize)
 }
 
 /// Tells all jobs that a call was answered.
-fn settle_all(
-    queue: &mut VecDeque<Unfinished>,
-    key: u64,
-    session: u64,
-    number: u64,
-    ok: bool,
-)
+fn settle_all(queue: &mut VecDeque<Unfinished>, key: u64, session: u64, number: u64, ok: bool)
     requires { AreWithinLimits queue.old.items }
     ensures settled { queue.new.items ≡ settled key session number ok queue.old.items }
     ensures limits { AreWithinLimits queue.new.items }

@@ -1,4 +1,4 @@
-use Rattle.std.proofs.Common.{◌≡◌, ◌≤◌, ◌∙◌, Bool, ap, arith}
+use Rattle.std.proofs.Common.{◌≡◌, ◌≤◌, ◌∙◌, ap, arith}
 use Rattle.waits.specs.Jobs.{one_if}
 use Rattle.waits.specs.Wanted.{is_wanted}
 use Rattle.waits.specs.declared.job.Unfinished.{Unfinished}

@@ -1,4 +1,4 @@
-use Rattle.std.proofs.Common.{◌≡◌, sym, subst}
+use Rattle.std.proofs.Common.{sym, subst}
 use Rattle.waits.specs.Jobs.{Queue}
 use Rattle.waits.specs.Tallies.{IsTallied}
 use Rattle.waits.proofs.Tallies.{tallied_without}

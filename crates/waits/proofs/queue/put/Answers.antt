@@ -1,8 +1,6 @@
-use Rattle.std.proofs.Common.{◌≡◌, ◌∙◌, ◌+◌, ◌∷◌, ◌++◌, [], Bool, not, ap, sym, subst, arith}
-use Rattle.std.specs.List.{list_any}
-use Rattle.waits.specs.declared.tally.Tally.{Tally}
+use Rattle.std.proofs.Common.{◌≡◌, ◌∙◌, ap, sym, subst, arith}
 use Rattle.waits.specs.Jobs.{Queue, is_waiting, one_if}
-use Rattle.waits.specs.Tallies.{is_tally_of, stored, IsTallied}
+use Rattle.waits.specs.Tallies.{IsTallied}
 use Rattle.waits.proofs.Tallies.{tallied_put, found_at, waiting_le}
 use Rattle.waits.proofs.Counts.{one_if_le}
 use Rattle.waits.proofs.queue.put.Goals as goal

@@ -1,8 +1,7 @@
-use Rattle.std.proofs.Common.{◌≡◌, ◌∙◌, Bool, true, not, ap, sym, subst, arith}
-use Rattle.std.specs.List.{list_any}
+use Rattle.std.proofs.Common.{◌≡◌, ◌∙◌, ap, sym, subst}
 use Rattle.waits.specs.declared.tally.Tally.{Tally}
-use Rattle.waits.specs.Jobs.{Queue, one_if, settled}
-use Rattle.waits.specs.Tallies.{is_tally_of, stored, counted_in, IsTallied}
+use Rattle.waits.specs.Jobs.{Queue, settled}
+use Rattle.waits.specs.Tallies.{stored, counted_in, IsTallied}
 use Rattle.waits.proofs.Tallies.{tallied_again, settled_elsewhere}
 use Rattle.waits.proofs.queue.settle_counted.Goals as goal
 

@@ -1,4 +1,4 @@
-use Rattle.std.proofs.Common.{◌≡◌, ◌∙◌, ◌+◌, ◌<◌, Bool, true, false, not, get_or, remove, Option, ap, sym, subst, arith}
+use Rattle.std.proofs.Common.{◌≡◌, ◌∙◌, Bool, true, false, not, get_or, remove, Option, ap, sym, subst, arith}
 use Rattle.std.specs.Option.{OnSome}
 use Rattle.std.specs.List.{list_any}
 use Rattle.waits.specs.declared.job.Unfinished.{Unfinished}

@@ -1,6 +1,6 @@
-use Rattle.std.proofs.Common.{◌≡◌, ◌∙◌, ◌+◌, ◌&&◌, Bool, if◌then◌else◌, take, ap, sym, arith}
-use Rattle.waits.specs.Jobs.{is_of, is_waiting, one_if, load_of}
-use Rattle.waits.proofs.Totals.{total_take_more, total_take_le, total_take_all}
+use Rattle.std.proofs.Common.{◌≡◌, ◌∙◌, ◌+◌, Bool, if◌then◌else◌, take, ap, sym, arith}
+use Rattle.waits.specs.Jobs.{is_of, one_if, load_of}
+use Rattle.waits.proofs.Totals.{total_take_more, total_take_le}
 use Rattle.waits.proofs.Limits.{counts, weighs}
 use Rattle.waits.proofs.Tallies.{awaits, measures_by, waiting_le}
 use Rattle.waits.proofs.Counts.{one_if_le}

@@ -1,7 +1,6 @@
-use Rattle.std.proofs.Common.{◌≡◌, ◌∙◌, ◌<◌, ◌≤◌, ◌+◌, Bool, true, false, not, length, vec_len, vec_capacity, refl, ap, arith}
+use Rattle.std.proofs.Common.{length, vec_len, vec_capacity, refl, ap, arith}
 use Rattle.std.specs.List.{list_any}
-use Rattle.waits.specs.Jobs.{one_if}
-use Rattle.waits.specs.Tallies.{is_tally_of, without_tally}
+use Rattle.waits.specs.Tallies.{is_tally_of}
 use Rattle.waits.proofs.Tallies.{shorter, room_by}
 use Rattle.waits.proofs.Counts.{one_of_two}
 use Rattle.waits.proofs.tally.store.Goals as goal

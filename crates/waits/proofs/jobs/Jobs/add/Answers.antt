@@ -1,11 +1,9 @@
-use Rattle.std.proofs.Common.{◌≡◌, ◌∙◌, ◌<◌, ◌≤◌, ◌+◌, ◌∷◌, [], ◌++◌, Bool, false, not, length, ap, sym, subst, arith}
+use Rattle.std.proofs.Common.{◌≡◌, ◌∙◌, ◌<◌, ◌≤◌, ◌+◌, Bool, false, not, ap, sym, subst, arith}
 use Rattle.waits.specs.Limits.{most_jobs, most_job_bytes}
 use Rattle.waits.specs.declared.job.Unfinished.{Unfinished}
-use Rattle.waits.specs.Jobs.{Queue, job_count, job_bytes, load_of, is_ready, has_failed, one_if, blocked_count, failed_count, AreWithinLimits}
+use Rattle.waits.specs.Jobs.{Queue, job_count, job_bytes, load_of, is_ready, one_if}
 use Rattle.waits.specs.Held.{Held}
 use Rattle.waits.specs.Tallies.{Stands}
-use Rattle.waits.proofs.Totals.{total_push}
-use Rattle.waits.proofs.Limits.{limits_push}
 use Rattle.waits.proofs.Counts.{counts_all, one_if_le}
 use Rattle.waits.proofs.Searches.{stands_put}
 use Rattle.waits.proofs.jobs.Jobs.add.Goals as goal

@@ -1,7 +1,5 @@
-use Rattle.std.proofs.Common.{◌≡◌, ◌+◌, nat_le, None, ap, sym, subst, arith}
-use Rattle.waits.specs.declared.job.Unfinished.{Unfinished}
-use Rattle.waits.specs.Limits.{wait_seconds}
-use Rattle.waits.specs.Jobs.{Queue, is_call, is_overdue, has_failed, job_count, blocked_count, failed_count, first_job, without_first}
+use Rattle.std.proofs.Common.{◌≡◌, None, ap, sym, subst, arith}
+use Rattle.waits.specs.Jobs.{Queue, has_failed, failed_count, first_job, without_first}
 use Rattle.waits.specs.Held.{Held}
 use Rattle.waits.proofs.Searches.{fails_none}
 use Rattle.waits.proofs.jobs.Jobs.failed.Goals as goal

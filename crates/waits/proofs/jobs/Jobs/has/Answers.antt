@@ -1,4 +1,4 @@
-use Rattle.std.proofs.Common.{◌≡◌, ◌∙◌, false, ltb, ap, sym, subst, arith}
+use Rattle.std.proofs.Common.{◌≡◌, false, ltb, sym, subst, arith}
 use Rattle.std.specs.List.{list_any}
 use Rattle.waits.specs.Jobs.{is_call, job_count}
 use Rattle.waits.specs.Held.{Held}

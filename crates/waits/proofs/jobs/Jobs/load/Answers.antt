@@ -1,5 +1,5 @@
-use Rattle.std.proofs.Common.{◌≡◌, ap, subst, arith}
-use Rattle.waits.specs.Jobs.{Queue, job_count, job_bytes}
+use Rattle.std.proofs.Common.{◌≡◌, subst, arith}
+use Rattle.waits.specs.Jobs.{job_count, job_bytes}
 use Rattle.waits.specs.Held.{Held}
 use Rattle.waits.proofs.Tallies.{found_at}
 use Rattle.waits.proofs.jobs.Jobs.load.Goals as goal

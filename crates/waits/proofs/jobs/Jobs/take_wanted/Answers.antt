@@ -1,5 +1,4 @@
-use Rattle.std.proofs.Common.{◌≡◌, ◌∙◌, ◌+◌, ◌-◌, ◌<◌, Bool, true, not, remove, length, None, Some, ap, sym, subst, arith}
-use Rattle.waits.specs.declared.job.Unfinished.{Unfinished}
+use Rattle.std.proofs.Common.{◌≡◌, ◌∙◌, ◌-◌, ◌<◌, Bool, not, length, None, Some, ap, sym, subst, arith}
 use Rattle.waits.specs.Jobs.{Queue, is_ready, one_if, first_job, without_first}
 use Rattle.waits.specs.Tallies.{Stands}
 use Rattle.waits.specs.Wanted.{is_wanted}
