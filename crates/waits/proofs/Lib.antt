@@ -2,4 +2,6 @@ pub mod Totals
 pub mod Places
 pub mod Limits
 pub mod Counts
-pub mod Taken
+pub mod Tallies
+pub mod Searches
+pub mod Answering

@@ -64,7 +64,7 @@ limits_push xs job within fits bytes_fit key session =
 
 -- ---- a call is answered
 
-same_owner : (key session number : ℕ) (waits ok : Bool) (x : Unfinished) → is_of key session (if waits then told number ok x else x) ≡ is_of key session x
+pub same_owner : (key session number : ℕ) (waits ok : Bool) (x : Unfinished) → is_of key session (if waits then told number ok x else x) ≡ is_of key session x
 same_owner key session number true true x = refl
 same_owner key session number true false x = refl
 same_owner key session number false ok x = refl

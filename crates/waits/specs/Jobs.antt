@@ -115,6 +115,10 @@ ready_count queue = total (λ one. one_if (is_ready one)) queue
 abbrev pub blocked_count : Queue → ℕ
 blocked_count queue = total (λ one. one_if (not (is_ready one))) queue
 
+-- how many jobs have failed
+abbrev pub failed_count : Queue → ℕ
+failed_count queue = total (λ one. one_if (has_failed one)) queue
+
 -- what a job counts against the bytes of its session
 abbrev pub load_of : Job → ℕ
 load_of job = length job.request + number_bytes * length job.after
@@ -122,6 +126,10 @@ load_of job = length job.request + number_bytes * length job.after
 -- how many jobs a session has
 abbrev pub job_count : ℕ → ℕ → Queue → ℕ
 job_count key session queue = total (λ one. one_if (is_of key session one)) queue
+
+-- how many of them wait for a call
+abbrev pub waiting_count : ℕ → ℕ → Queue → ℕ
+waiting_count key session queue = total (λ one. one_if (is_of key session one && is_waiting one)) queue
 
 -- the bytes of their loads
 abbrev pub job_bytes : ℕ → ℕ → Queue → ℕ

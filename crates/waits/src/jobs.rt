@@ -3,11 +3,12 @@
 ghost use Rattle.std.specs.Prelude.{◌≡◌, ◌+◌, ◌<◌, ◌≤◌, [], Some, length, max, IfOk, OnOk, OnErr};
 ghost use Rattle.std.specs.List.{list_any};
 ghost use Rattle.waits.specs.Limits.{most_jobs, most_job_bytes};
-ghost use Rattle.waits.specs.Jobs.{accepted, is_call, is_overdue, has_failed, ready_count, ready_job, without_ready, first_job, without_first, settled, without_session, job_count, job_bytes, load_of};
+ghost use Rattle.waits.specs.Jobs.{accepted, is_call, is_overdue, has_failed, ready_count, ready_job, without_ready, first_job, without_first, settled, without_session, job_count, job_bytes, waiting_count, load_of};
 ghost use Rattle.waits.specs.Wanted.{is_wanted};
 
 use crate::job::{Job, Unfinished};
 use crate::queue::{self, Wanted};
+use crate::tally::{self, Tally};
 use msg_ids::Moment;
 use octets::Memory;
 use std::alloc::Global;
@@ -24,25 +25,36 @@ pub const JOB_BYTES_MAX: usize = 4_194_304;
 pub const WAIT_SECONDS: u64 = 30;
 
 /// The unfinished jobs of a server, in order of acceptance over all sessions.
+///
+/// A count of each session's jobs is kept beside them. So what is asked of a session with no job, or told to one of which
+/// none waits, looks at no job, nor does a load, and a search for a ready job begins behind those that were passed.
 #[derive(Debug, Drop)]
 pub struct Jobs {
     queue: VecDeque<Unfinished>,
-    // How many of them aren't ready. Only those wait, have failed or are overdue, so at 0 no search is made for one.
+    // What each session with jobs has among them.
+    tallies: Vec<Tally>,
+    // How many of them aren't ready. Only those wait or are overdue, so at 0 no search is made for one.
     blocked: usize,
+    // How many of them have failed.
+    failing: usize,
+    // None of so many in front is ready, so a search for a ready one begins behind them.
+    passed: usize,
     room: usize,
 }
 
 impl Model for Jobs {
-    ghost use Rattle.std.specs.Prelude.{◌≡◌, ◌+◌, ◌≤◌};
+    ghost use Rattle.std.specs.Prelude.{◌+◌, ◌≤◌, vec_len, vec_capacity};
     ghost use Rattle.std.specs.VecDeque.{deque_len, deque_capacity};
-    ghost use Rattle.waits.specs.Jobs.{AreWithinLimits, blocked_count};
     ghost use Rattle.waits.specs.Held.{Held};
+    ghost use Rattle.waits.specs.Tallies.{Stands};
 
     ghost Value = { Held };
 
     ghost view = { λ jobs. record { jobs = jobs.queue.items; room = jobs.room } };
 
-    ghost invariant = { λ jobs. AreWithinLimits jobs.queue.items × (deque_len jobs.queue + jobs.room ≤ deque_capacity jobs.queue) × (jobs.blocked ≡ blocked_count jobs.queue.items) };
+    ghost invariant = { λ jobs. Stands jobs.queue.items jobs.tallies.items jobs.blocked jobs.failing jobs.passed
+        × (deque_len jobs.queue + jobs.room ≤ deque_capacity jobs.queue)
+        × (vec_len jobs.tallies + jobs.room ≤ vec_capacity jobs.tallies) };
 }
 
 impl Jobs {
@@ -52,7 +64,10 @@ impl Jobs {
     {
         Jobs {
             queue: VecDeque::new(alloc),
+            tallies: Vec::new(alloc),
             blocked: 0,
+            failing: 0,
+            passed: 0,
             room: 0,
         }
     }
@@ -68,6 +83,7 @@ impl Jobs {
     {
         let room = self.room.max(count);
         self.queue.reserve(room)?;
+        self.tallies.reserve(room)?;
         self.room = room;
         Ok(())
     }
@@ -82,9 +98,9 @@ impl Jobs {
         ensures room { self.new.room + 1 ≡ self.old.room }
     {
         let one = Unfinished { job, failed: false };
-        let blocked = queue::one_unless(one.is_ready());
+        let blocked = queue::one_if(!one.is_ready());
         self.room -= 1;
-        self.queue.push_back_reserved(one);
+        queue::put(&mut self.queue, &mut self.tallies, one);
         self.blocked += blocked;
     }
 
@@ -102,7 +118,16 @@ impl Jobs {
         ensures job { ready_job k self.old.jobs ≡ Some result }
         ensures others { self.new ≡ record self.old { jobs = without_ready k self.old.jobs } }
     {
-        queue::take_ready(&mut self.queue, k)
+        let place = queue::ready_place(&self.queue, self.passed, k);
+        let Unfinished { job, failed: _ } = queue::take_out(
+            &mut self.queue,
+            &mut self.tallies,
+            place,
+        );
+        if k == 0 {
+            self.passed = place;
+        }
+        job
     }
 
     /// Tells the jobs of this session that wait for the call of this number that it was answered. Where it was
@@ -110,9 +135,11 @@ impl Jobs {
     pub fn settle(&mut self, key: u64, session: u64, number: u64, ok: bool)
         ensures { self.new ≡ record self.old { jobs = settled key session number ok self.old.jobs } }
     {
-        if self.blocked > 0 {
-            queue::settle_all(&mut self.queue, key, session, number, ok);
-            self.blocked = queue::count_blocked(&self.queue);
+        if tally::find(&self.tallies, key, session).waiting > 0 {
+            queue::settle_counted(&mut self.queue, &mut self.tallies, key, session, number, ok);
+            self.blocked = queue::count_of(&self.queue, &Wanted::Blocked);
+            self.failing = queue::count_of(&self.queue, &Wanted::Failed);
+            self.passed = 0;
         }
     }
 
@@ -121,7 +148,7 @@ impl Jobs {
         ensures job { result ≡ first_job has_failed self.old.jobs }
         ensures others { self.new ≡ record self.old { jobs = without_first has_failed self.old.jobs } }
     {
-        if self.blocked == 0 {
+        if self.failing == 0 {
             return None;
         }
         self.take_wanted(&Wanted::Failed)
@@ -144,6 +171,9 @@ impl Jobs {
         ensures job { result ≡ first_job (is_call key session number) self.old.jobs }
         ensures others { self.new ≡ record self.old { jobs = without_first (is_call key session number) self.old.jobs } }
     {
+        if tally::find(&self.tallies, key, session).count == 0 {
+            return None;
+        }
         self.take_wanted(&Wanted::Call(key, session, number))
     }
 
@@ -151,8 +181,12 @@ impl Jobs {
     pub fn forget(&mut self, key: u64, session: u64)
         ensures { self.new ≡ record self.old { jobs = without_session key session self.old.jobs } }
     {
-        queue::forget_session(&mut self.queue, key, session);
-        self.blocked = queue::count_blocked(&self.queue);
+        if tally::find(&self.tallies, key, session).count > 0 {
+            queue::forget_counted(&mut self.queue, &mut self.tallies, key, session);
+            self.blocked = queue::count_of(&self.queue, &Wanted::Blocked);
+            self.failing = queue::count_of(&self.queue, &Wanted::Failed);
+            self.passed = 0;
+        }
     }
 
     /// How many jobs a session has, and the bytes of their loads: of each the length of its request, and 8 bytes for
@@ -163,13 +197,25 @@ impl Jobs {
         ensures jobs_within { result.0 ≤ most_jobs }
         ensures bytes_within { result.1 ≤ most_job_bytes }
     {
-        queue::load_of_session(&self.queue, key, session)
+        let counted = tally::find(&self.tallies, key, session);
+        (counted.count, counted.bytes)
+    }
+
+    /// How many jobs of a session wait for a call.
+    pub fn waiting(&self, key: u64, session: u64) -> usize
+        ensures count { result ≡ waiting_count key session self.now.jobs }
+        ensures within { result ≤ most_jobs }
+    {
+        tally::find(&self.tallies, key, session).waiting
     }
 
     /// Whether an unfinished job has this number in this session.
     pub fn has(&self, key: u64, session: u64, number: u64) -> bool
         ensures { result ≡ list_any (is_call key session number) self.now.jobs }
     {
+        if tally::find(&self.tallies, key, session).count == 0 {
+            return false;
+        }
         queue::first_place(&self.queue, &Wanted::Call(key, session, number)) < self.queue.len()
     }
 
@@ -190,7 +236,10 @@ impl Jobs {
     {
         Ok(Jobs {
             queue: queue::copy_of(alloc, &self.queue)?,
+            tallies: tally::copies_of(alloc, &self.tallies)?,
             blocked: self.blocked,
+            failing: self.failing,
+            passed: self.passed,
             room: self.room,
         })
     }
@@ -200,8 +249,14 @@ impl Jobs {
         ensures job { result ≡ first_job (is_wanted wanted.now) self.old.jobs }
         ensures others { self.new ≡ record self.old { jobs = without_first (is_wanted wanted.now) self.old.jobs } }
     {
-        let one = queue::take_first(&mut self.queue, wanted)?;
-        self.blocked -= queue::one_unless(one.is_ready());
+        let place = queue::first_place(&self.queue, wanted);
+        if place == self.queue.len() {
+            return None;
+        }
+        let one = queue::take_out(&mut self.queue, &mut self.tallies, place);
+        self.blocked -= queue::one_if(!one.is_ready());
+        self.failing -= queue::one_if(one.failed);
+        self.passed = self.passed.saturating_sub(1);
         let Unfinished { job, failed: _ } = one;
         Some(job)
     }

@@ -9,6 +9,7 @@ mod job;
 mod jobs;
 pub mod laws;
 mod queue;
+mod tally;
 
 pub use job::Job;
 pub use jobs::{JOB_BYTES_MAX, JOBS_MAX, Jobs, WAIT_SECONDS};

@@ -1,13 +1,17 @@
 //! Searches over the unfinished jobs in order of acceptance.
 
-ghost use Rattle.std.specs.Prelude.{◌≡◌, ◌+◌, ◌<◌, ◌≤◌, ℕ, true, false, not, Some, None, length, take, slice_index_or, IfOk, IfSome, IfNone};
+ghost use Rattle.std.specs.Prelude.{◌≡◌, ◌+◌, ◌<◌, ◌≤◌, ◌∷◌, ◌++◌, [], ℕ, true, false, length, take, remove, slice_index_or, vec_len, vec_capacity, IfOk};
+ghost use Rattle.std.specs.List.{list_any};
 ghost use Rattle.std.specs.VecDeque.{deque_len, deque_capacity};
 ghost use Rattle.waits.specs.declared.job.Unfinished.{Unfinished as One};
-ghost use Rattle.waits.specs.Jobs.{is_ready, one_if, ready_count, blocked_count, job_count, job_bytes, first_job, without_first, ready_job, without_ready, settled, without_session, AreWithinLimits};
+ghost use Rattle.waits.specs.Limits.{most_jobs, most_job_bytes};
+ghost use Rattle.waits.specs.Jobs.{is_ready, one_if, total, load_of, ready_count, job_count, job_bytes, settled, without_session, AreWithinLimits};
+ghost use Rattle.waits.specs.Tallies.{is_tally_of, counted_in, IsTallied};
 ghost use Rattle.waits.specs.Wanted.{is_wanted};
 
-use crate::job::{Job, Unfinished};
+use crate::job::Unfinished;
 use crate::jobs::WAIT_SECONDS;
+use crate::tally::{self, Tally};
 use msg_ids::Moment;
 use octets::Memory;
 use std::alloc::Global;
@@ -16,6 +20,8 @@ use std::collections::VecDeque;
 /// What a search looks for.
 #[derive(Drop)]
 pub(crate) enum Wanted {
+    /// A job that isn't ready.
+    Blocked,
     /// A job that has failed.
     Failed,
     /// A job that has waited too long at this moment.
@@ -29,6 +35,7 @@ fn is_wanted(wanted: &Wanted, one: &Unfinished) -> bool
     ensures { result ≡ is_wanted wanted.now one.now }
 {
     match *wanted {
+        Wanted::Blocked => !one.is_ready(),
         Wanted::Failed => one.failed,
         Wanted::Overdue(now) => {
             one.is_waiting() && one.job.since.seconds() + WAIT_SECONDS <= now.seconds()
@@ -51,49 +58,82 @@ pub(crate) fn first_place(queue: &VecDeque<Unfinished>, wanted: &Wanted) -> usiz
     queue.len()
 }
 
-/// Takes out the first job that is wanted; `None` where none is.
-pub(crate) fn take_first(queue: &mut VecDeque<Unfinished>, wanted: &Wanted) -> Option<Unfinished>
-    requires { AreWithinLimits queue.old.items }
-    ensures job { IfSome result (λ one. first_job (is_wanted wanted.now) queue.old.items ≡ Some one.job) }
-    ensures none { IfNone result (first_job (is_wanted wanted.now) queue.old.items ≡ None) }
-    ensures unchanged { IfNone result (queue.new.items ≡ queue.old.items) }
-    ensures others { queue.new.items ≡ without_first (is_wanted wanted.now) queue.old.items }
-    ensures blocked { IfSome result (λ one. blocked_count queue.new.items + one_if (not (is_ready one)) ≡ blocked_count queue.old.items) }
-    ensures limits { AreWithinLimits queue.new.items }
-    ensures len { deque_len queue.new ≤ deque_len queue.old }
-    ensures capacity { deque_capacity queue.new ≡ deque_capacity queue.old }
+/// 1 where this holds.
+pub(crate) fn one_if(holds: bool) -> usize
+    ensures { result ≡ one_if holds }
 {
-    let place = first_place(queue, wanted);
-    queue.remove(place)
+    if holds { 1 } else { 0 }
 }
 
-/// 1 for a job that isn't ready, 0 for one that is.
-pub(crate) fn one_unless(ready: bool) -> usize
-    ensures { result ≡ one_if (not ready) }
-{
-    if ready { 0 } else { 1 }
-}
-
-/// How many jobs aren't ready.
-pub(crate) fn count_blocked(queue: &VecDeque<Unfinished>) -> usize
-    ensures { result ≡ blocked_count queue.now.items }
+/// How many jobs are so.
+pub(crate) fn count_of(queue: &VecDeque<Unfinished>, wanted: &Wanted) -> usize
+    ensures { result ≡ total (λ one. one_if (is_wanted wanted.now one)) queue.now.items }
 {
     let mut count = 0;
     for place in 0..queue.len() {
-        count += one_unless(queue[place].is_ready());
+        count += one_if(is_wanted(wanted, &queue[place]));
     }
     count
 }
 
-/// The place of the ready job k.
-fn ready_place(queue: &VecDeque<Unfinished>, k: usize) -> usize
-    requires { k < ready_count queue.now.items }
+/// Puts a job behind all others and counts it. There is room for both.
+pub(crate) fn put(queue: &mut VecDeque<Unfinished>, tallies: &mut Vec<Tally>, one: Unfinished)
+    requires tallied { IsTallied queue.old.items tallies.old.items }
+    requires room { deque_len queue.old < deque_capacity queue.old }
+    requires tally_room { vec_len tallies.old < vec_capacity tallies.old }
+    requires fits { job_count one.job.key one.job.session queue.old.items < most_jobs }
+    requires bytes_fit { job_bytes one.job.key one.job.session queue.old.items + load_of one.job ≤ most_job_bytes }
+    ensures items { queue.new.items ≡ queue.old.items ++ one ∷ [] }
+    ensures tallied { IsTallied queue.new.items tallies.new.items }
+    ensures len { deque_len queue.new ≡ deque_len queue.old + 1 }
+    ensures capacity { deque_capacity queue.new ≡ deque_capacity queue.old }
+    ensures tallies_len { vec_len tallies.new ≤ vec_len tallies.old + 1 }
+    ensures tallies_capacity { vec_capacity tallies.new ≡ vec_capacity tallies.old }
+{
+    let mut counted = tally::find(tallies, one.job.key, one.job.session);
+    counted.count += 1;
+    counted.bytes += one.job.load();
+    counted.waiting += one_if(one.is_waiting());
+    tally::store(tallies, counted);
+    queue.push_back_reserved(one);
+}
+
+/// Takes out the job at a place and counts it no more.
+pub(crate) fn take_out(
+    queue: &mut VecDeque<Unfinished>,
+    tallies: &mut Vec<Tally>,
+    place: usize,
+) -> Unfinished
+    requires tallied { IsTallied queue.old.items tallies.old.items }
+    requires within { place < length queue.old.items }
+    ensures taken { result ≡ slice_index_or queue.old.items place result }
+    ensures left { queue.new.items ≡ remove queue.old.items place }
+    ensures tallied { IsTallied queue.new.items tallies.new.items }
+    ensures len { deque_len queue.new + 1 ≡ deque_len queue.old }
+    ensures capacity { deque_capacity queue.new ≡ deque_capacity queue.old }
+    ensures tallies_len { vec_len tallies.new ≤ vec_len tallies.old }
+    ensures tallies_capacity { vec_capacity tallies.new ≡ vec_capacity tallies.old }
+{
+    let one = queue.remove(place).unwrap();
+    let mut counted = tally::find(tallies, one.job.key, one.job.session);
+    counted.count -= 1;
+    counted.bytes -= one.job.load();
+    counted.waiting -= one_if(one.is_waiting());
+    tally::store(tallies, counted);
+    one
+}
+
+/// The place of the ready job k. None in front of a place is ready, and the search begins there.
+pub(crate) fn ready_place(queue: &VecDeque<Unfinished>, passed: usize, k: usize) -> usize
+    requires ready { k < ready_count queue.now.items }
+    requires passed { ready_count (take passed queue.now.items) ≡ 0 }
     ensures within { result < length queue.now.items }
     ensures before { ready_count (take result queue.now.items) ≡ k }
     ensures ready { (d : One) → is_ready (slice_index_or queue.now.items result d) ≡ true }
+    ensures behind { passed ≤ result }
 {
     let mut left = k;
-    for place in 0..queue.len() {
+    for place in passed..queue.len() {
         if queue[place].is_ready() {
             if left == 0 {
                 return place;
@@ -104,30 +144,8 @@ fn ready_place(queue: &VecDeque<Unfinished>, k: usize) -> usize
     unreachable!()
 }
 
-/// Takes out the ready job k.
-pub(crate) fn take_ready(queue: &mut VecDeque<Unfinished>, k: usize) -> Job
-    requires limits { AreWithinLimits queue.old.items }
-    requires ready { k < ready_count queue.old.items }
-    ensures job { ready_job k queue.old.items ≡ Some result }
-    ensures others { queue.new.items ≡ without_ready k queue.old.items }
-    ensures blocked { blocked_count queue.new.items ≡ blocked_count queue.old.items }
-    ensures limits { AreWithinLimits queue.new.items }
-    ensures len { deque_len queue.new ≤ deque_len queue.old }
-    ensures capacity { deque_capacity queue.new ≡ deque_capacity queue.old }
-{
-    let place = ready_place(queue, k);
-    let Unfinished { job, failed: _ } = queue.remove(place).unwrap();
-    job
-}
-
 /// Tells all jobs that a call was answered.
-pub(crate) fn settle_all(
-    queue: &mut VecDeque<Unfinished>,
-    key: u64,
-    session: u64,
-    number: u64,
-    ok: bool,
-)
+fn settle_all(queue: &mut VecDeque<Unfinished>, key: u64, session: u64, number: u64, ok: bool)
     requires { AreWithinLimits queue.old.items }
     ensures settled { queue.new.items ≡ settled key session number ok queue.old.items }
     ensures limits { AreWithinLimits queue.new.items }
@@ -140,7 +158,7 @@ pub(crate) fn settle_all(
 }
 
 /// Keeps the jobs of other sessions.
-pub(crate) fn forget_session(queue: &mut VecDeque<Unfinished>, key: u64, session: u64)
+fn forget_session(queue: &mut VecDeque<Unfinished>, key: u64, session: u64)
     requires { AreWithinLimits queue.old.items }
     ensures others { queue.new.items ≡ without_session key session queue.old.items }
     ensures limits { AreWithinLimits queue.new.items }
@@ -150,26 +168,74 @@ pub(crate) fn forget_session(queue: &mut VecDeque<Unfinished>, key: u64, session
     queue.retain(|one| !one.is_of(key, session));
 }
 
-/// How many jobs a session has, and the bytes of their loads.
-pub(crate) fn load_of_session(
-    queue: &VecDeque<Unfinished>,
-    key: u64,
-    session: u64,
-) -> (usize, usize)
+/// What a session has among the jobs, counted one by one.
+fn tally_of_session(queue: &VecDeque<Unfinished>, key: u64, session: u64) -> Tally
     requires { AreWithinLimits queue.now.items }
-    ensures count { result.0 ≡ job_count key session queue.now.items }
-    ensures bytes { result.1 ≡ job_bytes key session queue.now.items }
+    ensures { result ≡ counted_in queue.now.items key session }
 {
     let mut count = 0;
     let mut bytes = 0;
+    let mut waiting = 0;
     for place in 0..queue.len() {
         let one = &queue[place];
         if one.is_of(key, session) {
             count += 1;
             bytes += one.job.load();
+            waiting += one_if(one.is_waiting());
         }
     }
-    (count, bytes)
+    Tally {
+        key,
+        session,
+        count,
+        bytes,
+        waiting,
+    }
+}
+
+/// Tells all jobs that a call of a session with jobs was answered, and counts that session's again.
+pub(crate) fn settle_counted(
+    queue: &mut VecDeque<Unfinished>,
+    tallies: &mut Vec<Tally>,
+    key: u64,
+    session: u64,
+    number: u64,
+    ok: bool,
+)
+    requires limits { AreWithinLimits queue.old.items }
+    requires tallied { IsTallied queue.old.items tallies.old.items }
+    requires known { list_any (is_tally_of key session) tallies.old.items ≡ true }
+    ensures settled { queue.new.items ≡ settled key session number ok queue.old.items }
+    ensures limits { AreWithinLimits queue.new.items }
+    ensures tallied { IsTallied queue.new.items tallies.new.items }
+    ensures len { deque_len queue.new ≡ deque_len queue.old }
+    ensures capacity { deque_capacity queue.new ≡ deque_capacity queue.old }
+    ensures tallies_len { vec_len tallies.new ≤ vec_len tallies.old }
+    ensures tallies_capacity { vec_capacity tallies.new ≡ vec_capacity tallies.old }
+{
+    settle_all(queue, key, session, number, ok);
+    tally::store(tallies, tally_of_session(queue, key, session));
+}
+
+/// Keeps the jobs and the tallies of other sessions. The session has jobs.
+pub(crate) fn forget_counted(
+    queue: &mut VecDeque<Unfinished>,
+    tallies: &mut Vec<Tally>,
+    key: u64,
+    session: u64,
+)
+    requires limits { AreWithinLimits queue.old.items }
+    requires tallied { IsTallied queue.old.items tallies.old.items }
+    ensures others { queue.new.items ≡ without_session key session queue.old.items }
+    ensures limits { AreWithinLimits queue.new.items }
+    ensures tallied { IsTallied queue.new.items tallies.new.items }
+    ensures len { deque_len queue.new ≤ deque_len queue.old }
+    ensures capacity { deque_capacity queue.new ≡ deque_capacity queue.old }
+    ensures tallies_len { vec_len tallies.new ≤ vec_len tallies.old }
+    ensures tallies_capacity { vec_capacity tallies.new ≡ vec_capacity tallies.old }
+{
+    forget_session(queue, key, session);
+    tally::forget(tallies, key, session);
 }
 
 /// A copy of the jobs with room for so many at least.

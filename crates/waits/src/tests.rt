@@ -73,12 +73,14 @@ fn runs_in_order(rt: &impl Abort, alloc: Global, first: u64, second: u64) -> Res
     assert!(rt; call(&mut jobs, alloc, 1, 16, &[8, 12])?);
     assert_eq!(rt; jobs.ready(), 2);
     assert_eq!(rt; jobs.load(1, 1), (3, 28));
+    assert_eq!(rt; jobs.waiting(1, 1), 1);
     assert_eq!(rt; number_of(next(&mut jobs)), 8);
     assert_eq!(rt; number_of(next(&mut jobs)), 12);
     jobs.settle(1, 1, first, true);
     assert_eq!(rt; jobs.ready(), 0);
     assert_eq!(rt; jobs.load(1, 1), (1, 12));
     jobs.settle(1, 1, second, true);
+    assert_eq!(rt; jobs.waiting(1, 1), 0);
     assert_eq!(rt; jobs.ready(), 1);
     assert_eq!(rt; number_of(next(&mut jobs)), 16);
     assert_eq!(rt; jobs.len(), 0);

@@ -1,11 +1,11 @@
-use Rattle.std.proofs.Common.{◌≡◌, ◌∙◌, ◌<◌, ◌≤◌, ◌+◌, ◌∷◌, [], ◌++◌, Bool, false, not, ap, sym, subst, arith}
+use Rattle.std.proofs.Common.{◌≡◌, ◌∙◌, ◌<◌, ◌≤◌, ◌+◌, Bool, false, not, ap, sym, subst, arith}
 use Rattle.waits.specs.Limits.{most_jobs, most_job_bytes}
 use Rattle.waits.specs.declared.job.Unfinished.{Unfinished}
-use Rattle.waits.specs.Jobs.{Queue, job_count, job_bytes, load_of, is_ready, one_if, blocked_count, AreWithinLimits}
+use Rattle.waits.specs.Jobs.{Queue, job_count, job_bytes, load_of, is_ready, one_if}
 use Rattle.waits.specs.Held.{Held}
-use Rattle.waits.proofs.Totals.{total_push}
-use Rattle.waits.proofs.Limits.{limits_push}
+use Rattle.waits.specs.Tallies.{Stands}
 use Rattle.waits.proofs.Counts.{counts_all, one_if_le}
+use Rattle.waits.proofs.Searches.{stands_put}
 use Rattle.waits.proofs.jobs.Jobs.add.Goals as goal
 
 pub overflow_add-self : goal.overflow_add-self
@@ -13,7 +13,7 @@ overflow_add-self c =
     let xs = c.self.inside.queue.items in
     let all = counts_all xs in
     let most = one_if_le (not c.is_ready.result) in
-    omega (arith, c.self.inside.queue.ok.0, c.self.inside.queue.small.0, c.self.inside.queue.small.1, c.self.invariant.2, c.one_unless-blocked.ensures)
+    omega (arith, c.self.inside.queue.ok.0, c.self.inside.queue.small.0, c.self.inside.queue.small.1, c.self.invariant.0.blocked, c.one_if-blocked.ensures)
 
 pub invariant_of-self : goal.invariant_of-self
 invariant_of-self c =
@@ -24,7 +24,7 @@ invariant_of-self c =
     let fits : job_count job.key job.session xs < most_jobs = subst (λ (queue : Queue). job_count job.key job.session queue < most_jobs) seen c.requires.fits in
     let bytes_fit : job_bytes job.key job.session xs + load_of job ≤ most_job_bytes = subst (λ (queue : Queue). job_bytes job.key job.session queue + load_of job ≤ most_job_bytes) seen c.requires.bytes_fit in
     let room = ap (λ (held : Held). held.room) c.self.view_is in
-    let more = total_push (λ (x : Unfinished). one_if (not (is_ready x))) xs one in
-    let grown : blocked_count c.push_back_reserved.new.self.items ≡ blocked_count (xs ++ one ∷ []) = ap blocked_count c.push_back_reserved.ensures.items in
-    let here : c.one_unless-blocked.result ≡ one_if (not (is_ready one)) = c.one_unless-blocked.ensures ∙ ap (λ (b : Bool). one_if (not b)) c.is_ready.ensures in
-    (subst AreWithinLimits (sym c.push_back_reserved.ensures.items) (limits_push xs job c.self.invariant.0 fits bytes_fit), omega arith, omega (arith, c.self.invariant.2))
+    let here : c.one_if-blocked.result ≡ one_if (not (is_ready one)) = c.one_if-blocked.ensures ∙ ap (λ (b : Bool). one_if (not b)) c.is_ready.ensures in
+    let stands : Stands c.put.new.queue.items c.put.new.tallies.items (c.self.inside.blocked + c.one_if-blocked.result) c.self.inside.failing c.self.inside.passed =
+    stands_put xs c.put.new.queue.items c.self.inside.tallies.items c.put.new.tallies.items job c.self.inside.blocked c.self.inside.failing c.self.inside.passed (c.self.inside.blocked + c.one_if-blocked.result) c.self.invariant.0 c.put.ensures.items c.put.ensures.tallied fits bytes_fit (omega (arith, here)) in
+    (stands, omega (arith, c.put.ensures.len, c.put.ensures.capacity, c.self.invariant.1), omega (arith, c.put.ensures.tallies_len, c.put.ensures.tallies_capacity, c.self.invariant.2))

@@ -1,14 +1,24 @@
-use Rattle.std.proofs.Common.{◌≡◌, ap, sym, subst, arith}
-use Rattle.waits.specs.Jobs.{Queue, settled, blocked_count}
+use Rattle.std.proofs.Common.{◌≡◌, ◌<◌, ap, sym, subst, arith}
+use Rattle.waits.specs.Jobs.{Queue, settled, job_count, waiting_count}
 use Rattle.waits.specs.Held.{Held}
-use Rattle.waits.proofs.Counts.{settles_none}
+use Rattle.waits.proofs.Searches.{settles_none}
+use Rattle.waits.proofs.Tallies.{found_at, known, waiting_le}
 use Rattle.waits.proofs.jobs.Jobs.settle.Goals as goal
 
--- where all are ready none waits
-pub returns-else-self-gt0 : goal.returns-else-self-gt0
-returns-else-self-gt0 c =
+pub settle_counted-requires-clause-known : goal.settle_counted-requires-clause-known
+settle_counted-requires-clause-known c =
     let xs = c.self.inside.queue.items in
-    let none : blocked_count xs ≡ 0 = omega (arith, c.self.invariant.2, c.if-self-gt0.false) in
+    let there = found_at xs c.args.key c.args.session c.self.inside.tallies.items c.find.result c.self.invariant.0.tallied c.find.ensures in
+    let fewer = waiting_le c.args.key c.args.session xs in
+    let some : 0 < job_count c.args.key c.args.session xs = omega (arith, there.waiting, c.if-find-gt0.true) in
+    known xs c.args.key c.args.session c.self.inside.tallies.items c.self.invariant.0.tallied some
+
+-- where none of the session's waits nothing changes
+pub returns-else-find-gt0 : goal.returns-else-find-gt0
+returns-else-find-gt0 c =
+    let xs = c.self.inside.queue.items in
+    let there = found_at xs c.args.key c.args.session c.self.inside.tallies.items c.find.result c.self.invariant.0.tallied c.find.ensures in
+    let none : waiting_count c.args.key c.args.session xs ≡ 0 = omega (arith, there.waiting, c.if-find-gt0.false) in
     let holding : Queue → Held = λ queue. record { jobs = queue; room = c.self.inside.room } in
     let same = ap holding (sym (settles_none c.args.key c.args.session c.args.number c.args.ok xs none)) in
     subst (λ (held : Held). held ≡ record { jobs = settled c.args.key c.args.session c.args.number c.args.ok held.jobs; room = held.room }) c.self.view_is same

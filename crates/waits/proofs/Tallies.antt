@@ -1,0 +1,375 @@
+-- Tallies stay right where a job comes, goes or is told.
+use Rattle.std.proofs.Common.{◌≡◌, ◌∙◌, ℕ, ◌+◌, ◌-◌, ◌<◌, ◌≤◌, Bool, true, false, not, ◌&&◌, ◌||◌, ◌==◌, cond, nat_lt, if◌then◌else◌, List, [], ◌∷◌, ◌++◌, length, get_or, remove, map, ap, sym, refl, subst, arith}
+use Rattle.std.specs.List.{filter, list_any}
+use Rattle.std.proofs.lemmas.Bool.{eqb-true, eqb-false, eq-eqb, ne_eqb, ltb-false, and_parts}
+use Rattle.std.proofs.lemmas.List.Folds.{list_any-append}
+use Rattle.std.proofs.lemmas.Map.Views.{any-filter_same}
+use Rattle.waits.specs.declared.job.Unfinished.{Unfinished}
+use Rattle.waits.specs.declared.tally.Tally.{Tally}
+use Rattle.waits.specs.Jobs.{Queue, is_of, is_waiting, one_if, load_of, total, told, waits_for, after_answer, settled, without_session, job_count, job_bytes, waiting_count}
+use Rattle.waits.specs.Tallies.{is_tally_of, no_tally, counted_in, tally_of, tally_if_any, without_tally, stored, IsRight, AreRight, Covers, IsTallied}
+use Rattle.waits.proofs.Totals.{total_push}
+use Rattle.waits.proofs.Counts.{total_without}
+use Rattle.waits.proofs.Limits.{counts, weighs, same_owner}
+
+-- how a job counts among those of a session that wait
+abbrev pub awaits : ℕ → ℕ → Unfinished → ℕ
+awaits key session one = one_if (is_of key session one && is_waiting one)
+
+-- ---- a session with no job
+
+zero_if : (own waits : Bool) (load : ℕ) → one_if own ≡ 0 → ((if own then load else 0) ≡ 0) × (one_if (own && waits) ≡ 0)
+zero_if true waits load none = absurd (omega arith)
+zero_if false waits load none = (refl, refl)
+
+pub nothing_there : (key session : ℕ) (xs : Queue) → job_count key session xs ≡ 0 → (job_bytes key session xs ≡ 0) × (waiting_count key session xs ≡ 0)
+nothing_there key session [] none = (refl, refl)
+nothing_there key session (x ∷ xs) none =
+    let here = zero_if (is_of key session x) (is_waiting x) (load_of x.job) (omega arith) in
+    let later = nothing_there key session xs (omega arith) in
+    (omega arith, omega arith)
+
+-- ---- the tally that is found
+
+pub record Found (queue : Queue) (key session : ℕ) (tally : Tally) : Type 0 where
+  pub of_key : tally.key ≡ key
+  pub of_session : tally.session ≡ session
+  pub count : tally.count ≡ job_count key session queue
+  pub bytes : tally.bytes ≡ job_bytes key session queue
+  pub waiting : tally.waiting ≡ waiting_count key session queue
+
+right_found : (queue : Queue) (key session : ℕ) (tally : Tally) → is_tally_of key session tally ≡ true → IsRight queue tally → Found queue key session tally
+right_found queue key session tally is right =
+    let both = and_parts (tally.key == key) (tally.session == session) is in
+    let same_key : tally.key ≡ key = eqb-true tally.key key both.0 in
+    let same_session : tally.session ≡ session = eqb-true tally.session session both.1 in
+    record {
+      of_key = same_key;
+      of_session = same_session;
+      count = right.count ∙ (ap (λ (k : ℕ). job_count k tally.session queue) same_key ∙ ap (λ (s : ℕ). job_count key s queue) same_session);
+      bytes = right.bytes ∙ (ap (λ (k : ℕ). job_bytes k tally.session queue) same_key ∙ ap (λ (s : ℕ). job_bytes key s queue) same_session);
+      waiting = right.waiting ∙ (ap (λ (k : ℕ). waiting_count k tally.session queue) same_key ∙ ap (λ (s : ℕ). waiting_count key s queue) same_session);
+    }
+
+none_found : (queue : Queue) (key session : ℕ) → job_count key session queue ≡ 0 → Found queue key session (no_tally key session)
+none_found queue key session none =
+    let rest = nothing_there key session queue none in
+    record { of_key = refl; of_session = refl; count = sym none; bytes = sym rest.0; waiting = sym rest.1 }
+
+found_by : (queue : Queue) (key session : ℕ) (tally : Tally) (tallies : List Tally) (is : Bool) → is_tally_of key session tally ≡ is → IsRight queue tally → ((list_any (is_tally_of key session) tallies ≡ false → job_count key session queue ≡ 0) → Found queue key session (tally_of key session tallies)) → ((is || list_any (is_tally_of key session) tallies) ≡ false → job_count key session queue ≡ 0) → Found queue key session (tally_of key session (tally ∷ tallies))
+found_by queue key session tally tallies true is right later covers = rw is (right_found queue key session tally is right)
+found_by queue key session tally tallies false is right later covers = rw is (later covers)
+
+found_in : (queue : Queue) (key session : ℕ) (tallies : List Tally) → AreRight queue tallies → (list_any (is_tally_of key session) tallies ≡ false → job_count key session queue ≡ 0) → Found queue key session (tally_of key session tallies)
+found_in queue key session [] right covers = none_found queue key session (covers refl)
+found_in queue key session (tally ∷ tallies) right covers =
+    found_by queue key session tally tallies (is_tally_of key session tally) refl right.0 (found_in queue key session tallies right.1) covers
+
+pub found : (queue : Queue) (key session : ℕ) (tallies : List Tally) → IsTallied queue tallies → Found queue key session (tally_of key session tallies)
+found queue key session tallies tallied = found_in queue key session tallies tallied.right (tallied.covers key session)
+
+-- a session with jobs has a tally
+known_by : (queue : Queue) (key session : ℕ) (any : Bool) → (any ≡ false → job_count key session queue ≡ 0) → 0 < job_count key session queue → any ≡ true
+known_by queue key session true covers some = refl
+known_by queue key session false covers some = let none = covers refl in absurd (omega arith)
+
+pub known : (queue : Queue) (key session : ℕ) (tallies : List Tally) → IsTallied queue tallies → 0 < job_count key session queue → list_any (is_tally_of key session) tallies ≡ true
+known queue key session tallies tallied some = known_by queue key session (list_any (is_tally_of key session) tallies) (tallied.covers key session) some
+
+waiting_some : (own waits : Bool) → one_if (own && waits) ≤ one_if own
+waiting_some true true = omega arith
+waiting_some true false = omega arith
+waiting_some false waits = omega arith
+
+-- no more jobs wait than there are
+pub waiting_le : (key session : ℕ) (xs : Queue) → waiting_count key session xs ≤ job_count key session xs
+waiting_le key session [] = omega arith
+waiting_le key session (x ∷ xs) = let here = waiting_some (is_of key session x) (is_waiting x) in let later = waiting_le key session xs in omega arith
+
+-- ---- a tally is put in place of another
+
+-- the tally of another session is still right
+abbrev pub Apart : ℕ → ℕ → ℕ → ℕ → Type 0
+Apart key session other other_session = ((key == other) && (session == other_session)) ≡ false
+
+pub record SameElsewhere (key session : ℕ) (old new : Queue) : Type 0 where
+  pub same : (other other_session : ℕ) → Apart key session other other_session → (job_count other other_session new ≡ job_count other other_session old) × (job_bytes other other_session new ≡ job_bytes other other_session old) × (waiting_count other other_session new ≡ waiting_count other other_session old)
+
+still_right : (key session : ℕ) (old new : Queue) (tally : Tally) → SameElsewhere key session old new → Apart key session tally.key tally.session → IsRight old tally → IsRight new tally
+still_right key session old new tally elsewhere apart right =
+    let same = elsewhere.same tally.key tally.session apart in
+    record { count = right.count ∙ sym same.0; bytes = right.bytes ∙ sym same.1; waiting = right.waiting ∙ sym same.2 }
+
+eqb_turned : (a b : ℕ) (is : Bool) → (a == b) ≡ is → (b == a) ≡ is
+eqb_turned a b true here = eq-eqb b a (sym (eqb-true a b here))
+eqb_turned a b false here = ne_eqb b a (λ same. eqb-false a b here (sym same))
+
+turned : (a b c d : ℕ) → ((a == b) && (c == d)) ≡ false → ((b == a) && (d == c)) ≡ false
+turned a b c d apart =
+    let one = eqb_turned a b (a == b) refl in
+    let two = eqb_turned c d (c == d) refl in
+    rw (one, two) apart
+
+right_cond : (queue : Queue) (keeps : Bool) (tally : Tally) (tallies : List Tally) → (keeps ≡ true → IsRight queue tally) → AreRight queue tallies → AreRight queue (cond keeps (tally ∷ tallies) tallies)
+right_cond queue true tally tallies right later = (right refl, later)
+right_cond queue false tally tallies right later = later
+
+not_true : (b : Bool) → not b ≡ true → b ≡ false
+not_true true is = let clash : false ≡ true = is in cc
+not_true false is = refl
+
+right_without : (key session : ℕ) (old new : Queue) (tallies : List Tally) → SameElsewhere key session old new → AreRight old tallies → AreRight new (without_tally key session tallies)
+right_without key session old new [] elsewhere right = tt
+right_without key session old new (tally ∷ tallies) elsewhere right =
+    right_cond new (not (is_tally_of key session tally)) tally (without_tally key session tallies)
+    (λ other. still_right key session old new tally elsewhere (turned tally.key key tally.session session (not_true _ other)) right.0)
+    (right_without key session old new tallies elsewhere right.1)
+
+right_append : (queue : Queue) (xs ys : List Tally) → AreRight queue xs → AreRight queue ys → AreRight queue (xs ++ ys)
+right_append queue [] ys first last = last
+right_append queue (x ∷ xs) ys first last = (first.0, right_append queue xs ys first.1 last)
+
+right_if_any : (queue : Queue) (tally : Tally) (any : Bool) → IsRight queue tally → AreRight queue (if any then tally ∷ [] else [])
+right_if_any queue tally true right = (right, tt)
+right_if_any queue tally false right = tt
+
+or_false : (a b : Bool) → (a || b) ≡ false → (a ≡ false) × (b ≡ false)
+or_false true b none = let clash : true ≡ false = none in cc
+or_false false b none = (refl, none)
+
+own_covered : (queue : Queue) (key session : ℕ) (tally : Tally) (any : Bool) → nat_lt 0 tally.count ≡ any → is_tally_of key session tally ≡ true → Found queue key session tally → list_any (is_tally_of key session) (if any then tally ∷ [] else []) ≡ false → job_count key session queue ≡ 0
+own_covered queue key session tally true is own here none =
+    let clash : (is_tally_of key session tally || false) ≡ false = none in
+    let parts = or_false (is_tally_of key session tally) false clash in
+    cc
+own_covered queue key session tally false is own here none =
+    let empty = ltb-false 0 tally.count is in
+    let none : tally.count ≡ 0 = omega arith in
+    sym here.count ∙ none
+
+others_covered : (key session other other_session : ℕ) (old new : Queue) (tallies : List Tally) → Covers old tallies → SameElsewhere key session old new → Apart key session other other_session → list_any (is_tally_of other other_session) (without_tally key session tallies) ≡ false → job_count other other_session new ≡ 0
+others_covered key session other other_session old new tallies covers elsewhere apart none =
+    let keeps : list_any (is_tally_of other other_session) (without_tally key session tallies) ≡ list_any (is_tally_of other other_session) tallies =
+    any-filter_same (is_tally_of other other_session) (λ (tally : Tally). not (is_tally_of key session tally)) true
+    (λ tally own.
+    let both = and_parts (tally.key == other) (tally.session == other_session) own in
+    let same_key : tally.key ≡ other = eqb-true tally.key other both.0 in
+    let same_session : tally.session ≡ other_session = eqb-true tally.session other_session both.1 in
+    let back : ((other == key) && (other_session == session)) ≡ false = turned key other session other_session apart in
+    let there : is_tally_of key session tally ≡ false = rw (same_key, same_session) back in
+    ap not there) tallies in
+    (elsewhere.same other other_session apart).0 ∙ covers other other_session (sym keeps ∙ none)
+
+covers_by : (key session : ℕ) (old new : Queue) (tallies : List Tally) (tally : Tally) (other other_session : ℕ) (own : Bool) → is_tally_of other other_session tally ≡ own → IsRight new tally → Covers old tallies → SameElsewhere tally.key tally.session old new → list_any (is_tally_of other other_session) (stored tally tallies) ≡ false → job_count other other_session new ≡ 0
+covers_by key session old new tallies tally other other_session true own right covers elsewhere none =
+    let parts = or_false _ _ (sym (list_any-append (is_tally_of other other_session) (without_tally tally.key tally.session tallies) (tally_if_any tally)) ∙ none) in
+    own_covered new other other_session tally (nat_lt 0 tally.count) refl own (right_found new other other_session tally own right) parts.1
+covers_by key session old new tallies tally other other_session false own right covers elsewhere none =
+    let parts = or_false _ _ (sym (list_any-append (is_tally_of other other_session) (without_tally tally.key tally.session tallies) (tally_if_any tally)) ∙ none) in
+    others_covered tally.key tally.session other other_session old new tallies covers elsewhere own parts.0
+
+pub tallied_stored : (old new : Queue) (tallies : List Tally) (tally : Tally) → IsTallied old tallies → IsRight new tally → SameElsewhere tally.key tally.session old new → IsTallied new (stored tally tallies)
+tallied_stored old new tallies tally tallied right elsewhere =
+    record {
+      right = right_append new (without_tally tally.key tally.session tallies) (tally_if_any tally) (right_without tally.key tally.session old new tallies elsewhere tallied.right) (right_if_any new tally (nat_lt 0 tally.count) right);
+      covers = λ other other_session none. covers_by tally.key tally.session old new tallies tally other other_session (is_tally_of other other_session tally) refl right tallied.covers elsewhere none;
+    }
+
+-- ---- how many tallies there are
+
+shorter_by : (is any : Bool) (tally : Tally) (ys xs : List Tally) → length ys + one_if any ≤ length xs → length (cond (not is) (tally ∷ ys) ys) + one_if (is || any) ≤ length (tally ∷ xs)
+shorter_by true true tally ys xs less = omega arith
+shorter_by true false tally ys xs less = omega arith
+shorter_by false any tally ys xs less = omega arith
+
+pub shorter : (key session : ℕ) (xs : List Tally) → length (without_tally key session xs) + one_if (list_any (is_tally_of key session) xs) ≤ length xs
+shorter key session [] = omega arith
+shorter key session (x ∷ xs) = shorter_by (is_tally_of key session x) (list_any (is_tally_of key session) xs) x (without_tally key session xs) xs (shorter key session xs)
+
+pub room_by : (any : Bool) (left all room : ℕ) {b : Bool} → b ≡ any → (b ≡ false → left < room) → left + one_if b ≤ all → all ≤ room → left < room
+room_by true left all room is none fewer within = let one : one_if _ ≡ 1 = ap one_if is in omega arith
+room_by false left all room is none fewer within = none is
+
+-- ---- a job of a session comes or goes
+
+own_of : (x : Unfinished) → is_of x.job.key x.job.session x ≡ true
+own_of x = rw (eq-eqb x.job.key x.job.key refl, eq-eqb x.job.session x.job.session refl) refl
+
+pub record Measures (key session : ℕ) (x : Unfinished) (m n k : ℕ) : Type 0 where
+  pub one : counts key session x ≡ m
+  pub load : weighs key session x ≡ n
+  pub waits : awaits key session x ≡ k
+
+pub measures_by : (key session : ℕ) (x : Unfinished) (own : Bool) → is_of key session x ≡ own → Measures key session x (one_if own) (if own then load_of x.job else 0) (one_if (own && is_waiting x))
+measures_by key session x own is =
+    record {
+      one = ap one_if is;
+      load = ap (λ (b : Bool). if b then load_of x.job else 0) is;
+      waits = ap (λ (b : Bool). one_if (b && is_waiting x)) is;
+    }
+
+right_at : (queue : Queue) (key session : ℕ) (tally : Tally) → tally.key ≡ key → tally.session ≡ session → tally.count ≡ job_count key session queue → tally.bytes ≡ job_bytes key session queue → tally.waiting ≡ waiting_count key session queue → IsRight queue tally
+right_at queue key session tally same_key same_session count bytes waiting =
+    record {
+      count = count ∙ sym (ap (λ (k : ℕ). job_count k tally.session queue) same_key ∙ ap (λ (s : ℕ). job_count key s queue) same_session);
+      bytes = bytes ∙ sym (ap (λ (k : ℕ). job_bytes k tally.session queue) same_key ∙ ap (λ (s : ℕ). job_bytes key s queue) same_session);
+      waiting = waiting ∙ sym (ap (λ (k : ℕ). waiting_count k tally.session queue) same_key ∙ ap (λ (s : ℕ). waiting_count key s queue) same_session);
+    }
+
+elsewhere_at : (key session : ℕ) (tally : Tally) (old new : Queue) → tally.key ≡ key → tally.session ≡ session → SameElsewhere key session old new → SameElsewhere tally.key tally.session old new
+elsewhere_at key session tally old new same_key same_session there =
+    subst (λ (k : ℕ). SameElsewhere k tally.session old new) (sym same_key) (subst (λ (s : ℕ). SameElsewhere key s old new) (sym same_session) there)
+
+pub found_at : (queue : Queue) (key session : ℕ) (tallies : List Tally) (tally : Tally) → IsTallied queue tallies → tally ≡ tally_of key session tallies → Found queue key session tally
+found_at queue key session tallies tally tallied is = subst (λ (t : Tally). Found queue key session t) (sym is) (found queue key session tallies tallied)
+
+pub tallied_put : (xs : Queue) (tallies : List Tally) (x : Unfinished) (tally : Tally) (load waits : ℕ) → IsTallied xs tallies → tally ≡ tally_of x.job.key x.job.session tallies → load ≡ load_of x.job → waits ≡ one_if (is_waiting x)
+    → IsTallied (xs ++ x ∷ []) (stored (record { key = tally.key; session = tally.session; count = tally.count + 1; bytes = tally.bytes + load; waiting = tally.waiting + waits }) tallies)
+tallied_put xs tallies x tally load waits tallied is loads waiting =
+    let key = x.job.key in
+    let session = x.job.session in
+    let there = found_at xs key session tallies tally tallied is in
+    let own = measures_by key session x true (own_of x) in
+    let more = total_push (counts key session) xs x in
+    let heavier = total_push (weighs key session) xs x in
+    let longer = total_push (awaits key session) xs x in
+    let tally' : Tally = record { key = tally.key; session = tally.session; count = tally.count + 1; bytes = tally.bytes + load; waiting = tally.waiting + waits } in
+    let elsewhere : SameElsewhere key session xs (xs ++ x ∷ []) = record {
+      same = λ other other_session apart.
+          (let none = measures_by other other_session x false apart in
+          let same_count = total_push (counts other other_session) xs x in
+          let same_bytes = total_push (weighs other other_session) xs x in
+          let same_waiting = total_push (awaits other other_session) xs x in
+          (omega (arith, none.one), omega (arith, none.load), omega (arith, none.waits)));
+    } in
+    tallied_stored xs (xs ++ x ∷ []) tallies tally' tallied
+    (right_at (xs ++ x ∷ []) key session tally' there.of_key there.of_session (omega (arith, there.count, own.one)) (omega (arith, there.bytes, own.load)) (omega (arith, there.waiting, own.waits)))
+    (elsewhere_at key session tally' xs (xs ++ x ∷ []) there.of_key there.of_session elsewhere)
+
+-- its tally has what it counts
+pub record Counted (x : Unfinished) (tally : Tally) : Type 0 where
+  pub one : 1 ≤ tally.count
+  pub load : load_of x.job ≤ tally.bytes
+  pub waits : one_if (is_waiting x) ≤ tally.waiting
+
+pub counted_there : (xs : Queue) (tallies : List Tally) (i : ℕ) (x : Unfinished) (tally : Tally) → IsTallied xs tallies → i < length xs → x ≡ get_or xs i x → tally ≡ tally_of x.job.key x.job.session tallies → Counted x tally
+counted_there xs tallies i x tally tallied within at is =
+    let key = x.job.key in
+    let session = x.job.session in
+    let there = found_at xs key session tallies tally tallied is in
+    let own = measures_by key session x true (own_of x) in
+    let fewer = total_without (counts key session) xs i x within at in
+    let lighter = total_without (weighs key session) xs i x within at in
+    let shorter = total_without (awaits key session) xs i x within at in
+    record { one = omega (arith, there.count, own.one); load = omega (arith, there.bytes, own.load); waits = omega (arith, there.waiting, own.waits) }
+
+pub known_there : (xs : Queue) (tallies : List Tally) (i : ℕ) (x : Unfinished) → IsTallied xs tallies → i < length xs → x ≡ get_or xs i x → list_any (is_tally_of x.job.key x.job.session) tallies ≡ true
+known_there xs tallies i x tallied within at =
+    let own = measures_by x.job.key x.job.session x true (own_of x) in
+    let fewer = total_without (counts x.job.key x.job.session) xs i x within at in
+    known xs x.job.key x.job.session tallies tallied (omega (arith, own.one))
+
+pub tallied_taken : (xs : Queue) (tallies : List Tally) (i : ℕ) (x : Unfinished) (tally : Tally) (load waits : ℕ) → IsTallied xs tallies → i < length xs → x ≡ get_or xs i x → tally ≡ tally_of x.job.key x.job.session tallies → load ≡ load_of x.job → waits ≡ one_if (is_waiting x)
+    → IsTallied (remove xs i) (stored (record { key = tally.key; session = tally.session; count = tally.count - 1; bytes = tally.bytes - load; waiting = tally.waiting - waits }) tallies)
+tallied_taken xs tallies i x tally load waits tallied within at is loads waiting =
+    let key = x.job.key in
+    let session = x.job.session in
+    let there = found_at xs key session tallies tally tallied is in
+    let own = measures_by key session x true (own_of x) in
+    let fewer = total_without (counts key session) xs i x within at in
+    let lighter = total_without (weighs key session) xs i x within at in
+    let shorter = total_without (awaits key session) xs i x within at in
+    let tally' : Tally = record { key = tally.key; session = tally.session; count = tally.count - 1; bytes = tally.bytes - load; waiting = tally.waiting - waits } in
+    let elsewhere : SameElsewhere key session xs (remove xs i) = record {
+      same = λ other other_session apart.
+          (let none = measures_by other other_session x false apart in
+          let same_count = total_without (counts other other_session) xs i x within at in
+          let same_bytes = total_without (weighs other other_session) xs i x within at in
+          let same_waiting = total_without (awaits other other_session) xs i x within at in
+          (omega (arith, none.one), omega (arith, none.load), omega (arith, none.waits)));
+    } in
+    tallied_stored xs (remove xs i) tallies tally' tallied
+    (right_at (remove xs i) key session tally' there.of_key there.of_session (omega (arith, there.count, own.one)) (omega (arith, there.bytes, own.load)) (omega (arith, there.waiting, own.waits)))
+    (elsewhere_at key session tally' xs (remove xs i) there.of_key there.of_session elsewhere)
+
+-- ---- a call of a session is answered
+
+measures_told : (key session number other other_session : ℕ) (ok : Bool) (x : Unfinished) (waits : Bool) → waits_for key session number x ≡ waits → Apart key session other other_session
+    → (counts other other_session (if waits then told number ok x else x) ≡ counts other other_session x)
+    × (weighs other other_session (if waits then told number ok x else x) ≡ weighs other other_session x)
+    × (awaits other other_session (if waits then told number ok x else x) ≡ awaits other other_session x)
+measures_told key session number other other_session ok x true is apart =
+    let own = (and_parts (is_of key session x) _ is).0 in
+    let both = and_parts (x.job.key == key) (x.job.session == session) own in
+    let same_key : x.job.key ≡ key = eqb-true x.job.key key both.0 in
+    let same_session : x.job.session ≡ session = eqb-true x.job.session session both.1 in
+    let there : is_of other other_session x ≡ false = rw (same_key, same_session) apart in
+    let before = measures_by other other_session x false there in
+    let after = measures_by other other_session (told number ok x) false (same_owner other other_session number true ok x ∙ there) in
+    (after.one ∙ sym before.one, after.load ∙ sym before.load, after.waits ∙ sym before.waits)
+measures_told key session number other other_session ok x false is apart = (refl, refl, refl)
+
+total_same : (measure : Unfinished → ℕ) (f : Unfinished → Unfinished) → ((x : Unfinished) → measure (f x) ≡ measure x) → (xs : Queue) → total measure (map f xs) ≡ total measure xs
+total_same measure f same [] = refl
+total_same measure f same (x ∷ xs) = let here = same x in let later = total_same measure f same xs in omega arith
+
+pub settled_elsewhere : (key session number : ℕ) (ok : Bool) (xs : Queue) → SameElsewhere key session xs (settled key session number ok xs)
+settled_elsewhere key session number ok xs = record {
+  same = λ other other_session apart.
+      (let told_by = λ (x : Unfinished). measures_told key session number other other_session ok x (waits_for key session number x) refl apart in
+      let f = after_answer key session number ok in
+      (total_same (counts other other_session) f (λ x. (told_by x).0) xs, total_same (weighs other other_session) f (λ x. (told_by x).1) xs, total_same (awaits other other_session) f (λ x. (told_by x).2) xs));
+}
+
+pub tallied_again : (xs ys : Queue) (tallies : List Tally) (key session : ℕ) → IsTallied xs tallies → SameElsewhere key session xs ys → IsTallied ys (stored (counted_in ys key session) tallies)
+tallied_again xs ys tallies key session tallied elsewhere =
+    tallied_stored xs ys tallies (counted_in ys key session) tallied (record { count = refl; bytes = refl; waiting = refl }) elsewhere
+
+-- ---- a session is forgotten
+
+total_kept : (measure : Unfinished → ℕ) (x : Unfinished) (keeps : Bool) (ys xs : Queue) → (keeps ≡ false → measure x ≡ 0) → total measure ys ≡ total measure xs → total measure (cond keeps (x ∷ ys) ys) ≡ measure x + total measure xs
+total_kept measure x true ys xs zero_out same = omega arith
+total_kept measure x false ys xs zero_out same = let none = zero_out refl in omega arith
+
+total_filtered : (measure : Unfinished → ℕ) (test : Unfinished → Bool) → ((x : Unfinished) → test x ≡ false → measure x ≡ 0) → (xs : Queue) → total measure (filter test xs) ≡ total measure xs
+total_filtered measure test out [] = refl
+total_filtered measure test out (x ∷ xs) = total_kept measure x (test x) (filter test xs) xs (out x) (total_filtered measure test out xs)
+
+not_false : (b : Bool) → not b ≡ false → b ≡ true
+not_false true is = refl
+not_false false is = let clash : true ≡ false = is in cc
+
+apart_of : (key session other other_session : ℕ) (x : Unfinished) → Apart key session other other_session → not (is_of key session x) ≡ false → is_of other other_session x ≡ false
+apart_of key session other other_session x apart own =
+    let both = and_parts (x.job.key == key) (x.job.session == session) (not_false _ own) in
+    let same_key : x.job.key ≡ key = eqb-true x.job.key key both.0 in
+    let same_session : x.job.session ≡ session = eqb-true x.job.session session both.1 in
+    rw (same_key, same_session) apart
+
+forgotten_elsewhere : (key session : ℕ) (xs : Queue) → SameElsewhere key session xs (without_session key session xs)
+forgotten_elsewhere key session xs = record {
+  same = λ other other_session apart.
+      (let keeps = λ (x : Unfinished). not (is_of key session x) in
+      let none = λ (x : Unfinished) (own : keeps x ≡ false). measures_by other other_session x false (apart_of key session other other_session x apart own) in
+      (total_filtered (counts other other_session) keeps (λ x own. (none x own).one) xs, total_filtered (weighs other other_session) keeps (λ x own. (none x own).load) xs, total_filtered (awaits other other_session) keeps (λ x own. (none x own).waits) xs));
+}
+
+none_kept : (key session : ℕ) (x : Unfinished) (own : Bool) (ys : Queue) → is_of key session x ≡ own → job_count key session ys ≡ 0 → job_count key session (cond (not own) (x ∷ ys) ys) ≡ 0
+none_kept key session x true ys is none = none
+none_kept key session x false ys is none = let here = measures_by key session x false is in omega (arith, here.one)
+
+none_left : (key session : ℕ) (xs : Queue) → job_count key session (without_session key session xs) ≡ 0
+none_left key session [] = refl
+none_left key session (x ∷ xs) = none_kept key session x (is_of key session x) (without_session key session xs) refl (none_left key session xs)
+
+append_none : (xs : List Tally) → xs ++ [] ≡ xs
+append_none [] = refl
+append_none (x ∷ xs) = ap (λ (ys : List Tally). x ∷ ys) (append_none xs)
+
+pub tallied_without : (xs : Queue) (tallies : List Tally) (key session : ℕ) → IsTallied xs tallies → IsTallied (without_session key session xs) (without_tally key session tallies)
+tallied_without xs tallies key session tallied =
+    let ys = without_session key session xs in
+    let none = none_left key session xs in
+    let rest = nothing_there key session ys none in
+    let kept = tallied_stored xs ys tallies (no_tally key session) tallied (record { count = sym none; bytes = sym rest.0; waiting = sym rest.1 }) (forgotten_elsewhere key session xs) in
+    subst (λ (ts : List Tally). IsTallied ys ts) (append_none (without_tally key session tallies)) kept

@@ -1,0 +1,11 @@
+use Rattle.waits.proofs.Answering.{each_told, each_named, others_of_first}
+use Rattle.waits.proofs.laws.ready_after_each.Goals as goal
+
+pub returns-clause-each : goal.returns-clause-each
+returns-clause-each c = each_told
+
+pub returns-clause-named : goal.returns-clause-named
+returns-clause-named c = each_named
+
+pub returns-clause-others : goal.returns-clause-others
+returns-clause-others c = others_of_first

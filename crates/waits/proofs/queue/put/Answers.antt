@@ -1,0 +1,34 @@
+use Rattle.std.proofs.Common.{◌≡◌, ◌∙◌, ap, sym, subst, arith}
+use Rattle.waits.specs.Jobs.{Queue, is_waiting, one_if}
+use Rattle.waits.specs.Tallies.{IsTallied}
+use Rattle.waits.proofs.Tallies.{tallied_put, found_at, waiting_le}
+use Rattle.waits.proofs.Counts.{one_if_le}
+use Rattle.waits.proofs.queue.put.Goals as goal
+
+pub overflow_add-counted : goal.overflow_add-counted
+overflow_add-counted c =
+    let one = c.args.one in
+    let there = found_at c.args.queue.now.items one.job.key one.job.session c.args.tallies.now.items c.find-counted.result c.requires.tallied c.find-counted.ensures in
+    omega (arith, there.count, c.requires.fits)
+
+pub overflow_add-counted-2 : goal.overflow_add-counted-2
+overflow_add-counted-2 c =
+    let one = c.args.one in
+    let there = found_at c.args.queue.now.items one.job.key one.job.session c.args.tallies.now.items c.find-counted.result c.requires.tallied c.find-counted.ensures in
+    omega (arith, there.bytes, c.requires.bytes_fit, c.load.ensures)
+
+pub overflow_add-counted-3 : goal.overflow_add-counted-3
+overflow_add-counted-3 c =
+    let one = c.args.one in
+    let there = found_at c.args.queue.now.items one.job.key one.job.session c.args.tallies.now.items c.find-counted.result c.requires.tallied c.find-counted.ensures in
+    let fewer = waiting_le one.job.key one.job.session c.args.queue.now.items in
+    let most = one_if_le c.is_waiting.result in
+    omega (arith, there.waiting, c.requires.fits, c.one_if.ensures)
+
+pub returns-clause-tallied : goal.returns-clause-tallied
+returns-clause-tallied c =
+    let xs = c.args.queue.now.items in
+    let one = c.args.one in
+    let waits : c.one_if.result ≡ one_if (is_waiting one) = c.one_if.ensures ∙ ap one_if c.is_waiting.ensures in
+    let put = tallied_put xs c.args.tallies.now.items one c.find-counted.result c.load.result c.one_if.result c.requires.tallied c.find-counted.ensures c.load.ensures waits in
+    subst (λ (queue : Queue). IsTallied queue c.store.new.tallies.items) (sym c.push_back_reserved.ensures.items) (rw c.store.ensures.items put)

@@ -1,0 +1,94 @@
+//! What each session has among the unfinished jobs, in numbers.
+
+ghost use Rattle.std.specs.Prelude.{◌≡◌, ◌+◌, ◌<◌, ◌≤◌, false, not, find, vec_len, vec_capacity, IfOk};
+ghost use Rattle.std.specs.List.{list_any};
+ghost use Rattle.std.specs.Option.{option_copied};
+ghost use Rattle.waits.specs.Jobs.{one_if};
+ghost use Rattle.waits.specs.Tallies.{is_tally_of, no_tally, tally_of, without_tally, stored};
+
+use octets::Memory;
+use std::alloc::Global;
+
+/// How many jobs a session has, the bytes of their loads, and how many of them wait for a call.
+#[derive(Clone, Copy, Debug)]
+pub(crate) struct Tally {
+    pub key: u64,
+    pub session: u64,
+    pub count: usize,
+    pub bytes: usize,
+    pub waiting: usize,
+}
+
+impl Tally {
+    /// That of a session with no job.
+    pub(crate) fn none(key: u64, session: u64) -> Tally
+        ensures { result ≡ no_tally key session }
+    {
+        Tally {
+            key,
+            session,
+            count: 0,
+            bytes: 0,
+            waiting: 0,
+        }
+    }
+
+    /// Whether it is the one of this session of this key.
+    fn is_of(&self, key: u64, session: u64) -> bool
+        ensures { result ≡ is_tally_of key session self.now }
+    {
+        self.key == key && self.session == session
+    }
+}
+
+/// The tally of a session; `None` where it has no job.
+fn look_up(tallies: &Vec<Tally>, key: u64, session: u64) -> Option<&Tally>
+    ensures { option_copied result ≡ find (is_tally_of key session) tallies.now.items }
+{
+    tallies.iter().find(|tally| tally.is_of(key, session))
+}
+
+/// The tally of a session.
+pub(crate) fn find(tallies: &Vec<Tally>, key: u64, session: u64) -> Tally
+    ensures { result ≡ tally_of key session tallies.now.items }
+{
+    match look_up(tallies, key, session) {
+        Some(tally) => *tally,
+        None => Tally::none(key, session),
+    }
+}
+
+/// Keeps the tallies of other sessions.
+pub(crate) fn forget(tallies: &mut Vec<Tally>, key: u64, session: u64)
+    ensures others { tallies.new.items ≡ without_tally key session tallies.old.items }
+    ensures len { vec_len tallies.new ≤ vec_len tallies.old }
+    ensures capacity { vec_capacity tallies.new ≡ vec_capacity tallies.old }
+{
+    tallies.retain(|tally| !tally.is_of(key, session));
+}
+
+/// Puts a tally in place of the one of its session. One that counts no job isn't kept. Takes no memory.
+pub(crate) fn store(tallies: &mut Vec<Tally>, tally: Tally)
+    requires { list_any (is_tally_of tally.key tally.session) tallies.old.items ≡ false → vec_len tallies.old < vec_capacity tallies.old }
+    ensures items { tallies.new.items ≡ stored tally tallies.old.items }
+    ensures len { vec_len tallies.new ≤ vec_len tallies.old + one_if (not (list_any (is_tally_of tally.key tally.session) tallies.old.items)) }
+    ensures capacity { vec_capacity tallies.new ≡ vec_capacity tallies.old }
+{
+    forget(tallies, tally.key, tally.session);
+    if tally.count > 0 {
+        tallies.push_reserved(tally);
+    }
+}
+
+/// A copy of the tallies with room for so many at least.
+pub(crate) fn copies_of(alloc: Global, tallies: &Vec<Tally>) -> Result<Vec<Tally>, Memory>
+    ensures items { IfOk result (λ copy. copy.items ≡ tallies.now.items) }
+    ensures len { IfOk result (λ copy. vec_len copy ≡ vec_len tallies.now) }
+    ensures capacity { IfOk result (λ copy. vec_capacity copy ≡ vec_capacity tallies.now) }
+{
+    let mut copy = Vec::with_capacity(alloc, tallies.capacity())?;
+    for place in 0..tallies.len() {
+        copy.push_reserved(tallies[place]);
+    }
+    Ok(copy)
+}
