@@ -23,7 +23,7 @@ fn first_or_second(alloc: Global, first: &[u8], second: &[u8]) -> Result<Script,
 fn five_calls(rt: HostRuntime) -> Result<(), Fail> {
     let alloc = rt.alloc();
     let text =
-        b"# five\nadd x 5\n\nget x after 1\npad 2\npacked after 3\nhex 0aF0 after 18446744073709551615";
+        b"# five\nadd x 5\n\nget x after 1\npad\t2\npacked after 3\nhex 0aF0 after 18446744073709551615";
     let script = first_or_second(alloc, b"call 1 add x 5", text)?;
     let rows: [(&[u8], Option<u64>, u32); 5] = [
         (b"\x01\x2c\x1b\x0a\x01x\0\0\x05\0\0\0\0\0\0\0", None, 2),
@@ -44,12 +44,15 @@ fn five_calls(rt: HostRuntime) -> Result<(), Fail> {
 #[test]
 fn bad_lines(rt: HostRuntime) -> Result<(), Fail> {
     let alloc = rt.alloc();
-    let rows: [(&[u8], u32); 7] = [
+    let rows: [(&[u8], u32); 10] = [
         (b"client", 1),
         (b"get x\n\nadd x 05", 3),
         (b"get x\r\n", 1),
         (b"get x after", 1),
         (b"get  x", 1),
+        (b"get\t\tx", 1),
+        (b"\tget x", 1),
+        (b"get x\t", 1),
         (b"hex 1", 1),
         (b"pad 1048577\njump", 1),
     ];

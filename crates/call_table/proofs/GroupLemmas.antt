@@ -1,5 +1,5 @@
 -- The places of the calls that pass a test.
-use Rattle.std.proofs.Common.{◌≡◌, ◌∙◌, ℕ, zero, suc, ◌+◌, ◌<◌, ◌≤◌, Bool, true, false, cond, ltb, eqb, None, List, [], ◌∷◌, ◌++◌, length, map, set, get_or, ap, refl, inl, inr, arith, Some, ◌-◌, sym, subst, Option}
+use Rattle.std.proofs.Common.{◌≡◌, ◌∙◌, ℕ, zero, suc, ◌+◌, ◌<◌, ◌≤◌, Bool, true, false, cond, ltb, eqb, None, List, [], ◌∷◌, ◌++◌, length, map, set, get_or, ap, refl, inl, inr, arith, Some, ◌-◌, sym, subst}
 use Rattle.std.proofs.lemmas.Bool.{cases_Bool, lt-ltb, le-ltb, eq-eqb, ne_eqb}
 use Rattle.std.specs.Prelude.{slice_get, option_map}
 use Rattle.call_table.specs.Table.{places_from}

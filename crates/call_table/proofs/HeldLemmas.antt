@@ -1,5 +1,5 @@
 -- What stands beside the rows, after a change.
-use Rattle.std.proofs.Common.{◌≡◌, ◌∙◌, ℕ, zero, suc, ◌+◌, ◌-◌, ◌<◌, ◌≤◌, Bool, true, false, cond, Option, None, Some, List, [], ◌∷◌, ◌++◌, length, set, get_or, ap, refl, sym, subst, inl, inr, arith, length-append}
+use Rattle.std.proofs.Common.{◌≡◌, ◌∙◌, ℕ, zero, suc, ◌+◌, ◌-◌, ◌<◌, ◌≤◌, Bool, true, false, Option, None, Some, List, [], ◌∷◌, ◌++◌, length, set, get_or, ap, refl, sym, subst, inl, inr, arith, length-append}
 use Rattle.std.specs.Prelude.{slice_get, option_map, IfSome, IsSome, ◌≢◌}
 use Rattle.std.specs.List.{AllByRecursion}
 use Rattle.std.proofs.lemmas.Bool.{cases_Bool}
@@ -15,9 +15,9 @@ use Rattle.call_table.specs.declared.groups.Groups.{Groups}
 use Rattle.call_table.specs.declared.row.Progress.{Progress}
 use Rattle.call_table.specs.declared.row.Progress.TheVariants as progress
 use Rattle.call_table.specs.declared.row.Row.{Row}
-use Rattle.call_table.specs.Table.{State, Queued, Sent, Held, Done, Refused, Unknown, is_queued, is_sent, is_held, IsGiven, call_no, no_flags, places_from, changed_at, calls_max}
+use Rattle.call_table.specs.Table.{State, Queued, Sent, Held, Done, Refused, Unknown, is_queued, is_sent, is_held, IsGiven, call_no, no_flags, places_from, changed_at, calls_max, IsEarlier}
 use Rattle.call_table.specs.Kept.{Contents, IsMember, state_of, state_in, number_in, under_in, is_row_in, passes, progress_again, again_row, progress_after}
-use Rattle.call_table.specs.Held.{Rises, with_member, number_at, found, IsIndexed, IsUnmarked, places_in, capacity_in, IsHeld}
+use Rattle.call_table.specs.Held.{Rises, with_member, number_at, found, IsIndexed, IsUnmarked, places_in, capacity_in, FollowEarlier, IsHeld}
 use Rattle.call_table.proofs.GroupLemmas.{places_rise, places_few, places_set, places_push, places_same, get_at, get_push, place_passes}
 use Rattle.call_table.proofs.IndexLemmas.{indexed_same, number_at-push, number_at-row, number_at-set, number_found}
 use Rattle.call_table.proofs.PlaceLemmas.{passes_within}
@@ -42,6 +42,33 @@ all_get P [] k h = tt
 all_get P (x ∷ xs) zero h = h.0
 all_get P (x ∷ xs) (suc k) h = all_get P xs k h.1
 
+-- ---- the earlier calls
+
+earlier_set : (first : ℕ) (rows : List Row) (k : ℕ) (row y : Row) → k < length rows → row ≡ get_or rows k row → y.after ≡ row.after → FollowEarlier first rows → FollowEarlier first (set rows k y)
+earlier_set first [] k row y within is same h = absurd (omega arith)
+earlier_set first (x ∷ rows) zero row y within is same h = (subst (λ (o : Option CallNo). IfSome o (IsEarlier first)) (sym (same ∙ ap (λ (r : Row). r.after) is)) h.0, h.1)
+earlier_set first (x ∷ rows) (suc k) row y within is same h = (h.0, earlier_set (first + 1) rows k row y (omega arith) is same h.1)
+
+earlier_push : (first : ℕ) (rows : List Row) (y : Row) (place : ℕ) → place ≡ first + length rows → IfSome y.after (IsEarlier place) → FollowEarlier first rows → FollowEarlier first (rows ++ y ∷ [])
+earlier_push first [] y place at new h = (subst (λ (p : ℕ). IfSome y.after (IsEarlier p)) (omega arith) new, tt)
+earlier_push first (x ∷ rows) y place at new h = (h.0, earlier_push (first + 1) rows y place (omega arith) new h.1)
+
+pub earlier_at : (first : ℕ) (rows : List Row) (k place : ℕ) (row : Row) → place ≡ first + k → k < length rows → row ≡ get_or rows k row → FollowEarlier first rows → IfSome row.after (IsEarlier place)
+earlier_at first [] k place row at within is h = absurd (omega arith)
+earlier_at first (x ∷ rows) zero place row at within is h =
+    let here : IfSome x.after (IsEarlier place) = subst (λ (p : ℕ). IfSome x.after (IsEarlier p)) (omega arith) h.0 in
+    subst (λ (r : Row). IfSome r.after (IsEarlier place)) (sym is) here
+earlier_at first (x ∷ rows) (suc k) place row at within is h = earlier_at (first + 1) rows k place row (omega arith) (omega arith) is h.1
+
+-- what is earlier than a call is there, as the call is
+pub earlier_given : (after : Option CallNo) (place : ℕ) (rows : List Row) → place < length rows → IfSome after (IsEarlier place) → IfSome after (λ one. IsGiven one rows)
+earlier_given None place rows within h = tt
+earlier_given (Some one) place rows within h = (h.0, omega (arith, h.1))
+
+pub earlier_below : (after : Option CallNo) (place n : ℕ) → place < n → IfSome after (IsEarlier place) → IfSome after (λ one. one.n < n)
+earlier_below None place n within h = tt
+earlier_below (Some one) place n within h = omega (arith, h.1)
+
 module _ (rows : List Row) (names : List Named) (groups : Groups) (acks packets : ℕ) (held : IsHeld rows names groups acks packets) where
   -- the places of a group can be searched, and there is room for one more
   pub groups_rise : (g : Group) → Rises (places_in g groups)
@@ -55,12 +82,14 @@ module _ (rows : List Row) (names : List Named) (groups : Groups) (acks packets 
       omega arith
 
   -- a row is changed
-  pub held_set : (k : ℕ) (y : Row) (names' : List Named) (after : Groups) → k < length rows
+  pub held_set : (k : ℕ) (row y : Row) (names' : List Named) (after : Groups) → k < length rows
+      → row ≡ get_or rows k row → y.after ≡ row.after
       → ((g : Group) → places_in g after ≡ with_member k (is_row_in g y) (places_in g groups))
       → ((g : Group) → capacity_in g groups ≤ capacity_in g after)
       → IsIndexed (set rows k y) names' → IsUnmarked y → IsHeld (set rows k y) names' after acks packets
-  held_set k y names' after within placed grown indexed unmarked = record {
+  held_set k row y names' after within is follows placed grown indexed unmarked = record {
     indexed = indexed;
+    earlier = earlier_set 0 rows k row y within is follows held.earlier;
     unmarked = all_set IsUnmarked rows k y held.unmarked unmarked;
     grouped = λ g. placed g ∙ (ap (with_member k (is_row_in g y)) (held.grouped g) ∙ places_set (is_row_in g) k 0 rows k y (omega arith) within);
     group_room = λ g. let room : length rows < capacity_in g groups = held.group_room g in let more : capacity_in g groups ≤ capacity_in g after = grown g in rw length-set (omega arith);
@@ -71,8 +100,9 @@ module _ (rows : List Row) (names : List Named) (groups : Groups) (acks packets 
 
   -- a row is changed in nothing that concerns them
   pub held_same : (k : ℕ) (row y : Row) → k < length rows → row ≡ get_or rows k row → ((g : Group) → is_row_in g y ≡ is_row_in g row) → number_in y.progress ≡ number_at k rows
-      → IsUnmarked y → IsHeld (set rows k y) names groups acks packets
-  held_same k row y within is same number unmarked = record {
+      → y.after ≡ row.after → IsUnmarked y → IsHeld (set rows k y) names groups acks packets
+  held_same k row y within is same number follows unmarked = record {
+    earlier = earlier_set 0 rows k row y within is follows held.earlier;
     unmarked = all_set IsUnmarked rows k y held.unmarked unmarked;
     indexed = indexed_same rows (set rows k y) names (λ j. number_at-set rows k j y number) held.indexed;
     grouped = λ g. held.grouped g ∙ sym (places_same (is_row_in g) 0 rows k row y within is (same g));
@@ -86,12 +116,13 @@ module _ (rows : List Row) (names : List Named) (groups : Groups) (acks packets 
   pub held_push : (k : ℕ) (y : Row) (after : Groups) → k ≡ length rows → length rows < calls_max → number_in y.progress ≡ None
       → ((g : Group) → places_in g after ≡ with_member k (is_row_in g y) (places_in g groups))
       → ((g : Group) → k + 1 < capacity_in g after)
-      → IsUnmarked y → IsHeld (rows ++ y ∷ []) names after acks packets
-  held_push k y after at few none placed room unmarked =
+      → IfSome y.after (IsEarlier (length rows)) → IsUnmarked y → IsHeld (rows ++ y ∷ []) names after acks packets
+  held_push k y after at few none placed room follows unmarked =
       let more : length (rows ++ y ∷ []) ≡ length rows + 1 = length-append rows (y ∷ []) in
       record {
         indexed = indexed_same rows (rows ++ y ∷ []) names (λ j. number_at-push rows j y none) held.indexed;
         unmarked = all_push IsUnmarked rows y held.unmarked unmarked;
+        earlier = earlier_push 0 rows y (length rows) (omega arith) follows held.earlier;
         grouped = λ g. placed g ∙ (ap (with_member k (is_row_in g y)) (held.grouped g) ∙ places_push (is_row_in g) k 0 rows y (omega arith));
         group_room = λ g. let r : k + 1 < capacity_in g after = room g in omega arith;
         few = omega arith;

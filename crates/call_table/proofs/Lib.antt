@@ -4,3 +4,4 @@ pub mod IndexLemmas
 pub mod StandsLemmas
 pub mod HeldLemmas
 pub mod LawLemmas
+pub mod NumberLemmas

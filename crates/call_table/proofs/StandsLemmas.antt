@@ -15,7 +15,7 @@ use Rattle.call_table.specs.declared.call.Under.TheVariants.{Zero, One, More}
 use Rattle.call_table.specs.declared.row.Progress.{Progress}
 use Rattle.call_table.specs.declared.row.Progress.TheVariants as progress
 use Rattle.call_table.specs.declared.row.Row.{Row}
-use Rattle.call_table.specs.Table.{State, Name, Call, Table, new_call, added, is_queued, is_sent, is_held, is_open, living_name_in, living_name, under_others, under_of, sent, sent_again, with_salt, state_after, settled, flagged, changed_at, places_from, first_from, is_number_of, is_in}
+use Rattle.call_table.specs.Table.{State, Name, Call, Table, new_call, added, is_queued, is_sent, is_held, living_name_in, living_name, under_others, under_of, sent, sent_again, with_salt, state_after, settled, flagged, changed_at, places_from, first_from, is_number_of, is_in}
 use Rattle.call_table.specs.Kept.{Contents, state_of, living_in, under_in, number_in, is_row_in, passes, is_number, new_row, under_again, sent_row, progress_again, again_row, progress_after, settled_row, flagged_row, IsProgressOf, IsRowOf, IsBelow, Stands}
 
 -- ---- lists that agree

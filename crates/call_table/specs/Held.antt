@@ -1,5 +1,5 @@
 -- Scaffolding, no promise: how the orders beside the rows are held.
-use Rattle.std.specs.Prelude.{◌≡◌, ℕ, zero, suc, ◌+◌, ◌<◌, ◌≤◌, Bool, false, nat_lt, ◌==◌, if◌then◌else◌, Option, Some, None, List, [], ◌∷◌, map, length}
+use Rattle.std.specs.Prelude.{◌≡◌, ℕ, zero, suc, ◌+◌, ◌<◌, ◌≤◌, Bool, false, nat_lt, ◌==◌, if◌then◌else◌, Option, Some, None, IfSome, List, [], ◌∷◌, map, length}
 use Rattle.std.specs.List.{AllByRecursion}
 use Rattle.call_table.specs.declared.names.Named.{Named}
 use Rattle.std.specs.VecDeque.{deque_capacity}
@@ -7,7 +7,7 @@ use Rattle.call_table.specs.declared.row.Row.{Row}
 use Rattle.call_table.specs.declared.groups.Groups.{Groups}
 use Rattle.call_table.specs.declared.call.Group.{Group}
 use Rattle.call_table.specs.declared.call.Group.TheVariants as group
-use Rattle.call_table.specs.Table.{calls_max, acks_max, packets_max, is_sent, no_flags, places_from}
+use Rattle.call_table.specs.Table.{calls_max, acks_max, packets_max, is_sent, no_flags, places_from, IsEarlier}
 use Rattle.call_table.specs.Kept.{number_in, is_row_in, state_of}
 
 -- each of these numbers is above this one
@@ -86,10 +86,16 @@ HaveRoom count groups = (group : Group) → count < capacity_in group groups
 abbrev pub IsUnmarked : Row → Type 0
 IsUnmarked row = is_sent (state_of row.progress) ≡ false → row.flags ≡ no_flags
 
+-- each call that follows another follows an earlier one
+abbrev pub FollowEarlier : ℕ → List Row → Type 0
+FollowEarlier place [] = Unit {0}
+FollowEarlier place (row ∷ rows) = IfSome row.after (IsEarlier place) × FollowEarlier (place + 1) rows
+
 -- what stands beside the rows
 pub record IsHeld (rows : List Row) (names : List Named) (groups : Groups) (acks_capacity packets_capacity : ℕ) : Type 0 where
   pub indexed : IsIndexed rows names
   pub unmarked : AllByRecursion IsUnmarked rows
+  pub earlier : FollowEarlier 0 rows
   pub grouped : AreGrouped rows groups
   pub group_room : HaveRoom (length rows) groups
   pub few : length rows ≤ calls_max

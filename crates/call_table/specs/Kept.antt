@@ -17,7 +17,7 @@ use Rattle.call_table.specs.declared.packet.Packet.{Packet}
 use Rattle.call_table.specs.declared.row.Progress.{Progress}
 use Rattle.call_table.specs.declared.row.Progress.TheVariants as progress
 use Rattle.call_table.specs.declared.row.Row.{Row}
-use Rattle.call_table.specs.Table.{State, Queued, Sent, Held, Done, Refused, Unknown, Name, Call, Table, no_flags, is_queued, is_sent, is_held, is_open, under_of, call_no, at, changed, first_from}
+use Rattle.call_table.specs.Table.{State, Queued, Sent, Held, Done, Refused, Unknown, Name, Call, Table, no_flags, is_queued, is_sent, is_held, under_of, call_no, at, changed, first_from, with_own}
 
 -- what contracts see of a `Calls`: its rows, one a call, the waiting acknowledgements, the remembered packets, and for
 -- how many more sendings room is reserved
@@ -93,6 +93,11 @@ is_number number (Some own) = own == number
 
 abbrev pub owner_in : ℕ → List Row → Option CallNo
 owner_in number rows = option_map call_no (first_from (λ row. is_number number (number_in row.progress)) 0 rows)
+
+-- the message identifiers under which the rows' calls are outstanding, in ascending order
+abbrev pub numbers_in : List Row → List ℕ
+numbers_in [] = []
+numbers_in (row ∷ rows) = with_own (number_in row.progress) (numbers_in rows)
 
 -- ---- what changes a row
 

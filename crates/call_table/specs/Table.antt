@@ -2,7 +2,7 @@
 -- acknowledgements that wait, and the packets that are remembered
 -- (core.telegram.org/mtproto/service_messages_about_messages, "Acknowledgment of Receipt" and "Notice of Ignored
 -- Error Message"; core.telegram.org/mtproto/description, "Message Identifier" and "Server Salt").
-use Rattle.std.specs.Prelude.{ℕ, zero, suc, ◌+◌, ◌-◌, ◌<◌, ◌≤◌, Bool, true, false, not, ◌==◌, if◌then◌else◌, Option, Some, None, option_map, IfSome, List, [], ◌∷◌, ◌++◌, length, drop, filter, map, fold, slice_get}
+use Rattle.std.specs.Prelude.{ℕ, zero, suc, ◌+◌, ◌-◌, ◌<◌, ◌≤◌, nat_lt, Bool, true, false, not, ◌==◌, if◌then◌else◌, Option, Some, None, option_map, IfSome, List, [], ◌∷◌, ◌++◌, length, drop, filter, map, fold, slice_get}
 use Rattle.std.specs.List.{AllByRecursion, list_all}
 use Rattle.call_table.specs.declared.call.CallNo.{CallNo}
 use Rattle.call_table.specs.declared.call.Cause.{Cause}
@@ -129,6 +129,10 @@ call_no place = record { n = place + 1 }
 abbrev pub IsGiven : {X : Type 0} → CallNo → List X → Type 0
 IsGiven call calls = (0 < call.n) × (call.n ≤ length calls)
 
+-- an earlier call than the one at a place
+abbrev pub IsEarlier : ℕ → CallNo → Type 0
+IsEarlier place call = (0 < call.n) × (call.n ≤ place)
+
 -- what stands in the place of a call
 abbrev pub at : {X : Type 0} → CallNo → List X → Option X
 at call calls = slice_get calls (call.n - 1)
@@ -163,6 +167,20 @@ is_number_of number (Some name) = name.message.number == number
 -- the outstanding call of a message identifier
 abbrev pub owner : ℕ → List Call → Option CallNo
 owner number calls = option_map call_no (first_from (λ call. is_number_of number (living_name call)) 0 calls)
+
+-- a number takes its place among ascending ones
+abbrev pub with_number : ℕ → List ℕ → List ℕ
+with_number number [] = number ∷ []
+with_number number (first ∷ others) = if nat_lt first number then first ∷ with_number number others else number ∷ (first ∷ others)
+
+abbrev pub with_own : Option ℕ → List ℕ → List ℕ
+with_own None numbers = numbers
+with_own (Some number) numbers = with_number number numbers
+
+-- the message identifiers of the living names, in ascending order
+abbrev pub living_numbers : List Call → List ℕ
+living_numbers [] = []
+living_numbers (call ∷ calls) = with_own (option_map (λ name. name.message.number) (living_name call)) (living_numbers calls)
 
 -- each living message identifier is below this one
 abbrev pub AreBelow : ℕ → List Call → Type 0

@@ -1,6 +1,6 @@
 //! The table of a client's calls.
 
-ghost use Rattle.std.specs.Prelude.{◌≡◌, ◌≢◌, ◌↔◌, IsTrue, ◌<◌, ◌≤◌, ◌-◌, ◌+◌, ◌++◌, ◌∷◌, [], true, max, length, map, slice_get, option_map, Some, None, IfOk, OnOk, OnErr, IfSome};
+ghost use Rattle.std.specs.Prelude.{◌≡◌, ◌≢◌, ◌↔◌, IsTrue, ◌<◌, ◌≤◌, ◌-◌, ◌+◌, ◌++◌, ◌∷◌, [], true, max, length, map, slice_get, option_map, Some, None, IfOk, OnOk, OnErr, IfSome, IsSome};
 ghost use Rattle.std.specs.List.{AllByRecursion};
 
 use crate::call::{CallNo, CallState, Fate, Flags, Group, Living, Under};
@@ -64,8 +64,8 @@ impl Model for Calls {
 }
 
 impl Calls {
-    ghost use Rattle.call_table.specs.Table.{Table, Queued, Sent, IsGiven, acks_max, acknowledged, added, at, call_no, calls_max, flagged, group_of, inner_of, is_open, living_name, no_calls, no_flags, owner, places_from, remembered, sent, sent_again, settled, state_at, under_of, with_call};
-    ghost use Rattle.call_table.specs.Kept.{IsBelow, IsMember, Stands, again_row, flagged_row, is_row_in, living_in, new_row, owner_in, passes, sent_row, settled_row, shown, state_in, under_in, with_row};
+    ghost use Rattle.call_table.specs.Table.{Table, Queued, Sent, IsGiven, acks_max, acknowledged, added, at, call_no, calls_max, flagged, group_of, inner_of, is_open, living_name, living_numbers, no_calls, no_flags, owner, places_from, remembered, sent, sent_again, settled, state_at, under_of, with_call};
+    ghost use Rattle.call_table.specs.Kept.{IsBelow, IsMember, Stands, again_row, flagged_row, is_row_in, living_in, new_row, numbers_in, owner_in, passes, sent_row, settled_row, shown, state_in, under_in, with_row};
 
     /// A table of no call. Takes the room for all acknowledgements and packets.
     ///
@@ -95,8 +95,8 @@ impl Calls {
         self.rows.len() as u32
     }
 
-    /// Submits a call with this body, which is to execute after an earlier call, if one is given. There are fewer than
-    /// 65,536 calls so far. It answers the call, which is `Queued`.
+    /// Submits a call with this body, which is to execute after an earlier call of this table, if one is given. There
+    /// are fewer than 65,536 calls so far. It answers the call, which is `Queued`.
     ///
     /// # Errors
     ///
@@ -108,6 +108,7 @@ impl Calls {
         after: Option<CallNo>,
     ) -> Result<CallNo, Memory>
         requires few { length self.old.rows < calls_max }
+        requires earlier { IfSome after (λ one. IsGiven one self.old.rows) }
         ensures call { IfOk result (λ call. call ≡ call_no (length self.old.rows)) }
         ensures kept { OnOk result (self.new ≡ record self.old { rows = self.old.rows ++ new_row body.now after ∷ [] }) }
         ensures stands { OnOk result ((table : Table) → Stands self.old table → Stands self.new (added body.now after table)) }
@@ -155,6 +156,8 @@ impl Calls {
     pub fn after(&self, call: CallNo) -> Option<CallNo>
         requires given { IsGiven call self.now.rows }
         ensures kept { option_map (λ row. row.after) (at call self.now.rows) ≡ Some result }
+        ensures given { IfSome result (λ one. IsGiven one self.now.rows) }
+        ensures earlier { IfSome result (λ one. one.n < call.n) }
         ensures after { (table : Table) → Stands self.now table → option_map (λ one. one.after) (at call table.calls) ≡ Some result }
     {
         self.rows[place_of(call)].after
@@ -200,6 +203,17 @@ impl Calls {
         Some(CallNo {
             n: place as u64 + 1,
         })
+    }
+
+    /// The living message identifier that has so many others below it; none exactly at their count, which is that of the
+    /// calls that are `Sent`, and past it.
+    pub fn living_at(&self, k: usize) -> Option<u64>
+        ensures kept { result ≡ slice_get (numbers_in self.now.rows) k }
+        ensures owned { IfSome result (λ number. IsSome (owner_in number self.now.rows)) }
+        ensures living { (table : Table) → Stands self.now table → result ≡ slice_get (living_numbers table.calls) k }
+    {
+        let one = self.names.get(k)?;
+        Some(one.number)
     }
 
     /// How many calls a group has.

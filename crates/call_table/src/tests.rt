@@ -72,6 +72,21 @@ fn mark(calls: &mut Calls, number: u64, flags: Flags) -> Option<Flags> {
     Some(calls.flags(call))
 }
 
+// The least outstanding call is answered.
+fn answer_least(calls: &mut Calls, fate: Fate) -> Option<CallNo> {
+    let number = calls.living_at(0)?;
+    answer(calls, number, fate)
+}
+
+// Submits a call that is to execute after the one after which this one is.
+fn add_beside(calls: &mut Calls, alloc: Global, n: u64) -> Result<Option<CallNo>, Memory> {
+    if n == 0 || n > calls.count() as u64 || calls.count() >= 65_536 {
+        return Ok(None);
+    }
+    let after = calls.after(CallNo { n });
+    Ok(Some(calls.add(alloc, b"four", after)?))
+}
+
 // Submits a call, where there is room for one.
 fn add(
     calls: &mut Calls,
@@ -81,6 +96,11 @@ fn add(
 ) -> Result<CallNo, Fail> {
     if calls.count() >= 65_536 {
         return Err("full".into());
+    }
+    if let Some(earlier) = after {
+        if earlier.n == 0 || earlier.n > calls.count() as u64 {
+            return Err("no earlier call".into());
+        }
     }
     Ok(calls.add(alloc, body, after)?)
 }
@@ -131,13 +151,20 @@ fn three_calls(rt: HostRuntime) -> Result<(), Fail> {
     add(&mut calls, alloc, b"tri.", Some(CallNo { n: 1 }))?;
     assert_eq!(rt; body(&calls, 3)?, b"tri.".as_slice());
     assert_eq!(rt; after(&calls, 3)?, Some(CallNo { n: 1 }));
+    assert_eq!(rt; add_beside(&mut calls, alloc, 3)?, Some(CallNo { n: 4 }));
+    assert_eq!(rt; after(&calls, 4)?, Some(CallNo { n: 1 }));
     assert!(rt; send_first(&mut calls, alloc, message(4, 1), 7)?);
     assert!(rt; send(&mut calls, alloc, CallNo { n: 2 }, message(8, 3), 0)?);
     assert!(rt; !send(&mut calls, alloc, CallNo { n: 3 }, message(8, 5), 0)?);
     assert_eq!(rt;
-        answer(&mut calls, 4, Fate::Done(Octets::copy(alloc, b"yes.")?)),
+        (calls.living_at(0), calls.living_at(1), calls.living_at(2)),
+        (Some(4), Some(8), None)
+    );
+    assert_eq!(rt;
+        answer_least(&mut calls, Fate::Done(Octets::copy(alloc, b"yes.")?)),
         Some(CallNo { n: 1 })
     );
+    assert_eq!(rt; calls.living_at(0), Some(8));
     assert_eq!(rt;
         (calls.owner(4), calls.owner(8), calls.owner(12)),
         (None, Some(CallNo { n: 2 }), None)
@@ -156,7 +183,7 @@ fn three_calls(rt: HostRuntime) -> Result<(), Fail> {
             calls.members(Group::Queued),
             calls.members(Group::Outstanding)
         ),
-        (1, 1)
+        (2, 1)
     );
     assert_eq!(rt;
         mark(

@@ -1,8 +1,8 @@
 -- What the plain speller spells.
-use Rattle.std.proofs.Common.{◌≡◌, ◌≢◌, ◌∙◌, ℕ, ◌+◌, ◌/◌, ◌%◌, ◌≤◌, nat_le, true, false, List, [], ◌∷◌, length, codes, All, Option, Some, None, inl, inr, subst, refl, sym, ap, arith}
+use Rattle.std.proofs.Common.{◌≡◌, ◌≢◌, ◌∙◌, ℕ, ◌+◌, ◌/◌, ◌%◌, ◌≤◌, nat_le, eqb, true, false, List, [], ◌∷◌, length, codes, All, Option, Some, None, inl, inr, subst, refl, sym, ap, arith}
 use Rattle.std.specs.Fmt.{decimal}
 use Rattle.std.specs.List.{list_all}
-use Rattle.std.proofs.lemmas.Bool.{leb-true, and_parts}
+use Rattle.std.proofs.lemmas.Bool.{leb-true, and_parts, ne_eqb}
 use Rattle.std.proofs.lemmas.List.Elements.{All-cons, All-nil, All-append, All-head, All-tail}
 use Rattle.octets.specs.Bytes.{IsBytes}
 use Rattle.hex.specs.Hex.{encode_lower}
@@ -16,7 +16,7 @@ use Rattle.sched_text.specs.Bodies as bodies
 use Rattle.sched_text.specs.Events.{IsEvent}
 use Rattle.sched_text.specs.Schedule.{SaysEvent}
 use Rattle.sched_text.specs.Speller.{IsCallNumber, IsInRange, AreInRange, hex_word, after_words, words_for, line_of, text_for, placed_from}
-use Rattle.sched_text.proofs.Pieces.{lines_of-line, words_of-word, words_of-last}
+use Rattle.sched_text.proofs.Pieces.{NotBlank, lines_of-line, words_of-word, words_of-last}
 use Rattle.sched_text.proofs.Hexes.{pairs_of}
 use Rattle.sched_text.proofs.Meanings.{IsFigure, figures}
 use Rattle.sched_text.proofs.Steps.{skip}
@@ -168,13 +168,18 @@ kept_in Restart = refl
 
 -- ---- lines
 
-no_blank : (word : List ℕ) → All IsVisible word → All (λ b. b ≢ 32) word
-no_blank word = weaker IsVisible (λ b. b ≢ 32) (λ b h e. omega (arith, h, e)) word
+no_blank : (word : List ℕ) → All IsVisible word → All NotBlank word
+no_blank word = weaker IsVisible NotBlank
+    (λ b h.
+      let no_space : eqb b 32 ≡ false = ne_eqb b 32 (λ e. omega (arith, h, e)) in
+      let no_tab : eqb b 9 ≡ false = ne_eqb b 9 (λ e. omega (arith, h, e)) in
+      rw (no_space, no_tab) refl)
+    word
 
 -- the words of a line made of words
 words_again : (word : List ℕ) (words : List (List ℕ)) → AreVisible (word ∷ words) → words_of (line_of (word ∷ words)) ≡ word ∷ words
 words_again word [] h = words_of-last word (no_blank word h.0)
-words_again word (next ∷ words) h = words_of-word word (line_of (next ∷ words)) (no_blank word h.0) ∙ ap (λ ws. word ∷ ws) (words_again next words h.1)
+words_again word (next ∷ words) h = words_of-word word 32 (line_of (next ∷ words)) (no_blank word h.0) refl ∙ ap (λ ws. word ∷ ws) (words_again next words h.1)
 
 abbrev IsOfLine : ℕ → Type 0
 IsOfLine byte = 32 ≤ byte

@@ -1,5 +1,5 @@
 -- A text's lines, and a line's words.
-use Rattle.std.specs.Prelude.{◌≡◌, ℕ, ◌+◌, ◌==◌, Bool, true, if◌then◌else◌, List, [], ◌∷◌, ◌⊎◌}
+use Rattle.std.specs.Prelude.{◌≡◌, ℕ, ◌+◌, ◌==◌, ◌||◌, Bool, true, if◌then◌else◌, List, [], ◌∷◌, ◌⊎◌}
 
 -- ---- lines
 
@@ -35,10 +35,14 @@ lines_in text = numbered 1 (lines_of text)
 
 -- ---- words
 
+-- a blank: a space or a tab
+abbrev pub is_blank : ℕ → Bool
+is_blank byte = byte == 32 || byte == 9
+
 -- the words of a line: one blank stands between two
 abbrev pub words_of : List ℕ → List (List ℕ)
 words_of [] = [] ∷ []
-words_of (byte ∷ bytes) = if byte == 32 then [] ∷ words_of bytes else onto_first byte (words_of bytes)
+words_of (byte ∷ bytes) = if is_blank byte then [] ∷ words_of bytes else onto_first byte (words_of bytes)
 
 -- ---- what lines say, one thing each
 

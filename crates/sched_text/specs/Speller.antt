@@ -75,7 +75,7 @@ words_for (End client) = codes "end" ∷ decimal client ∷ []
 words_for (Lose client) = codes "lose" ∷ decimal client ∷ []
 words_for Restart = codes "restart" ∷ []
 
--- words with one blank between
+-- words with one blank between, which is a space
 abbrev pub line_of : List (List ℕ) → List ℕ
 line_of [] = []
 line_of (word ∷ []) = word

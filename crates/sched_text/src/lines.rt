@@ -76,8 +76,8 @@ fn left_out(line: &[u8]) -> bool
     }
 }
 
-/// The place of the first such byte, from 0, where there is one.
-pub(crate) fn place_of(text: &[u8], byte: u8) -> Option<usize>
+// The place of the first such byte, from 0, where there is one.
+fn place_of(text: &[u8], byte: u8) -> Option<usize>
     ensures found { IfSome result (λ place. (place < length text.now) × (slice_index text.now place ≡ byte)) }
     ensures first { IfSome result (λ place. (k : ℕ) → k < place → slice_index text.now k ≢ byte) }
     ensures none { IfNone result ((k : ℕ) → k < length text.now → slice_index text.now k ≢ byte) }

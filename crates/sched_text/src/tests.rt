@@ -22,7 +22,7 @@ fn first_or_second(alloc: Global, first: &[u8], second: &[u8]) -> Result<Events,
 #[test]
 fn every_line(rt: HostRuntime) -> Result<(), Fail> {
     let alloc = rt.alloc();
-    let rows: [(&[u8], &str); 30] = [
+    let rows: [(&[u8], &str); 32] = [
         (b"client", "Client"),
         (b"client temp", "ClientTemp"),
         (b"clock 0", "ClockAll { at: 0 }"),
@@ -59,6 +59,11 @@ fn every_line(rt: HostRuntime) -> Result<(), Fail> {
             b"call 2 hex - after 3",
             "Call { client: 2, body: Octets { bytes: [] }, after: Some(3) }",
         ),
+        (
+            b"call\t1 hex\t01 after\t2",
+            "Call { client: 1, body: Octets { bytes: [1] }, after: Some(2) }",
+        ),
+        (b"salts\t1 0", "Salts { client: 1, count: 0 }"),
         (b"flush 1", "Flush { client: 1 }"),
         (b"give 12", "Give { packet: 12 }"),
         (
@@ -100,13 +105,19 @@ fn every_line(rt: HostRuntime) -> Result<(), Fail> {
 #[test]
 fn bad_lines(rt: HostRuntime) -> Result<(), Fail> {
     let alloc = rt.alloc();
-    let rows: [(&[u8], u32); 33] = [
+    let rows: [(&[u8], u32); 39] = [
         (b"jump", 1),
         (b"client\nclient x", 2),
         (b"client\n\n# a\ncall 1 add x 05", 4),
         (b" client", 1),
         (b"client ", 1),
         (b" ", 1),
+        (b"\tclient", 1),
+        (b"client\t", 1),
+        (b"restart\n\t\n", 2),
+        (b"give\t\t1", 1),
+        (b"give \t1", 1),
+        (b"give\x0b1", 1),
         (b"client\r\n", 1),
         (b"\r\n", 1),
         (b"give +1", 1),
@@ -158,6 +169,8 @@ fn lines_have_their_numbers(rt: HostRuntime) -> Result<(), Fail> {
     assert!(rt; lines.next().is_none());
     assert!(rt; call_of(alloc, b"pad 1")?.is_some());
     assert!(rt; call_of(alloc, b"client")?.is_none());
+    let longest = call_of(alloc, b"pad 1048576")?.map(|call| call.body.as_slice().len());
+    assert_eq!(rt; longest, Some(1_048_576));
     let fault = SchedFault::BadLine { line: 7 };
     let shown = format!(in alloc; "{fault}, {}", SchedFault::Memory)?;
     assert_eq!(rt; shown.as_str(), "line 7 is no event, out of memory");

@@ -1,11 +1,10 @@
 //! The words of a line, and what stands in one.
 
-ghost use Rattle.std.specs.Prelude.{◌≡◌, ◌∷◌, [], IfSome, IfNone, IfOk};
-ghost use Rattle.sched_text.specs.Lines.{words_of};
+ghost use Rattle.std.specs.Prelude.{◌≡◌, ◌<◌, ◌∷◌, [], ℕ, true, false, length, slice_index, IfSome, IfNone, IfOk};
+ghost use Rattle.sched_text.specs.Lines.{is_blank, words_of};
 ghost use Rattle.sched_text.specs.Rests.{words_in};
 ghost use Rattle.sched_text.specs.Reading.{hex_at, number_at};
 
-use crate::lines::place_of;
 use hex::FromHexError;
 use itoa::Buffer;
 use octets::{Memory, Octets};
@@ -51,10 +50,19 @@ impl<'a> Words<'a> {
 fn first_word(line: &[u8]) -> (&[u8], Option<&[u8]>)
     ensures { words_of line.now ≡ result.0.now ∷ words_in result.1 }
 {
-    match place_of(line, b' ') {
+    match place_of_blank(line) {
         Some(end) => (&line[..end], Some(&line[end + 1..])),
         None => (line, None),
     }
+}
+
+// The place of the first blank, a space or a tab, from 0, where there is one.
+fn place_of_blank(line: &[u8]) -> Option<usize>
+    ensures found { IfSome result (λ place. (place < length line.now) × (is_blank (slice_index line.now place) ≡ true)) }
+    ensures first { IfSome result (λ place. (k : ℕ) → k < place → is_blank (slice_index line.now k) ≡ false) }
+    ensures none { IfNone result ((k : ℕ) → k < length line.now → is_blank (slice_index line.now k) ≡ false) }
+{
+    line.iter().position(|byte| *byte == b' ' || *byte == b'\t')
 }
 
 /// The number that the word spells: in decimal, with no sign and no leading zero, below 2^64.

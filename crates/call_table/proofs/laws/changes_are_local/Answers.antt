@@ -1,4 +1,4 @@
-use Rattle.std.proofs.Common.{◌-◌, ◌≢◌, arith}
+use Rattle.std.proofs.Common.{◌-◌, arith}
 use Rattle.call_table.proofs.LawLemmas.{changed_one, changed_other, changed_count}
 use Rattle.call_table.proofs.laws.changes_are_local.Goals as goal
 

@@ -1,4 +1,4 @@
-use Rattle.std.proofs.Common.{◌≡◌, ◌-◌, ◌<◌, ◌+◌, suc, true, [], List, length, get_or, ap, sym, subst, arith, ltb, refl}
+use Rattle.std.proofs.Common.{◌≡◌, ◌-◌, ◌<◌, suc, List, length, sym, subst, arith, refl}
 use Rattle.std.specs.List.{AllByRecursion}
 use Rattle.std.proofs.lemmas.Bool.{ltb-true, lt-ltb}
 use Rattle.std.proofs.lemmas.List.{nil_from_length}
