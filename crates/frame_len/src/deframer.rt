@@ -27,15 +27,14 @@ impl Deframer {
     ghost use Rattle.std.specs.Prelude.{◌≡◌, ◌++◌, List, ℕ, [], Ok, Some, IfSome, OnOk, OnErr};
     ghost use Rattle.std.specs.Borrow.{sem};
     ghost use Rattle.tl_codec.specs.declared.fault.FrameFault.{FrameFault};
-    ghost use Rattle.framing.specs.Holding.{Stands, Answers, IsFault, Rests, taken};
-    ghost use Rattle.frame_len.specs.Lengths.{form_of};
-    ghost use Rattle.frame_len.specs.Reading.{fed};
+    ghost use Rattle.framing.specs.Holding.{IsFault, Rests, taken};
+    ghost use Rattle.frame_len.specs.Reading.{fresh, fed, StandsFor, AnswersFor};
     ghost use Rattle.frame_len.specs.contracts.deframer.Deframer.{the_row};
 
     /// Reads a stream that has no byte yet, of padded frames or of intermediate ones. Takes no memory.
     pub fn new(alloc: Global, padded: bool) -> Deframer
-        ensures form { result.padded ≡ padded }
-        ensures stands { Stands (form_of padded) result.stream [] [] }
+        ensures fresh { result ≡ fresh padded }
+        ensures stands { StandsFor result [] [] }
     {
         buffers_stand::<LengthForm>();
         Deframer {
@@ -52,10 +51,10 @@ impl Deframer {
     pub fn feed(&mut self, alloc: Global, piece: &[u8]) -> Result<(), Memory>
         ensures put { OnOk result (self.new ≡ fed piece.now self.old) }
         ensures stands { OnOk result ((packets : List (List ℕ)) (bytes : List ℕ)
-            → Stands (form_of self.old.padded) self.old.stream packets bytes
-            → Stands (form_of self.new.padded) self.new.stream packets (bytes ++ piece.now)) }
+            → StandsFor self.old packets bytes → StandsFor self.new packets (bytes ++ piece.now)) }
         ensures nothing_after_a_fault { IfSome self.old.stream.fault (λ _. result ≡ Ok tt) }
         ensures unchanged_on_memory { OnErr result (self.new ≡ self.old) }
+        ensures same_form { self.new.padded ≡ self.old.padded }
     {
         buffers_stand::<LengthForm>();
         self.stream.feed(alloc, piece)
@@ -66,14 +65,12 @@ impl Deframer {
     /// next call, without its padding, and then the stream stands past both. Takes no memory.
     pub fn next(&mut self) -> Next<'_>
         ensures answers { (packets : List (List ℕ)) (bytes : List ℕ)
-            → Stands (form_of self.old.padded) self.old.stream packets bytes
-            → Answers (form_of self.old.padded) packets bytes result }
+            → StandsFor self.old packets bytes → AnswersFor self.old packets bytes result }
         ensures* after { sem 𝓛 (Rests the_row self.entry (λ after.
-            (after.padded ≡ self.old.padded)
-            × ((packets : List (List ℕ)) (bytes : List ℕ)
-            → Stands (form_of self.old.padded) self.old.stream packets bytes
-            → Stands (form_of self.old.padded) after.stream (taken packets result) bytes)
-            × ((fault : FrameFault) → IsFault fault result → after.stream.fault ≡ Some fault))) }
+            ((packets : List (List ℕ)) (bytes : List ℕ)
+            → StandsFor self.old packets bytes → StandsFor after (taken packets result) bytes)
+            × ((fault : FrameFault) → IsFault fault result → after.stream.fault ≡ Some fault)
+            × (after.padded ≡ self.old.padded))) }
     {
         let padded = self.padded;
         self.stream.next(&LengthForm { padded })

@@ -2,8 +2,8 @@
 
 ghost use Rattle.std.specs.Prelude.{◌≡◌, ◌++◌, ◌∷◌, [], List, ℕ, IfOk};
 ghost use Rattle.std.specs.Bool.{IsTrue, OnTrue};
-ghost use Rattle.framing.specs.Holding.{Stands};
-ghost use Rattle.frame_len.specs.Lengths.{IsWritten, form_of};
+ghost use Rattle.frame_len.specs.Lengths.{IsWritten};
+ghost use Rattle.frame_len.specs.Reading.{StandsFor};
 
 use crate::laws::written_frames_are_read;
 use crate::{Deframer, FrameFault, Framer, Next};
@@ -18,10 +18,8 @@ fn take_packet(
     piece: &[u8],
     into: &mut Octets,
 ) -> Result<bool, Memory>
-    ensures form { deframer.new.padded ≡ deframer.old.padded }
     ensures taken { IfOk result (λ found. OnTrue found ((packets : List (List ℕ)) (bytes : List ℕ)
-        → Stands (form_of deframer.old.padded) deframer.old.stream packets bytes
-        → Stands (form_of deframer.old.padded) deframer.new.stream (packets ++ into.new ∷ []) (bytes ++ piece.now))) }
+        → StandsFor deframer.old packets bytes → StandsFor deframer.new (packets ++ into.new ∷ []) (bytes ++ piece.now))) }
 {
     deframer.feed(alloc, piece)?;
     match deframer.next() {

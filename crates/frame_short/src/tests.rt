@@ -1,10 +1,12 @@
 //! A caller's try, the worked rows, and each call once.
 
-ghost use Rattle.std.specs.Prelude.{◌++◌, ◌∷◌, [], List, ℕ, IfOk};
-ghost use Rattle.std.specs.Bool.{OnTrue};
+ghost use Rattle.std.specs.Prelude.{◌≡◌, ◌++◌, ◌∷◌, [], List, ℕ, IfOk};
+ghost use Rattle.std.specs.Bool.{IsTrue, OnTrue};
+ghost use Rattle.framing.specs.Payload.{IsPayload};
 ghost use Rattle.framing.specs.Holding.{Stands};
 ghost use Rattle.frame_short.specs.Abridged.{abridged};
 
+use crate::laws::written_frames_are_read;
 use crate::{Deframer, FrameFault, Framer, Next};
 use octets::{Memory, Octets};
 use std::alloc::Global;
@@ -21,6 +23,27 @@ fn take_packet(
         → Stands abridged deframer.old packets bytes → Stands abridged deframer.new (packets ++ into.new ∷ []) (bytes ++ piece.now))) }
 {
     deframer.feed(alloc, piece)?;
+    match deframer.next() {
+        Next::Packet(packet) => {
+            *into = Octets::copy(alloc, packet)?;
+            Ok(true)
+        }
+        Next::More | Next::Fault(_) => Ok(false),
+    }
+}
+
+// Writes a payload and reads it again.
+fn written_and_read(alloc: Global, payload: &[u8], into: &mut Octets) -> Result<bool, Memory>
+    requires { IsPayload payload.now }
+    ensures read { IfOk result (λ found. IsTrue found) }
+    ensures same { IfOk result (λ found. into.new ≡ payload.now) }
+{
+    let mut framer = Framer::new();
+    let mut stream = Octets::new(alloc);
+    framer.frame(alloc, payload, &mut stream)?;
+    let mut deframer = Deframer::new(alloc);
+    written_frames_are_read();
+    deframer.feed(alloc, stream.as_slice())?;
     match deframer.next() {
         Next::Packet(packet) => {
             *into = Octets::copy(alloc, packet)?;
