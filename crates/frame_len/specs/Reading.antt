@@ -1,8 +1,7 @@
 -- What a reader holds.
 use Rattle.std.specs.Prelude.{Bool, List, ℕ}
-use Rattle.framing.specs.declared.next.Next.{Next}
 use Rattle.framing.specs.Held.{Held, nothing, with_piece}
-use Rattle.framing.specs.Holding.{Stands, Answers}
+use Rattle.framing.specs.Holding.{Stands}
 use Rattle.frame_len.specs.Lengths.{form_of}
 
 -- whether its frames are padded, and the buffer of its stream
@@ -19,9 +18,5 @@ abbrev pub fed : List ℕ → Reading → Reading
 fed piece reading = record reading { stream = with_piece piece reading.stream }
 
 -- it stands for a stream of these bytes of which these packets were taken
-abbrev pub StandsFor : Reading → List (List ℕ) → List ℕ → Type 0
-StandsFor reading = Stands (form_of reading.padded) reading.stream
-
--- the answer for such a stream
-abbrev pub AnswersFor : Reading → List (List ℕ) → List ℕ → Next → Type 0
-AnswersFor reading = Answers (form_of reading.padded)
+unfoldable pub StandsFor : Reading → List (List ℕ) → List ℕ → Type 0
+StandsFor reading packets bytes = Stands (form_of reading.padded) reading.stream packets bytes

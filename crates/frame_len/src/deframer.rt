@@ -24,11 +24,13 @@ impl Model for Deframer {
 }
 
 impl Deframer {
-    ghost use Rattle.std.specs.Prelude.{◌≡◌, ◌++◌, List, ℕ, [], Ok, Some, IfSome, OnOk, OnErr};
+    ghost use Rattle.std.specs.Prelude.{◌≡◌, ◌++◌, ◌∷◌, List, ℕ, [], Ok, Some, IfSome, OnOk, OnErr};
     ghost use Rattle.std.specs.Borrow.{sem};
     ghost use Rattle.tl_codec.specs.declared.fault.FrameFault.{FrameFault};
-    ghost use Rattle.framing.specs.Holding.{IsFault, Rests, taken};
-    ghost use Rattle.frame_len.specs.Reading.{fresh, fed, StandsFor, AnswersFor};
+    ghost use Rattle.framing.specs.Streams.{Begins};
+    ghost use Rattle.framing.specs.Holding.{Answers, IsPacket, IsFault, Rests, taken};
+    ghost use Rattle.frame_len.specs.Lengths.{form_of};
+    ghost use Rattle.frame_len.specs.Reading.{fresh, fed, StandsFor};
     ghost use Rattle.frame_len.specs.contracts.deframer.Deframer.{the_row};
 
     /// Reads a stream that has no byte yet, of padded frames or of intermediate ones. Takes no memory.
@@ -65,7 +67,9 @@ impl Deframer {
     /// next call, without its padding, and then the stream stands past both. Takes no memory.
     pub fn next(&mut self) -> Next<'_>
         ensures answers { (packets : List (List ℕ)) (bytes : List ℕ)
-            → StandsFor self.old packets bytes → AnswersFor self.old packets bytes result }
+            → StandsFor self.old packets bytes → Answers (form_of self.old.padded) packets bytes result }
+        ensures next_packet { (packets : List (List ℕ)) (packet bytes : List ℕ) → StandsFor self.old packets bytes
+            → Begins (form_of self.old.padded) (packets ++ packet ∷ []) bytes → IsPacket packet result }
         ensures* after { sem 𝓛 (Rests the_row self.entry (λ after.
             ((packets : List (List ℕ)) (bytes : List ℕ)
             → StandsFor self.old packets bytes → StandsFor after (taken packets result) bytes)

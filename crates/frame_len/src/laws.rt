@@ -15,8 +15,10 @@ pub fn written_frames()
 
 /// What is written behind other frames is read again, whatever follows it.
 pub fn written_frames_are_read()
-    ensures first { (padded : Bool) (packet rest : List ℕ) → IsWritten padded packet → Begins (form_of padded) (packet ∷ []) (frame_of packet ++ rest) }
-    ensures next { (padded : Bool) (packets : List (List ℕ)) (packet frames rest : List ℕ)
+    ensures behind { (padded : Bool) (packets : List (List ℕ)) (packet frames text : List ℕ)
+        → Frames (form_of padded) 0 packets frames → IsWritten padded packet → text ≡ frame_of packet
+        → Begins (form_of padded) (packets ++ packet ∷ []) (frames ++ text) }
+    ensures whatever_follows { (padded : Bool) (packets : List (List ℕ)) (packet frames rest : List ℕ)
         → Frames (form_of padded) 0 packets frames → IsWritten padded packet
         → Begins (form_of padded) (packets ++ packet ∷ []) (frames ++ frame_of packet ++ rest) }
 {

@@ -1,11 +1,10 @@
 //! Callers' tries, the worked rows, and each call once.
 
 ghost use Rattle.std.specs.Prelude.{◌≡◌, ◌++◌, ◌∷◌, [], List, ℕ, IfOk};
-ghost use Rattle.std.specs.Bool.{IsTrue, OnTrue};
-ghost use Rattle.frame_len.specs.Lengths.{IsWritten};
+ghost use Rattle.std.specs.Bool.{OnTrue};
+ghost use Rattle.frame_len.specs.Lengths.{IsWritten, frame_of};
 ghost use Rattle.frame_len.specs.Reading.{StandsFor};
 
-use crate::laws::written_frames_are_read;
 use crate::{Deframer, FrameFault, Framer, Next};
 use octets::{Memory, Octets};
 use std::alloc::Global;
@@ -31,30 +30,29 @@ fn take_packet(
     }
 }
 
+// Writes a payload.
+fn written(alloc: Global, padded: bool, payload: &[u8]) -> Result<Octets, Memory>
+    requires { IsWritten padded payload.now }
+    ensures { IfOk result (λ text. text ≡ frame_of payload.now) }
+{
+    let mut framer = Framer::new(padded);
+    let mut text = Octets::new(alloc);
+    framer.frame(alloc, payload, &mut text)?;
+    Ok(text)
+}
+
 // Writes a payload and reads it again.
 fn written_and_read(
+    deframer: &mut Deframer,
     alloc: Global,
     padded: bool,
     payload: &[u8],
     into: &mut Octets,
 ) -> Result<bool, Memory>
     requires { IsWritten padded payload.now }
-    ensures read { IfOk result (λ found. IsTrue found) }
-    ensures same { IfOk result (λ found. into.new ≡ payload.now) }
 {
-    let mut framer = Framer::new(padded);
-    let mut stream = Octets::new(alloc);
-    framer.frame(alloc, payload, &mut stream)?;
-    let mut deframer = Deframer::new(alloc, padded);
-    written_frames_are_read();
-    deframer.feed(alloc, stream.as_slice())?;
-    match deframer.next() {
-        Next::Packet(packet) => {
-            *into = Octets::copy(alloc, packet)?;
-            Ok(true)
-        }
-        Next::More | Next::Fault(_) => Ok(false),
-    }
+    let text = written(alloc, padded, payload)?;
+    take_packet(deframer, alloc, text.as_slice(), into)
 }
 
 // How many packets a stream gives that is fed in pieces of this size, whether they are this text, and its fault.
@@ -140,7 +138,10 @@ fn rows_of_streams(rt: HostRuntime) -> Result<(), Fail> {
     for (padded, stream, count, fault) in rows {
         let want: &[u8] = if count == 1 { b"\x6c\xfe\xff\xff" } else { b"" };
         for size in [1, 3, 9] {
-            assert_eq!(rt; read(alloc, padded, stream, size, want)?, (count, true, fault));
+            assert_eq!(rt;
+                read(alloc, padded, stream, size, want)?,
+                (count, true, fault)
+            );
         }
     }
     Ok(())
@@ -164,7 +165,10 @@ fn padding_is_no_payload(rt: HostRuntime) -> Result<(), Fail> {
         let mut stream = Octets::copy(alloc, &[len, 0, 0, 0])?;
         stream.push_all(alloc, &bytes[..len as usize])?;
         for size in [1, 7, 95] {
-            assert_eq!(rt; read(alloc, true, stream.as_slice(), size, &bytes[..payload])?, (1, true, None));
+            assert_eq!(rt;
+                read(alloc, true, stream.as_slice(), size, &bytes[..payload])?,
+                (1, true, None)
+            );
         }
     }
     Ok(())
@@ -175,7 +179,8 @@ fn what_is_written_is_read(rt: HostRuntime) -> Result<(), Fail> {
     let alloc = rt.alloc();
     let mut packet = Octets::new(alloc);
     for padded in [false, true] {
-        assert!(rt; written_and_read(alloc, padded, &[7; 88], &mut packet)?);
+        let mut deframer = Deframer::new(alloc, padded);
+        assert!(rt; written_and_read(&mut deframer, alloc, padded, &[7; 88], &mut packet)?);
         assert_eq!(rt; packet.as_slice(), [7; 88].as_slice());
     }
     Ok(())

@@ -1,6 +1,6 @@
 //! Laws of the abridged form, each the contract of a function that does nothing.
 
-ghost use Rattle.std.specs.Prelude.{◌<◌, ◌++◌, ◌∷◌, [], List, ℕ, length};
+ghost use Rattle.std.specs.Prelude.{◌≡◌, ◌<◌, ◌++◌, ◌∷◌, [], List, ℕ, length};
 ghost use Rattle.octets.specs.Bytes.{IsBytes};
 ghost use Rattle.framing.specs.Payload.{IsPayload};
 ghost use Rattle.framing.specs.Streams.{Frame, Frames, Begins, IsBegun};
@@ -16,8 +16,10 @@ pub fn written_frames()
 
 /// What is written behind other frames is read again, whatever follows it.
 pub fn written_frames_are_read()
-    ensures first { (packet rest : List ℕ) → IsPayload packet → Begins abridged (packet ∷ []) (frame_of packet ++ rest) }
-    ensures next { (packets : List (List ℕ)) (packet frames rest : List ℕ)
+    ensures behind { (packets : List (List ℕ)) (packet frames text : List ℕ)
+        → Frames abridged 0 packets frames → IsPayload packet → text ≡ frame_of packet
+        → Begins abridged (packets ++ packet ∷ []) (frames ++ text) }
+    ensures whatever_follows { (packets : List (List ℕ)) (packet frames rest : List ℕ)
         → Frames abridged 0 packets frames → IsPayload packet
         → Begins abridged (packets ++ packet ∷ []) (frames ++ frame_of packet ++ rest) }
 {
