@@ -22,11 +22,12 @@ impl Model for Deframer {
 }
 
 impl Deframer {
-    ghost use Rattle.std.specs.Prelude.{◌≡◌, ◌++◌, List, ℕ, [], Ok, Some, IfSome, OnOk, OnErr};
+    ghost use Rattle.std.specs.Prelude.{◌≡◌, ◌++◌, ◌∷◌, List, ℕ, [], Ok, Some, IfSome, OnOk, OnErr};
     ghost use Rattle.std.specs.Borrow.{sem};
     ghost use Rattle.tl_codec.specs.declared.fault.FrameFault.{FrameFault};
     ghost use Rattle.framing.specs.Held.{with_piece};
-    ghost use Rattle.framing.specs.Holding.{Stands, Answers, IsFault, Rests, taken};
+    ghost use Rattle.framing.specs.Streams.{Begins};
+    ghost use Rattle.framing.specs.Holding.{Stands, Answers, IsPacket, IsFault, Rests, taken};
     ghost use Rattle.frame_full.specs.Full.{full};
     ghost use Rattle.frame_full.specs.contracts.deframer.Deframer.{the_row};
 
@@ -62,6 +63,8 @@ impl Deframer {
     pub fn next(&mut self) -> Next<'_>
         ensures answers { (packets : List (List ℕ)) (bytes : List ℕ)
             → Stands full self.old packets bytes → Answers full packets bytes result }
+        ensures next_packet { (packets : List (List ℕ)) (packet bytes : List ℕ)
+            → Stands full self.old packets bytes → Begins full (packets ++ packet ∷ []) bytes → IsPacket packet result }
         ensures* after { sem 𝓛 (Rests the_row self.entry (λ after.
             ((packets : List (List ℕ)) (bytes : List ℕ)
             → Stands full self.old packets bytes → Stands full after (taken packets result) bytes)

@@ -1,9 +1,11 @@
 //! A caller's try, the worked rows, and each call once. The frames' checks are those of zlib.
 
-ghost use Rattle.std.specs.Prelude.{◌++◌, ◌∷◌, [], List, ℕ, IfOk};
-ghost use Rattle.std.specs.Bool.{OnTrue};
+ghost use Rattle.std.specs.Prelude.{◌≡◌, ◌++◌, ◌∷◌, [], List, ℕ, IfOk};
+ghost use Rattle.std.specs.Bool.{IsTrue, OnTrue};
+ghost use Rattle.framing.specs.Payload.{IsPayload};
+ghost use Rattle.framing.specs.Streams.{Begins};
 ghost use Rattle.framing.specs.Holding.{Stands};
-ghost use Rattle.frame_full.specs.Full.{full};
+ghost use Rattle.frame_full.specs.Full.{full, frame_of};
 
 use crate::{Deframer, FrameFault, Framer, Next};
 use octets::{Memory, Octets};
@@ -28,6 +30,54 @@ fn take_packet(
         }
         Next::More | Next::Fault(_) => Ok(false),
     }
+}
+
+// Feeds a piece that ends a frame, and copies its packet.
+fn read_one(
+    deframer: &mut Deframer,
+    alloc: Global,
+    piece: &Octets,
+    into: &mut Octets,
+) -> Result<bool, Memory>
+    ensures found { (packets : List (List ℕ)) (packet bytes : List ℕ)
+        → Stands full deframer.old packets bytes → Begins full (packets ++ packet ∷ []) (bytes ++ piece.now)
+        → IfOk result (λ found. IsTrue found) }
+    ensures same { (packets : List (List ℕ)) (packet bytes : List ℕ)
+        → Stands full deframer.old packets bytes → Begins full (packets ++ packet ∷ []) (bytes ++ piece.now)
+        → IfOk result (λ found. into.new ≡ packet) }
+{
+    deframer.feed(alloc, piece.as_slice())?;
+    match deframer.next() {
+        Next::Packet(packet) => {
+            *into = Octets::copy(alloc, packet)?;
+            Ok(true)
+        }
+        Next::More | Next::Fault(_) => Ok(false),
+    }
+}
+
+// Writes a payload.
+fn written(framer: &mut Framer, alloc: Global, payload: &[u8]) -> Result<Octets, Memory>
+    requires { IsPayload payload.now }
+    ensures { IfOk result (λ text. text ≡ frame_of framer.old payload.now) }
+{
+    let mut text = Octets::new(alloc);
+    framer.frame(alloc, payload, &mut text)?;
+    Ok(text)
+}
+
+// Writes a payload and reads it again.
+fn written_and_read(
+    framer: &mut Framer,
+    deframer: &mut Deframer,
+    alloc: Global,
+    payload: &[u8],
+    into: &mut Octets,
+) -> Result<bool, Memory>
+    requires { IsPayload payload.now }
+{
+    let text = written(framer, alloc, payload)?;
+    read_one(deframer, alloc, &text, into)
 }
 
 // The packets of a stream that is fed in pieces of this size, as one text, and its fault.
@@ -100,6 +150,19 @@ fn rows_of_faults(rt: HostRuntime) -> Result<(), Fail> {
         for size in [1, 7, 16] {
             assert_eq!(rt; read(alloc, stream, size, b"")?, (true, fault));
         }
+    }
+    Ok(())
+}
+
+#[test]
+fn what_is_written_is_read(rt: HostRuntime) -> Result<(), Fail> {
+    let alloc = rt.alloc();
+    let mut framer = Framer::new();
+    let mut deframer = Deframer::new(alloc);
+    let mut packet = Octets::new(alloc);
+    for payload in [[7; 88], [9; 88]] {
+        assert!(rt; written_and_read(&mut framer, &mut deframer, alloc, &payload, &mut packet)?);
+        assert_eq!(rt; packet.as_slice(), payload.as_slice());
     }
     Ok(())
 }
