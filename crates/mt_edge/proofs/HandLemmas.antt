@@ -19,12 +19,13 @@ left_less xs copied place count e = rw e (grind (arith, common_steps, take-appen
 pub next_told : (untold : Bool) (xs buffer written : List ℕ) (reads noted : List LinkRead) (place count : ℕ)
     → take count buffer ≡ take count (drop place xs) → noted ≡ reads ++ record { room = length buffer; answer = Bytes count } ∷ []
     → IfSome (if untold then None else Some (record { came = take (place + count) xs; left = drop (place + count) xs; written = written; reads = noted }))
-      (λ after. IsSomeAnd (if untold then None else Some (record { came = take place xs; left = drop place xs; written = written; reads = reads }))
-      (λ before. ReadsOver (Bytes count) buffer before after))
+    (λ after. IsSomeAnd (if untold then None else Some (record { came = take place xs; left = drop place xs; written = written; reads = reads }))
+    (λ before. ReadsOver (Bytes count) buffer before after))
 next_told true xs buffer written reads noted place count e n = tt
 next_told false xs buffer written reads noted place count e n = record {
   came = came_more xs buffer place count e;
   left = left_less xs buffer place count e;
   end = tt;
   reads = n;
-  written = refl }
+  written = refl;
+}

@@ -5,10 +5,13 @@ ghost use Rattle.mt_edge.specs.Got.{handed};
 ghost use Rattle.mt_edge.specs.Put.{taken};
 
 use crate::{
-    Act, Clock, Got, Link, LinkRead, Linked, ListClock, MemLink, MemNet, Net, NetCall, Outcome, Put,
-    ReadSource, Sink, Source, WriteSink,
+    Act, Clock, DiskFiles, FileGot, Got, KeyFiles, Link, LinkRead, Linked, ListClock, MemFiles,
+    MemLink, MemNet, NamedFile, Net, NetCall, Outcome, Put, ReadSource, Sink, Source, SystemClock,
+    TcpNet, WriteSink,
 };
 use msg_ids::Moment;
+use octets::Octets;
+use std::fs;
 use std::io::{self, ErrorKind, Read, Write};
 use std::process::Abort;
 use std::test::Fail;
@@ -68,24 +71,41 @@ fn nets_note_their_calls(rt: HostRuntime) -> Result<(), Fail> {
         return Err("no link".into());
     };
     let mut into = [0u8; 4];
-    assert_eq!(rt; read_and_write(&mut link, &mut into, b"xyz"), (Got::Bytes(2), Put::Took(2)));
+    assert_eq!(rt;
+        read_and_write(&mut link, &mut into, b"xyz"),
+        (Got::Bytes(2), Put::Took(2))
+    );
     link.close();
     net.done(link);
     assert!(rt; !take_and_give_back(&mut net));
     assert!(rt; matches!(net.connect(80), Linked::Failed));
     assert_eq!(rt; net.faults(), 2);
     let [
-        NetCall::Listen { port: 443, answer: Act::Ready },
-        NetCall::Accept { outcome: Outcome::Done { told, faults: 0 } },
-        NetCall::Accept { outcome: Outcome::Failed },
-        NetCall::Connect { port: 80, outcome: Outcome::Failed },
-    ] = net.calls() else {
+        NetCall::Listen {
+            port: 443,
+            answer: Act::Ready,
+        },
+        NetCall::Accept {
+            outcome: Outcome::Done { told, faults: 0 },
+        },
+        NetCall::Accept {
+            outcome: Outcome::Failed,
+        },
+        NetCall::Connect {
+            port: 80,
+            outcome: Outcome::Failed,
+        },
+    ] = net.calls()
+    else {
         return Err("other calls".into());
     };
     assert_eq!(rt; told.came(), b"ab".as_slice());
     assert_eq!(rt; told.left(), b"c".as_slice());
     assert_eq!(rt; told.written(), b"xy".as_slice());
-    let read = LinkRead { room: 4, answer: Got::Bytes(2) };
+    let read = LinkRead {
+        room: 4,
+        answer: Got::Bytes(2),
+    };
     assert_eq!(rt; told.reads(), [read].as_slice());
     Ok(())
 }
@@ -134,7 +154,7 @@ impl Write for Odd {
     }
 }
 
-fn odd(is_short: bool, fails_flush: bool) -> Odd {
+fn make_odd(is_short: bool, fails_flush: bool) -> Odd {
     Odd {
         is_short,
         fails_flush,
@@ -146,21 +166,79 @@ fn odd(is_short: bool, fails_flush: bool) -> Odd {
 #[test]
 fn objects_of_std_that_fail(rt: HostRuntime) -> Result<(), Fail> {
     let mut into = [0u8; 4];
-    let mut source = ReadSource::new(odd(true, false));
+    let mut source = ReadSource::new(make_odd(true, false));
     assert_eq!(rt; source.read(&mut into), Got::Failed);
     assert_eq!(rt; source.faults(), 1);
     let mut source = ReadSource::new(b"".as_slice());
     assert_eq!(rt; source.read(&mut into), Got::End);
     assert_eq!(rt; source.faults(), 0);
-    let mut sink = WriteSink::new(odd(false, false));
+    let mut sink = WriteSink::new(make_odd(false, false));
     assert_eq!(rt; sink.write(b"abc"), Put::Failed);
     assert_eq!(rt; sink.faults(), 1);
-    let mut sink = WriteSink::new(odd(true, true));
+    let mut sink = WriteSink::new(make_odd(true, true));
     assert_eq!(rt; sink.write(b"abc"), Put::Failed);
-    let mut sink = WriteSink::new(odd(true, false));
+    let mut sink = WriteSink::new(make_odd(true, false));
     assert_eq!(rt; sink.write(b"abc"), Put::Took(1));
     assert_eq!(rt; sink.write(b"bc"), Put::Took(1));
     assert_eq!(rt; sink.faults(), 0);
     assert_eq!(rt; sink.into_inner().passed, 2);
     Ok(())
+}
+
+#[test]
+fn files_are_read_by_name(rt: HostRuntime) -> Result<(), Fail> {
+    let alloc = rt.alloc();
+    let mut files = Vec::new(alloc);
+    let name = Octets::copy(alloc, b"ring")?;
+    let contents = Octets::copy(alloc, b"key")?;
+    files.push(NamedFile { name, contents })?;
+    let mut files = MemFiles::new(alloc, files, &[3], 4)?;
+    assert!(rt;
+        matches!(files.read(alloc, "ring"), FileGot::Contents(text) if text.as_slice() == b"key".as_slice())
+    );
+    assert!(rt; matches!(files.read(alloc, "other"), FileGot::Failed));
+    assert!(rt; matches!(files.read(alloc, "ring"), FileGot::Failed));
+    let name = "mt_edge_file.tmp";
+    fs::write(&rt, name, b"key".as_slice())?;
+    let mut files = DiskFiles::new(&rt);
+    assert!(rt;
+        matches!(files.read(alloc, name), FileGot::Contents(text) if text.as_slice() == b"key".as_slice())
+    );
+    let long = vec![in alloc; 7u8; 1_048_577]?;
+    fs::write(&rt, name, long.as_slice())?;
+    assert!(rt; matches!(files.read(alloc, name), FileGot::Failed));
+    fs::remove_file(&rt, name)?;
+    assert!(rt; matches!(files.read(alloc, name), FileGot::Failed));
+    Ok(())
+}
+
+#[test]
+fn sockets_of_this_machine(rt: HostRuntime) -> Result<(), Fail> {
+    let mut net = TcpNet::new(&rt);
+    let mut port = 42_600u16;
+    while port < 42_700 && net.listen(port) == Act::Failed {
+        port += 1;
+    }
+    let mut other = TcpNet::new(&rt);
+    assert_eq!(rt; other.listen(port), Act::Failed);
+    let (Linked::Link(mut near), Linked::Link(mut far)) = (other.connect(port), net.accept()) else {
+        return Err("no connection".into());
+    };
+    let mut into = [0u8; 4];
+    assert_eq!(rt; near.write(b"abc"), Put::Took(3));
+    assert_eq!(rt; far.read(&mut into), Got::Bytes(3));
+    assert_eq!(rt; &into[..3], b"abc".as_slice());
+    assert_eq!(rt; far.write(b"de"), Put::Took(2));
+    assert_eq!(rt; near.read(&mut into), Got::Bytes(2));
+    net.done(far);
+    assert_eq!(rt; near.read(&mut into), Got::End);
+    other.done(near);
+    Ok(())
+}
+
+#[test]
+fn the_clock_of_this_machine(rt: HostRuntime) {
+    let mut clock = SystemClock::new(&rt);
+    let first = clock.now();
+    assert!(rt; first.seconds() > 1_600_000_000 && clock.now() >= first);
 }

@@ -194,10 +194,11 @@ fn copy_front(from: &[u8], into: &mut [u8], most: usize) -> usize
 
 impl Link for MemLink {
     ghost told = { λ link. if link.is_untold then None else Some (record {
-        came = take link.came_bytes link.contents;
-        left = drop link.came_bytes link.contents;
-        written = link.written.items;
-        reads = link.reads.items }) };
+      came = take link.came_bytes link.contents;
+      left = drop link.came_bytes link.contents;
+      written = link.written.items;
+      reads = link.reads.items;
+    }) };
 
     ghost place = { λ link. link.place };
 

@@ -7,4 +7,4 @@ use Rattle.mt_edge.proofs.mem_link.MemLink.next_read.Goals as goal
 pub returns-clause-told : goal.returns-clause-told
 returns-clause-told c =
     next_told c.args.self.now.is_untold c.args.self.now.contents c.copy_front-count.new.into c.args.self.now.written.items c.args.self.now.reads.items
-      c.push-2.new.self.items c.args.self.now.came_bytes c.copy_front-count.result (grind (arith, common_steps)) (grind (arith, common_steps))
+    c.push-2.new.self.items c.args.self.now.came_bytes c.copy_front-count.result (grind (arith, common_steps)) (grind (arith, common_steps))
