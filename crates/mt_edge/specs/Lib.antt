@@ -1,3 +1,9 @@
 pub mod Faults
 pub mod Got
 pub mod Put
+pub mod Acts
+pub mod Links
+pub mod Nets
+pub mod Files
+pub mod Kids
+pub mod Clocks

@@ -1,8 +1,7 @@
 //! What a program writes to.
 
 ghost use Rattle.std.specs.Prelude.{◌≡◌, ◌<◌, ◌≤◌, ℕ, List, Option, length, IfSome, IsSomeAnd};
-ghost use Rattle.mt_edge.specs.Faults.{Rose};
-ghost use Rattle.mt_edge.specs.Put.{IsWithin, TakesOver};
+ghost use Rattle.mt_edge.specs.Put.{IsWithin, TakesOver, Counts};
 
 /// The answer of a write.
 #[derive(Clone, Copy, Debug, PartialEq, Eq)]
@@ -28,5 +27,6 @@ pub trait Sink {
         // Where the bytes written are told, the bytes taken from the piece's front stand behind them.
         ensures told { IfSome (written self.old) (λ before. IsSomeAnd (written self.new) (λ after. TakesOver result piece.now before after)) }
         ensures never_falls { faults self.old ≤ faults self.new }
-        ensures failed { result ≡ Put.Failed → Rose (faults self.old) (faults self.new) };
+        // A failed write raises the count by one, or leaves it at its last value. Any other leaves it as it was.
+        ensures counted { Counts result (faults self.old) (faults self.new) };
 }

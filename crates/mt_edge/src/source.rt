@@ -1,8 +1,7 @@
 //! What a program reads from.
 
 ghost use Rattle.std.specs.Prelude.{◌≡◌, ◌<◌, ◌≤◌, ℕ, List, Option, length, IfSome, IsSomeAnd};
-ghost use Rattle.mt_edge.specs.Faults.{Rose};
-ghost use Rattle.mt_edge.specs.Got.{IsWithin, HandsOver};
+ghost use Rattle.mt_edge.specs.Got.{IsWithin, HandsOver, Counts};
 
 /// The answer of a read.
 #[derive(Clone, Copy, Debug, PartialEq, Eq)]
@@ -30,5 +29,6 @@ pub trait Source {
         // Where the bytes left are told, the read hands over the next of them, and answers `End` only after the last.
         ensures told { IfSome (left self.old) (λ before. IsSomeAnd (left self.new) (λ after. HandsOver result into.new before after)) }
         ensures never_falls { faults self.old ≤ faults self.new }
-        ensures failed { result ≡ Got.Failed → Rose (faults self.old) (faults self.new) };
+        // A failed read raises the count by one, or leaves it at its last value. Any other leaves it as it was.
+        ensures counted { Counts result (faults self.old) (faults self.new) };
 }

@@ -1,8 +1,9 @@
-//! Readers and writers of std, standard input and output among them, as a source and a sink. They tell nothing.
+//! Readers and writers of std, standard input and output among them, as a source and a sink. The source tells what its
+//! reader tells, and the sink nothing, since a flush that fails leaves open what was written.
 
 ghost use Rattle.std.specs.Prelude.{◌≡◌, None};
 
-use crate::faults::raised;
+use crate::answers::{after_read, after_write, read_from, write_to};
 use crate::sink::{Put, Sink};
 use crate::source::{Got, Source};
 use std::io::{Read, Write};
@@ -21,22 +22,24 @@ impl<R: Read + Drop> ReadSource<R> {
     {
         ReadSource { reader, faults: 0 }
     }
+
+    /// How many reads have failed.
+    pub fn faults(&self) -> u64
+        ensures { result ≡ ⟦<ReadSource<R> as Source>⟧.faults self.now }
+    {
+        self.faults
+    }
 }
 
 impl<R: Read + Drop> Source for ReadSource<R> {
-    ghost left = { λ _. None };
+    ghost left = { λ source. R.remaining source.reader };
 
     ghost faults = { λ source. source.faults };
 
     fn read(&mut self, into: &mut [u8]) -> Got {
-        match self.reader.read(into) {
-            Ok(0) => Got::End,
-            Ok(count) => Got::Bytes(count),
-            Err(_) => {
-                self.faults = raised(self.faults);
-                Got::Failed
-            }
-        }
+        let got = read_from(&mut self.reader, into);
+        self.faults = after_read(got, self.faults);
+        got
     }
 }
 
@@ -54,6 +57,19 @@ impl<W: Write + Drop> WriteSink<W> {
     {
         WriteSink { writer, faults: 0 }
     }
+
+    /// How many writes have failed.
+    pub fn faults(&self) -> u64
+        ensures { result ≡ ⟦<WriteSink<W> as Sink>⟧.faults self.now }
+    {
+        self.faults
+    }
+
+    /// The writer.
+    pub fn into_inner(self) -> W {
+        let WriteSink { writer, .. } = self;
+        writer
+    }
 }
 
 impl<W: Write + Drop> Sink for WriteSink<W> {
@@ -62,12 +78,8 @@ impl<W: Write + Drop> Sink for WriteSink<W> {
     ghost faults = { λ sink. sink.faults };
 
     fn write(&mut self, piece: &[u8]) -> Put {
-        match self.writer.write(piece) {
-            Ok(count) if count > 0 && self.writer.flush().is_ok() => Put::Took(count),
-            _ => {
-                self.faults = raised(self.faults);
-                Put::Failed
-            }
-        }
+        let put = write_to(&mut self.writer, piece);
+        self.faults = after_write(put, self.faults);
+        put
     }
 }

@@ -1,0 +1,4 @@
+pub mod TakeLemmas
+pub mod ClockLemmas
+pub mod HandLemmas
+pub mod NetLemmas

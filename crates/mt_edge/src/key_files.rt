@@ -1,0 +1,45 @@
+//! Files that are read whole, by name.
+
+ghost use Rattle.std.specs.Prelude.{◌≡◌, ◌≢◌, ◌≤◌, ℕ, Option, length, IfSome, IsSome, IsSomeAnd};
+ghost use Rattle.mt_edge.specs.Files.{Asks, Counts, FilesTold, IfContents};
+
+use octets::Octets;
+use std::alloc::Global;
+
+/// A file.
+#[derive(Debug, Drop)]
+pub struct NamedFile {
+    /// Its name.
+    pub name: Octets,
+    /// Its contents.
+    pub contents: Octets,
+}
+
+/// The answer of a read of a file.
+#[derive(Debug, Drop)]
+pub enum FileGot {
+    /// All of the file, at most 1,048,576 bytes.
+    Contents(Octets),
+    /// There is no such file, it is longer, or the read failed.
+    Failed,
+    /// Memory ran out.
+    Memory,
+}
+
+/// Files that are read whole. What they tell now, they told before each call.
+pub trait KeyFiles {
+    /// The files by name, and the names that were asked for, where they are told.
+    ghost told: { Self → Option FilesTold };
+
+    /// How many reads have failed. It stays at 2^64 - 1 once it is there.
+    ghost faults: { Self → ℕ };
+
+    /// The contents of the file of this name.
+    fn read(&mut self, alloc: Global, name: &str) -> FileGot
+        ensures short { IfContents result (λ contents. length contents ≤ 1048576) }
+        ensures told { IfSome (told self.new) (λ after. IsSomeAnd (told self.old) (λ before. Asks result name.now before after)) }
+        ensures goes_on { IfContents result (λ _. IsSome (told self.old) → IsSome (told self.new)) }
+        ensures first_fault { IsSome (told self.old) → result ≡ FileGot.Failed → faults self.old ≡ 0 → IsSome (told self.new) }
+        ensures never_falls { faults self.old ≤ faults self.new }
+        ensures counted { Counts result (faults self.old) (faults self.new) };
+}
