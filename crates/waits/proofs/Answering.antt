@@ -1,9 +1,9 @@
 -- A job that is ready after answers was named by a good one for each number that it waited for.
-use Rattle.std.proofs.Common.{◌≡◌, ◌∙◌, ℕ, Bool, true, false, not, ◌&&◌, ◌||◌, ◌==◌, cond, if◌then◌else◌, List, [], ◌∷◌, map, ap, sym, refl, subst}
+use Rattle.std.proofs.Common.{◌≡◌, ◌∙◌, ℕ, zero, suc, Bool, true, false, not, ◌&&◌, ◌||◌, ◌==◌, cond, if◌then◌else◌, List, [], ◌∷◌, map, ap, sym, refl, subst}
 use Rattle.std.specs.List.{filter, list_any}
 use Rattle.std.proofs.lemmas.Bool.{eqb-true, and_parts}
 use Rattle.waits.specs.declared.job.Unfinished.{Unfinished}
-use Rattle.waits.specs.Jobs.{Queue, is_of, is_empty, is_ready, told, waits_for, after_answer, settled, without_first}
+use Rattle.waits.specs.Jobs.{Queue, is_of, is_empty, is_ready, told, waits_for, after_answer, settled, without_first, without_ready, without_session}
 use Rattle.waits.specs.Answers.{Answer, after_answers, all_settled, awaits, is_well}
 
 -- ---- all jobs are told the same
@@ -108,3 +108,19 @@ others_by false p x xs ys later some = left_or (p x) (list_any p ys) (list_any p
 pub others_of_first : (test p : Unfinished → Bool) (xs : Queue) → list_any p (without_first test xs) ≡ true → list_any p xs ≡ true
 others_of_first test p [] some = some
 others_of_first test p (x ∷ xs) some = others_by (test x) p x xs (without_first test xs) (others_of_first test p xs) some
+
+pub others_of_ready : (place : ℕ) (p : Unfinished → Bool) (xs : Queue) → list_any p (without_ready place xs) ≡ true → list_any p xs ≡ true
+others_of_ready zero p [] some = some
+others_of_ready (suc place) p [] some = some
+others_of_ready zero p (x ∷ xs) some = others_by (is_ready x) p x xs (without_ready zero xs) (others_of_ready zero p xs) some
+others_of_ready (suc place) p (x ∷ xs) some =
+    let next = if is_ready x then place else suc place in
+    left_or (p x) (list_any p (without_ready next xs)) (list_any p xs) (others_of_ready next p xs) some
+
+others_kept : (keeps : Bool) (p : Unfinished → Bool) (x : Unfinished) (xs ys : Queue) → (list_any p ys ≡ true → list_any p xs ≡ true) → list_any p (cond keeps (x ∷ ys) ys) ≡ true → list_any p (x ∷ xs) ≡ true
+others_kept true p x xs ys later some = left_or (p x) (list_any p ys) (list_any p xs) later some
+others_kept false p x xs ys later some = or_right (p x) (list_any p xs) (later some)
+
+pub others_of_session : (key session : ℕ) (p : Unfinished → Bool) (xs : Queue) → list_any p (without_session key session xs) ≡ true → list_any p xs ≡ true
+others_of_session key session p [] some = some
+others_of_session key session p (x ∷ xs) some = others_kept (not (is_of key session x)) p x xs (without_session key session xs) (others_of_session key session p xs) some

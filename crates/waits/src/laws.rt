@@ -3,7 +3,7 @@
 ghost use Rattle.std.specs.Prelude.{◌≡◌, ℕ, Bool, true, List, map};
 ghost use Rattle.std.specs.List.{list_any};
 ghost use Rattle.waits.specs.declared.job.Unfinished.{Unfinished as One};
-ghost use Rattle.waits.specs.Jobs.{Queue, is_ready, without_first};
+ghost use Rattle.waits.specs.Jobs.{Queue, is_ready, without_first, without_ready, without_session};
 ghost use Rattle.waits.specs.Answers.{Answer, after_answers, all_settled, awaits, is_well};
 ghost use Rattle.waits.specs.Limits.{most_jobs, most_job_bytes, wait_seconds};
 
@@ -23,4 +23,6 @@ pub fn ready_after_each()
     ensures each { (answers : List Answer) (queue : Queue) → all_settled answers queue ≡ map (after_answers answers) queue }
     ensures named { (answers : List Answer) (one : One) (number : ℕ) → is_ready (after_answers answers one) ≡ true → awaits number one ≡ true → list_any (is_well one.job.key one.job.session number) answers ≡ true }
     ensures others { (test p : One → Bool) (queue : Queue) → list_any p (without_first test queue) ≡ true → list_any p queue ≡ true }
+    ensures others_of_ready { (place : ℕ) (p : One → Bool) (queue : Queue) → list_any p (without_ready place queue) ≡ true → list_any p queue ≡ true }
+    ensures others_of_session { (key session : ℕ) (p : One → Bool) (queue : Queue) → list_any p (without_session key session queue) ≡ true → list_any p queue ≡ true }
 {}
