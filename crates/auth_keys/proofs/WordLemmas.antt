@@ -124,29 +124,6 @@ says-one line entry other h k =
 
 -- ---- what the words say
 
-pub perm-said : (line word rest key : List ℕ) → IsCut line word rest → word ≡ codes "perm" → AreDigitsOf rest key → Says line (entry_with key Perm)
-perm-said line word rest key h w d = record {
-  kind = tt;
-  digits = rest;
-  spelled = (h.blank, h.is, h.whole ∙ ap (λ (front : List ℕ). front ++ h.blank ∷ rest) w);
-  decoded = d;
-}
-
-pub temp-said : (line word rest front digits key : List ℕ) (expires : ℕ) → IsCut line word rest → word ≡ codes "temp" → IsCut rest front digits → 1 ≤ expires → expires ≤ latest_moment
-    → front ≡ decimal expires → AreDigitsOf digits key → Says line (entry_with key (Temp expires))
-temp-said line word rest front digits key expires h w k from_one to_latest f d = record {
-  kind = (from_one, to_latest);
-  digits = digits;
-  spelled = (
-    h.blank,
-    k.blank,
-    h.is,
-    k.is,
-    h.whole ∙ (ap (λ (start : List ℕ). start ++ h.blank ∷ rest) w ∙ ap (λ (end : List ℕ). codes "temp" ++ h.blank ∷ end) (k.whole ∙ ap (λ (word : List ℕ). word ++ k.blank ∷ digits) f)),
-  );
-  decoded = d;
-}
-
 -- what stands behind the word of a temporary key
 pub record IsTemp (rest key : List ℕ) : Type 0 where
   pub expires : ℕ
@@ -172,13 +149,7 @@ says-words line word rest entry h says =
 pub says-blank : (line : List ℕ) (entry : RingKey) → HasNoBlank line → Says line entry → ⊥
 says-blank line entry none says = let a = said-cut line entry.kind says.digits says.kind says.spelled in not_cut line (word_for entry.kind) a.0 none a.1
 
--- the word of a permanent key is no other
-pub perm-only : (line word rest : List ℕ) (entry : RingKey) → IsCut line word rest → word ≡ codes "perm" → Says line entry → AreDigitsOf rest entry.key
-perm-only line word rest entry h w says = elim (says-words line word rest entry h says) [
-  | inl perm ↦ perm.1
-  | inr temp ↦ let f : 112 ≡ 116 = ap first_of (sym w ∙ temp.0) in absurd (omega (arith, f))
-]
-
+-- where the word isn't that of a permanent key, it is that of a temporary one
 pub temp-only : (line word rest : List ℕ) (entry : RingKey) → IsCut line word rest → (word ≡ codes "perm" → ⊥) → Says line entry → (word ≡ codes "temp") × IsTemp rest entry.key
 temp-only line word rest entry h other says = elim (says-words line word rest entry h says) [
   | inl perm ↦ absurd (other perm.0)
