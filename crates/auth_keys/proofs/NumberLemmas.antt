@@ -1,5 +1,5 @@
 -- Numbers in decimal.
-use Rattle.std.proofs.Common.{◌≡◌, ◌≢◌, ◌∙◌, ℕ, ◌+◌, ◌%◌, ◌<◌, ◌^◌, List, [], ◌∷◌, All, Bool, true, false, Option, Some, None, Result, Ok, Err, MatchResult, IfNone, Bor, ap, sym, refl, subst, arith}
+use Rattle.std.proofs.Common.{◌≡◌, ◌≢◌, ◌∙◌, ℕ, ◌+◌, ◌%◌, ◌<◌, ◌≤◌, ◌^◌, eqb, List, [], ◌∷◌, All, Bool, true, false, Option, Some, None, Result, Ok, Err, MatchResult, IfNone, Bor, ap, sym, refl, subst, arith}
 use Rattle.std.specs.Result.{result_ok}
 use Rattle.std.specs.Bool.{then_some}
 use Rattle.std.specs.Fmt.{decimal}
@@ -9,6 +9,8 @@ use Rattle.std.proofs.lemmas.Fmt.{IsAscii-decimal, parse-decimal, decimal_by_ste
 use Rattle.std.proofs.lemmas.Str.{IsUtf8-from_ascii}
 use Rattle.std.proofs.lemmas.Slice.Eq.{bytes_eq-Decides}
 use Rattle.std.proofs.lemmas.List.Elements.{All-cons, All-nil, All-append}
+use Rattle.std.proofs.lemmas.Bool.{ne_eqb}
+use Rattle.auth_keys.specs.KeyFile.{HasNoBlank, is_blank}
 
 -- what an error says of bytes that are no text
 pub not_from_err : {A E : Type 0} (r : Result A E) (P : A → Type 0) (N : Type 0) (R : E → Type 0) → result_ok r ≡ None → MatchResult r P (λ e. N × R e) → N
@@ -40,7 +42,14 @@ pub differs : (b : Bool) (spelled word : List ℕ) → b ≡ bytes_eq spelled wo
 differs b spelled word e not_same same = let yes = (bytes_eq-Decides spelled word).1 same in cc
 
 -- no blank stands in a number
-pub no_blank-decimal : (n : ℕ) → n < 2 ^ 64 → All (λ b. b ≢ 32) (decimal n)
-no_blank-decimal = decimal_by_steps (λ n digits. All (λ b. b ≢ 32) digits)
-    (λ n small. All-cons (λ b. b ≢ 32) (48 + n) [] (λ e. omega (arith, e)) (All-nil (λ b. b ≢ 32)))
-    (λ n digits large before. All-append (λ b. b ≢ 32) digits ((48 + n % 10) ∷ []) before (All-cons (λ b. b ≢ 32) (48 + n % 10) [] (λ e. omega (arith, e)) (All-nil (λ b. b ≢ 32))))
+digit-not_blank : (byte : ℕ) → 48 ≤ byte → is_blank byte ≡ false
+digit-not_blank byte h =
+    let no_space : eqb byte 32 ≡ false = ne_eqb byte 32 (λ e. omega (arith, h, e)) in
+    let no_tab : eqb byte 9 ≡ false = ne_eqb byte 9 (λ e. omega (arith, h, e)) in
+    rw (no_space, no_tab) refl
+
+pub no_blank-decimal : (n : ℕ) → n < 2 ^ 64 → HasNoBlank (decimal n)
+no_blank-decimal = decimal_by_steps (λ n digits. HasNoBlank digits)
+    (λ n small. All-cons (λ b. is_blank b ≡ false) (48 + n) [] (digit-not_blank (48 + n) (omega arith)) (All-nil (λ b. is_blank b ≡ false)))
+    (λ n digits large before. All-append (λ b. is_blank b ≡ false) digits ((48 + n % 10) ∷ []) before
+      (All-cons (λ b. is_blank b ≡ false) (48 + n % 10) [] (digit-not_blank (48 + n % 10) (omega arith)) (All-nil (λ b. is_blank b ≡ false))))

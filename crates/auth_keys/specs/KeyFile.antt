@@ -1,5 +1,5 @@
--- Key files: a key a line, words with one blank between.
-use Rattle.std.specs.Prelude.{◌≡◌, ◌≢◌, ℕ, ◌+◌, ◌≤◌, ◌<◌, List, [], ◌∷◌, ◌++◌, ◌==◌, ◌⊎◌, Ok, All, length, codes, decimal, if◌then◌else◌}
+-- Key files: a key a line, words with one blank between, a space or a tab.
+use Rattle.std.specs.Prelude.{◌≡◌, ℕ, ◌+◌, ◌≤◌, ◌<◌, List, [], ◌∷◌, ◌++◌, ◌==◌, ◌||◌, ◌⊎◌, Ok, All, Bool, true, false, length, codes, decimal, if◌then◌else◌}
 use Rattle.hex.specs.Hex.{decode_of}
 use Rattle.msg_ids.specs.Moments.{latest_moment}
 use Rattle.auth_keys.specs.Keys.{identifier}
@@ -29,18 +29,24 @@ IsLeftOut (byte ∷ bytes) = byte ≡ 35
 
 -- ---- what a line says
 
+-- a blank: a space or a tab
+abbrev pub is_blank : ℕ → Bool
+is_blank byte = byte == 32 || byte == 9
+
 abbrev pub HasNoBlank : List ℕ → Type 0
-HasNoBlank bytes = All (λ byte. byte ≢ 32) bytes
+HasNoBlank bytes = All (λ byte. is_blank byte ≡ false) bytes
 
 -- these are the 512 hexadecimal digits of the key, two for each byte, of either case
 pub record AreDigitsOf (digits key : List ℕ) : Type 0 where
   pub count : length digits ≡ 512
   pub decoded : decode_of digits ≡ Ok key
 
--- what stands before the digits of a key of this kind
-abbrev pub before_digits : KeyKind → List ℕ
-before_digits Perm = codes "perm "
-before_digits (Temp expires) = codes "temp " ++ decimal expires ++ codes " "
+-- the line has these digits behind the words for a key of this kind, with one blank between two words
+abbrev pub IsSpelt : List ℕ → KeyKind → List ℕ → Type 0
+IsSpelt line Perm digits = (blank : ℕ) × (is_blank blank ≡ true) × (line ≡ codes "perm" ++ blank ∷ digits)
+IsSpelt line (Temp expires) digits =
+    (first second : ℕ) × (is_blank first ≡ true) × (is_blank second ≡ true)
+    × (line ≡ codes "temp" ++ first ∷ (decimal expires ++ second ∷ digits))
 
 -- a kind that a line can say: a temporary key expires at one of the moments from 1 on
 abbrev pub IsSayable : KeyKind → Type 0
@@ -51,7 +57,7 @@ IsSayable (Temp expires) = (1 ≤ expires) × (expires ≤ latest_moment)
 pub record Says (line : List ℕ) (entry : RingKey) : Type 0 where
   pub kind : IsSayable entry.kind
   pub digits : List ℕ
-  pub spelled : line ≡ before_digits entry.kind ++ digits
+  pub spelled : IsSpelt line entry.kind digits
   pub decoded : AreDigitsOf digits entry.key
 
 -- the line is neither left out nor says a key

@@ -1,3 +1,4 @@
 pub mod Keys
 pub mod Rings
 pub mod KeyFile
+pub mod Words

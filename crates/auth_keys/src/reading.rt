@@ -1,10 +1,11 @@
-//! Key files as text: a key a line, words with one blank between.
+//! Key files as text: a key a line, words with one blank between, a space or a tab.
 
-ghost use Rattle.std.specs.Prelude.{◌≡◌, ◌≢◌, ◌+◌, ◌<◌, ◌≤◌, ◌^◌, ◌↔◌, ◌∷◌, ◌++◌, [], ℕ, List, length, IsTrue, IfOk, IfErr, IfSome, IfNone, OnOk, MatchOption, decimal, slice_index};
+ghost use Rattle.std.specs.Prelude.{◌≡◌, ◌≢◌, ◌+◌, ◌<◌, ◌≤◌, ◌^◌, ◌↔◌, ◌∷◌, ◌++◌, [], ℕ, true, false, List, length, IsTrue, IfOk, IfErr, IfSome, IfNone, OnOk, MatchOption, decimal, slice_index};
 ghost use Rattle.std.specs.Prelude.{codes};
 ghost use Rattle.msg_ids.specs.Moments.{latest_moment};
 ghost use Rattle.auth_keys.specs.Rings.{IsRing};
-ghost use Rattle.auth_keys.specs.KeyFile.{AreKeys, AreDigitsOf, HasNoBlank, IsFaultOf, IsLeftOut, Says, lines_of};
+ghost use Rattle.auth_keys.specs.KeyFile.{AreKeys, AreDigitsOf, HasNoBlank, IsFaultOf, IsLeftOut, Says, is_blank, lines_of};
+ghost use Rattle.auth_keys.specs.Words.{IsCut};
 ghost use Rattle.auth_keys.specs.declared.ring.RingKey.{RingKey};
 
 use crate::fault::KeyFault;
@@ -84,12 +85,16 @@ fn key_of(line: &[u8]) -> Option<RingKey>
     ensures found { IfSome result (Says line.now) }
     ensures none { IfNone result ((entry : RingKey) → Says line.now entry → ⊥) }
 {
-    if let Some(digits) = behind(line, b"perm ") {
-        let key = key_of_digits(digits)?;
+    let (word, rest) = split_at_blank(line)?;
+    if is_word(word, b"perm") {
+        let key = key_of_digits(rest)?;
         let kind = KeyKind::Perm;
         return Some(RingKey { key, kind });
     }
-    let (expires, digits) = split_at_blank(behind(line, b"temp ")?)?;
+    if !is_word(word, b"temp") {
+        return None;
+    }
+    let (expires, digits) = split_at_blank(rest)?;
     let expires = expiry_of(expires)?;
     let key = key_of_digits(digits)?;
     let kind = KeyKind::Temp { expires };
@@ -108,7 +113,7 @@ fn key_of_digits(digits: &[u8]) -> Option<AuthKey>
 
 /// The moment of expiry that a word spells, where it does: in decimal, with no sign and no leading zero.
 fn expiry_of(word: &[u8]) -> Option<Moment>
-    ensures found { IfSome result (λ expires. (1 ≤ expires) × (word.now ≡ decimal expires)) }
+    ensures found { IfSome result (λ expires. (1 ≤ expires) × (expires ≤ latest_moment) × (word.now ≡ decimal expires)) }
     ensures none { IfNone result ((expires : ℕ) → 1 ≤ expires → expires ≤ latest_moment → word.now ≢ decimal expires) }
 {
     let seconds = number_of(word)?;
@@ -118,21 +123,29 @@ fn expiry_of(word: &[u8]) -> Option<Moment>
     Some(Moment::new(seconds))
 }
 
+/// Whether a word is this one.
+fn is_word(word: &[u8], other: &[u8]) -> bool
+    ensures { IsTrue result ↔ (word.now ≡ other.now) }
+{
+    word == other
+}
+
 /// What stands before and behind the first blank, where there is one.
 fn split_at_blank(text: &[u8]) -> Option<(&[u8], &[u8])>
-    ensures found { IfSome result (λ parts. HasNoBlank parts.0.now × (text.now ≡ parts.0.now ++ 32 ∷ parts.1.now)) }
+    ensures found { IfSome result (λ parts. IsCut text.now parts.0.now parts.1.now) }
     ensures none { IfNone result (HasNoBlank text.now) }
 {
-    let end = place_of(text, b' ')?;
+    let end = place_of_blank(text)?;
     Some((&text[..end], &text[end + 1..]))
 }
 
-/// What stands behind a prefix, where the text begins with it.
-fn behind<'a>(text: &'a [u8], prefix: &[u8]) -> Option<&'a [u8]>
-    ensures found { IfSome result (λ rest. text.now ≡ prefix.now ++ rest.now) }
-    ensures none { IfNone result ((rest : List ℕ) → text.now ≢ prefix.now ++ rest) }
+/// The place of the first blank, a space or a tab, from 0, where there is one.
+fn place_of_blank(text: &[u8]) -> Option<usize>
+    ensures found { IfSome result (λ place. (place < length text.now) × (is_blank (slice_index text.now place) ≡ true)) }
+    ensures first { IfSome result (λ place. (k : ℕ) → k < place → is_blank (slice_index text.now k) ≡ false) }
+    ensures none { IfNone result ((k : ℕ) → k < length text.now → is_blank (slice_index text.now k) ≡ false) }
 {
-    text.strip_prefix(prefix)
+    text.iter().position(|byte| *byte == b' ' || *byte == b'\t')
 }
 
 /// The place of the first such byte, from 0, where there is one.

@@ -66,12 +66,13 @@ fn rings_and_faults_of_texts(rt: HostRuntime) -> Result<(), Fail> {
     let rows = [
         (String::new(alloc), Ok(0)),
         (format!(in alloc; "perm {up}")?, Ok(1)),
+        (format!(in alloc; "perm\t{up}")?, Ok(1)),
         (
             format!(in alloc; "# keys\n\nperm {up}\ntemp 7200 {down}\n")?,
             Ok(2),
         ),
         (
-            format!(in alloc; "temp 1 {up}\ntemp 4000000000 {down}\n")?,
+            format!(in alloc; "temp 1\t{up}\ntemp\t4000000000 {down}\n")?,
             Ok(2),
         ),
         (
@@ -100,6 +101,22 @@ fn rings_and_faults_of_texts(rt: HostRuntime) -> Result<(), Fail> {
         ),
         (
             format!(in alloc; " \nperm {up}\n")?,
+            Err(KeyFault::BadLine { line: 1 }),
+        ),
+        (
+            format!(in alloc; "perm {up}\n\t\n")?,
+            Err(KeyFault::BadLine { line: 2 }),
+        ),
+        (
+            format!(in alloc; "perm\t\t{up}")?,
+            Err(KeyFault::BadLine { line: 1 }),
+        ),
+        (
+            format!(in alloc; "\tperm {up}")?,
+            Err(KeyFault::BadLine { line: 1 }),
+        ),
+        (
+            format!(in alloc; "temp 1 {up}\t")?,
             Err(KeyFault::BadLine { line: 1 }),
         ),
         (

@@ -25,6 +25,7 @@ use Rattle.envelope.proofs.PlainTexts.{length-plain_text, HasBytes-plain_text, e
 -- what is read of a packet that was sealed
 pub record SealedParts (lock : Lock) (dir : Dir) (entry : RingKey) (envelope : Envelope) (padding packet : List ℕ) : Type 0 where
   pub size : IsPacketSize (length packet)
+  pub counted : length packet ≡ 24 + 32 + length envelope.body + length padding
   pub named : key_named packet ≡ envelope.key
   pub short : length envelope.body < 2 ^ 32
   pub said : message_key_said packet ≡ lock.message_key entry.key dir (plain_text envelope padding)
@@ -54,6 +55,7 @@ sealed_parts lock is laws ring dir envelope padding packet sealed =
         most = sealed.fits;
         blocks = omega (arith, size_is, sealed.padded.blocks);
       };
+      counted = omega (arith, size_is);
       named = named;
       short = omega (arith, size_is, sealed.fits);
       said = said;
@@ -155,6 +157,7 @@ refused_otherwise lock is laws ring now dir envelope padding packet sealed none 
 
 pub opens_what_it_sealed : (lock : Lock) → IsLock lock → ByteLaws → OpensWhatItSealed lock
 opens_what_it_sealed lock is laws = record {
+  size = λ ring dir envelope padding packet sealed. (sealed_parts lock is laws ring dir envelope padding packet sealed).counted;
   one_envelope = λ ring now dir packet envelope other opens opens_other. one_sealed lock is laws ring dir packet envelope other
       opens.padding opens_other.padding opens.sealed opens_other.sealed;
   not_both = not_both lock is laws;
