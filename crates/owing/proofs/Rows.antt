@@ -1,11 +1,12 @@
 -- Rows over a text that grows.
 use Rattle.std.proofs.Common.{◌≡◌, ◌∙◌, ℕ, ◌+◌, ◌%◌, ◌≤◌, List, [], ◌∷◌, ◌++◌, length, take, drop, map, ap, sym, refl, arith, length-append, Bool, ◌||◌, ◌==◌}
 use Rattle.std.proofs.lemmas.List.{take-append-le, drop-append-le, map-append, length-drop, length-take}
+use Rattle.std.proofs.lemmas.List.Sums.{sum_by-cons, sum_by_push}
 use Rattle.std.proofs.Math.Seq.{drop-append_seam, take-length}
 use Rattle.std.specs.List.{AllByRecursion, list_any}
 use Rattle.service_tl.specs.declared.lists.Message.{Message}
 use Rattle.owing.specs.declared.owing.Row.{Row}
-use Rattle.owing.specs.Dues.{IsRow, CanGo, message_at, body_max, has_number}
+use Rattle.owing.specs.Dues.{IsRow, CanGo, bodies_bytes, message_at, body_max, has_number, rows_bytes}
 
 -- what all members of a list are, and one more
 pub all-push : {X : Type 0} (P : X → Type 0) (xs : List X) (x : X) → AllByRecursion P xs → P x → AllByRecursion P (xs ++ x ∷ [])
@@ -68,3 +69,21 @@ rows-go text (row ∷ rows) all =
 pub rows-number : (text : List ℕ) (number : ℕ) (rows : List Row) → has_number number (map (message_at text) rows) ≡ list_any (λ row. row.number == number) rows
 rows-number text number [] = refl
 rows-number text number (row ∷ rows) = ap (λ (others : Bool). (row.number == number) || others) (rows-number text number rows)
+
+-- the bytes of the messages of rows
+pub rows-bytes : (text : List ℕ) (rows : List Row) → AllByRecursion (IsRow text) rows → bodies_bytes (map (message_at text) rows) ≡ rows_bytes rows
+rows-bytes text [] all = refl
+rows-bytes text (row ∷ rows) all =
+    let count : length (take row.length (drop row.start text)) ≡ row.length = part-length text row.start row.length all.0.within in
+    omega (
+      arith,
+      count,
+      rows-bytes text rows all.1,
+      sum_by-cons (λ (one : Row). one.length) row rows,
+      sum_by-cons (λ (one : Message). length one.body) (message_at text row) (map (message_at text) rows),
+    )
+
+pub rows-bytes-more : (text more : List ℕ) (rows : List Row) (row : Row) → rows_bytes rows ≡ length text → row.length ≡ length more
+    → rows_bytes (rows ++ row ∷ []) ≡ length (text ++ more)
+rows-bytes-more text more rows row same whole =
+    omega (arith, same, whole, sum_by_push (λ (one : Row). one.length) rows row, length-append text more)

@@ -4,11 +4,14 @@ use Rattle.std.specs.List.{list_any}
 use Rattle.service_tl.specs.declared.lists.Message.{Message}
 use Rattle.owing.specs.declared.owing.Row.{Row}
 
--- the messages that are owed so far, in order; for how many more there is room, and for how many more bytes of bodies
+-- the messages that are owed so far, in order; for how many more there is room, and for how many more bytes of bodies; and
+-- for how many messages and bytes room was taken in all
 pub record Dues : Type 0 where
   pub messages : List Message
   pub places : ℕ
   pub room : ℕ
+  pub places_taken : ℕ
+  pub bytes_taken : ℕ
 
 -- the longest body that goes in a packet
 abbrev pub body_max : ℕ
@@ -38,3 +41,7 @@ pub record IsRow (text : List ℕ) (row : Row) : Type 0 where
   pub within : row.start + row.length ≤ length text
   pub words : row.length % 4 ≡ 0
   pub short : row.length ≤ body_max
+
+-- how many bytes the bodies of rows have
+abbrev pub rows_bytes : List Row → ℕ
+rows_bytes rows = sum_by (λ row. row.length) rows

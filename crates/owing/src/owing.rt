@@ -36,9 +36,9 @@ pub struct Owing {
 }
 
 impl Model for Owing {
-    ghost use Rattle.std.specs.Prelude.{◌+◌, ◌≤◌, map, vec_len, vec_capacity};
+    ghost use Rattle.std.specs.Prelude.{◌≡◌, ◌+◌, ◌≤◌, length, map, vec_len, vec_capacity};
     ghost use Rattle.std.specs.List.{AllByRecursion};
-    ghost use Rattle.owing.specs.Dues.{Dues, IsRow, message_at};
+    ghost use Rattle.owing.specs.Dues.{Dues, IsRow, message_at, rows_bytes};
 
     ghost Value = { Dues };
 
@@ -46,14 +46,17 @@ impl Model for Owing {
       messages = map (message_at owing.texts.bytes) owing.rows.items;
       places = owing.places;
       room = owing.texts.room;
+      places_taken = length owing.rows.items + owing.places;
+      bytes_taken = length owing.texts.bytes + owing.texts.room;
     } };
 
-    ghost invariant = { λ owing. AllByRecursion (IsRow owing.texts.bytes) owing.rows.items × (vec_len owing.rows + owing.places ≤ vec_capacity owing.rows) };
+    ghost invariant = { λ owing. AllByRecursion (IsRow owing.texts.bytes) owing.rows.items × (vec_len owing.rows + owing.places ≤ vec_capacity owing.rows)
+        × (rows_bytes owing.rows.items ≡ length owing.texts.bytes) };
 }
 
 impl Owing {
     ghost use Rattle.std.specs.List.{AllByRecursion};
-    ghost use Rattle.owing.specs.Dues.{CanGo, body_max, has_number};
+    ghost use Rattle.owing.specs.Dues.{CanGo, bodies_bytes, body_max, has_number};
     ghost use Rattle.owing.specs.Items.{CanBeSaid, IsContent, IsTimely, acks_bytes, bad_salt_bytes, destroyed_bytes, destroyed_item, ids_max, item_of, new_session_bytes, notice_bytes, pong_bytes, result_bytes, said_bytes, salts_bytes, salts_item, salts_max, states_bytes, wrong_salt};
 
     /// Nothing owed yet, and room for `places` messages with `bytes` bytes of bodies together.
@@ -62,7 +65,7 @@ impl Owing {
     ///
     /// `Memory`.
     pub fn new(alloc: Global, places: usize, bytes: usize) -> Result<Owing, Memory>
-        ensures { IfOk result (λ owing. owing ≡ record { messages = []; places = places; room = bytes }) }
+        ensures { IfOk result (λ owing. owing ≡ record { messages = []; places = places; room = bytes; places_taken = places; bytes_taken = bytes }) }
     {
         Ok(Owing {
             texts: Buffer::new(alloc, bytes)?,
@@ -75,6 +78,8 @@ impl Owing {
     pub fn len(&self) -> usize
         ensures count { result ≡ length self.now.messages }
         ensures can_go { AllByRecursion CanGo self.now.messages }
+        ensures places { length self.now.messages + self.now.places ≡ self.now.places_taken }
+        ensures bytes { bodies_bytes self.now.messages + self.now.room ≡ self.now.bytes_taken }
     {
         self.rows.len()
     }
@@ -94,6 +99,7 @@ impl Owing {
         requires numbers { 0 < room numbers.old }
         ensures owed { self.new.messages ≡ self.old.messages ++ numbered now numbers.old (NewSessionCreated first unique salt) ∷ [] }
         ensures places { self.new.places + 1 ≡ self.old.places }
+        ensures taken { (self.new.places_taken ≡ self.old.places_taken) × (self.new.bytes_taken ≡ self.old.bytes_taken) }
         ensures left { self.new.room + new_session_bytes ≡ self.old.room }
         ensures counted { numbers.new ≡ after_item now numbers.old (NewSessionCreated first unique salt) }
         ensures room_lasts { room numbers.old ≤ room numbers.new + 1 }
@@ -118,6 +124,7 @@ impl Owing {
         requires numbers { 0 < room numbers.old }
         ensures owed { self.new.messages ≡ self.old.messages ++ numbered now numbers.old (MsgsAck ids.now) ∷ [] }
         ensures places { self.new.places + 1 ≡ self.old.places }
+        ensures taken { (self.new.places_taken ≡ self.old.places_taken) × (self.new.bytes_taken ≡ self.old.bytes_taken) }
         ensures left { self.new.room + acks_bytes (length ids.now) ≡ self.old.room }
         ensures counted { numbers.new ≡ after_item now numbers.old (MsgsAck ids.now) }
         ensures room_lasts { room numbers.old ≤ room numbers.new + 1 }
@@ -132,6 +139,7 @@ impl Owing {
         requires numbers { 0 < room numbers.old }
         ensures owed { self.new.messages ≡ self.old.messages ++ numbered now numbers.old (BadMsgNotification number seq code) ∷ [] }
         ensures places { self.new.places + 1 ≡ self.old.places }
+        ensures taken { (self.new.places_taken ≡ self.old.places_taken) × (self.new.bytes_taken ≡ self.old.bytes_taken) }
         ensures left { self.new.room + notice_bytes ≡ self.old.room }
         ensures counted { numbers.new ≡ after_item now numbers.old (BadMsgNotification number seq code) }
         ensures room_lasts { room numbers.old ≤ room numbers.new + 1 }
@@ -146,6 +154,7 @@ impl Owing {
         requires numbers { 0 < room numbers.old }
         ensures owed { self.new.messages ≡ self.old.messages ++ numbered now numbers.old (BadServerSalt number seq wrong_salt salt) ∷ [] }
         ensures places { self.new.places + 1 ≡ self.old.places }
+        ensures taken { (self.new.places_taken ≡ self.old.places_taken) × (self.new.bytes_taken ≡ self.old.bytes_taken) }
         ensures left { self.new.room + bad_salt_bytes ≡ self.old.room }
         ensures counted { numbers.new ≡ after_item now numbers.old (BadServerSalt number seq wrong_salt salt) }
         ensures room_lasts { room numbers.old ≤ room numbers.new + 1 }
@@ -160,6 +169,7 @@ impl Owing {
         requires numbers { 0 < room numbers.old }
         ensures owed { self.new.messages ≡ self.old.messages ++ numbered now numbers.old (Pong message ping) ∷ [] }
         ensures places { self.new.places + 1 ≡ self.old.places }
+        ensures taken { (self.new.places_taken ≡ self.old.places_taken) × (self.new.bytes_taken ≡ self.old.bytes_taken) }
         ensures left { self.new.room + pong_bytes ≡ self.old.room }
         ensures counted { numbers.new ≡ after_item now numbers.old (Pong message ping) }
         ensures room_lasts { room numbers.old ≤ room numbers.new + 1 }
@@ -177,6 +187,7 @@ impl Owing {
         requires numbers { 0 < room numbers.old }
         ensures owed { self.new.messages ≡ self.old.messages ++ numbered now numbers.old (salts_item request now rows.now) ∷ [] }
         ensures places { self.new.places + 1 ≡ self.old.places }
+        ensures taken { (self.new.places_taken ≡ self.old.places_taken) × (self.new.bytes_taken ≡ self.old.bytes_taken) }
         ensures left { self.new.room + salts_bytes (length rows.now) ≡ self.old.room }
         ensures counted { numbers.new ≡ after_item now numbers.old (salts_item request now rows.now) }
         ensures room_lasts { room numbers.old ≤ room numbers.new + 1 }
@@ -201,6 +212,7 @@ impl Owing {
         requires numbers { 0 < room numbers.old }
         ensures owed { self.new.messages ≡ self.old.messages ++ numbered now numbers.old (MsgsStateInfo request info.now) ∷ [] }
         ensures places { self.new.places + 1 ≡ self.old.places }
+        ensures taken { (self.new.places_taken ≡ self.old.places_taken) × (self.new.bytes_taken ≡ self.old.bytes_taken) }
         ensures left { self.new.room + states_bytes (length info.now) ≡ self.old.room }
         ensures counted { numbers.new ≡ after_item now numbers.old (MsgsStateInfo request info.now) }
         ensures room_lasts { room numbers.old ≤ room numbers.new + 1 }
@@ -216,6 +228,7 @@ impl Owing {
         requires numbers { 0 < room numbers.old }
         ensures owed { self.new.messages ≡ self.old.messages ++ numbered now numbers.old (destroyed_item session ok) ∷ [] }
         ensures places { self.new.places + 1 ≡ self.old.places }
+        ensures taken { (self.new.places_taken ≡ self.old.places_taken) × (self.new.bytes_taken ≡ self.old.bytes_taken) }
         ensures left { self.new.room + destroyed_bytes ≡ self.old.room }
         ensures counted { numbers.new ≡ after_item now numbers.old (destroyed_item session ok) }
         ensures room_lasts { room numbers.old ≤ room numbers.new + 1 }
@@ -245,6 +258,7 @@ impl Owing {
         ensures given { (result.0 ≡ (numbered now numbers.old (RpcResult call content.now)).number) × (result.1 ≡ (numbered now numbers.old (RpcResult call content.now)).seq) }
         ensures owed { self.new.messages ≡ self.old.messages ++ numbered now numbers.old (RpcResult call content.now) ∷ [] }
         ensures places { self.new.places + 1 ≡ self.old.places }
+        ensures taken { (self.new.places_taken ≡ self.old.places_taken) × (self.new.bytes_taken ≡ self.old.bytes_taken) }
         ensures left { self.new.room + result_bytes (length content.now) ≡ self.old.room }
         ensures counted { numbers.new ≡ after_item now numbers.old (RpcResult call content.now) }
         ensures room_lasts { room numbers.old ≤ room numbers.new + 1 }
@@ -259,6 +273,7 @@ impl Owing {
         requires bytes { result_bytes (length content.now) ≤ self.old.room }
         ensures owed { self.new.messages ≡ self.old.messages ++ record { number = number; seq = seq; body = spelling_of (RpcResult call content.now) } ∷ [] }
         ensures places { self.new.places + 1 ≡ self.old.places }
+        ensures taken { (self.new.places_taken ≡ self.old.places_taken) × (self.new.bytes_taken ≡ self.old.bytes_taken) }
         ensures left { self.new.room + result_bytes (length content.now) ≡ self.old.room }
     {
         self.owe(number, seq, &Said::Result { call, content });
@@ -273,6 +288,7 @@ impl Owing {
         requires bytes { length body.now ≤ self.old.room }
         ensures owed { self.new.messages ≡ self.old.messages ++ record { number = number; seq = seq; body = body.now } ∷ [] }
         ensures places { self.new.places + 1 ≡ self.old.places }
+        ensures taken { (self.new.places_taken ≡ self.old.places_taken) × (self.new.bytes_taken ≡ self.old.bytes_taken) }
         ensures left { self.new.room + length body.now ≡ self.old.room }
     {
         let start = self.texts.as_slice().len();
@@ -316,9 +332,11 @@ impl Owing {
     // All messages, lent, in a list that has room for them.
     pub(crate) fn lent<'a>(&'a self, parts: Vec<Part<'a>>) -> Vec<Part<'a>>
         requires empty { vec_len parts ≡ 0 }
-        requires room { length self.now.messages ≤ vec_capacity parts }
+        requires room { self.now.places_taken ≤ vec_capacity parts }
         ensures lent { map message_of result.items ≡ self.now.messages }
         ensures can_go { AllByRecursion CanGo self.now.messages }
+        ensures few { length self.now.messages ≤ self.now.places_taken }
+        ensures short { bodies_bytes self.now.messages ≤ self.now.bytes_taken }
     {
         let mut parts = parts;
         for place in 0..self.rows.len() {
@@ -334,6 +352,7 @@ impl Owing {
         requires bytes { said_bytes said.now ≤ self.old.room }
         ensures owed { self.new.messages ≡ self.old.messages ++ record { number = number; seq = seq; body = spelling_of (item_of said.now) } ∷ [] }
         ensures places { self.new.places + 1 ≡ self.old.places }
+        ensures taken { (self.new.places_taken ≡ self.old.places_taken) × (self.new.bytes_taken ≡ self.old.bytes_taken) }
         ensures left { self.new.room + said_bytes said.now ≡ self.old.room }
     {
         sizes_of_said();
@@ -358,6 +377,7 @@ impl Owing {
         ensures given { (result.0 ≡ (numbered now numbers.old (item_of said.now)).number) × (result.1 ≡ (numbered now numbers.old (item_of said.now)).seq) }
         ensures owed { self.new.messages ≡ self.old.messages ++ numbered now numbers.old (item_of said.now) ∷ [] }
         ensures places { self.new.places + 1 ≡ self.old.places }
+        ensures taken { (self.new.places_taken ≡ self.old.places_taken) × (self.new.bytes_taken ≡ self.old.bytes_taken) }
         ensures left { self.new.room + said_bytes said.now ≡ self.old.room }
         ensures counted { numbers.new ≡ after_item now numbers.old (item_of said.now) }
         ensures room_lasts { room numbers.old ≤ room numbers.new + 1 }

@@ -8,7 +8,6 @@ ghost use Rattle.msg_ids.specs.Counters.{room};
 ghost use Rattle.containers.specs.Lent.{message_of};
 ghost use Rattle.packing.specs.Packing.{IsPacket, after_outer, after_packets, outer_of, packed, packets_of};
 ghost use Rattle.server_rules.specs.Event.{Sent};
-ghost use Rattle.owing.specs.Dues.{bodies_bytes};
 ghost use Rattle.owing.specs.Batch.{IsPlace, packed_most, packets_most, seal_most};
 ghost use Rattle.owing.specs.Outs.{AreSent, GoesOn, IsSent, draw_after_one, draw_after_sent, one_sent, sent_of};
 
@@ -71,7 +70,7 @@ struct Place {
 }
 
 /// The room for all packets of a session's messages. Contracts see for how many messages it is, and for how many bytes of
-/// bodies together: any list of no more can be put into packets and sealed without memory.
+/// bodies together: what an `Owing` owes that has no more room than that can be put into packets and sealed without memory.
 ///
 /// A packet's body is put together in a buffer of its own and then sealed into another, so each body is copied twice.
 #[derive(Debug, Drop)]
@@ -131,8 +130,8 @@ impl Packets {
         draw: &mut D,
         outs: &mut Outs,
     )
-        requires few { length owing.now.messages ≤ self.messages }
-        requires short { bodies_bytes owing.now.messages ≤ self.bytes }
+        requires few { owing.now.places_taken ≤ self.messages }
+        requires short { owing.now.bytes_taken ≤ self.bytes }
         requires key { IsSome (entry_of header.key (S.keys seal.now)) }
         requires numbers { packets_most self.messages self.bytes ≤ room numbers.old }
         requires outs { packets_most self.messages self.bytes ≤ outs.old.room }

@@ -62,9 +62,7 @@ fn three_things<S: Seal, D: Draw>(
     let now = Moment::new(0);
     owing.new_session(now, numbers, 4, 7, HEADER.salt);
     owing.bad_salt(now, numbers, 4, 1, HEADER.salt);
-    if !owing.has_said(13) {
-        owing.again(13, 3, 8, b"answered in.");
-    }
+    owing.again(13, 3, 8, b"answered in.");
     packets.send(now, numbers, &owing, HEADER, seal, draw, &mut outs);
     Ok(outs)
 }

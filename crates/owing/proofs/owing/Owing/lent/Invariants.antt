@@ -6,5 +6,5 @@ abbrev pub invariant-loop-place : goal.invariant-loop-place
 invariant-loop-place l = record {
   lent : map message_of l.parts.items ≡ take l.place l.self.messages;
   count : vec_len l.parts ≡ l.place;
-  room : length l.self.messages ≤ vec_capacity l.parts;
+  room : l.self.places_taken ≤ vec_capacity l.parts;
 }

@@ -22,7 +22,7 @@ loop-start-init g c =
     let messages = map message_of c.lent-parts.result.items in
     let P : List Message → Type 0 = IsLeft c.args.self.messages c.args.self.bytes in
     let left : IsLeft c.args.self.messages c.args.self.bytes messages =
-    subst P (sym c.lent-parts.ensures.lent) (record { few = c.requires.few; short = c.requires.short; go = c.lent-parts.ensures.can_go }) in
+    subst P (sym c.lent-parts.ensures.lent) (record { few = omega (arith, c.lent-parts.ensures.few, c.requires.few); short = omega (arith, c.lent-parts.ensures.short, c.requires.short); go = c.lent-parts.ensures.can_go }) in
     let few = packets-few messages c.args.self.messages c.args.self.bytes left.few left.short in
     let Q : Batch → Type 0 = λ batch. packets_most batch.messages batch.bytes ≤ vec_len c.self.inside.places in
     let enough : packets_most c.args.self.messages c.args.self.bytes ≤ vec_len c.self.inside.places = subst Q c.self.view_is c.self.invariant.3 in
@@ -152,7 +152,7 @@ returns-clause-room_lasts g c =
     let messages = map message_of c.lent-parts.result.items in
     let P : List Message → Type 0 = IsLeft c.args.self.messages c.args.self.bytes in
     let left : IsLeft c.args.self.messages c.args.self.bytes messages =
-    subst P (sym c.lent-parts.ensures.lent) (record { few = c.requires.few; short = c.requires.short; go = c.lent-parts.ensures.can_go }) in
+    subst P (sym c.lent-parts.ensures.lent) (record { few = omega (arith, c.lent-parts.ensures.few, c.requires.few); short = omega (arith, c.lent-parts.ensures.short, c.requires.short); go = c.lent-parts.ensures.can_go }) in
     let few = packets-few messages c.args.self.messages c.args.self.bytes left.few left.short in
     omega (arith, few, c.loop-start.invariant.room_lasts)
 
@@ -161,6 +161,6 @@ returns-clause-numbers_last g c =
     let messages = map message_of c.lent-parts.result.items in
     let P : List Message → Type 0 = IsLeft c.args.self.messages c.args.self.bytes in
     let left : IsLeft c.args.self.messages c.args.self.bytes messages =
-    subst P (sym c.lent-parts.ensures.lent) (record { few = c.requires.few; short = c.requires.short; go = c.lent-parts.ensures.can_go }) in
+    subst P (sym c.lent-parts.ensures.lent) (record { few = omega (arith, c.lent-parts.ensures.few, c.requires.few); short = omega (arith, c.lent-parts.ensures.short, c.requires.short); go = c.lent-parts.ensures.can_go }) in
     let few = packets-few messages c.args.self.messages c.args.self.bytes left.few left.short in
     omega (arith, few, c.loop-start.invariant.numbers_last)
