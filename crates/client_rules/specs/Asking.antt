@@ -27,25 +27,32 @@ pub data Fault : Type 0 where
   TooMany : Fault
 
 -- a constructor of the session layer begins it, other than that of a packed body
+abbrev pub is_refused : ℕ → Bool
+is_refused number = not (number == gzip_packed) && list_any (λ service. number == service) service_numbers
+
 abbrev pub begins_service : List ℕ → Bool
-begins_service body = list_any (λ number. not (number == gzip_packed) && begins number body) service_numbers
+begins_service body = nat_le 4 (length body) && is_refused (little_number 4 body)
 
--- the client has the call
-abbrev pub has_call : Client → CallNo → Bool
-has_call client call = nat_lt 0 call.n && nat_le call.n (length (calls_of client))
+-- there is such a call, among so many
+abbrev pub has_call : ℕ → CallNo → Bool
+has_call count call = nat_lt 0 call.n && nat_le call.n count
 
-abbrev pub has_earlier : Client → Option CallNo → Bool
-has_earlier client None = true
-has_earlier client (Some call) = has_call client call
+abbrev pub has_earlier : ℕ → Option CallNo → Bool
+has_earlier count None = true
+has_earlier count (Some call) = has_call count call
 
-abbrev pub submit_fault : List ℕ → Option CallNo → Client → Option Fault
-submit_fault body after client =
+-- at a client of so many calls
+abbrev pub fault_at : ℕ → List ℕ → Option CallNo → Option Fault
+fault_at count body after =
     if nat_lt body_bytes_max (length body) then Some (TooLong (length body))
     else if not (length body % 4 == 0) then Some (NotWords (length body))
     else if begins_service body then Some (ServiceTag (little_number 4 body))
-    else if not (has_earlier client after) then Some NoSuchCall
-    else if nat_le calls_max (length (calls_of client)) then Some TooMany
+    else if not (has_earlier count after) then Some NoSuchCall
+    else if nat_le calls_max count then Some TooMany
     else None
+
+abbrev pub submit_fault : List ℕ → Option CallNo → Client → Option Fault
+submit_fault body after client = fault_at (length (calls_of client)) body after
 
 -- the client with the call, which is the last one and queued
 abbrev pub submitted : List ℕ → Option CallNo → Client → Client

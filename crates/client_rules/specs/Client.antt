@@ -89,10 +89,19 @@ pub record Client : Type 0 where
 abbrev pub fresh_client : ℕ → Option Temporary → ℕ → Client
 fresh_client key temporary session =
     record {
-      key = key; temporary = temporary; session = session; former = [];
-      salt = 0; learnt = [];
-      now = 0; clock = record { there = 0; here = 0 }; counters = none_given;
-      waiting = nothing_waits; asked = None; table = no_calls; has_ended = false;
+      key = key;
+      temporary = temporary;
+      session = session;
+      former = [];
+      salt = 0;
+      learnt = [];
+      now = 0;
+      clock = record { there = 0; here = 0 };
+      counters = none_given;
+      waiting = nothing_waits;
+      asked = None;
+      table = no_calls;
+      has_ended = false;
     }
 
 -- it learnt a unique number of its session; before, it is opening

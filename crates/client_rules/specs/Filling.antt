@@ -113,7 +113,7 @@ says_destroyed None filling = filling
 says_destroyed (Some session) filling =
     if is_open filling.client
     then says true (DestroySession session)
-        (λ client. record client { waiting = record client.waiting { destroyed = None } }) filling
+    (λ client. record client { waiting = record client.waiting { destroyed = None } }) filling
     else filling
 
 -- ---- the binding
@@ -236,8 +236,8 @@ abbrev pub fills : {S : Type 0} → Setting S → Client → S → Filling S
 fills setting client draw =
     let waiting = client.waiting in
     let items = says_destroyed waiting.destroyed (says_salts waiting.salts (says_ping waiting.ping
-        (says_states waiting.states (says_resent waiting.resent (says_told waiting.told
-        (says_acks client.table.acks (empty client draw))))))) in
+    (says_states waiting.states (says_resent waiting.resent (says_told waiting.told
+    (says_acks client.table.acks (empty client draw))))))) in
     let bound = says_binding setting client.temporary items in
     let drops = fold says_drop bound (group_of group.Dropping (calls_of client)) in
     fold says_call drops (group_of group.Queued (calls_of client))

@@ -125,6 +125,6 @@ flush setting now client draw =
     let filling = filled setting (at_moment now client) draw in
     if has_any filling.messages
     then (if nat_lt (room client.counters) room_min
-        then record { answer = Spent; client = client; draw = draw }
-        else sends setting filling.messages filling)
+    then record { answer = Spent; client = client; draw = draw }
+    else sends setting filling.messages filling)
     else sends setting [] filling

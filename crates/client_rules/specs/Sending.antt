@@ -26,8 +26,12 @@ abbrev pub packet_of : {S : Type 0} → Setting S → Client → S → Message �
 packet_of setting client draw message =
     record {
       envelope = record {
-        key = client.key; salt = client.salt; session = client.session;
-        number = message.number; seq = message.seq; body = message.body;
+        key = client.key;
+        salt = client.salt;
+        session = client.session;
+        number = message.number;
+        seq = message.seq;
+        body = message.body;
       };
       padding = next_bytes setting.step (least_padding (length message.body)) draw;
     }
@@ -42,7 +46,10 @@ abbrev pub inner_of : {S : Type 0} → Setting S → Client → Temporary → S 
 inner_of setting client temporary draw =
     record {
       nonce = word_after setting.step 0 draw;
-      temp = client.key; perm = temporary.perm; session = client.session; expires = temporary.expires;
+      temp = client.key;
+      perm = temporary.perm;
+      session = client.session;
+      expires = temporary.expires;
     }
 
 -- its body under this number: behind the nonce, two words and a third are drawn for the binding message
@@ -52,7 +59,7 @@ binding_body setting client temporary number draw =
     let random = next_bytes setting.step 16 (draw_after setting.step 1 draw) in
     let padding = next_bytes setting.step 8 (draw_after setting.step 3 draw) in
     spelling_of (AuthBindTempAuthKey inner.perm inner.nonce inner.expires
-        (setting.binding_message inner.perm random number inner padding))
+    (setting.binding_message inner.perm random number inner padding))
 
 abbrev pub draw_after_binding : {S : Type 0} → Setting S → S → S
 draw_after_binding setting draw = draw_after setting.step 4 draw

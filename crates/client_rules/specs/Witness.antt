@@ -1,11 +1,11 @@
 -- Events that show what the definitions give.
-use Rattle.std.specs.Prelude.{ℕ, zero, suc, ◌+◌, Bool, false, true, Option, Some, None, codes, List, [], ◌∷◌, map, length}
+use Rattle.std.specs.Prelude.{ℕ, zero, suc, ◌+◌, ◌-◌, ◌^◌, Bool, false, true, Option, Some, None, codes, List, [], ◌∷◌, map, length}
 use Rattle.draws.specs.Steps.{step_word}
 use Rattle.tl_codec.specs.Spelling.{Truth, spelling}
 use Rattle.containers.specs.Container.{container_of}
 use Rattle.service_tl.specs.declared.lists.Message.{Message}
 use Rattle.service_tl.specs.declared.item.Item.{Item}
-use Rattle.service_tl.specs.declared.item.Item.TheVariants.{RpcResult, RpcError, NewSessionCreated, BadMsgNotification, BadServerSalt, InvokeAfterMsg, MsgsAck}
+use Rattle.service_tl.specs.declared.item.Item.TheVariants.{RpcResult, RpcError, NewSessionCreated, BadMsgNotification, BadServerSalt, InvokeAfterMsg, MsgsAck, MsgsStateInfo, MsgResendReq, DestroySession}
 use Rattle.service_tl.specs.Items.{spelling_of}
 use Rattle.envelope.specs.declared.parts.Envelope.{Envelope}
 use Rattle.call_table.specs.Table.{State, call_no}
@@ -13,7 +13,7 @@ use Rattle.client_rules.specs.Client.{Binding, Client, temporary_of, calls_of}
 use Rattle.client_rules.specs.Sending.{Setting, Packet}
 use Rattle.client_rules.specs.Asking.{binding_of}
 use Rattle.client_rules.specs.Flush.{Answer, Nothing, Spent, Sends, Flushed, flush}
-use Rattle.client_rules.specs.Events.{Run, Event, Submit, Flush, Take, Renew, End, Tick, made, run_of}
+use Rattle.client_rules.specs.Events.{Run, Event, Submit, Attach, Drop, Flush, Take, Renew, End, Tick, made, run_of}
 
 -- words that are drawn one after the other, and a binding message of one byte
 abbrev pub drawn : ℕ → ℕ × ℕ
@@ -151,3 +151,71 @@ told_code code = BadMsgNotification 8 1 code
 
 abbrev pub binding_in : Run ℕ → Option Binding
 binding_in run = binding_of run.client
+
+-- ---- what goes again
+
+abbrev pub both_sent : Run ℕ
+both_sent = then_does two_calls (Flush 0 ∷ [])
+
+-- the container is refused with the right salt
+abbrev pub container_refused : Run ℕ
+container_refused = then_does both_sent (hears 7 2 (BadServerSalt 12 4 48 5) ∷ [])
+
+abbrev pub first_again : Run ℕ
+first_again = then_does container_refused (Flush 0 ∷ [])
+
+-- the same by an attach, and by what the server asks for or tells
+abbrev pub second_body : List ℕ
+second_body = spelling_of (InvokeAfterMsg 4 (add_x 2))
+
+abbrev pub attached : Run ℕ
+attached = then_does sent_again (Attach ∷ [])
+
+abbrev pub asked_again : Run ℕ
+asked_again = then_does sent_again (hears 17 2 (MsgResendReq (4 ∷ 12 ∷ [])) ∷ [])
+
+-- states are asked for under number 20, and these are told
+abbrev pub told_byte : ℕ → Run ℕ
+told_byte byte = then_does sent_again (Tick ∷ Flush 0 ∷ hears 21 2 (MsgsStateInfo 20 (byte ∷ [])) ∷ [])
+
+-- ---- later sessions of the server
+
+-- another unique number is learnt while a call is sent
+abbrev pub server_lost : Run ℕ
+server_lost = then_does sent_again (hears 17 1 (NewSessionCreated 12 10 6) ∷ [])
+
+-- the salt came before the first unique number, and the call went under it
+abbrev pub salted_before : Run ℕ
+salted_before = then_does first_flush (hears 7 2 (BadServerSalt 4 1 48 5) ∷ Flush 0 ∷ hears 11 1 (NewSessionCreated 8 9 5) ∷ [])
+
+-- the former session is destroyed once the client is open again
+abbrev pub open_again : Run ℕ
+open_again = then_does renewed
+    (Take 0 (Some (record { key = 1; salt = 5; session = renewed.client.session; number = 7; seq = 1; body = spelling_of (NewSessionCreated 4 11 6) })) ∷ [])
+
+-- ---- other events
+
+abbrev pub dropped : Run ℕ
+dropped = then_does sent_again (Drop (call_no 0) ∷ [])
+
+-- there may be numbers for no more than this many messages
+abbrev pub nearly_spent : ℕ → Run ℕ
+nearly_spent room =
+    record submitted {
+      client = record submitted.client { counters = record { last = 0; content_messages = 2 ^ 30 - room } };
+    }
+
+-- a packet of another session, and one with an even number
+abbrev pub not_looked_at : Envelope → Run ℕ
+not_looked_at envelope = then_does first_flush (Take 50 (Some envelope) ∷ [])
+
+abbrev pub opening : Envelope
+opening = record { key = 1; salt = 5; session = step_word 1; number = 7; seq = 1; body = spelling_of (NewSessionCreated 4 9 5) }
+
+abbrev pub destroying : List Message
+destroying =
+    record { number = 4; seq = 0; body = spelling_of (MsgsAck (7 ∷ [])) }
+    ∷ record { number = 8; seq = 1; body = spelling_of (DestroySession (step_word 1)) }
+    ∷ record { number = 12; seq = 3; body = add_x 1 }
+    ∷ record { number = 16; seq = 5; body = add_x 2 }
+    ∷ []
