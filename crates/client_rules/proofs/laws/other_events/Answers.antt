@@ -1,0 +1,33 @@
+use Rattle.std.proofs.Common.{refl}
+use Rattle.tl_codec.specs.Spelling.{spelling}
+use Rattle.tl_codec.specs.Reading.{number_at, tag_at, truth_at, head_at, bytes_at, longs_at}
+use Rattle.msg_ids.specs.Counters.{room}
+use Rattle.containers.specs.Container.{row, head_of, container_of, begins_container}
+use Rattle.containers.specs.Parts.{message_in, after, cause_in, parts_of}
+use Rattle.service_tl.specs.Fields.{salt_at, message_at, items_at, vector_at}
+use Rattle.service_tl.specs.Schema.{schema, service_numbers}
+use Rattle.client_rules.proofs.laws.other_events.Goals as goal
+
+pub returns-clause-dropped : goal.returns-clause-dropped
+unfolding begins_container service_numbers schema spelling container_of row head_of message_in after cause_in parts_of number_at tag_at truth_at head_at bytes_at longs_at salt_at message_at items_at vector_at room
+returns-clause-dropped c = refl
+
+pub returns-clause-spent : goal.returns-clause-spent
+unfolding begins_container service_numbers schema spelling container_of row head_of message_in after cause_in parts_of number_at tag_at truth_at head_at bytes_at longs_at salt_at message_at items_at vector_at room
+returns-clause-spent c = refl
+
+pub returns-clause-unchanged : goal.returns-clause-unchanged
+unfolding begins_container service_numbers schema spelling container_of row head_of message_in after cause_in parts_of number_at tag_at truth_at head_at bytes_at longs_at salt_at message_at items_at vector_at room
+returns-clause-unchanged c = refl
+
+pub returns-clause-enough : goal.returns-clause-enough
+unfolding begins_container service_numbers schema spelling container_of row head_of message_in after cause_in parts_of number_at tag_at truth_at head_at bytes_at longs_at salt_at message_at items_at vector_at room
+returns-clause-enough c = refl
+
+pub returns-clause-foreign : goal.returns-clause-foreign
+unfolding begins_container service_numbers schema spelling container_of row head_of message_in after cause_in parts_of number_at tag_at truth_at head_at bytes_at longs_at salt_at message_at items_at vector_at room
+returns-clause-foreign c = refl
+
+pub returns-clause-even : goal.returns-clause-even
+unfolding begins_container service_numbers schema spelling container_of row head_of message_in after cause_in parts_of number_at tag_at truth_at head_at bytes_at longs_at salt_at message_at items_at vector_at room
+returns-clause-even c = refl

@@ -1,0 +1,9 @@
+pub mod Client
+pub mod Sending
+pub mod Asking
+pub mod Filling
+pub mod Flush
+pub mod Learning
+pub mod Taking
+pub mod Events
+pub mod Witness
