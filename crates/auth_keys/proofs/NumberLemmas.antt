@@ -52,4 +52,4 @@ pub no_blank-decimal : (n : ℕ) → n < 2 ^ 64 → HasNoBlank (decimal n)
 no_blank-decimal = decimal_by_steps (λ n digits. HasNoBlank digits)
     (λ n small. All-cons (λ b. is_blank b ≡ false) (48 + n) [] (digit-not_blank (48 + n) (omega arith)) (All-nil (λ b. is_blank b ≡ false)))
     (λ n digits large before. All-append (λ b. is_blank b ≡ false) digits ((48 + n % 10) ∷ []) before
-      (All-cons (λ b. is_blank b ≡ false) (48 + n % 10) [] (digit-not_blank (48 + n % 10) (omega arith)) (All-nil (λ b. is_blank b ≡ false))))
+    (All-cons (λ b. is_blank b ≡ false) (48 + n % 10) [] (digit-not_blank (48 + n % 10) (omega arith)) (All-nil (λ b. is_blank b ≡ false))))

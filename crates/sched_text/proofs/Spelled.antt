@@ -171,9 +171,9 @@ kept_in Restart = refl
 no_blank : (word : List ℕ) → All IsVisible word → All NotBlank word
 no_blank word = weaker IsVisible NotBlank
     (λ b h.
-      let no_space : eqb b 32 ≡ false = ne_eqb b 32 (λ e. omega (arith, h, e)) in
-      let no_tab : eqb b 9 ≡ false = ne_eqb b 9 (λ e. omega (arith, h, e)) in
-      rw (no_space, no_tab) refl)
+    let no_space : eqb b 32 ≡ false = ne_eqb b 32 (λ e. omega (arith, h, e)) in
+    let no_tab : eqb b 9 ≡ false = ne_eqb b 9 (λ e. omega (arith, h, e)) in
+    rw (no_space, no_tab) refl)
     word
 
 -- the words of a line made of words
