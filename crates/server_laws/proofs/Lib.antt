@@ -5,3 +5,5 @@ pub mod Own
 pub mod Speaking
 pub mod Rows
 pub mod Sessions
+pub mod Judged
+pub mod Events

@@ -4,11 +4,10 @@ use Rattle.std.specs.Prelude.{◌⊎◌}
 use Rattle.std.proofs.lemmas.Bool.{cases_Bool, and_parts, and_from, eqb-true, eq-eqb, false≢true}
 use Rattle.server_rules.specs.Server.{Name, Session, name_of, is_same, is_named}
 
-pub named : ℕ → ℕ → Name
+abbrev pub named : ℕ → ℕ → Name
 named key session = record { key = key; session = session }
 
 pub name-by : (one other : Name) → one.key ≡ other.key → one.session ≡ other.session → one ≡ other
-unfolding named
 name-by one other key session =
     ap (λ (k : ℕ). named k one.session) key ∙ ap (λ (s : ℕ). named other.key s) session
 

@@ -4,7 +4,7 @@ use Rattle.std.specs.Prelude.{map, fold, min, is_some, ◌&&◌, ◌==◌}
 use Rattle.std.specs.List.{filter, find, list_any, list_all}
 use Rattle.std.proofs.lemmas.Bool.{cases_Bool, cond-true, cond-false, cond_both, and_parts, eqb-true}
 use Rattle.service_tl.specs.declared.item.Item.{Item}
-use Rattle.service_tl.specs.declared.item.Item.TheVariants.{RpcDropAnswer, RpcAnswerUnknown, RpcAnswerDropped, GetFutureSalts, FutureSalts, Ping, PingDelayDisconnect, Pong, MsgsAck, MsgsStateReq, MsgsStateInfo, MsgResendReq, BadMsgNotification, BadServerSalt, InvokeAfterMsg, InvokeAfterMsgs, AuthBindTempAuthKey, Packed, Call, Broken}
+use Rattle.service_tl.specs.declared.item.Item.TheVariants.{NewSessionCreated, RpcDropAnswer, RpcAnswerUnknown, RpcAnswerDropped, GetFutureSalts, FutureSalts, Ping, PingDelayDisconnect, Pong, MsgsAck, MsgsStateReq, MsgsStateInfo, MsgResendReq, BadMsgNotification, BadServerSalt, InvokeAfterMsg, InvokeAfterMsgs, AuthBindTempAuthKey, Packed, Call, Broken}
 use Rattle.service_tl.specs.Items.{spelling_of}
 use Rattle.service_tl.specs.Schema.{rpc_drop_answer}
 use Rattle.salt_line.specs.Rows.{future_rows_max}
@@ -21,7 +21,7 @@ use Rattle.waits.specs.declared.job.Unfinished.{Unfinished}
 use Rattle.waits.specs.Jobs.{Queue, is_call, is_of, first_job, without_first}
 use Rattle.server_rules.specs.Server.{Name, Session, Reply, Binding, is_kept, kept_of, mark_in, marks_of, reply_to, name_of}
 use Rattle.server_rules.specs.Event.{Setting, Speaker, BindingCall}
-use Rattle.server_rules.specs.Speaking.{says, says_with_salt, says_again, needs_salts, dropped, answers, answers_in_place, packed_body_refused, bad_body, encrypted_message_invalid}
+use Rattle.server_rules.specs.Speaking.{says, says_with_salt, says_it_is_new, says_again, needs_salts, dropped, answers, answers_in_place, packed_body_refused, bad_body, encrypted_message_invalid}
 use Rattle.server_rules.specs.Waiting.{tells_of, gives_up}
 use Rattle.server_rules.specs.Calls.{accepts_call, becomes_job, refusal, job_of, drops_running, drops_kept, drops_by, drops_answer, dropped_running, binds, binds_by, with_binding, bool_true_content}
 use Rattle.server_rules.specs.Rows.{notices, came_again, says_reply, tells_salts, takes_acks, acked_by, tells_states, sends_again, kept_numbered, answers_broken, accepts, owes, acknowledges, future_salt_of}
@@ -42,6 +42,11 @@ pub with_salt-keeps : {S : Type 0} (setting : Setting S) (item : ℕ → Item) (
 with_salt-keeps setting item name others past opened speaker s =
     let ready = needs_salts setting 1 speaker in
     says-keeps setting (item (current_salt ready.session.salts setting.now)) name others past opened ready s
+
+pub new-keeps : {S : Type 0} (setting : Setting S) (name : Name) (others : Name → Queue) (past : History) (opened : List ℕ) (speaker : Speaker S)
+    → IsSpeaking name others past opened speaker → IsSpeaking name others past opened (says_it_is_new setting speaker)
+new-keeps setting name others past opened speaker s =
+    with_salt-keeps setting (λ salt. NewSessionCreated speaker.session.first speaker.session.unique salt) name others past opened speaker s
 
 pub notices-keeps : {S : Type 0} (setting : Setting S) (number seq code : ℕ) (name : Name) (others : Name → Queue) (past : History) (opened : List ℕ) (speaker : Speaker S)
     → IsSpeaking name others past opened speaker → IsSpeaking name others past opened (notices setting number seq code speaker)
@@ -258,9 +263,9 @@ accepts-keeps setting number (InvokeAfterMsgs numbers query) body name others pa
     call-keeps setting number numbers query name others past opened speaker (called refl) s
 accepts-keeps setting number (RpcDropAnswer call) body name others past opened speaker called s = drops-keeps setting number call name others past opened speaker s
 accepts-keeps setting number (Ping ping) body name others past opened speaker called s =
-    leaves-keeps number name others past opened _ (says-keeps setting (Pong number ping) name others past (number ∷ opened) speaker s)
+    says-keeps setting (Pong number ping) name others past opened speaker (leaves-keeps number name others past opened speaker s)
 accepts-keeps setting number (PingDelayDisconnect ping delay) body name others past opened speaker called s =
-    leaves-keeps number name others past opened _ (says-keeps setting (Pong number ping) name others past (number ∷ opened) speaker s)
+    says-keeps setting (Pong number ping) name others past opened speaker (leaves-keeps number name others past opened speaker s)
 accepts-keeps setting number (GetFutureSalts count) body name others past opened speaker called s =
     salts-keeps setting number (min count future_rows_max) name others past opened speaker (leaves-keeps number name others past opened speaker s)
 accepts-keeps setting number (MsgsAck numbers) body name others past opened speaker called s =

@@ -91,7 +91,7 @@ lost-name name [] = refl
 lost-name name (first ∷ sessions) =
     elim (cases_Bool (is_named name first)) [
       | inl holds ↦ rw holds (lost-name name sessions)
-      | inr fails ↦ rw fails (lost-name name sessions)
+      | inr fails ↦ rw (fails, fails) (lost-name name sessions)
     ]
 
 pub lost-other_name : (name other : Name) (sessions : List Session) → other ≢ name → session_named other (without_session name sessions) ≡ session_named other sessions
@@ -114,11 +114,12 @@ IsPast = Name → History
 abbrev pub Open : Type 0
 Open = Name → List ℕ
 
-at-open : (past : History) (opened later : List ℕ) (session : Option Session) (jobs : Queue) → opened ≡ later
-    → IsMidwayAt past opened session jobs → IsMidwayAt past later session jobs
-at-open past opened later session jobs same is =
+at-open : (past then : History) (opened later : List ℕ) (session : Option Session) (jobs : Queue) → past ≡ then → opened ≡ later
+    → IsMidwayAt past opened session jobs → IsMidwayAt then later session jobs
+at-open past then opened later session jobs same_past same is =
     let P : List ℕ → Type 0 = λ numbers. IsMidwayAt past numbers session jobs in
-    subst P same is
+    let Q : History → Type 0 = λ history. IsMidwayAt history later session jobs in
+    subst Q same_past (subst P same is)
 
 at-same : (past : History) (opened : List ℕ) (session other : Option Session) (jobs rest : Queue) → session ≡ other → jobs ≡ rest
     → IsMidwayAt past opened session jobs → IsMidwayAt past opened other rest
@@ -130,9 +131,13 @@ at-same past opened session other jobs rest same same_jobs is =
 -- ---- one session speaks
 
 -- whatever its other jobs are, a session that speaks goes on so
-abbrev pub GoesOn : {S : Type 0} → Name → History → List ℕ → List ℕ → Speaker S → (Speaker S → Speaker S) → Type 0
-GoesOn name past opened later speaker speak =
-    (others : Name → Queue) → IsSpeaking name others past opened speaker → IsSpeaking name others past later (speak speaker)
+abbrev pub GoesOn : {S : Type 0} → Name → History → History → List ℕ → List ℕ → Speaker S → (Speaker S → Speaker S) → Type 0
+GoesOn name past then opened later speaker speak =
+    (others : Name → Queue) → IsSpeaking name others past opened speaker → IsSpeaking name others then later (speak speaker)
+
+-- other names have the same histories and open numbers before and after
+abbrev pub StayApart : Name → IsPast → IsPast → Open → Open → Type 0
+StayApart name past then opened later = (other : Name) → other ≢ name → (past other ≡ then other) × (opened other ≡ later other)
 
 speaks-own : {S : Type 0} (name : Name) (past : History) (opened : List ℕ) (state : State S) (session : Session)
     → session_named name state.sessions ≡ Some session → IsMidwayAt past opened (session_named name state.sessions) (jobs_of name state.jobs)
@@ -149,12 +154,12 @@ speaks-own name past opened state session is at =
       apart = λ other apart. refl;
     }
 
-spoken-goes : {S : Type 0} (name : Name) (past : IsPast) (opened later : Open) (speak : Speaker S → Speaker S) (state : State S) (session : Session)
-    → session_named name state.sessions ≡ Some session → ((other : Name) → other ≢ name → opened other ≡ later other)
-    → GoesOn name (past name) (opened name) (later name) (speaker_in state session) speak
+spoken-goes : {S : Type 0} (name : Name) (past then : IsPast) (opened later : Open) (speak : Speaker S → Speaker S) (state : State S) (session : Session)
+    → session_named name state.sessions ≡ Some session → StayApart name past then opened later
+    → GoesOn name (past name) (then name) (opened name) (later name) (speaker_in state session) speak
     → IsGoingOn past opened state.sessions state.jobs
-    → IsGoingOn past later (spoken state (speak (speaker_in state session))).sessions (spoken state (speak (speaker_in state session))).jobs
-spoken-goes name past opened later speak state session is same goes on =
+    → IsGoingOn then later (spoken state (speak (speaker_in state session))).sessions (spoken state (speak (speaker_in state session))).jobs
+spoken-goes name past then opened later speak state session is same goes on =
     let speaker = speak (speaker_in state session) in
     let s = goes (λ other. jobs_of other state.jobs) (speaks-own name (past name) (opened name) state session is (on.each name)) in
     let named_so : name_of speaker.session ≡ name = ap (λ (k : ℕ). named k speaker.session.number) s.of_key ∙ ap (named name.key) s.of_session in
@@ -169,47 +174,47 @@ spoken-goes name past opened later speak state session is same goes on =
                     with-own speaker.session state.sessions session (subst N (sym named_so) is) in
                 let M : Name → Type 0 = λ name. session_named name sessions ≡ Some speaker.session in
                 let found_so = subst M named_so found in
-                let P : Name → Type 0 = λ other. IsMidwayAt (past other) (later other) (session_named other sessions) (jobs_of other speaker.jobs) in
-                let Q : Option Session → Type 0 = λ found. IsMidwayAt (past name) (later name) found (jobs_of name speaker.jobs) in
+                let P : Name → Type 0 = λ other. IsMidwayAt (then other) (later other) (session_named other sessions) (jobs_of other speaker.jobs) in
+                let Q : Option Session → Type 0 = λ found. IsMidwayAt (then name) (later name) found (jobs_of name speaker.jobs) in
                 subst P (sym own) (subst Q (sym found_so) (s.same, s.midway))
             | inr apart ↦
-                at-same (past other) (later other) (session_named other state.sessions) (session_named other sessions) (jobs_of other state.jobs) (jobs_of other speaker.jobs)
+                at-same (then other) (later other) (session_named other state.sessions) (session_named other sessions) (jobs_of other state.jobs) (jobs_of other speaker.jobs)
                 (sym (with-others other speaker.session state.sessions (λ is. apart (is ∙ named_so)))) (sym (s.apart other apart))
-                (at-open (past other) (opened other) (later other) (session_named other state.sessions) (jobs_of other state.jobs) (same other apart) (on.each other))
+                (at-open (past other) (then other) (opened other) (later other) (session_named other state.sessions) (jobs_of other state.jobs) (same other apart).0 (same other apart).1 (on.each other))
           ];
     }
 
-silent-goes : {S : Type 0} (name : Name) (past : IsPast) (opened later : Open) (state : State S)
-    → session_named name state.sessions ≡ None → ((other : Name) → other ≢ name → opened other ≡ later other)
-    → IsGoingOn past opened state.sessions state.jobs → IsGoingOn past later state.sessions state.jobs
-silent-goes name past opened later state is same on = record {
+silent-goes : {S : Type 0} (name : Name) (past then : IsPast) (opened later : Open) (state : State S)
+    → session_named name state.sessions ≡ None → StayApart name past then opened later
+    → IsGoingOn past opened state.sessions state.jobs → IsGoingOn then later state.sessions state.jobs
+silent-goes name past then opened later state is same on = record {
   names = on.names;
   each = λ other.
       elim (cases_name other name) [
         | inl own ↦
             let here : session_named other state.sessions ≡ None = ap (λ (name : Name). session_named name state.sessions) own ∙ is in
             let P : Option Session → Type 0 = λ found. IsMidwayAt (past other) (opened other) found (jobs_of other state.jobs) in
-            let Q : Option Session → Type 0 = λ found. IsMidwayAt (past other) (later other) found (jobs_of other state.jobs) in
+            let Q : Option Session → Type 0 = λ found. IsMidwayAt (then other) (later other) found (jobs_of other state.jobs) in
             subst Q (sym here) (subst P here (on.each other))
-        | inr apart ↦ at-open (past other) (opened other) (later other) (session_named other state.sessions) (jobs_of other state.jobs) (same other apart) (on.each other)
+        | inr apart ↦ at-open (past other) (then other) (opened other) (later other) (session_named other state.sessions) (jobs_of other state.jobs) (same other apart).0 (same other apart).1 (on.each other)
       ];
 }
 
-by-goes : {S : Type 0} (name : Name) (past : IsPast) (opened later : Open) (speak : Speaker S → Speaker S) (state : State S) (found : Option Session)
-    → session_named name state.sessions ≡ found → ((other : Name) → other ≢ name → opened other ≡ later other)
-    → ((session : Session) → session_named name state.sessions ≡ Some session → GoesOn name (past name) (opened name) (later name) (speaker_in state session) speak)
+by-goes : {S : Type 0} (name : Name) (past then : IsPast) (opened later : Open) (speak : Speaker S → Speaker S) (state : State S) (found : Option Session)
+    → session_named name state.sessions ≡ found → StayApart name past then opened later
+    → ((session : Session) → session_named name state.sessions ≡ Some session → GoesOn name (past name) (then name) (opened name) (later name) (speaker_in state session) speak)
     → IsGoingOn past opened state.sessions state.jobs
-    → IsGoingOn past later (spoken_by found speak state).sessions (spoken_by found speak state).jobs
-by-goes name past opened later speak state None is same goes on = silent-goes name past opened later state is same on
-by-goes name past opened later speak state (Some session) is same goes on = spoken-goes name past opened later speak state session is same (goes session is) on
+    → IsGoingOn then later (spoken_by found speak state).sessions (spoken_by found speak state).jobs
+by-goes name past then opened later speak state None is same goes on = silent-goes name past then opened later state is same on
+by-goes name past then opened later speak state (Some session) is same goes on = spoken-goes name past then opened later speak state session is same (goes session is) on
 
 -- where one session speaks so that it stays in order, all sessions do
-pub speaks-goes : {S : Type 0} (name : Name) (past : IsPast) (opened later : Open) (speak : Speaker S → Speaker S) (state : State S)
-    → ((other : Name) → other ≢ name → opened other ≡ later other)
-    → ((session : Session) → session_named name state.sessions ≡ Some session → GoesOn name (past name) (opened name) (later name) (speaker_in state session) speak)
-    → IsGoingOn past opened state.sessions state.jobs → IsGoingOn past later (speaks name speak state).sessions (speaks name speak state).jobs
-speaks-goes name past opened later speak state same goes on =
-    by-goes name past opened later speak state (session_named name state.sessions) refl same goes on
+pub speaks-goes : {S : Type 0} (name : Name) (past then : IsPast) (opened later : Open) (speak : Speaker S → Speaker S) (state : State S)
+    → StayApart name past then opened later
+    → ((session : Session) → session_named name state.sessions ≡ Some session → GoesOn name (past name) (then name) (opened name) (later name) (speaker_in state session) speak)
+    → IsGoingOn past opened state.sessions state.jobs → IsGoingOn then later (speaks name speak state).sessions (speaks name speak state).jobs
+speaks-goes name past then opened later speak state same goes on =
+    by-goes name past then opened later speak state (session_named name state.sessions) refl same goes on
 
 -- ---- one session is lost
 
@@ -294,7 +299,7 @@ taken-goes past opened sessions name job jobs rest taken of_key of_session on = 
             subst P (sym own) (subst Q (sym (opened-own name job.number opened))
             (taken-at (past name) (opened name) (session_named name sessions) name job jobs rest taken of_key of_session (on.each name)))
         | inr apart ↦
-            at-open (past other) (opened other) (opened_at name job.number opened other) (session_named other sessions) (jobs_of other rest)
+            at-open (past other) (past other) (opened other) (opened_at name job.number opened other) (session_named other sessions) (jobs_of other rest) refl
             (sym (opened-others name other job.number opened apart))
             (at-same (past other) (opened other) (session_named other sessions) (session_named other sessions) (jobs_of other jobs) (jobs_of other rest) refl
             (taken-apart name other job jobs rest taken of_key of_session apart) (on.each other))
@@ -324,8 +329,8 @@ given_up-goes setting content test past opened state None is on =
 given_up-goes {S} setting content test past opened state (Some job) is on =
     let name = named job.key job.session in
     let rest : State S = record state { jobs = without_first test state.jobs } in
-    speaks-goes name past (opened_at name job.number opened) opened (gives_up setting content job) rest
-    (λ other apart. opened-others name other job.number opened apart)
+    speaks-goes name past past (opened_at name job.number opened) opened (gives_up setting content job) rest
+    (λ other apart. (refl, opened-others name other job.number opened apart))
     (λ session found others s.
       let P : List ℕ → Type 0 = λ numbers. IsSpeaking name others (past name) numbers (speaker_in rest session) in
       gives_up-keeps setting content job name others (past name) (opened name) (speaker_in rest session) (subst P (opened-own name job.number opened) s))

@@ -1,9 +1,11 @@
 -- What holds of a server after every list of events: its sessions, their replies and their jobs fit each other.
-use Rattle.std.specs.Prelude.{◌≡◌, ◌≢◌, ℕ, ◌+◌, ◌<◌, ◌≤◌, Bool, true, false, Option, Some, None, List, [], All, AllPairs, Contains, length}
+use Rattle.std.specs.Prelude.{◌≡◌, ◌≢◌, ℕ, ◌+◌, ◌<◌, ◌≤◌, Bool, true, false, if◌then◌else◌, Option, Some, None, List, [], ◌∷◌, All, AllPairs, Contains, length}
 use Rattle.std.specs.List.{filter}
 use Rattle.id_window.specs.History.{History, FirstJudgement, AcceptedCall, EachOnce, was_accepted}
 use Rattle.service_tl.specs.declared.item.Item.{Item}
 use Rattle.service_tl.specs.declared.item.Item.TheVariants.{InvokeAfterMsg, InvokeAfterMsgs, Call}
+use Rattle.inbox.specs.declared.judged.Judgement.{Judgement}
+use Rattle.inbox.specs.Judging.{is_accepted}
 use Rattle.waits.specs.Jobs.{Queue, AreWithinLimits, is_of}
 use Rattle.server_rules.specs.Server.{Server, Session, Name, Reply, name_of, session_named}
 use Rattle.server_rules.specs.Event.{Speaker}
@@ -73,6 +75,11 @@ pub record AreOpen (open_numbers : List ℕ) (history : History) (replies : List
 pub record IsMidway (open_numbers : List ℕ) (history : History) (replies : List Reply) (last : ℕ) (jobs : Queue) : Type 0 where
   pub order : IsOrderly history replies last jobs
   pub opened : AreOpen open_numbers history replies jobs
+
+-- the numbers of judgements that accepted, in order
+abbrev pub opens_of : List Judgement → List ℕ
+opens_of [] = []
+opens_of (judgement ∷ judged) = if is_accepted judgement.verdict then judgement.number ∷ opens_of judged else opens_of judged
 
 -- the jobs of the session of this name
 abbrev pub jobs_of : Name → Queue → Queue
