@@ -7,3 +7,5 @@ pub mod Rows
 pub mod Sessions
 pub mod Judged
 pub mod Events
+pub mod Service
+pub mod Unfailed
