@@ -33,7 +33,7 @@ use Rattle.server_rules.specs.Rows.{owes, row, destroys, settles, acknowledges, 
 use Rattle.server_rules.specs.Answer.{name_in, message_in, without_first as without_first_session, with_place, session_for, makes, hears_by, hears, opens, messages_judged, takes_by, takes, finishes, runs, ticks, attaches, is_spent, without_spent, Answer, begun, ended, after_run}
 use Rattle.server_rules.specs.Sending.{names_in, messages_by, seals, sends, all_sent}
 use Rattle.server_rules.specs.Events.{Event, Packet, Work, Tick, Attach, Loss, Restart, Course, setting_at, after_event, begun_course, course_of}
-use Rattle.server_laws.specs.Order.{IsOrderly, IsOrderlyAt, IsMidway, IsMidwayAt, IsGoingOn, Speaks, IsSpeaking, jobs_of, opens_of, WasAccepted, WasCalled}
+use Rattle.server_laws.specs.Order.{IsOrderly, IsOrderlyAt, IsMidway, IsMidwayAt, IsGoingOn, Speaks, IsSpeaking, jobs_of, opens_of, WasAccepted, WasCalled, IsTold}
 use Rattle.server_laws.proofs.Names.{cases_name, same-names, names-same, names-apart, apart-names, named}
 use Rattle.server_laws.proofs.Own.{IsTaken, ready-taken, filter-first, filter-other, some-same, none-some}
 use Rattle.server_laws.proofs.Lists.{pairs-nil}
@@ -41,7 +41,7 @@ use Rattle.server_laws.proofs.Midway.{midway-given}
 use Rattle.server_laws.proofs.Speaking.{next-above, says_again-keeps, says-keeps, answers-keeps, tells-keeps, leaves-keeps}
 use Rattle.server_laws.proofs.Rows.{acknowledges-keeps, new-keeps, with_salt-keeps, notices-keeps, came_again-keeps, accepts-keeps}
 use Rattle.server_laws.proofs.Sessions.{IsPast, Open, GoesOn, StayApart, found-named, find-first, find-other, speaks-goes, lost-goes, taken-goes, opened_at, opened-own, opened-others, all_given-goes, lost-name, lost-other_name}
-use Rattle.server_laws.proofs.Judged.{Known, IsService, memory, Ends, AreJudged, IsTold, all-ends, judged-midway}
+use Rattle.server_laws.proofs.Judged.{Known, IsService, memory, Ends, AreJudged, all-ends, judged-midway}
 
 -- ---- between events and within one
 
@@ -206,7 +206,7 @@ all-settle setting name (judgement ∷ judged) (body ∷ bodies) past state told
 -- ---- a packet comes
 
 -- a session is told of its further history
-opens-keeps : {S : Type 0} (setting : Setting S) (later : History) (judged : List Judgement) (history : History) (name : Name) (others : Name → Queue) (speaker : Speaker S)
+pub opens-keeps : {S : Type 0} (setting : Setting S) (later : History) (judged : List Judgement) (history : History) (name : Name) (others : Name → Queue) (speaker : Speaker S)
     → EachOnce later → AreJudged judged history later
     → IsSpeaking name others history [] speaker → IsSpeaking name others later (opens_of judged) (opens setting later judged speaker)
 opens-keeps {S} setting later judged history name others speaker once are s =
@@ -422,7 +422,7 @@ ticks-stand setting state stand =
     goes-stand past none_open (ticks setting state).sessions (ticks setting state).jobs
     (failures-go setting past none_open after (timeouts-go setting past none_open state (begun-goes state.sessions state.jobs stand)))
 
-finishes-keeps : {S : Type 0} (setting : Setting S) (job : Job) (reply : List ℕ) (name : Name) (others : Name → Queue) (past : History) (opened : List ℕ) (speaker : Speaker S)
+pub finishes-keeps : {S : Type 0} (setting : Setting S) (job : Job) (reply : List ℕ) (name : Name) (others : Name → Queue) (past : History) (opened : List ℕ) (speaker : Speaker S)
     → IsSpeaking name others past (job.number ∷ opened) speaker → IsSpeaking name others past opened (finishes setting job reply speaker)
 finishes-keeps setting job reply name others past opened speaker s =
     tells-keeps job.number name others past opened (records true job.number job.request reply (answers setting job.number reply speaker))

@@ -22,7 +22,7 @@ use Rattle.inbox.specs.Judging.{Session as Remembered, is_container, is_uncontai
 use Rattle.server_rules.specs.Server.{Reply, marks_of, mark_after, reply_to}
 use Rattle.waits.specs.declared.job.Unfinished.{Unfinished}
 use Rattle.waits.specs.Jobs.{Queue}
-use Rattle.server_laws.specs.Order.{WasAccepted, WasCalled, IsUnanswered, HasNoJob, IsOrderly, IsMidway, is_for_service, opens_of}
+use Rattle.server_laws.specs.Order.{WasAccepted, WasCalled, IsUnanswered, HasNoJob, IsOrderly, IsMidway, IsTold, is_for_service, opens_of}
 use Rattle.server_laws.proofs.Lists.{pairs-cons, pairs-nil}
 use Rattle.server_laws.proofs.Own.{some-same, none-some}
 
@@ -160,11 +160,6 @@ memory history replies = record { history = history; marks = marks_of history re
 -- a history that goes on
 abbrev pub Grows : History → History → Type 0
 Grows history later = (judgement : FirstJudgement) → Contains history judgement → Contains later judgement
-
--- what an accepted number has in a history
-pub record IsTold (number : ℕ) (verdict : Verdict) (history : History) : Type 0 where
-  pub accepted : is_accepted verdict ≡ true → WasAccepted number history
-  pub called : (item : Item) → verdict ≡ Accepted item → is_for_service item ≡ true → WasCalled number history
 
 -- what one judgement leaves
 pub record Step (way : Way) (history : History) (replies : List Reply) (message : Message) : Type 0 where
@@ -398,3 +393,27 @@ judged-midway judged history later replies last jobs once are order = record {
         (opens_of judged) are.new;
   };
 }
+
+-- the marks after a packet's messages were judged are those of the history then and the same replies
+pub marks-after : (known : Known) (service : IsService) (way : Way) (replies : List Reply) (message : Message) (history : History) → EachOnce history
+    → All (λ (reply : Reply). WasAccepted reply.call history) replies
+    → session_after way (memory history replies) message ≡ memory (session_after way (memory history replies) message).history replies
+marks-after known service way replies message history once replied =
+    let ends = all-ends known service way replies message history once replied in
+    ends.is ∙ ap (λ (later : History). memory later replies) (sym (ap (λ (session : Remembered). session.history) ends.is))
+
+-- and what was accepted is open then
+pub open-after : (known : Known) (service : IsService) (way : Way) (replies : List Reply) (message : Message) (history : History) (last : ℕ) (jobs : Queue) → IsOrderly history replies last jobs
+    → IsMidway (opens_of (judgements way (memory history replies) message)) (session_after way (memory history replies) message).history replies last jobs
+open-after known service way replies message history last jobs order =
+    let ends = all-ends known service way replies message history order.judged order.replied.accepted in
+    let judged = judgements way (memory history replies) message in
+    let P : History → Type 0 = λ later. IsMidway (opens_of judged) later replies last jobs in
+    subst P (sym (ap (λ (session : Remembered). session.history) ends.is)) (judged-midway judged history ends.later replies last jobs ends.once ends.judged order)
+
+pub told-after : (known : Known) (service : IsService) (way : Way) (replies : List Reply) (message : Message) (history : History) (last : ℕ) (jobs : Queue) → IsOrderly history replies last jobs
+    → All (λ judgement. IsTold judgement.number judgement.verdict (session_after way (memory history replies) message).history) (judgements way (memory history replies) message)
+told-after known service way replies message history last jobs order =
+    let ends = all-ends known service way replies message history order.judged order.replied.accepted in
+    let P : History → Type 0 = λ later. All (λ judgement. IsTold judgement.number judgement.verdict later) (judgements way (memory history replies) message) in
+    subst P (sym (ap (λ (session : Remembered). session.history) ends.is)) ends.judged.told

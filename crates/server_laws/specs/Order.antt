@@ -4,6 +4,8 @@ use Rattle.std.specs.List.{filter}
 use Rattle.id_window.specs.History.{History, FirstJudgement, AcceptedCall, EachOnce, was_accepted}
 use Rattle.service_tl.specs.declared.item.Item.{Item}
 use Rattle.service_tl.specs.declared.item.Item.TheVariants.{InvokeAfterMsg, InvokeAfterMsgs, Call}
+use Rattle.inbox.specs.declared.judged.Verdict.{Verdict}
+use Rattle.inbox.specs.declared.judged.Verdict.TheVariants.{Accepted}
 use Rattle.inbox.specs.declared.judged.Judgement.{Judgement}
 use Rattle.inbox.specs.Judging.{is_accepted}
 use Rattle.waits.specs.Jobs.{Queue, AreWithinLimits, is_of}
@@ -80,6 +82,11 @@ pub record IsMidway (open_numbers : List ℕ) (history : History) (replies : Lis
 abbrev pub opens_of : List Judgement → List ℕ
 opens_of [] = []
 opens_of (judgement ∷ judged) = if is_accepted judgement.verdict then judgement.number ∷ opens_of judged else opens_of judged
+
+-- what an accepted number has in a history
+pub record IsTold (number : ℕ) (verdict : Verdict) (history : History) : Type 0 where
+  pub accepted : is_accepted verdict ≡ true → WasAccepted number history
+  pub called : (item : Item) → verdict ≡ Accepted item → is_for_service item ≡ true → WasCalled number history
 
 -- the jobs of the session of this name
 abbrev pub jobs_of : Name → Queue → Queue

@@ -1,10 +1,25 @@
 //! Laws of a server, each the contract of a function that does nothing.
 
-ghost use Rattle.std.specs.Prelude.{[], List};
+ghost use Rattle.std.specs.Prelude.{◌≡◌, ℕ, [], ◌∷◌, true, All, List, Option};
+ghost use Rattle.service_tl.specs.declared.item.Item.{Item};
+ghost use Rattle.service_tl.specs.declared.lists.Message.{Message};
+ghost use Rattle.id_window.specs.History.{History};
+ghost use Rattle.id_window.specs.declared.mark.Mark.{Mark};
+ghost use Rattle.inbox.specs.Refusals.{Way};
+ghost use Rattle.inbox.specs.Judging.{judgements, session_after};
 ghost use Rattle.regs_service.specs.Served.{Step};
-ghost use Rattle.server_rules.specs.Event.{Setting};
+ghost use Rattle.waits.specs.declared.job.Job.{Job};
+ghost use Rattle.waits.specs.Jobs.{Queue};
+ghost use Rattle.server_rules.specs.Server.{Name, Session, Reply, marks_of, remembered};
+ghost use Rattle.server_rules.specs.Event.{Setting, Speaker, BindingCall};
 ghost use Rattle.server_rules.specs.Events.{Event, Course, course_of, after_event};
-ghost use Rattle.server_laws.specs.Order.{AreOrdered};
+ghost use Rattle.server_rules.specs.Speaking.{says, says_again, says_it_is_new, answers, answers_in_place};
+ghost use Rattle.server_rules.specs.Waiting.{gives_up, tells_of};
+ghost use Rattle.server_rules.specs.Calls.{accepts_call, binds, drops_answer};
+ghost use Rattle.server_rules.specs.Rows.{accepts, acknowledges, answers_broken, came_again, notices, sends_again, takes_acks, tells_salts, tells_states};
+ghost use Rattle.server_rules.specs.Answer.{attaches, finishes};
+ghost use Rattle.server_rules.specs.Sending.{sends};
+ghost use Rattle.server_laws.specs.Order.{AreOrdered, IsOrderly, IsMidway, IsSpeaking, IsTold, WasCalled, is_for_service, opens_of};
 
 use draws::Draw;
 
@@ -22,3 +37,81 @@ pub fn servers_stay_in_order<D: Draw, V>()
     id_window::laws::numbers_are_judged_once();
     server_rules::laws::marks_follow_history();
 }
+
+/// After a packet's messages were judged the marks are those of the history then and of the same replies; what was
+/// accepted is open, and was accepted as a call where it is one for the service.
+pub fn packets_are_judged()
+    ensures marks { (way : Way) (session : Session) (message : Message) (jobs : Queue)
+        → IsOrderly session.history session.replies session.counters.last jobs
+        → session_after way (remembered session) message ≡ record {
+          history = (session_after way (remembered session) message).history;
+          marks = marks_of (session_after way (remembered session) message).history session.replies;
+        } }
+    ensures opened { (way : Way) (session : Session) (message : Message) (jobs : Queue)
+        → IsOrderly session.history session.replies session.counters.last jobs
+        → IsMidway (opens_of (judgements way (remembered session) message)) (session_after way (remembered session) message).history
+        session.replies session.counters.last jobs }
+    ensures told { (way : Way) (session : Session) (message : Message) (jobs : Queue)
+        → IsOrderly session.history session.replies session.counters.last jobs
+        → All (λ judgement. IsTold judgement.number judgement.verdict (session_after way (remembered session) message).history) (judgements way (remembered session) message) }
+{
+    id_window::laws::numbers_are_judged_once();
+    server_rules::laws::marks_follow_history();
+}
+
+/// What a session says, and what becomes of its replies and jobs, leaves it in order, its other numbers open as they were
+/// and the jobs of other sessions alone.
+pub fn speech_keeps_order<D: Draw>()
+    ensures says { (setting : Setting D) (item : Item) (name : Name) (others : Name → Queue) (past : History) (opened : List ℕ) (speaker : Speaker D)
+        → IsSpeaking name others past opened speaker → IsSpeaking name others past opened (says setting item speaker) }
+    ensures says_again { (reply : Reply) (name : Name) (others : Name → Queue) (past : History) (opened : List ℕ) (speaker : Speaker D)
+        → IsSpeaking name others past opened speaker → IsSpeaking name others past opened (says_again reply speaker) }
+    ensures new { (setting : Setting D) (name : Name) (others : Name → Queue) (past : History) (opened : List ℕ) (speaker : Speaker D)
+        → IsSpeaking name others past opened speaker → IsSpeaking name others past opened (says_it_is_new setting speaker) }
+    ensures acknowledges { (setting : Setting D) (numbers : List ℕ) (name : Name) (others : Name → Queue) (past : History) (opened : List ℕ) (speaker : Speaker D)
+        → IsSpeaking name others past opened speaker → IsSpeaking name others past opened (acknowledges setting numbers speaker) }
+    ensures notices { (setting : Setting D) (number seq code : ℕ) (name : Name) (others : Name → Queue) (past : History) (opened : List ℕ) (speaker : Speaker D)
+        → IsSpeaking name others past opened speaker → IsSpeaking name others past opened (notices setting number seq code speaker) }
+    ensures came_again { (setting : Setting D) (number seq : ℕ) (mark : Option Mark) (name : Name) (others : Name → Queue) (past : History) (opened : List ℕ) (speaker : Speaker D)
+        → IsSpeaking name others past opened speaker → IsSpeaking name others past opened (came_again setting number seq mark speaker) }
+    ensures answers { (setting : Setting D) (call : ℕ) (content : List ℕ) (name : Name) (others : Name → Queue) (past : History) (opened : List ℕ) (speaker : Speaker D)
+        → IsSpeaking name others past (call ∷ opened) speaker → IsSpeaking name others past opened (answers setting call content speaker) }
+    ensures in_place { (setting : Setting D) (call : ℕ) (request content : List ℕ) (name : Name) (others : Name → Queue) (past : History) (opened : List ℕ) (speaker : Speaker D)
+        → IsSpeaking name others past (call ∷ opened) speaker → IsSpeaking name others past opened (answers_in_place setting call request content speaker) }
+    ensures left { (number : ℕ) (name : Name) (others : Name → Queue) (past : History) (opened : List ℕ) (speaker : Speaker D)
+        → IsSpeaking name others past (number ∷ opened) speaker → IsSpeaking name others past opened speaker }
+    ensures tells { (number : ℕ) (name : Name) (others : Name → Queue) (past : History) (opened : List ℕ) (speaker : Speaker D)
+        → IsSpeaking name others past opened speaker → IsSpeaking name others past opened (tells_of number speaker) }
+    ensures acks { (numbers : List ℕ) (name : Name) (others : Name → Queue) (past : History) (opened : List ℕ) (speaker : Speaker D)
+        → IsSpeaking name others past opened speaker → IsSpeaking name others past opened (takes_acks numbers speaker) }
+    ensures attaches { (setting : Setting D) (name : Name) (others : Name → Queue) (past : History) (speaker : Speaker D)
+        → IsSpeaking name others past [] speaker → IsSpeaking name others past [] (attaches setting speaker) }
+    ensures sends { (setting : Setting D) (messages : List Message) (name : Name) (others : Name → Queue) (past : History) (opened : List ℕ) (speaker : Speaker D)
+        → IsSpeaking name others past opened speaker → IsSpeaking name others past opened (sends setting messages speaker) }
+{}
+
+/// Each row of what an accepted message owes leaves its session in order, and its number is answered, a job, or left.
+pub fn rows_keep_order<D: Draw>()
+    ensures accepts { (setting : Setting D) (number : ℕ) (item : Item) (body : List ℕ) (name : Name) (others : Name → Queue) (past : History) (opened : List ℕ) (speaker : Speaker D)
+        → (is_for_service item ≡ true → WasCalled number speaker.session.history)
+        → IsSpeaking name others past (number ∷ opened) speaker → IsSpeaking name others past opened (accepts setting number item body speaker) }
+    ensures call { (setting : Setting D) (number : ℕ) (numbers request : List ℕ) (name : Name) (others : Name → Queue) (past : History) (opened : List ℕ) (speaker : Speaker D)
+        → WasCalled number speaker.session.history
+        → IsSpeaking name others past (number ∷ opened) speaker → IsSpeaking name others past opened (accepts_call setting number numbers request speaker) }
+    ensures broken { (setting : Setting D) (number constructor : ℕ) (body : List ℕ) (name : Name) (others : Name → Queue) (past : History) (opened : List ℕ) (speaker : Speaker D)
+        → IsSpeaking name others past (number ∷ opened) speaker → IsSpeaking name others past opened (answers_broken setting number constructor body speaker) }
+    ensures drops { (setting : Setting D) (number call : ℕ) (name : Name) (others : Name → Queue) (past : History) (opened : List ℕ) (speaker : Speaker D)
+        → IsSpeaking name others past (number ∷ opened) speaker → IsSpeaking name others past opened (drops_answer setting number call speaker) }
+    ensures binds { (setting : Setting D) (call : BindingCall) (name : Name) (others : Name → Queue) (past : History) (opened : List ℕ) (speaker : Speaker D)
+        → IsSpeaking name others past (call.number ∷ opened) speaker → IsSpeaking name others past opened (binds setting call speaker) }
+    ensures salts { (setting : Setting D) (number count : ℕ) (name : Name) (others : Name → Queue) (past : History) (opened : List ℕ) (speaker : Speaker D)
+        → IsSpeaking name others past opened speaker → IsSpeaking name others past opened (tells_salts setting number count speaker) }
+    ensures states { (setting : Setting D) (number : ℕ) (numbers : List ℕ) (name : Name) (others : Name → Queue) (past : History) (opened : List ℕ) (speaker : Speaker D)
+        → IsSpeaking name others past opened speaker → IsSpeaking name others past opened (tells_states setting number numbers speaker) }
+    ensures sends_again { (setting : Setting D) (number : ℕ) (numbers : List ℕ) (name : Name) (others : Name → Queue) (past : History) (opened : List ℕ) (speaker : Speaker D)
+        → IsSpeaking name others past opened speaker → IsSpeaking name others past opened (sends_again setting number numbers speaker) }
+    ensures finishes { (setting : Setting D) (job : Job) (reply : List ℕ) (name : Name) (others : Name → Queue) (past : History) (opened : List ℕ) (speaker : Speaker D)
+        → IsSpeaking name others past (job.number ∷ opened) speaker → IsSpeaking name others past opened (finishes setting job reply speaker) }
+    ensures gives_up { (setting : Setting D) (content : List ℕ) (job : Job) (name : Name) (others : Name → Queue) (past : History) (opened : List ℕ) (speaker : Speaker D)
+        → IsSpeaking name others past (job.number ∷ opened) speaker → IsSpeaking name others past opened (gives_up setting content job speaker) }
+{}
