@@ -9,3 +9,4 @@ pub mod Judged
 pub mod Events
 pub mod Service
 pub mod Unfailed
+pub mod Replies

@@ -3,14 +3,15 @@ use Rattle.std.specs.Prelude.{◌≡◌, ◌≢◌, ℕ, ◌+◌, ◌<◌, ◌�
 use Rattle.std.specs.List.{filter}
 use Rattle.id_window.specs.History.{History, FirstJudgement, AcceptedCall, EachOnce, was_accepted}
 use Rattle.service_tl.specs.declared.item.Item.{Item}
-use Rattle.service_tl.specs.declared.item.Item.TheVariants.{InvokeAfterMsg, InvokeAfterMsgs, Call}
+use Rattle.service_tl.specs.declared.item.Item.TheVariants.{RpcResult, InvokeAfterMsg, InvokeAfterMsgs, Call}
 use Rattle.inbox.specs.declared.judged.Verdict.{Verdict}
 use Rattle.inbox.specs.declared.judged.Verdict.TheVariants.{Accepted}
 use Rattle.inbox.specs.declared.judged.Judgement.{Judgement}
 use Rattle.inbox.specs.Judging.{is_accepted}
+use Rattle.packing.specs.Numbering.{numbered}
 use Rattle.waits.specs.Jobs.{Queue, AreWithinLimits, is_of}
-use Rattle.server_rules.specs.Server.{Server, Session, Name, Reply, name_of, session_named}
-use Rattle.server_rules.specs.Event.{Speaker}
+use Rattle.server_rules.specs.Server.{Server, Session, Name, Reply, IsKept, name_of, session_named}
+use Rattle.server_rules.specs.Event.{Setting, Speaker}
 
 -- ---- numbers of a session
 
@@ -116,6 +117,17 @@ IsMidwayAt past open_numbers (Some session) jobs =
 pub record IsGoingOn (past : Name → History) (open_at : Name → List ℕ) (sessions : List Session) (jobs : Queue) : Type 0 where
   pub names : AllPairs (λ one other. name_of one ≢ name_of other) sessions
   pub each : (name : Name) → IsMidwayAt (past name) (open_at name) (session_named name sessions) (jobs_of name jobs)
+
+-- the reply that an answer makes
+abbrev pub reply_made : {S : Type 0} → Setting S → ℕ → List ℕ → Speaker S → Reply
+reply_made setting call content speaker =
+    record {
+      call = call;
+      number = (numbered setting.now speaker.session.counters (RpcResult call content)).number;
+      seq = (numbered setting.now speaker.session.counters (RpcResult call content)).seq;
+      content = content;
+      fate = IsKept;
+    }
 
 -- ---- between events
 

@@ -1,25 +1,28 @@
 //! Laws of a server, each the contract of a function that does nothing.
 
-ghost use Rattle.std.specs.Prelude.{◌≡◌, ℕ, [], ◌∷◌, true, All, List, Option};
+ghost use Rattle.std.specs.Prelude.{◌≡◌, ◌≢◌, ℕ, [], ◌∷◌, ◌++◌, true, All, Contains, List, Option, Some, length};
 ghost use Rattle.service_tl.specs.declared.item.Item.{Item};
+ghost use Rattle.service_tl.specs.declared.item.Item.TheVariants.{RpcResult};
+ghost use Rattle.service_tl.specs.Items.{spelling_of};
 ghost use Rattle.service_tl.specs.declared.lists.Message.{Message};
-ghost use Rattle.id_window.specs.History.{History};
+ghost use Rattle.id_window.specs.History.{History, FirstJudgement, EachOnce};
+ghost use Rattle.id_window.specs.Marks.{mark_of};
 ghost use Rattle.id_window.specs.declared.mark.Mark.{Mark};
 ghost use Rattle.inbox.specs.Refusals.{Way};
 ghost use Rattle.inbox.specs.Judging.{judgements, session_after};
 ghost use Rattle.regs_service.specs.Served.{Step};
 ghost use Rattle.waits.specs.declared.job.Job.{Job};
 ghost use Rattle.waits.specs.Jobs.{Queue};
-ghost use Rattle.server_rules.specs.Server.{Name, Session, Reply, marks_of, remembered};
-ghost use Rattle.server_rules.specs.Event.{Setting, Speaker, BindingCall};
+ghost use Rattle.server_rules.specs.Server.{Name, Session, Reply, kept_of, kept_replies, mark_after, marks_of, name_of, remembered, reply_to, session_named};
+ghost use Rattle.server_rules.specs.Event.{Setting, Speaker, State, BindingCall, speaker_in, speaks};
 ghost use Rattle.server_rules.specs.Events.{Event, Course, course_of, after_event};
-ghost use Rattle.server_rules.specs.Speaking.{says, says_again, says_it_is_new, answers, answers_in_place};
+ghost use Rattle.server_rules.specs.Speaking.{says, says_again, says_it_is_new, answers, answers_in_place, made_room};
 ghost use Rattle.server_rules.specs.Waiting.{gives_up, tells_of};
 ghost use Rattle.server_rules.specs.Calls.{accepts_call, binds, drops_answer};
 ghost use Rattle.server_rules.specs.Rows.{accepts, acknowledges, answers_broken, came_again, notices, sends_again, takes_acks, tells_salts, tells_states};
 ghost use Rattle.server_rules.specs.Answer.{attaches, finishes};
 ghost use Rattle.server_rules.specs.Sending.{sends};
-ghost use Rattle.server_laws.specs.Order.{AreOrdered, IsOrderly, IsMidway, IsSpeaking, IsTold, WasCalled, is_for_service, opens_of};
+ghost use Rattle.server_laws.specs.Order.{AreOrdered, IsOrderly, IsMidway, IsSpeaking, IsTold, IsUnanswered, WasCalled, is_for_service, opens_of, reply_made};
 
 use draws::Draw;
 
@@ -114,4 +117,34 @@ pub fn rows_keep_order<D: Draw>()
         → IsSpeaking name others past (job.number ∷ opened) speaker → IsSpeaking name others past opened (finishes setting job reply speaker) }
     ensures gives_up { (setting : Setting D) (content : List ℕ) (job : Job) (name : Name) (others : Name → Queue) (past : History) (opened : List ℕ) (speaker : Speaker D)
         → IsSpeaking name others past (job.number ∷ opened) speaker → IsSpeaking name others past opened (gives_up setting content job speaker) }
+{}
+
+/// The mark of a number that was judged is that of its outcome, and of the reply to it where there is one.
+pub fn marks_are_of_replies()
+    ensures { (history : History) (replies : List Reply) (judgement : FirstJudgement) → EachOnce history → Contains history judgement
+        → mark_of judgement.number (marks_of history replies) ≡ Some (mark_after replies judgement.number judgement.outcome) }
+{}
+
+/// An answer is the reply to its call, and the reply to another call is what making room left of it; the kept replies
+/// are those that room left, and then the new one.
+pub fn answers_are_kept<D: Draw>()
+    ensures reply { (setting : Setting D) (call : ℕ) (content : List ℕ) (speaker : Speaker D) → IsUnanswered speaker.session.replies call
+        → reply_to call (answers setting call content speaker).session.replies ≡ Some (reply_made setting call content speaker) }
+    ensures others { (setting : Setting D) (call : ℕ) (content : List ℕ) (speaker : Speaker D) (number : ℕ) → number ≢ call
+        → reply_to number (answers setting call content speaker).session.replies
+        ≡ reply_to number (made_room (length (spelling_of (RpcResult call content))) speaker.session.replies) }
+    ensures kept { (setting : Setting D) (call : ℕ) (content : List ℕ) (speaker : Speaker D)
+        → kept_replies (answers setting call content speaker).session.replies
+        ≡ kept_replies (made_room (length (spelling_of (RpcResult call content))) speaker.session.replies) ++ kept_of (reply_made setting call content speaker) ∷ [] }
+{}
+
+/// Where a session speaks and keeps its name, it is the one of that name afterwards, and the sessions of other names are
+/// what they were.
+pub fn sessions_speak<D: Draw>()
+    ensures own { (name : Name) (speak : Speaker D → Speaker D) (state : State D) (session : Session) → session_named name state.sessions ≡ Some session
+        → name_of (speak (speaker_in state session)).session ≡ name
+        → session_named name (speaks name speak state).sessions ≡ Some (speak (speaker_in state session)).session }
+    ensures others { (name other : Name) (speak : Speaker D → Speaker D) (state : State D) (session : Session) → session_named name state.sessions ≡ Some session
+        → name_of (speak (speaker_in state session)).session ≡ name → other ≢ name
+        → session_named other (speaks name speak state).sessions ≡ session_named other state.sessions }
 {}
