@@ -1,47 +1,44 @@
 -- A server between events, and what each event leaves.
-use Rattle.std.proofs.Common.{◌≡◌, ◌≢◌, ◌∙◌, ℕ, zero, suc, ◌+◌, ◌-◌, ◌<◌, ◌≤◌, eqb, ltb, Bool, true, false, cond, Option, Some, None, List, [], ◌∷◌, ◌++◌, length, ap, sym, subst, refl, arith, inl, inr}
-use Rattle.std.specs.Prelude.{map, fold, is_some, not, ◌⊎◌}
-use Rattle.std.specs.List.{filter, find, zip, AllPairs, All, AllByRecursion}
+use Rattle.std.proofs.Common.{◌≡◌, ◌≢◌, ◌∙◌, ℕ, ◌≤◌, ltb, true, false, cond, Option, Some, None, List, [], ◌∷◌, ◌++◌, length, ap, sym, subst, refl, arith, inl, inr}
+use Rattle.std.specs.Prelude.{map, fold, not}
+use Rattle.std.specs.List.{filter, zip, AllPairs, All}
 use Rattle.std.specs.Option.{option_or}
-use Rattle.std.proofs.lemmas.Bool.{cases_Bool, cond-true, cond-false, cond_both, not-true, false≢true}
+use Rattle.std.proofs.lemmas.Bool.{cases_Bool, cond-true, cond-false, cond_both}
 use Rattle.std.proofs.lemmas.List.Kept.{AllPairs-filter}
-use Rattle.std.proofs.lemmas.List.Elements.{All-nil, All-cons, All-head, All-tail, All-weaker, All-filter, filter_passes}
+use Rattle.std.proofs.lemmas.List.Elements.{All-nil, All-cons, All-head, All-tail}
 use Rattle.std.proofs.lemmas.List.Quantifiers.{all_pairs_push}
 use Rattle.std.proofs.lemmas.List.Folds.{find-append}
-use Rattle.draws.specs.Draws.{draw_after, word_after}
-use Rattle.service_tl.specs.declared.item.Item.{Item}
 use Rattle.service_tl.specs.declared.item.Item.TheVariants.{DestroySession, DestroySessionOk, DestroySessionNone}
 use Rattle.service_tl.specs.declared.lists.Message.{Message}
 use Rattle.id_window.specs.History.{History, EachOnce}
-use Rattle.msg_ids.specs.Counters.{Counters, after_next, none_given}
+use Rattle.msg_ids.specs.Counters.{Counters, after_next}
 use Rattle.salt_line.specs.Line.{current_salt}
 use Rattle.packing.specs.Packing.{groups, after_outers, after_packets, packets_of}
 use Rattle.regs_service.specs.Served.{Step}
 use Rattle.inbox.specs.declared.judged.Verdict.{Verdict}
 use Rattle.inbox.specs.declared.judged.Verdict.TheVariants.{Accepted, Again, Noticed}
 use Rattle.inbox.specs.declared.judged.Judgement.{Judgement}
-use Rattle.inbox.specs.Refusals.{Way, InEnvelope}
-use Rattle.inbox.specs.Judging.{judge, judgements, session_after, unfolded, is_accepted, inner_judgements, Session as Remembered}
+use Rattle.inbox.specs.Refusals.{InEnvelope}
+use Rattle.inbox.specs.Judging.{judgements, session_after, is_accepted, Session as Remembered}
 use Rattle.waits.specs.declared.job.Job.{Job}
-use Rattle.waits.specs.declared.job.Unfinished.{Unfinished}
-use Rattle.waits.specs.Jobs.{Queue, ready_job, without_ready, has_failed, is_overdue, first_job, without_first, without_session as without_jobs_of}
-use Rattle.server_rules.specs.Server.{Name, Session, Server, name_of, is_same, is_named, session_named, without_session, Reply, is_kept, remembered, has_accepted, mark_in, sessions_max, fresh_server}
+use Rattle.waits.specs.Jobs.{Queue, ready_job, without_ready, has_failed, is_overdue, without_session as without_jobs_of}
+use Rattle.server_rules.specs.Server.{Name, Session, Server, name_of, is_same, is_named, session_named, without_session, Reply, is_kept, remembered, has_accepted, mark_in, sessions_max}
 use Rattle.server_rules.specs.Event.{Setting, State, Speaker, Envelope, Owed, speaker_in, speaks, lost}
 use Rattle.server_rules.specs.Speaking.{says, says_it_is_new, says_again, needs_salts, answers, records, msg_wait_failed, msg_wait_timeout}
-use Rattle.server_rules.specs.Waiting.{tells_of, after_failures, after_timeouts, first_failed, first_overdue}
-use Rattle.server_rules.specs.Rows.{owes, row, destroys, settles, acknowledges, acks_of}
-use Rattle.server_rules.specs.Answer.{name_in, message_in, without_first as without_first_session, with_place, session_for, makes, hears_by, hears, opens, messages_judged, takes_by, takes, finishes, runs, ticks, attaches, is_spent, without_spent, Answer, begun, ended, after_run}
+use Rattle.server_rules.specs.Waiting.{tells_of, after_failures, after_timeouts}
+use Rattle.server_rules.specs.Rows.{owes, row, destroys, settles, acks_of}
+use Rattle.server_rules.specs.Answer.{name_in, message_in, without_first as without_first_session, session_for, makes, hears_by, hears, opens, messages_judged, takes_by, takes, finishes, runs, ticks, attaches, is_spent, begun, ended, after_run}
 use Rattle.server_rules.specs.Sending.{names_in, messages_by, seals, sends, all_sent}
 use Rattle.server_rules.specs.Events.{Event, Packet, Work, Tick, Attach, Loss, Restart, Course, setting_at, after_event, begun_course, course_of}
-use Rattle.server_laws.specs.Order.{IsOrderly, IsOrderlyAt, IsMidway, IsMidwayAt, IsGoingOn, Speaks, IsSpeaking, jobs_of, opens_of, WasAccepted, WasCalled, IsTold}
-use Rattle.server_laws.proofs.Names.{cases_name, same-names, names-same, names-apart, apart-names, named}
-use Rattle.server_laws.proofs.Own.{IsTaken, ready-taken, filter-first, filter-other, some-same, none-some}
+use Rattle.server_laws.specs.Order.{IsOrderly, IsOrderlyAt, IsMidwayAt, IsGoingOn, IsSpeaking, jobs_of, opens_of, WasAccepted, WasCalled, IsTold}
+use Rattle.server_laws.proofs.Names.{cases_name, names-same, names-apart, apart-names, named}
+use Rattle.server_laws.proofs.Own.{ready-taken, none-some}
 use Rattle.server_laws.proofs.Lists.{pairs-nil}
 use Rattle.server_laws.proofs.Midway.{midway-given}
 use Rattle.server_laws.proofs.Speaking.{next-above, says_again-keeps, says-keeps, answers-keeps, tells-keeps, leaves-keeps}
-use Rattle.server_laws.proofs.Rows.{acknowledges-keeps, new-keeps, with_salt-keeps, notices-keeps, came_again-keeps, accepts-keeps}
-use Rattle.server_laws.proofs.Sessions.{IsPast, Open, GoesOn, StayApart, found-named, find-first, find-other, speaks-goes, lost-goes, taken-goes, opened_at, opened-own, opened-others, all_given-goes, lost-name, lost-other_name}
-use Rattle.server_laws.proofs.Judged.{Known, IsService, memory, Ends, AreJudged, all-ends, judged-midway}
+use Rattle.server_laws.proofs.Rows.{acknowledges-keeps, new-keeps, notices-keeps, came_again-keeps, accepts-keeps}
+use Rattle.server_laws.proofs.Sessions.{IsPast, Open, found-named, find-first, find-other, speaks-goes, lost-goes, taken-goes, opened_at, opened-own, opened-others, all_given-goes, lost-name, lost-other_name}
+use Rattle.server_laws.proofs.Judged.{Known, IsService, AreJudged, all-ends, judged-midway}
 
 -- ---- between events and within one
 
@@ -62,15 +59,18 @@ none_open name = []
 
 begun-at : (session : Option Session) (jobs : Queue) → IsOrderlyAt session jobs → IsMidwayAt (history_in session) [] session jobs
 begun-at None jobs is = is
-begun-at (Some session) jobs is = (refl, record {
-  order = is;
-  opened = record {
-    once = pairs-nil (λ (one other : ℕ). one ≢ other);
-    accepted = All-nil (λ (number : ℕ). WasAccepted number session.history);
-    unanswered = λ k d within. absurd (omega arith);
-    unfinished = λ k d within. absurd (omega arith);
-  };
-})
+begun-at (Some session) jobs is = (
+  refl,
+  record {
+    order = is;
+    opened = record {
+      once = pairs-nil (λ (one other : ℕ). one ≢ other);
+      accepted = All-nil (λ (number : ℕ). WasAccepted number session.history);
+      unanswered = λ k d within. absurd (omega arith);
+      unfinished = λ k d within. absurd (omega arith);
+    };
+  },
+)
 
 ended-at : (past : History) (opened : List ℕ) (session : Option Session) (jobs : Queue) → IsMidwayAt past opened session jobs → IsOrderlyAt session jobs
 ended-at past opened None jobs is = is
@@ -135,9 +135,9 @@ only-goes : {S : Type 0} (name : Name) (past : IsPast) (numbers later : List ℕ
 only-goes {S} name past numbers later speak state goes on =
     speaks-goes name past past (open_only name numbers) (open_only name later) speak state (λ other apart. (refl, only-others name numbers later other apart))
     (λ session found others s.
-      let P : List ℕ → Type 0 = λ open_numbers. IsSpeaking name others (past name) open_numbers (speaker_in state session) in
-      let Q : List ℕ → Type 0 = λ open_numbers. IsSpeaking name others (past name) open_numbers (speak (speaker_in state session)) in
-      subst Q (sym (only-own name later)) (goes others (speaker_in state session) (subst P (only-own name numbers) s)))
+    let P : List ℕ → Type 0 = λ open_numbers. IsSpeaking name others (past name) open_numbers (speaker_in state session) in
+    let Q : List ℕ → Type 0 = λ open_numbers. IsSpeaking name others (past name) open_numbers (speak (speaker_in state session)) in
+    subst Q (sym (only-own name later)) (goes others (speaker_in state session) (subst P (only-own name numbers) s)))
     on
 
 owes-keeps : {S : Type 0} (setting : Setting S) (number seq : ℕ) (verdict : Verdict) (body : List ℕ) (name : Name) (past : History) (numbers : List ℕ) (others : Name → Queue) (speaker : Speaker S)
@@ -157,10 +157,10 @@ destroys-go {S} setting number destroyed name past numbers state on =
     let other : Name = record name { session = destroyed } in
     cond_both _ _ _ (λ (state : State S). IsGoingOn past (open_only name numbers) state.sessions state.jobs)
     (λ is. only-goes name past (number ∷ numbers) numbers (says setting (DestroySessionOk destroyed)) (lost other state)
-      (λ others speaker s. says-keeps setting (DestroySessionOk destroyed) name others (past name) numbers speaker (leaves-keeps number name others (past name) numbers speaker s))
-      (lost-goes other past (open_only name (number ∷ numbers)) state.sessions state.jobs on))
+    (λ others speaker s. says-keeps setting (DestroySessionOk destroyed) name others (past name) numbers speaker (leaves-keeps number name others (past name) numbers speaker s))
+    (lost-goes other past (open_only name (number ∷ numbers)) state.sessions state.jobs on))
     (λ is. only-goes name past (number ∷ numbers) numbers (says setting (DestroySessionNone destroyed)) state
-      (λ others speaker s. says-keeps setting (DestroySessionNone destroyed) name others (past name) numbers speaker (leaves-keeps number name others (past name) numbers speaker s)) on)
+    (λ others speaker s. says-keeps setting (DestroySessionNone destroyed) name others (past name) numbers speaker (leaves-keeps number name others (past name) numbers speaker s)) on)
 
 row-by : {S : Type 0} (setting : Setting S) (name : Name) (number seq : ℕ) (verdict : Verdict) (body : List ℕ) (past : IsPast) (numbers : List ℕ) (state : State S)
     → IsTold number verdict (past name)
@@ -222,7 +222,7 @@ opens-keeps {S} setting later judged history name others speaker once are s =
     } in
     acknowledges-keeps setting (acks_of judged) name others later (opens_of judged) (cond (has_accepted ready.session) ready (says_it_is_new setting ready))
     (cond_both (has_accepted ready.session) ready (says_it_is_new setting ready) (λ (speaker : Speaker S). IsSpeaking name others later (opens_of judged) speaker)
-      (λ is. s_ready) (λ is. new-keeps setting name others later (opens_of judged) ready s_ready))
+    (λ is. s_ready) (λ is. new-keeps setting name others later (opens_of judged) ready s_ready))
 
 -- the histories after a session was told of its own
 past_with : Name → History → IsPast → IsPast
@@ -244,10 +244,10 @@ opens-go {S} setting later judged name past state once are on =
     speaks-goes name past (past_with name later past) none_open (open_only name (opens_of judged)) (opens setting later judged) state
     (λ other apart. (with-other-past name later past other apart, sym (cond-false (is_same other name) (opens_of judged) [] (apart-names other name apart))))
     (λ session found others s.
-      let P : List ℕ → Type 0 = λ numbers. IsSpeaking name others (past_with name later past name) numbers (opens setting later judged (speaker_in state session)) in
-      let Q : History → Type 0 = λ history. IsSpeaking name others history (opens_of judged) (opens setting later judged (speaker_in state session)) in
-      subst P (sym (only-own name (opens_of judged))) (subst Q (sym (with-own-past name later past))
-      (opens-keeps setting later judged (past name) name others (speaker_in state session) once are s)))
+    let P : List ℕ → Type 0 = λ numbers. IsSpeaking name others (past_with name later past name) numbers (opens setting later judged (speaker_in state session)) in
+    let Q : History → Type 0 = λ history. IsSpeaking name others history (opens_of judged) (opens setting later judged (speaker_in state session)) in
+    subst P (sym (only-own name (opens_of judged))) (subst Q (sym (with-own-past name later past))
+    (opens-keeps setting later judged (past name) name others (speaker_in state session) once are s)))
     on
 
 -- what the session that was found has
@@ -323,7 +323,7 @@ put-stand session sessions jobs none order others names = record {
         | inr apart ↦
             let last : session_named name (session ∷ []) ≡ None = find-other (is_named name) session [] (apart-names name (name_of session) apart) in
             let found : session_named name (sessions ++ session ∷ []) ≡ session_named name sessions =
-                all ∙ (ap (option_or (session_named name sessions)) last ∙ option_or-none (session_named name sessions)) in
+            all ∙ (ap (option_or (session_named name sessions)) last ∙ option_or-none (session_named name sessions)) in
             let P : Option Session → Type 0 = λ found. IsOrderlyAt found (jobs_of name jobs) in
             subst P (sym found) (others name apart)
       ];
@@ -335,8 +335,8 @@ heard-stand session sessions jobs is stand =
     let name = name_of session in
     put-stand session (without_session name sessions) jobs (lost-name name sessions) (found-orderly name sessions jobs session is stand)
     (λ other apart.
-      let P : Option Session → Type 0 = λ found. IsOrderlyAt found (jobs_of other jobs) in
-      subst P (sym (lost-other_name name other sessions apart)) (stand.each other))
+    let P : Option Session → Type 0 = λ found. IsOrderlyAt found (jobs_of other jobs) in
+    subst P (sym (lost-other_name name other sessions apart)) (stand.each other))
     (AllPairs-filter (λ (one other : Session). name_of one ≢ name_of other) (λ session. not (is_named name session)) sessions stand.names)
 
 -- a session of which nothing is known
@@ -395,7 +395,7 @@ hears-stand {S} setting envelope state None is stand =
     (λ (placed : State S). Stand (makes setting envelope placed).sessions (makes setting envelope placed).jobs)
     (λ room. made-stand setting envelope state is stand)
     (λ full. made-stand setting envelope (without_first_session state.sessions state) (place-none (name_in envelope) state.sessions state is)
-      (place-stand state.sessions state stand))
+    (place-stand state.sessions state stand))
 
 pub takes-go : {S : Type 0} (known : Known) (service : IsService) (setting : Setting S) (envelope : Envelope) (state : State S) → Stand state.sessions state.jobs
     → Stand (takes setting envelope state).sessions (takes setting envelope state).jobs
@@ -440,8 +440,8 @@ runs-stand {S} setting place job reply state is stand =
     (speaks-goes name past past (opened_at name job.number none_open) none_open (finishes setting job reply) rest
     (λ other apart. (refl, opened-others name other job.number none_open apart))
     (λ session found others s.
-      let P : List ℕ → Type 0 = λ numbers. IsSpeaking name others (past name) numbers (speaker_in rest session) in
-      finishes-keeps setting job reply name others (past name) [] (speaker_in rest session) (subst P (opened-own name job.number none_open) s))
+    let P : List ℕ → Type 0 = λ numbers. IsSpeaking name others (past name) numbers (speaker_in rest session) in
+    finishes-keeps setting job reply name others (past name) [] (speaker_in rest session) (subst P (opened-own name job.number none_open) s))
     (taken-goes past none_open state.sessions name job state.jobs (without_ready place state.jobs) (ready-taken place state.jobs job is) refl refl
     (begun-goes state.sessions state.jobs stand))))
 
@@ -456,7 +456,7 @@ pub attaches-keeps : {S : Type 0} (setting : Setting S) (name : Name) (others : 
 attaches-keeps {S} setting name others past speaker s =
     attached-keeps (filter is_kept speaker.session.replies) name others past (cond (has_accepted speaker.session) speaker (says_it_is_new setting speaker))
     (cond_both (has_accepted speaker.session) speaker (says_it_is_new setting speaker) (λ (speaker : Speaker S). IsSpeaking name others past [] speaker)
-      (λ is. s) (λ is. new-keeps setting name others past [] speaker s))
+    (λ is. s) (λ is. new-keeps setting name others past [] speaker s))
 
 pub attaches-stand : {S : Type 0} (setting : Setting S) (name : Name) (state : State S) → Stand state.sessions state.jobs
     → Stand (speaks name (attaches setting) state).sessions (speaks name (attaches setting) state).jobs

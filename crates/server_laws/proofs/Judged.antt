@@ -1,24 +1,24 @@
 -- Judging a packet's messages: what is accepted is new, and the marks stay those of the history.
-use Rattle.std.proofs.Common.{◌≡◌, ◌≢◌, ◌∙◌, ℕ, zero, suc, ◌+◌, ◌-◌, ◌<◌, ◌≤◌, eqb, leb, Bool, true, false, cond, Option, Some, None, Result, Ok, Err, List, [], ◌∷◌, ◌++◌, length, take, drop, get_or, ap, sym, subst, refl, arith, inl, inr}
-use Rattle.std.specs.Prelude.{map, fold, is_some, ◌⊎◌, ◌&&◌}
-use Rattle.std.specs.List.{All, AllPairs, Contains, Any, list_any}
+use Rattle.std.proofs.Common.{◌≡◌, ◌≢◌, ◌∙◌, ℕ, ◌-◌, ◌<◌, ◌≤◌, eqb, leb, true, false, cond, Option, Some, None, Result, Ok, Err, List, [], ◌∷◌, length, get_or, ap, sym, subst, refl, inl, inr}
+use Rattle.std.specs.Prelude.{fold, is_some, ◌⊎◌, ◌&&◌}
+use Rattle.std.specs.List.{All, AllPairs, Contains}
 use Rattle.std.specs.Option.{option_or}
-use Rattle.std.proofs.lemmas.Bool.{cases_Bool, cases_lt, cond-true, cond-false, cond_both, eqb-true, eq-eqb, le-leb, false≢true, true≢false}
-use Rattle.std.proofs.lemmas.List.Elements.{All-nil, All-cons, All-head, All-tail, All-drop, All-push, All-weaker, All-get_or, All-contains, All-contains_itself, Contains-append_left, Contains-push, Contains-get_or}
+use Rattle.std.proofs.lemmas.Bool.{cases_Bool, cases_lt, cond-true, cond-false, cond_both, eqb-true, eq-eqb, le-leb, false≢true}
+use Rattle.std.proofs.lemmas.List.Elements.{All-nil, All-cons, All-head, All-tail, All-drop, All-weaker, All-contains, Contains-append_left, Contains-push, Contains-get_or}
 use Rattle.std.proofs.lemmas.List.Quantifiers.{all_pairs_push}
 use Rattle.std.proofs.lemmas.List.Folds.{Any-from_list_any}
 use Rattle.service_tl.specs.declared.item.Item.{Item}
 use Rattle.service_tl.specs.declared.lists.Message.{Message}
 use Rattle.id_window.specs.declared.mark.Mark.{Mark}
 use Rattle.id_window.specs.Marks.{Marks, mark_of, given}
-use Rattle.id_window.specs.History.{History, FirstJudgement, Outcome, Refused, AcceptedContainer, AcceptedCall, AcceptedOther, EachOnce, noted, inserted, ascending, window_numbers, kept, is_kept, found, floor, crosses, was_accepted}
+use Rattle.id_window.specs.History.{History, FirstJudgement, Outcome, AcceptedCall, EachOnce, noted, inserted, ascending, window_numbers, kept, is_kept, found, floor, crosses, was_accepted}
 use Rattle.inbox.specs.declared.judged.Verdict.{Verdict}
 use Rattle.inbox.specs.declared.judged.Verdict.TheVariants.{Accepted, Again, Noticed}
 use Rattle.inbox.specs.declared.judged.Judgement.{Judgement}
 use Rattle.containers.specs.declared.fault.ContainerFault.{ContainerFault}
 use Rattle.inbox.specs.Kinds.{kind_of, item_told, kind_among, container_in, constructor_of, begins_acknowledgement, begins_call}
-use Rattle.inbox.specs.Refusals.{Way, InContainer, refusal, by_number, by_envelope, by_parity, by_neighbours, by_body, first_code}
-use Rattle.inbox.specs.Judging.{Session as Remembered, is_container, is_uncontained, verdict_again, verdict_by, judge, is_accepted, outcome_of, first_mark, is_recorded, recorded, remembered, judged_session, judgement_on, inner_judgements, inner_session, unfolded, judgements, session_after}
+use Rattle.inbox.specs.Refusals.{Way, InContainer, refusal, by_number, by_envelope, by_parity, by_neighbours, by_body}
+use Rattle.inbox.specs.Judging.{Session as Remembered, is_container, is_uncontained, verdict_by, judge, is_accepted, outcome_of, first_mark, recorded, remembered, judged_session, judgement_on, inner_judgements, inner_session, unfolded, judgements, session_after}
 use Rattle.server_rules.specs.Server.{Reply, marks_of, mark_after, reply_to}
 use Rattle.waits.specs.declared.job.Unfinished.{Unfinished}
 use Rattle.waits.specs.Jobs.{Queue}
@@ -226,14 +226,14 @@ step-by known service way history replies message None is once replied =
 step-by known service way history replies message (Some outcome) is once replied =
     let verdict = judge way (memory history replies) message in
     let new : IsNew message.number history =
-        recorded-new (IsNew message.number history) (found message.number history (marks_of history replies)) (refusal way history message) message (item_told message.body) outcome
-        (new-or-low known way history replies message) is in
+    recorded-new (IsNew message.number history) (found message.number history (marks_of history replies)) (refusal way history message) message (item_told message.body) outcome
+    (new-or-low known way history replies message) is in
     let none = none-answers message.number replies (unreplied message.number history replies new replied) in
     let later = noted message.number message.seq outcome history in
     let one : FirstJudgement = record { number = message.number; seq = message.seq; outcome = outcome } in
     let grows : Grows history later = λ judgement has. Contains-append_left history (one ∷ []) judgement has in
     let outcome_is : is_accepted verdict ≡ true → outcome ≡ outcome_of (kind_of message) =
-        λ accepted. some-same outcome (outcome_of (kind_of message)) (sym is ∙ accepted-recorded message verdict accepted) in
+    λ accepted. some-same outcome (outcome_of (kind_of message)) (sym is ∙ accepted-recorded message verdict accepted) in
     record {
       later = later;
       session =
@@ -247,7 +247,7 @@ step-by known service way history replies message (Some outcome) is once replied
         accepted = λ accepted. (one, Contains-push history one, refl, ap was_accepted (outcome_is accepted) ∙ outcome-accepted message);
         called = λ item so called.
             let told_is : item_told message.body ≡ item =
-                item-of (found message.number history (marks_of history replies)) (refusal way history message) message (item_told message.body) item so in
+            item-of (found message.number history (marks_of history replies)) (refusal way history message) message (item_told message.body) item so in
             (one, Contains-push history one, refl, outcome_is (ap is_accepted so) ∙ service message (ap is_for_service told_is ∙ called));
       };
     }
@@ -302,9 +302,9 @@ judged-cons way history replies message step rest last judged =
       apart =
           cond_both test (number ∷ numbers) numbers (λ (numbers : List ℕ). AllPairs (λ one other. one ≢ other) numbers)
           (λ is. let accepted = step.told.accepted is in
-            pairs-cons (λ (one other : ℕ). one ≢ other) number numbers
-            (λ k d within same. All-contains (λ (judgement : FirstJudgement). judgement.number ≢ get_or numbers k d) step.later accepted.0 (judged.new k d within) accepted.1 (accepted.2 ∙ same))
-            judged.apart)
+          pairs-cons (λ (one other : ℕ). one ≢ other) number numbers
+          (λ k d within same. All-contains (λ (judgement : FirstJudgement). judgement.number ≢ get_or numbers k d) step.later accepted.0 (judged.new k d within) accepted.1 (accepted.2 ∙ same))
+          judged.apart)
           (λ is. judged.apart);
       accepted =
           cond_both test (number ∷ numbers) numbers (λ (numbers : List ℕ). All (λ number. WasAccepted number last) numbers)
@@ -389,7 +389,7 @@ judged-midway judged history later replies last jobs once are order = record {
     unfinished =
         All-weaker (λ (number : ℕ). IsNew number history) (HasNoJob jobs)
         (λ number new. All-weaker (λ (one : Unfinished). WasCalled one.job.number history) (λ (one : Unfinished). one.job.number ≢ number)
-          (λ one had same. All-contains (λ (judgement : FirstJudgement). judgement.number ≢ number) history had.0 new had.1 (had.2 ∙ same)) jobs order.unfinished.called)
+        (λ one had same. All-contains (λ (judgement : FirstJudgement). judgement.number ≢ number) history had.0 new had.1 (had.2 ∙ same)) jobs order.unfinished.called)
         (opens_of judged) are.new;
   };
 }

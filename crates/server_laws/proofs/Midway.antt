@@ -1,14 +1,13 @@
 -- One session within an event: what becomes of its numbers.
-use Rattle.std.proofs.Common.{◌≡◌, ◌≢◌, ◌∙◌, ℕ, zero, suc, ◌+◌, ◌<◌, ◌≤◌, Bool, true, false, cond, List, [], ◌∷◌, ◌++◌, length, get_or, ap, sym, subst, refl, arith, inl, inr}
+use Rattle.std.proofs.Common.{◌≡◌, ◌≢◌, ℕ, ◌+◌, ◌<◌, ◌≤◌, List, [], ◌∷◌, ◌++◌, get_or, ap, sym, arith}
 use Rattle.std.specs.Prelude.{map}
-use Rattle.std.specs.List.{All, AllPairs, Contains}
-use Rattle.std.proofs.lemmas.List.Elements.{All-nil, All-cons, All-head, All-tail, All-append, All-push, All-weaker}
+use Rattle.std.proofs.lemmas.List.Elements.{All-cons, All-head, All-tail, All-push, All-weaker}
 use Rattle.std.proofs.lemmas.List.Quantifiers.{all_pairs_push}
 use Rattle.id_window.specs.History.{History, was_accepted}
 use Rattle.waits.specs.declared.job.Unfinished.{Unfinished}
 use Rattle.waits.specs.Jobs.{Queue}
 use Rattle.server_rules.specs.Server.{Reply, IsKept}
-use Rattle.server_laws.specs.Order.{WasAccepted, WasCalled, IsUnanswered, HasNoJob, AreReplies, AreJobs, IsOrderly, AreOpen, IsMidway}
+use Rattle.server_laws.specs.Order.{WasAccepted, WasCalled, IsUnanswered, HasNoJob, IsMidway}
 use Rattle.server_laws.proofs.Lists.{pairs-cons, pairs-head, pairs-tail, all-same, pairs-same, all-out, all-middle, pairs-out, pairs-middle}
 
 abbrev pub Differ : ℕ → ℕ → Type 0

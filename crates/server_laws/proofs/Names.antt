@@ -1,8 +1,8 @@
 -- Names of sessions.
-use Rattle.std.proofs.Common.{◌≡◌, ◌≢◌, ◌∙◌, ℕ, eqb, Bool, true, false, ap, sym, subst, refl, inl, inr}
+use Rattle.std.proofs.Common.{◌≡◌, ◌≢◌, ◌∙◌, ℕ, true, false, ap, sym, inl, inr}
 use Rattle.std.specs.Prelude.{◌⊎◌}
 use Rattle.std.proofs.lemmas.Bool.{cases_Bool, and_parts, and_from, eqb-true, eq-eqb, false≢true}
-use Rattle.server_rules.specs.Server.{Name, Session, name_of, is_same, is_named}
+use Rattle.server_rules.specs.Server.{Name, is_same}
 
 abbrev pub named : ℕ → ℕ → Name
 named key session = record { key = key; session = session }

@@ -1,12 +1,12 @@
 -- The jobs of one name among all jobs.
-use Rattle.std.proofs.Common.{◌≡◌, ◌≢◌, ◌∙◌, ℕ, zero, suc, eqb, Bool, true, false, cond, Option, Some, None, List, [], ◌∷◌, ◌++◌, ap, sym, subst, refl, inl, inr}
-use Rattle.std.specs.Prelude.{map, ◌&&◌}
-use Rattle.std.specs.List.{filter, list_any}
-use Rattle.std.proofs.lemmas.Bool.{cases_Bool, cond-true, cond-false, cond_both, and_parts, and_from, and_left, eqb-true, eq-eqb, false≢true}
+use Rattle.std.proofs.Common.{◌≡◌, ◌≢◌, ◌∙◌, ℕ, zero, suc, Bool, true, false, cond, Option, Some, None, List, [], ◌∷◌, ◌++◌, ap, sym, subst, refl, inl, inr}
+use Rattle.std.specs.Prelude.{map}
+use Rattle.std.specs.List.{filter}
+use Rattle.std.proofs.lemmas.Bool.{cases_Bool, cond-true, cond-false, cond_both, and_parts, and_from, and_left, eqb-true, eq-eqb}
 use Rattle.std.proofs.lemmas.List.Elements.{filter-append}
 use Rattle.waits.specs.declared.job.Job.{Job}
 use Rattle.waits.specs.declared.job.Unfinished.{Unfinished}
-use Rattle.waits.specs.Jobs.{Queue, is_of, is_call, waits_for, told, after_answer, settled, first_job, without_first, ready_job, without_ready, is_ready, without_session}
+use Rattle.waits.specs.Jobs.{Queue, is_of, waits_for, told, after_answer, settled, first_job, without_first, ready_job, without_ready, is_ready, without_session}
 use Rattle.server_rules.specs.Server.{Name}
 use Rattle.server_laws.specs.Order.{jobs_of}
 use Rattle.server_laws.proofs.Midway.{number_of}

@@ -1,7 +1,7 @@
 -- Marks and kept replies after an answer, and sessions by their names after one spoke.
-use Rattle.std.proofs.Common.{◌≡◌, ◌≢◌, ◌∙◌, ℕ, zero, suc, ◌+◌, ◌<◌, eqb, Bool, true, false, cond, Option, Some, None, List, [], ◌∷◌, ◌++◌, length, get_or, ap, sym, subst, refl, arith, inl, inr}
+use Rattle.std.proofs.Common.{◌≡◌, ◌≢◌, ◌∙◌, ℕ, zero, suc, ◌<◌, eqb, true, cond, Option, Some, None, List, [], ◌∷◌, ◌++◌, length, get_or, ap, sym, subst, refl, arith}
 use Rattle.std.specs.Prelude.{map, fold}
-use Rattle.std.specs.List.{All, AllPairs, Contains, filter, find}
+use Rattle.std.specs.List.{Contains, filter}
 use Rattle.std.specs.Option.{option_or}
 use Rattle.std.proofs.lemmas.Bool.{cond-true, cond-false, eq-eqb, ne_eqb}
 use Rattle.std.proofs.lemmas.List.{map-append}
@@ -40,7 +40,7 @@ present (first ∷ history) replies zero judgement last once within is =
     let R : FirstJudgement → FirstJudgement → Type 0 = λ one other. one.number ≢ other.number in
     let mark = mark_after replies first.number first.outcome in
     let new : IsNew first.number history =
-        All-weaker (R first) (λ (other : FirstJudgement). other.number ≢ first.number) (λ other apart same. apart (sym same)) history (pairs-head R first history once) in
+    All-weaker (R first) (λ (other : FirstJudgement). other.number ≢ first.number) (λ other apart same. apart (sym same)) history (pairs-head R first history once) in
     let P : FirstJudgement → Type 0 = λ judgement. from_mark judgement.number last (marks_of (first ∷ history) replies) ≡ Some (mark_after replies judgement.number judgement.outcome) in
     subst P is
     (ap (λ (found : Option Mark). from_mark first.number found (marks_of history replies)) (cond-true (eqb first.number first.number) (Some mark) last (eq-eqb first.number first.number refl))

@@ -1,7 +1,7 @@
 -- Each row of what a judgement owes leaves its session in order.
-use Rattle.std.proofs.Common.{◌≡◌, ◌≢◌, ◌∙◌, ℕ, ◌+◌, ◌<◌, ◌≤◌, eqb, Bool, true, false, cond, Option, Some, None, List, [], ◌∷◌, ◌++◌, length, ap, sym, subst, refl, arith, inl, inr}
+use Rattle.std.proofs.Common.{◌≡◌, ◌∙◌, ℕ, eqb, Bool, true, cond, Option, Some, None, List, [], ◌∷◌, length, ap, sym, subst, refl, inl, inr}
 use Rattle.std.specs.Prelude.{map, fold, min, is_some, ◌&&◌, ◌==◌}
-use Rattle.std.specs.List.{filter, find, list_any, list_all}
+use Rattle.std.specs.List.{find, list_all}
 use Rattle.std.proofs.lemmas.Bool.{cases_Bool, cond-true, cond-false, cond_both, and_parts, eqb-true}
 use Rattle.service_tl.specs.declared.item.Item.{Item}
 use Rattle.service_tl.specs.declared.item.Item.TheVariants.{NewSessionCreated, RpcDropAnswer, RpcAnswerUnknown, RpcAnswerDropped, GetFutureSalts, FutureSalts, Ping, PingDelayDisconnect, Pong, MsgsAck, MsgsStateReq, MsgsStateInfo, MsgResendReq, BadMsgNotification, BadServerSalt, InvokeAfterMsg, InvokeAfterMsgs, AuthBindTempAuthKey, Packed, Call, Broken}
@@ -13,19 +13,17 @@ use Rattle.salt_line.specs.Future.{salt_rows}
 use Rattle.id_window.specs.declared.mark.Mark.{Mark}
 use Rattle.id_window.specs.declared.mark.Mark.TheVariants.{Noticed as MarkNoticed, Service, Container, Waiting, Replied, Acked, Dropped}
 use Rattle.id_window.specs.History.{History}
-use Rattle.inbox.specs.declared.judged.Verdict.{Verdict}
-use Rattle.inbox.specs.declared.judged.Verdict.TheVariants.{Accepted, Again, Noticed}
 use Rattle.inbox.specs.States.{state_byte}
 use Rattle.waits.specs.declared.job.Job.{Job}
 use Rattle.waits.specs.declared.job.Unfinished.{Unfinished}
-use Rattle.waits.specs.Jobs.{Queue, is_call, is_of, first_job, without_first}
-use Rattle.server_rules.specs.Server.{Name, Session, Reply, Binding, is_kept, kept_of, mark_in, marks_of, reply_to, name_of}
+use Rattle.waits.specs.Jobs.{Queue, is_call, first_job, without_first}
+use Rattle.server_rules.specs.Server.{Name, Reply, Binding, is_kept, kept_of, marks_of, reply_to, name_of}
 use Rattle.server_rules.specs.Event.{Setting, Speaker, BindingCall}
-use Rattle.server_rules.specs.Speaking.{says, says_with_salt, says_it_is_new, says_again, needs_salts, dropped, answers, answers_in_place, packed_body_refused, bad_body, encrypted_message_invalid}
-use Rattle.server_rules.specs.Waiting.{tells_of, gives_up}
+use Rattle.server_rules.specs.Speaking.{says_with_salt, says_it_is_new, needs_salts, dropped, answers, answers_in_place, packed_body_refused, bad_body, encrypted_message_invalid}
+use Rattle.server_rules.specs.Waiting.{gives_up}
 use Rattle.server_rules.specs.Calls.{accepts_call, becomes_job, refusal, job_of, drops_running, drops_kept, drops_by, drops_answer, dropped_running, binds, binds_by, with_binding, bool_true_content}
-use Rattle.server_rules.specs.Rows.{notices, came_again, says_reply, tells_salts, takes_acks, acked_by, tells_states, sends_again, kept_numbered, answers_broken, accepts, owes, acknowledges, future_salt_of}
-use Rattle.server_laws.specs.Order.{WasCalled, IsMidway, Speaks, IsSpeaking, jobs_of, is_for_service}
+use Rattle.server_rules.specs.Rows.{notices, came_again, says_reply, tells_salts, takes_acks, acked_by, tells_states, sends_again, kept_numbered, answers_broken, accepts, acknowledges, future_salt_of}
+use Rattle.server_laws.specs.Order.{WasCalled, IsSpeaking, jobs_of, is_for_service}
 use Rattle.server_laws.proofs.Midway.{stamp, midway-fates}
 use Rattle.server_laws.proofs.Own.{IsTaken, first-taken, of-key, of-session, some-same, none-some}
 use Rattle.server_laws.proofs.Speaking.{says-keeps, says_again-keeps, answers-keeps, in_place-keeps, leaves-keeps, tells-keeps, job-keeps, taken-speaks}
@@ -165,7 +163,6 @@ gives_up-keeps setting content job name others past opened speaker s =
 
 -- ---- rpc_drop_answer
 
-
 -- what is looked for passes the test
 found-call : (test : Unfinished → Bool) (jobs : Queue) (job : Job) → first_job test jobs ≡ Some job → (one : Unfinished) × (one.job ≡ job) × (test one ≡ true)
 found-call test [] job is = absurd (none-some job is)
@@ -181,10 +178,11 @@ pub found-of : (key session call : ℕ) (jobs : Queue) (job : Job) → first_job
 found-of key session call jobs job is =
     let found = found-call (is_call key session call) jobs job is in
     let parts = and_parts _ _ found.2 in
-    let job_is = found.1 in
-    (ap (λ (job : Job). job.key) (sym job_is) ∙ of-key key session found.0 parts.0,
-    ap (λ (job : Job). job.session) (sym job_is) ∙ of-session key session found.0 parts.0,
-    ap (λ (job : Job). job.number) (sym job_is) ∙ eqb-true found.0.job.number call parts.1)
+    let job_is = found.1 in (
+      ap (λ (job : Job). job.key) (sym job_is) ∙ of-key key session found.0 parts.0,
+      ap (λ (job : Job). job.session) (sym job_is) ∙ of-session key session found.0 parts.0,
+      ap (λ (job : Job). job.number) (sym job_is) ∙ eqb-true found.0.job.number call parts.1,
+    )
 
 -- the search by what the job has is the search that found it
 call-again : (key session call : ℕ) (job : Job) → job.key ≡ key → job.session ≡ session → job.number ≡ call
@@ -201,13 +199,13 @@ running-keeps {S} setting number call job name others past opened speaker is s =
     let again = call-again speaker.session.key speaker.session.number call job of.0 of.1 of.2 in
     let T : (Unfinished → Bool) → Type 0 = λ test. IsTaken job speaker.jobs (without_first test speaker.jobs) in
     let taken : IsTaken job speaker.jobs (without_first (is_call job.key job.session job.number) speaker.jobs) =
-        subst T again (first-taken (is_call speaker.session.key speaker.session.number call) speaker.jobs job is) in
+    subst T again (first-taken (is_call speaker.session.key speaker.session.number call) speaker.jobs job is) in
     let own = answers setting number dropped_running speaker in
     let own_keeps = answers-keeps setting number dropped_running name others past opened speaker s in
     let rest : Speaker S = record own { jobs = without_first (is_call job.key job.session job.number) own.jobs } in
     let rest_keeps : IsSpeaking name others past (job.number ∷ opened) rest =
-        taken-speaks job rest.jobs name others past opened own.session.key own.session.number own.session.history own.session.replies own.session.counters.last own.jobs
-        taken (of.0 ∙ s.of_key) (of.1 ∙ s.of_session) own_keeps in
+    taken-speaks job rest.jobs name others past opened own.session.key own.session.number own.session.history own.session.replies own.session.counters.last own.jobs
+    taken (of.0 ∙ s.of_key) (of.1 ∙ s.of_session) own_keeps in
     tells-keeps job.number name others past opened (answers_in_place setting job.number job.request dropped_running rest)
     (in_place-keeps setting job.number job.request dropped_running name others past opened rest rest_keeps)
 

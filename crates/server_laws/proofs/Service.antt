@@ -1,24 +1,19 @@
 -- What is a call for the service is judged as a call.
-use Rattle.std.proofs.Common.{◌≡◌, ◌≢◌, ◌∙◌, ℕ, zero, suc, ◌+◌, ◌<◌, ◌≤◌, eqb, ltb, Bool, true, false, cond, Option, Some, None, Result, Ok, Err, List, [], ◌∷◌, ◌++◌, length, take, drop, get_or, ap, sym, subst, refl, arith, inl, inr}
+use Rattle.std.proofs.Common.{◌≡◌, ◌∙◌, ℕ, eqb, ltb, Bool, true, false, Option, Some, Result, Ok, Err, List, [], ◌∷◌, length, take, ap, sym, subst, refl, arith, inl, inr}
 use Rattle.std.specs.Prelude.{map, ◌⊎◌, ◌||◌}
 use Rattle.std.specs.List.{list_any, AllByRecursion}
-use Rattle.std.proofs.lemmas.Bool.{cases_Bool, cond-true, cond-false, cond_both, eqb-true, eq-eqb, le-ltb, or_from, false≢true, true≢false}
+use Rattle.std.proofs.lemmas.Bool.{cases_Bool, cond-true, cond-false, cond_both, eqb-true, le-ltb, or_from, false≢true, true≢false}
 use Rattle.std.proofs.lemmas.List.Folds.{list_any-append, list_any_at}
 use Rattle.byteorder.specs.Endian.{little_number}
 use Rattle.tl_codec.specs.declared.fault.TlFault.{TlFault}
-use Rattle.tl_codec.specs.Reading.{◌>>=◌, raw_at, number_at, read_at}
+use Rattle.tl_codec.specs.Reading.{◌>>=◌, raw_at, number_at}
 use Rattle.service_tl.specs.declared.item.Item.{Item}
-use Rattle.service_tl.specs.declared.item.Item.TheVariants.{MsgContainer, Packed, Call, Broken}
-use Rattle.service_tl.specs.declared.lists.Message.{Message}
+use Rattle.service_tl.specs.declared.item.Item.TheVariants.{MsgContainer, Packed, Broken}
 use Rattle.service_tl.specs.Fields.{Field, Holds, field_at}
 use Rattle.service_tl.specs.Schema.{Row, Makes, schema, service_numbers, gzip_packed, msgs_ack, fields_at, item_in}
 use Rattle.service_tl.specs.ItemOf.{whole, item_behind, item_after, item_of}
 use Rattle.containers.specs.Container.{begins_container}
-use Rattle.containers.specs.Parts.{parts_of}
-use Rattle.containers.specs.declared.fault.ContainerFault.{ContainerFault}
-use Rattle.id_window.specs.History.{Outcome, AcceptedCall}
-use Rattle.inbox.specs.Kinds.{constructor_of, begins_acknowledgement, begins_call, kind_beginning, kind_among, kind_of, item_told, container_in, calling_numbers}
-use Rattle.inbox.specs.Judging.{outcome_of}
+use Rattle.inbox.specs.Kinds.{constructor_of, begins_acknowledgement, begins_call, calling_numbers}
 use Rattle.server_laws.specs.Order.{is_for_service}
 use Rattle.server_laws.proofs.Judged.{IsService}
 
@@ -80,12 +75,82 @@ row-found (row ∷ rows) number text fit is =
 
 rows-fit : AllByRecursion Fits schema
 unfolding schema service_numbers
-rows-fit =
-    (inl (λ a b. refl), (inl (λ a b. refl), (inl (λ a. refl), (inl refl, (inl refl, (inl (λ a b c. refl),
-    (inl (λ a. refl), (inl (λ a b c. refl), (inl (λ a. refl), (inl (λ a b. refl), (inl (λ a b. refl), (inl (λ a. refl), (inl (λ a. refl), (inl (λ a. refl), (inl (λ a b c. refl),
-    (inl (λ a. refl), (inl (λ a. refl), (inl (λ a. refl), (inl (λ a b. refl), (inl (λ a b. refl), (inl (λ a. refl),
-    (inl (λ a b c d. refl), (inl (λ a b c. refl), (inl (λ a b c. refl), (inl (λ a b c d. refl),
-    (inr (refl, refl), (inr (refl, refl), (inr (refl, refl), tt))))))))))))))))))))))))))))
+rows-fit = (
+  inl (λ a b. refl),
+  (
+    inl (λ a b. refl),
+    (
+      inl (λ a. refl),
+      (
+        inl refl,
+        (
+          inl refl,
+          (
+            inl (λ a b c. refl),
+            (
+              inl (λ a. refl),
+              (
+                inl (λ a b c. refl),
+                (
+                  inl (λ a. refl),
+                  (
+                    inl (λ a b. refl),
+                    (
+                      inl (λ a b. refl),
+                      (
+                        inl (λ a. refl),
+                        (
+                          inl (λ a. refl),
+                          (
+                            inl (λ a. refl),
+                            (
+                              inl (λ a b c. refl),
+                              (
+                                inl (λ a. refl),
+                                (
+                                  inl (λ a. refl),
+                                  (
+                                    inl (λ a. refl),
+                                    (
+                                      inl (λ a b. refl),
+                                      (
+                                        inl (λ a b. refl),
+                                        (
+                                          inl (λ a. refl),
+                                          (
+                                            inl (λ a b c d. refl),
+                                            (
+                                              inl (λ a b c. refl),
+                                              (
+                                                inl (λ a b c. refl),
+                                                (
+                                                  inl (λ a b c d. refl),
+                                                  (inr (refl, refl), (inr (refl, refl), (inr (refl, refl), tt))),
+                                                ),
+                                              ),
+                                            ),
+                                          ),
+                                        ),
+                                      ),
+                                    ),
+                                  ),
+                                ),
+                              ),
+                            ),
+                          ),
+                        ),
+                      ),
+                    ),
+                  ),
+                ),
+              ),
+            ),
+          ),
+        ),
+      ),
+    ),
+  ),
+)
 
 any-numbers : (number : ℕ) (rows : List Row) → list_any (λ (service : ℕ). eqb number service) (map (λ (row : Row). row.number) rows) ≡ list_any (λ (row : Row). eqb number row.number) rows
 any-numbers number [] = refl
@@ -115,9 +180,10 @@ behind-call number text is =
           let found : is_for_service other ≡ true = ap is_for_service (sym (cond-false (eqb number gzip_packed) Packed other apart)) ∙ is in
           elim (row-found schema number text rows-fit found) [
             | inl good ↦ good
-            | inr none ↦
-                (not-ack number none,
-                cond-false (list_any (λ (service : ℕ). eqb number service) service_numbers) (list_any (λ (calling : ℕ). eqb number calling) calling_numbers) true (not_packed-any number apart none))
+            | inr none ↦ (
+              not-ack number none,
+              cond-false (list_any (λ (service : ℕ). eqb number service) service_numbers) (list_any (λ (calling : ℕ). eqb number calling) calling_numbers) true (not_packed-any number apart none),
+            )
           ]
     ]
 

@@ -1,7 +1,7 @@
 -- All sessions, where one of them speaks or is lost.
-use Rattle.std.proofs.Common.{◌≡◌, ◌≢◌, ◌∙◌, ℕ, zero, suc, ◌+◌, ◌<◌, ◌≤◌, eqb, Bool, true, false, cond, Option, Some, None, List, [], ◌∷◌, ◌++◌, length, ap, sym, subst, refl, arith, inl, inr}
-use Rattle.std.specs.Prelude.{map, fold, not}
-use Rattle.std.specs.List.{filter, find, AllPairs, All}
+use Rattle.std.proofs.Common.{◌≡◌, ◌≢◌, ◌∙◌, ℕ, zero, suc, Bool, true, false, cond, Option, Some, None, List, [], ◌∷◌, ◌++◌, ap, sym, subst, refl, inl, inr}
+use Rattle.std.specs.Prelude.{map, not}
+use Rattle.std.specs.List.{find}
 use Rattle.std.proofs.lemmas.Bool.{cases_Bool, cond-true, cond-false, cond_both}
 use Rattle.std.proofs.lemmas.List.Kept.{AllPairs-filter}
 use Rattle.std.proofs.lemmas.List.Elements.{filter-append}
@@ -10,13 +10,13 @@ use Rattle.waits.specs.declared.job.Job.{Job}
 use Rattle.waits.specs.declared.job.Unfinished.{Unfinished}
 use Rattle.waits.specs.Jobs.{Queue, is_of, first_job, without_first, without_session as without_jobs_of}
 use Rattle.server_rules.specs.Server.{Name, Session, name_of, is_same, is_named, session_named, with_session, without_session}
-use Rattle.server_rules.specs.Event.{Setting, State, Speaker, speaker_in, spoken, spoken_by, speaks, lost}
+use Rattle.server_rules.specs.Event.{Setting, State, Speaker, speaker_in, spoken, spoken_by, speaks}
 use Rattle.server_rules.specs.Waiting.{gives_up, given_up, first_given_up, all_given_up}
-use Rattle.server_laws.specs.Order.{IsMidway, IsMidwayAt, IsGoingOn, Speaks, IsSpeaking, jobs_of}
+use Rattle.server_laws.specs.Order.{IsMidway, IsMidwayAt, IsGoingOn, IsSpeaking, jobs_of}
 use Rattle.server_laws.proofs.Lists.{pairs-same}
 use Rattle.server_laws.proofs.Midway.{midway-out}
-use Rattle.server_laws.proofs.Names.{cases_name, same-names, names-same, names-apart, apart-names, named}
-use Rattle.server_laws.proofs.Own.{IsTaken, first-taken, filter-first, filter-other, around-own, around-others, of-another, is-of, lost-own, lost-others, some-same, none-some}
+use Rattle.server_laws.proofs.Names.{cases_name, same-names, names-same, apart-names, named}
+use Rattle.server_laws.proofs.Own.{IsTaken, first-taken, around-own, around-others, of-another, is-of, lost-own, lost-others, some-same, none-some}
 use Rattle.server_laws.proofs.Rows.{gives_up-keeps}
 
 -- ---- sessions by their names
@@ -82,7 +82,7 @@ with-names session [] = refl
 with-names session (first ∷ sessions) =
     let test = is_named (name_of session) in
     let same : name_of first ≡ name_of (cond (test first) session first) =
-        cond_both (test first) session first (λ (one : Session). name_of first ≡ name_of one) (λ holds. sym (same-names (name_of session) (name_of first) holds)) (λ fails. refl) in
+    cond_both (test first) session first (λ (one : Session). name_of first ≡ name_of one) (λ holds. sym (same-names (name_of session) (name_of first) holds)) (λ fails. refl) in
     ap (λ (name : Name). name ∷ map name_of sessions) same
     ∙ ap (λ (names : List Name). name_of (cond (test first) session first) ∷ names) (with-names session sessions)
 
@@ -171,7 +171,7 @@ spoken-goes name past then opened later speak state session is same goes on =
             | inl own ↦
                 let N : Name → Type 0 = λ name. session_named name state.sessions ≡ Some session in
                 let found : session_named (name_of speaker.session) sessions ≡ Some speaker.session =
-                    with-own speaker.session state.sessions session (subst N (sym named_so) is) in
+                with-own speaker.session state.sessions session (subst N (sym named_so) is) in
                 let M : Name → Type 0 = λ name. session_named name sessions ≡ Some speaker.session in
                 let found_so = subst M named_so found in
                 let P : Name → Type 0 = λ other. IsMidwayAt (then other) (later other) (session_named other sessions) (jobs_of other speaker.jobs) in
@@ -274,9 +274,11 @@ taken-at past opened (Some session) name job jobs rest taken of_key of_session i
     let R : Job → Type 0 = λ job. IsMidway (job.number ∷ opened) history replies last (jobs_of name rest) in
     let with_one = ap (jobs_of name) taken.all ∙ around-own name taken.before taken.one taken.after own in
     let without : jobs_of name rest ≡ jobs_of name taken.before ++ jobs_of name taken.after =
-        ap (jobs_of name) taken.others ∙ filter-append (is_of name.key name.session) taken.before taken.after in
-    (is.0, subst R taken.is (subst Q (sym without)
-    (midway-out (jobs_of name taken.before) taken.one (jobs_of name taken.after) opened history replies last (subst P with_one is.1))))
+    ap (jobs_of name) taken.others ∙ filter-append (is_of name.key name.session) taken.before taken.after in (
+      is.0,
+      subst R taken.is (subst Q (sym without)
+          (midway-out (jobs_of name taken.before) taken.one (jobs_of name taken.after) opened history replies last (subst P with_one is.1))),
+    )
 
 taken-apart : (name other : Name) (job : Job) (jobs rest : Queue) → IsTaken job jobs rest → job.key ≡ name.key → job.session ≡ name.session → other ≢ name
     → jobs_of other jobs ≡ jobs_of other rest
@@ -332,8 +334,8 @@ given_up-goes {S} setting content test past opened state (Some job) is on =
     speaks-goes name past past (opened_at name job.number opened) opened (gives_up setting content job) rest
     (λ other apart. (refl, opened-others name other job.number opened apart))
     (λ session found others s.
-      let P : List ℕ → Type 0 = λ numbers. IsSpeaking name others (past name) numbers (speaker_in rest session) in
-      gives_up-keeps setting content job name others (past name) (opened name) (speaker_in rest session) (subst P (opened-own name job.number opened) s))
+    let P : List ℕ → Type 0 = λ numbers. IsSpeaking name others (past name) numbers (speaker_in rest session) in
+    gives_up-keeps setting content job name others (past name) (opened name) (speaker_in rest session) (subst P (opened-own name job.number opened) s))
     (taken-goes past opened state.sessions name job state.jobs (without_first test state.jobs) (first-taken test state.jobs job is) refl refl on)
 
 pub first_given-goes : {S : Type 0} (setting : Setting S) (content : List ℕ) (test : Unfinished → Bool) (past : IsPast) (opened : Open) (state : State S)

@@ -1,29 +1,25 @@
 -- What a session does, step by step, leaves it in order.
-use Rattle.std.proofs.Common.{◌≡◌, ◌≢◌, ◌∙◌, ℕ, ◌+◌, ◌*◌, ◌^◌, ◌<◌, ◌≤◌, eqb, Bool, true, false, cond, Option, Some, None, List, [], ◌∷◌, ◌++◌, length, ap, sym, subst, refl, arith, inl, inr}
-use Rattle.std.specs.Prelude.{map, fold, max}
-use Rattle.std.specs.List.{filter, list_any, list_all, All}
-use Rattle.std.specs.Option.{option_or}
-use Rattle.std.proofs.lemmas.Bool.{cases_Bool, cond-true, cond-false, cond_both}
+use Rattle.std.proofs.Common.{◌≡◌, ◌∙◌, ℕ, ◌+◌, ◌≤◌, Bool, true, false, cond, List, [], ◌∷◌, ◌++◌, length, ap, sym, subst, refl, arith}
+use Rattle.std.specs.Prelude.{map}
+use Rattle.std.proofs.lemmas.Bool.{cond_both}
 use Rattle.std.proofs.lemmas.List.Elements.{filter-append}
 use Rattle.std.proofs.lemmas.List.{append-nil}
 use Rattle.msg_ids.specs.Counters.{next_number}
 use Rattle.service_tl.specs.declared.item.Item.{Item}
 use Rattle.service_tl.specs.declared.item.Item.TheVariants.{RpcResult}
-use Rattle.service_tl.specs.declared.lists.Message.{Message}
-use Rattle.service_tl.specs.Items.{spelling_of}
 use Rattle.outbox.specs.Replies.{fits}
 use Rattle.packing.specs.Numbering.{numbered}
 use Rattle.id_window.specs.History.{History}
 use Rattle.waits.specs.declared.job.Job.{Job}
 use Rattle.waits.specs.declared.job.Unfinished.{Unfinished}
-use Rattle.waits.specs.Jobs.{Queue, is_of, is_call, accepted, settled, first_job, without_first}
+use Rattle.waits.specs.Jobs.{Queue, is_of, accepted, settled}
 use Rattle.server_rules.specs.Server.{Name, Session, Reply, IsKept, is_kept, kept_replies}
 use Rattle.server_rules.specs.Event.{Setting, Speaker}
-use Rattle.server_rules.specs.Speaking.{says, says_with_salt, says_again, has_said, dropped, made_room, answers, answers_in_place}
+use Rattle.server_rules.specs.Speaking.{says, says_again, has_said, dropped, made_room, answers, answers_in_place}
 use Rattle.server_rules.specs.Waiting.{Outlook, Over, InVain, GoesOn, outlook, told, tells_of}
 use Rattle.server_laws.specs.Order.{WasCalled, IsMidway, Speaks, IsSpeaking, jobs_of}
-use Rattle.server_laws.proofs.Midway.{stamp, number_of, midway-given, midway-fates, midway-told, midway-leaves, midway-job, midway-out, midway-answered}
-use Rattle.server_laws.proofs.Own.{of-another, is-of, filter-first, filter-other, settled-own, settled-others, IsTaken, first-taken, around-own, around-others}
+use Rattle.server_laws.proofs.Midway.{stamp, midway-given, midway-fates, midway-told, midway-leaves, midway-job, midway-out, midway-answered}
+use Rattle.server_laws.proofs.Own.{of-another, is-of, filter-first, filter-other, settled-own, settled-others, IsTaken, around-own, around-others}
 
 -- ---- messages
 
@@ -57,7 +53,7 @@ pub room-stamps : (bytes : ℕ) (replies : List Reply) → map stamp replies ≡
 room-stamps bytes [] = refl
 room-stamps bytes (reply ∷ replies) =
     let first : stamp (cond (fits bytes (kept_replies (reply ∷ replies))) reply (dropped reply)) ≡ stamp reply =
-        cond_both (fits bytes (kept_replies (reply ∷ replies))) reply (dropped reply) (λ (other : Reply). stamp other ≡ stamp reply) (λ is. refl) (λ is. stamp-dropped reply) in
+    cond_both (fits bytes (kept_replies (reply ∷ replies))) reply (dropped reply) (λ (other : Reply). stamp other ≡ stamp reply) (λ is. refl) (λ is. stamp-dropped reply) in
     ap (λ (one : Reply). one ∷ map stamp replies) (sym first)
     ∙ ap (λ (rest : List Reply). stamp (cond (fits bytes (kept_replies (reply ∷ replies))) reply (dropped reply)) ∷ rest) (room-stamps bytes replies)
 
@@ -158,8 +154,8 @@ job-keeps job name others past opened speaker of_key of_session called s =
     let session = speaker.session in
     let own = is-of name.key name.session one (of_key ∙ s.of_key) (of_session ∙ s.of_session) in
     let all : jobs_of name (accepted job speaker.jobs) ≡ jobs_of name speaker.jobs ++ one ∷ [] =
-        filter-append (is_of name.key name.session) speaker.jobs (one ∷ [])
-        ∙ ap (λ (rest : Queue). jobs_of name speaker.jobs ++ rest) (filter-first (is_of name.key name.session) one [] own) in
+    filter-append (is_of name.key name.session) speaker.jobs (one ∷ [])
+    ∙ ap (λ (rest : Queue). jobs_of name speaker.jobs ++ rest) (filter-first (is_of name.key name.session) one [] own) in
     let P : Queue → Type 0 = IsMidway opened session.history session.replies session.counters.last in
     record {
       of_key = s.of_key;
@@ -183,7 +179,7 @@ taken-speaks job rest name others past opened key session history replies last j
     let R : Job → Type 0 = λ job. IsMidway (job.number ∷ opened) history replies last (jobs_of name rest) in
     let with_one = ap (jobs_of name) taken.all ∙ around-own name taken.before taken.one taken.after own in
     let without : jobs_of name rest ≡ jobs_of name taken.before ++ jobs_of name taken.after =
-        ap (jobs_of name) taken.others ∙ filter-append (is_of name.key name.session) taken.before taken.after in
+    ap (jobs_of name) taken.others ∙ filter-append (is_of name.key name.session) taken.before taken.after in
     record {
       of_key = s.of_key;
       of_session = s.of_session;

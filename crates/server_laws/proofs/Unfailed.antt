@@ -1,5 +1,5 @@
 -- No job that has failed is left where an event ends.
-use Rattle.std.proofs.Common.{◌≡◌, ◌∙◌, ℕ, zero, suc, ◌+◌, ◌-◌, ◌<◌, ◌≤◌, Bool, true, false, cond, Option, Some, None, List, [], ◌∷◌, ◌++◌, length, ap, sym, subst, refl, arith, inl, inr}
+use Rattle.std.proofs.Common.{◌≡◌, ◌∙◌, ℕ, zero, suc, ◌+◌, ◌≤◌, Bool, true, false, cond, Option, Some, None, List, [], ◌∷◌, length, ap, sym, subst, refl, arith, inl, inr}
 use Rattle.std.specs.Prelude.{map, fold}
 use Rattle.std.specs.List.{All}
 use Rattle.std.proofs.lemmas.Bool.{cases_Bool, cond-true, cond-false}
@@ -13,7 +13,7 @@ use Rattle.std.proofs.lemmas.List.{length-append}
 use Rattle.std.proofs.lemmas.List.Elements.{All-filter}
 use Rattle.service_tl.specs.declared.lists.Message.{Message}
 use Rattle.inbox.specs.declared.judged.Judgement.{Judgement}
-use Rattle.inbox.specs.Refusals.{Way, InEnvelope}
+use Rattle.inbox.specs.Refusals.{InEnvelope}
 use Rattle.inbox.specs.Judging.{judgements, session_after}
 use Rattle.salt_line.specs.Line.{current_salt}
 use Rattle.packing.specs.Packing.{packets_of, after_packets}
@@ -21,10 +21,10 @@ use Rattle.id_window.specs.History.{History}
 use Rattle.waits.specs.Jobs.{is_of, settled, without_first, ready_job, without_ready, without_session as without_jobs_of}
 use Rattle.waits.specs.declared.job.Job.{Job}
 use Rattle.regs_service.specs.Served.{Step}
-use Rattle.server_rules.specs.Server.{Name, Session, Server, Reply, name_of, session_named, is_kept, has_accepted, sessions_max, remembered}
+use Rattle.server_rules.specs.Server.{Name, Session, Server, Reply, name_of, session_named, is_kept, has_accepted, remembered}
 use Rattle.server_rules.specs.Event.{Setting, State, Speaker, Envelope, Owed, speaker_in, spoken_by, speaks, lost}
 use Rattle.server_rules.specs.Speaking.{says_again, says_it_is_new, has_said, needs_salts, msg_wait_failed}
-use Rattle.server_rules.specs.Waiting.{Outlook, Over, InVain, GoesOn, outlook, told, gives_up, given_up, first_given_up, all_given_up, first_failed, after_failures, after_timeouts, tells_of}
+use Rattle.server_rules.specs.Waiting.{Outlook, Over, InVain, GoesOn, told, gives_up, given_up, first_given_up, all_given_up, first_failed, after_failures, after_timeouts, tells_of}
 use Rattle.server_rules.specs.Rows.{settles, row, acknowledges, acks_of}
 use Rattle.server_rules.specs.Sending.{names_in, messages_by, seals, sends, all_sent}
 use Rattle.server_rules.specs.Answer.{name_in, message_in, messages_judged, finishes, hears, hears_by, makes, without_first as without_first_session, opens, takes, takes_by, attaches, runs, ticks, is_spent, begun, ended, after_run}

@@ -1,5 +1,5 @@
 -- What holds of a server after every list of events: its sessions, their replies and their jobs fit each other.
-use Rattle.std.specs.Prelude.{◌≡◌, ◌≢◌, ℕ, ◌+◌, ◌<◌, ◌≤◌, Bool, true, false, if◌then◌else◌, Option, Some, None, List, [], ◌∷◌, All, AllPairs, Contains, length}
+use Rattle.std.specs.Prelude.{◌≡◌, ◌≢◌, ℕ, ◌+◌, ◌<◌, Bool, true, false, if◌then◌else◌, Option, Some, None, List, [], ◌∷◌, All, AllPairs, Contains}
 use Rattle.std.specs.List.{filter}
 use Rattle.id_window.specs.History.{History, FirstJudgement, AcceptedCall, EachOnce, was_accepted}
 use Rattle.service_tl.specs.declared.item.Item.{Item}
@@ -9,8 +9,8 @@ use Rattle.inbox.specs.declared.judged.Verdict.TheVariants.{Accepted}
 use Rattle.inbox.specs.declared.judged.Judgement.{Judgement}
 use Rattle.inbox.specs.Judging.{is_accepted}
 use Rattle.packing.specs.Numbering.{numbered}
-use Rattle.waits.specs.Jobs.{Queue, AreWithinLimits, is_of}
-use Rattle.server_rules.specs.Server.{Server, Session, Name, Reply, IsKept, name_of, session_named}
+use Rattle.waits.specs.Jobs.{Queue, is_of}
+use Rattle.server_rules.specs.Server.{Session, Name, Reply, IsKept, name_of, session_named}
 use Rattle.server_rules.specs.Event.{Setting, Speaker}
 
 -- ---- numbers of a session

@@ -1,7 +1,6 @@
-use Rattle.server_laws.specs.Order.{AreOrdered}
 use Rattle.server_laws.proofs.Judged.{Known}
 use Rattle.server_laws.proofs.Service.{service-called}
-use Rattle.server_laws.proofs.Events.{Stand, event-stands, course-stands}
+use Rattle.server_laws.proofs.Events.{event-stands, course-stands}
 use Rattle.server_laws.proofs.Unfailed.{unfailed-event, course-unfailed}
 use Rattle.server_laws.proofs.laws.servers_stay_in_order.Goals as goal
 
