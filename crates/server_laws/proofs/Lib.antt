@@ -10,3 +10,4 @@ pub mod Events
 pub mod Service
 pub mod Unfailed
 pub mod Replies
+pub mod Noticed

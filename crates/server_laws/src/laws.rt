@@ -1,11 +1,11 @@
 //! Laws of a server, each the contract of a function that does nothing.
 
-ghost use Rattle.std.specs.Prelude.{◌≡◌, ◌≢◌, ℕ, [], ◌∷◌, ◌++◌, true, All, Contains, List, Option, Some, length};
+ghost use Rattle.std.specs.Prelude.{◌≡◌, ◌≢◌, ℕ, [], ◌∷◌, ◌++◌, true, false, All, Contains, List, Option, Some, length};
 ghost use Rattle.service_tl.specs.declared.item.Item.{Item};
 ghost use Rattle.service_tl.specs.declared.item.Item.TheVariants.{RpcResult};
 ghost use Rattle.service_tl.specs.Items.{spelling_of};
 ghost use Rattle.service_tl.specs.declared.lists.Message.{Message};
-ghost use Rattle.id_window.specs.History.{History, FirstJudgement, EachOnce};
+ghost use Rattle.id_window.specs.History.{History, FirstJudgement, EachOnce, was_accepted};
 ghost use Rattle.id_window.specs.Marks.{mark_of};
 ghost use Rattle.id_window.specs.declared.mark.Mark.{Mark};
 ghost use Rattle.inbox.specs.Refusals.{Way};
@@ -22,7 +22,7 @@ ghost use Rattle.server_rules.specs.Calls.{accepts_call, binds, drops_answer};
 ghost use Rattle.server_rules.specs.Rows.{accepts, acknowledges, answers_broken, came_again, notices, sends_again, takes_acks, tells_salts, tells_states};
 ghost use Rattle.server_rules.specs.Answer.{attaches, finishes};
 ghost use Rattle.server_rules.specs.Sending.{sends};
-ghost use Rattle.server_laws.specs.Order.{AreOrdered, IsOrderly, IsMidway, IsSpeaking, IsTold, IsUnanswered, WasCalled, is_for_service, opens_of, reply_made};
+ghost use Rattle.server_laws.specs.Order.{AreOrdered, IsOrderly, IsMidway, IsSpeaking, IsTold, IsUnanswered, HasNoJob, WasCalled, is_for_service, opens_of, reply_made};
 
 use draws::Draw;
 
@@ -147,4 +147,14 @@ pub fn sessions_speak<D: Draw>()
     ensures others { (name other : Name) (speak : Speaker D → Speaker D) (state : State D) (session : Session) → session_named name state.sessions ≡ Some session
         → name_of (speak (speaker_in state session)).session ≡ name → other ≢ name
         → session_named other (speaks name speak state).sessions ≡ session_named other state.sessions }
+{}
+
+/// A number of a standing session that was noticed has neither a reply nor a job, and two judgements of one number are one.
+pub fn noticed_numbers_are_over()
+    ensures once { (history : History) (one other : FirstJudgement) → EachOnce history → Contains history one → Contains history other
+        → one.number ≡ other.number → one ≡ other }
+    ensures replies { (history : History) (replies : List Reply) (last : ℕ) (jobs : Queue) (judgement : FirstJudgement) → IsOrderly history replies last jobs
+        → Contains history judgement → was_accepted judgement.outcome ≡ false → IsUnanswered replies judgement.number }
+    ensures jobs { (history : History) (replies : List Reply) (last : ℕ) (jobs : Queue) (judgement : FirstJudgement) → IsOrderly history replies last jobs
+        → Contains history judgement → was_accepted judgement.outcome ≡ false → HasNoJob jobs judgement.number }
 {}
