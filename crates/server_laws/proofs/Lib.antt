@@ -11,3 +11,4 @@ pub mod Service
 pub mod Unfailed
 pub mod Replies
 pub mod Noticed
+pub mod Count

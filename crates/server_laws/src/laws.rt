@@ -1,6 +1,6 @@
 //! Laws of a server, each the contract of a function that does nothing.
 
-ghost use Rattle.std.specs.Prelude.{◌≡◌, ◌≢◌, ℕ, [], ◌∷◌, ◌++◌, true, false, All, Contains, List, Option, Some, length};
+ghost use Rattle.std.specs.Prelude.{◌≡◌, ◌≢◌, ◌≤◌, ℕ, [], ◌∷◌, ◌++◌, true, false, All, Contains, List, Option, Some, length};
 ghost use Rattle.service_tl.specs.declared.item.Item.{Item};
 ghost use Rattle.service_tl.specs.declared.item.Item.TheVariants.{RpcResult};
 ghost use Rattle.service_tl.specs.Items.{spelling_of};
@@ -157,4 +157,12 @@ pub fn noticed_numbers_are_over()
         → Contains history judgement → was_accepted judgement.outcome ≡ false → IsUnanswered replies judgement.number }
     ensures jobs { (history : History) (replies : List Reply) (last : ℕ) (jobs : Queue) (judgement : FirstJudgement) → IsOrderly history replies last jobs
         → Contains history judgement → was_accepted judgement.outcome ≡ false → HasNoJob jobs judgement.number }
+{}
+
+/// A server has 256 sessions at most after every list of events.
+pub fn sessions_are_few<D: Draw, V>()
+    ensures event { (setting : Setting D) (serve : Step V) (service : V) (course : Course D V) (event : Event)
+        → length course.server.sessions ≤ 256 → length (after_event setting serve service course event).server.sessions ≤ 256 }
+    ensures all { (setting : Setting D) (serve : Step V) (service : V) (draw : D) (events : List Event)
+        → length (course_of setting serve service draw events).server.sessions ≤ 256 }
 {}
