@@ -1,6 +1,6 @@
 -- There are 256 sessions at most.
-use Rattle.std.proofs.Common.{◌≡◌, ◌∙◌, ℕ, zero, suc, ◌+◌, ◌<◌, ◌≤◌, ltb, Bool, true, false, cond, Option, Some, None, List, [], ◌∷◌, ◌++◌, length, ap, sym, subst, refl, arith, inl, inr}
-use Rattle.std.specs.Prelude.{map, fold, not, is_some}
+use Rattle.std.proofs.Common.{◌≡◌, ◌∙◌, ℕ, zero, suc, ◌+◌, ◌≤◌, ltb, Bool, Option, Some, None, List, [], ◌∷◌, length, ap, sym, subst, refl, arith, inl, inr}
+use Rattle.std.specs.Prelude.{map, fold, not}
 use Rattle.std.specs.List.{filter, zip}
 use Rattle.std.proofs.lemmas.Bool.{cases_Bool, cond_both, ltb-true}
 use Rattle.std.proofs.lemmas.List.{length-append, length-map}
@@ -8,12 +8,12 @@ use Rattle.service_tl.specs.declared.item.Item.TheVariants.{DestroySession, Dest
 use Rattle.inbox.specs.declared.judged.Judgement.{Judgement}
 use Rattle.inbox.specs.declared.judged.Verdict.{Verdict}
 use Rattle.inbox.specs.declared.judged.Verdict.TheVariants.{Accepted, Again, Noticed}
-use Rattle.inbox.specs.Refusals.{Way, InEnvelope}
+use Rattle.inbox.specs.Refusals.{InEnvelope}
 use Rattle.inbox.specs.Judging.{judgements, session_after}
 use Rattle.waits.specs.declared.job.Job.{Job}
 use Rattle.waits.specs.Jobs.{Queue, ready_job, without_ready}
 use Rattle.regs_service.specs.Served.{Step}
-use Rattle.server_rules.specs.Server.{Name, Session, Server, name_of, is_named, session_named, with_session, without_session, remembered, sessions_max}
+use Rattle.server_rules.specs.Server.{Name, Session, Server, name_of, is_named, session_named, without_session, remembered, sessions_max}
 use Rattle.server_rules.specs.Event.{Setting, State, Speaker, Envelope, Owed, spoken_by, speaks, lost}
 use Rattle.server_rules.specs.Speaking.{says, msg_wait_failed, msg_wait_timeout}
 use Rattle.server_rules.specs.Waiting.{gives_up, given_up, first_given_up, all_given_up, first_failed, first_overdue, after_failures, after_timeouts, tells_of}
@@ -110,7 +110,7 @@ few-place [] state few is = let none = ap (λ (sessions : List Session). length 
 few-place (session ∷ sessions) state few is =
     let N : List Session → Type 0 = λ all. length (without_session (name_of session) all) + 1 ≤ length all in
     let first : length (without_session (name_of session) (session ∷ sessions)) + 1 ≤ length (session ∷ sessions) =
-        one-fewer (name_of session) (session ∷ sessions) session (found-itself session sessions) in
+    one-fewer (name_of session) (session ∷ sessions) session (found-itself session sessions) in
     let all = subst N (sym is) first in
     omega arith
 
@@ -125,10 +125,10 @@ few-hears setting envelope (Some session) state is few =
 few-hears {S} setting envelope None state is few =
     cond_both (ltb (length state.sessions) sessions_max) state (without_first_session state.sessions state) (λ (placed : State S). Few (makes setting envelope placed).sessions)
     (λ room. let below = ltb-true (length state.sessions) sessions_max room in
-      let all = length-append state.sessions (session_for setting envelope state.draw ∷ []) in omega arith)
+    let all = length-append state.sessions (session_for setting envelope state.draw ∷ []) in omega arith)
     (λ full. let placed = without_first_session state.sessions state in
-      let below = few-place state.sessions state few refl in
-      let all = length-append placed.sessions (session_for setting envelope placed.draw ∷ []) in omega arith)
+    let below = few-place state.sessions state few refl in
+    let all = length-append placed.sessions (session_for setting envelope placed.draw ∷ []) in omega arith)
 
 few-sent : {S : Type 0} (setting : Setting S) (owed : List Owed) (names : List Name) (state : State S) → Few state.sessions
     → Few (fold (λ so_far name. speaks name (sends setting (messages_by name owed)) so_far) state names).sessions

@@ -1,7 +1,6 @@
 -- Numbers that were noticed have no reply and no job.
-use Rattle.std.proofs.Common.{◌≡◌, ◌≢◌, ◌∙◌, ℕ, ◌<◌, ◌≤◌, true, false, List, get_or, length, ap, sym, subst, refl, inl, inr}
-use Rattle.std.specs.Prelude.{◌⊎◌}
-use Rattle.std.specs.List.{All, Contains}
+use Rattle.std.proofs.Common.{◌≡◌, ◌≢◌, ◌∙◌, ℕ, false, List, get_or, ap, sym, inl, inr}
+use Rattle.std.specs.List.{Contains}
 use Rattle.std.proofs.lemmas.Bool.{cases_order, false≢true}
 use Rattle.std.proofs.lemmas.List.{get_or_default}
 use Rattle.std.proofs.lemmas.List.Elements.{All-weaker}
@@ -32,8 +31,8 @@ pub noticed-unanswered : (history : History) (replies : List Reply) (last : ℕ)
 noticed-unanswered history replies last jobs judgement order has refused =
     All-weaker (λ (reply : Reply). WasAccepted reply.call history) (λ (reply : Reply). reply.call ≢ judgement.number)
     (λ reply accepted same.
-      let one = one-judgement history accepted.0 judgement order.judged accepted.1 has (accepted.2 ∙ same) in
-      false≢true (sym refused ∙ (ap (λ (one : FirstJudgement). was_accepted one.outcome) (sym one) ∙ accepted.3)))
+    let one = one-judgement history accepted.0 judgement order.judged accepted.1 has (accepted.2 ∙ same) in
+    false≢true (sym refused ∙ (ap (λ (one : FirstJudgement). was_accepted one.outcome) (sym one) ∙ accepted.3)))
     replies order.replied.accepted
 
 pub noticed-no_job : (history : History) (replies : List Reply) (last : ℕ) (jobs : Queue) (judgement : FirstJudgement) → IsOrderly history replies last jobs
@@ -41,6 +40,6 @@ pub noticed-no_job : (history : History) (replies : List Reply) (last : ℕ) (jo
 noticed-no_job history replies last jobs judgement order has refused =
     All-weaker (λ (one : Unfinished). WasCalled one.job.number history) (λ (one : Unfinished). one.job.number ≢ judgement.number)
     (λ job called same.
-      let one = one-judgement history called.0 judgement order.judged called.1 has (called.2 ∙ same) in
-      false≢true (sym refused ∙ (ap (λ (one : FirstJudgement). was_accepted one.outcome) (sym one) ∙ ap was_accepted called.3)))
+    let one = one-judgement history called.0 judgement order.judged called.1 has (called.2 ∙ same) in
+    false≢true (sym refused ∙ (ap (λ (one : FirstJudgement). was_accepted one.outcome) (sym one) ∙ ap was_accepted called.3)))
     jobs order.unfinished.called
