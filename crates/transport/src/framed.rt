@@ -3,7 +3,7 @@
 use crate::direction::Direction;
 use crate::form::Form;
 use frame_full::Framer;
-use framing::{Incoming, Passage};
+use framing::{Incoming, Next, Passage};
 use octets::{Memory, Octets};
 use std::alloc::Global;
 use std::marker::Model;
@@ -31,6 +31,12 @@ impl Model for Framed {
 
 impl Framed {
     ghost use Rattle.std.specs.Prelude.{◌≡◌, ◌≤◌, ◌++◌, length, take, drop, IfSome, IfNone, Ok, OnOk, OnErr};
+    ghost use Rattle.std.specs.Prelude.{List, ℕ, Some};
+    ghost use Rattle.std.specs.Borrow.{sem};
+    ghost use Rattle.tl_codec.specs.declared.fault.FrameFault.{FrameFault};
+    ghost use Rattle.framing.specs.Holding.{Stands, Answers, IsFault, Rests, taken};
+    ghost use Rattle.transport.specs.contracts.framed.Framed.{the_row};
+    ghost use Rattle.transport.specs.Forms.{framing_of};
     ghost use Rattle.framing.specs.Held.{with_piece};
     ghost use Rattle.transport.specs.Forms.{frame_of, next_number, IsSent};
     ghost use Rattle.transport.specs.Directions.{through, behind};
@@ -47,6 +53,20 @@ impl Framed {
         ensures unchanged_on_memory { OnErr result (self.new ≡ self.old) }
     {
         self.stream.feed_through(alloc, piece, &mut self.reading)
+    }
+
+    /// What comes next in the stream. A packet is lent until the next call.
+    pub(crate) fn next(&mut self) -> Next<'_>
+        ensures answers { (packets : List (List ℕ)) (text : List ℕ)
+            → Stands (framing_of self.old.form) self.old.held packets text → Answers (framing_of self.old.form) packets text result }
+        ensures* after { sem 𝓛 (Rests the_row self.entry (λ after.
+            (after ≡ record self.old { held = after.held })
+            × ((packets : List (List ℕ)) (text : List ℕ)
+            → Stands (framing_of self.old.form) self.old.held packets text → Stands (framing_of self.old.form) after.held (taken packets result) text)
+            × ((fault : FrameFault) → IsFault fault result → after.held.fault ≡ Some fault))) }
+    {
+        let form = self.form;
+        self.stream.next(&form)
     }
 
     /// Puts the frame of a packet at the end, as it is before it is enciphered.

@@ -6,9 +6,9 @@ use crate::framed::Framed;
 use crate::raw::{Raw, START_MAX};
 use crate::start::{Told, look_at};
 use cipher_modes::Ctr;
-use cipher_modes::laws::ctr_pieces_equal_the_whole;
+use cipher_modes::laws::{ctr_pieces_equal_the_whole, ctr_undoes_itself};
 use frame_full::Framer;
-use framing::laws::buffers_stand;
+use framing::laws::{buffers_stand, streams_go_on};
 use framing::{Incoming, Next};
 use octets::{Memory, Octets};
 use std::alloc::Global;
@@ -66,6 +66,7 @@ impl Wire<Raw> {
         ensures refuses { IfStart result (λ bytes. IsRefused (self ++ piece.now) bytes) }
         ensures unchanged_on_memory { IfMemory result (λ wire. wire ≡ self) }
     {
+        buffers_stand::<Form>();
         let (first, count) = self.state.with(piece);
         match look_at(first.as_slice()) {
             Told::Awaited => RawStep::Raw(Wire { state: first }),
@@ -99,7 +100,8 @@ impl Wire<Framed> {
     ghost use Rattle.framing.specs.Streams as streams;
     ghost use Rattle.framing.specs.Held.{nothing};
     ghost use Rattle.framing.specs.Holding.{Answers, IsFault, Rests, taken};
-    ghost use Rattle.transport.specs.contracts.wire.Wire+Framed.{the_row};
+    ghost use Rattle.transport.specs.contracts.framed.Framed as framed;
+    ghost use Rattle.transport.specs.contracts.wire.Wire.{the_row};
     ghost use Rattle.transport.specs.Forms.{framing_of, frame_of, IsSent};
     ghost use Rattle.transport.specs.Directions.{through};
     ghost use Rattle.transport.specs.Wires.{Line, Hears, Tells};
@@ -142,13 +144,13 @@ impl Wire<Framed> {
     pub fn next(&mut self) -> Next<'_>
         ensures answers { (from : Option CtrState) (packets : List (List ℕ)) (bytes : List ℕ)
             → Hears self.old from packets bytes → Answers (framing_of self.old.form) packets (through from bytes) result }
-        ensures* after { sem 𝓛 (Rests the_row self.entry (λ after.
+        ensures* after { sem 𝓛 (Rests (the_row framed.the_row) self.entry (λ after.
             ((from : Option CtrState) (packets : List (List ℕ)) (bytes : List ℕ)
             → Hears self.old from packets bytes → Hears after from (taken packets result) bytes)
             × (after.form ≡ self.old.form) × (after.writing ≡ self.old.writing) × (after.number ≡ self.old.number)
             × ((fault : FrameFault) → IsFault fault result → after.held.fault ≡ Some fault))) }
     {
-        self.state.stream.next(&self.state.form)
+        self.state.next()
     }
 
     /// Puts the frame of a packet at the end, enciphered where the connection is obfuscated. The packet has 4 to 1,048,576
@@ -166,6 +168,13 @@ impl Wire<Framed> {
         ensures same_in { (self.new.form ≡ self.old.form) × (self.new.held ≡ self.old.held) × (self.new.reading ≡ self.old.reading) }
         ensures unchanged_on_memory { OnErr result ((self.new ≡ self.old) × (out.new ≡ out.old)) }
     {
+        ctr_pieces_equal_the_whole();
+        ctr_undoes_itself();
+        frame_short::laws::written_frames();
+        frame_len::laws::written_frames();
+        frame_full::laws::written_frames();
+        frame_full::laws::numbers_go_on();
+        streams_go_on::<Form>();
         let start = out.as_slice().len();
         self.state.frame(alloc, packet, out)?;
         self.state.encipher(alloc, out, start);

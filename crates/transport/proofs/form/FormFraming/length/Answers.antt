@@ -1,12 +1,13 @@
-use Rattle.std.proofs.Common.{rules, ◌≡◌, ℕ, ◌+◌, ◌-◌, ◌*◌, ◌<◌, ◌≤◌, length, ◌/◌, ◌%◌, Bool, true, false, nat_eq, nat_lt, List, [], ◌∷◌, ◌++◌, slice_index_or, slice_set, bit_and, bit_or, Fits, w8, w32, w64, Bor, MutBor}
+use Rattle.std.proofs.Common.{sym, subst}
+use Rattle.framing.specs.Looks.{TellsLength}
 use Rattle.transport.specs.Forms.{framing_of}
-use Rattle.transport.specs.Lawful.{lawful}
+use Rattle.transport.specs.declared.form.Form.{Form}
 use Rattle.transport.proofs.form.FormFraming.length.Goals as goal
 
--- src/form.rt:27:5
 pub returns-in-Intermediate : goal.returns-in-Intermediate
-returns-in-Intermediate c = ?
+returns-in-Intermediate c =
+    subst (λ (f : Form). TellsLength (framing_of f) c.args.text.now c.length-in-Intermediate.result) (sym c.in-Intermediate.is) c.length-in-Intermediate.ensures
 
--- src/form.rt:27:5
 pub returns-in-Padded : goal.returns-in-Padded
-returns-in-Padded c = ?
+returns-in-Padded c =
+    subst (λ (f : Form). TellsLength (framing_of f) c.args.text.now c.length-in-Padded.result) (sym c.in-Padded.is) c.length-in-Padded.ensures
