@@ -1,5 +1,5 @@
-use Rattle.std.proofs.Common.{◌≡◌, ◌++◌, [], List, ℕ, take, drop, length, sym, ap, subst, ◌∙◌, append_assoc}
-use Rattle.std.proofs.lemmas.List.{take-append-drop}
+use Rattle.std.proofs.Common.{◌≡◌, ◌++◌, [], List, ℕ, take, drop, length, sym, ap, ap₂, ◌-◌, subst, ◌∙◌, append_assoc}
+use Rattle.std.proofs.lemmas.List.{take-append-drop, take_rest}
 use Rattle.transport.specs.Starts.{Opening, Starts, IsRefused}
 use Rattle.transport.specs.Wires.{Line, Hears}
 use Rattle.transport.proofs.Starting.{refused_on, starts_on, streams_stand}
@@ -37,10 +37,15 @@ returns-else-is_err-2-clause-opens c =
     let stand = streams_stand first opening (drop start first) looked in
     let fresh : Hears c.new-wire.result opening.up [] [] =
     begun c.buffers_stand.ensures.fresh c.in-Opens.form c.in-Opens.up c.in-Opens.down stand.0 c.new-wire.result c.new-wire.ensures in
+    let slice2 : List ℕ = c.as_slice-in-Opens.result.now in
+    let piece : List ℕ = c.args.piece.now in
+    let used : ℕ = c.with-first.result.1 in
+    let behind : List ℕ = take (length slice2 - start) (drop start slice2) in
     let one = on_ok_get c.feed.result (sym c.is_err.ensures.value ∙ c.if-is_err.false) c.feed.ensures.hears opening.up [] [] fresh in
-    let two = on_ok_get c.feed-in-Opens.result (sym c.is_err-in-Opens.ensures.value ∙ c.if-is_err-2.false) c.feed-in-Opens.ensures.hears opening.up [] (drop start c.as_slice-in-Opens.result.now) one in
-    let rest : drop start c.as_slice-in-Opens.result.now ++ more ≡ drop start first ++ more =
-    ap (λ (l : List ℕ). drop start l ++ more) c.as_slice-in-Opens.ensures.value in
+    let two = on_ok_get c.feed-in-Opens.result (sym c.is_err-in-Opens.ensures.value ∙ c.if-is_err-2.false) c.feed-in-Opens.ensures.hears opening.up [] behind one in
+    let rest : behind ++ take (length piece - used) (drop used piece) ≡ drop start first ++ more =
+    ap₂ (λ (k l : List ℕ). k ++ l) (take_rest slice2 start ∙ ap (λ (l : List ℕ). drop start l) c.as_slice-in-Opens.ensures.value)
+    (take_rest piece used) in
     record {
       opening = opening;
       rest = drop start first ++ more;
