@@ -39,7 +39,7 @@ same_full bytes more long =
     ap (λ (l : List ℕ). starts_with nat_eq l (replicate 4 0)) (drop-append-le 4 bytes more (omega arith))
     ∙ same_word 4 (replicate 4 0) (drop 4 bytes) more refl (omega (arith, length-drop 4 bytes))
 
-same_plain : (bytes more : List ℕ) → 8 ≤ length bytes → begins_plain (bytes ++ more) ≡ begins_plain bytes
+pub same_plain : (bytes more : List ℕ) → 8 ≤ length bytes → begins_plain (bytes ++ more) ≡ begins_plain bytes
 same_plain bytes more long =
     ap₂ (λ (x y : Bool). x || y)
     (ap₂ (λ (x y : Bool). x || y)
@@ -99,11 +99,11 @@ starts_on bytes opening rest more (inr s) =
       opens = s.opens;
     })
 
-up_stands : (wire : List ℕ) → advanced (up_stream None wire 64) 0 ≡ up_stream None wire 64
+pub up_stands : (wire : List ℕ) → advanced (up_stream None wire 64) 0 ≡ up_stream None wire 64
 unfolding up_stream
 up_stands wire = refl
 
-down_stands : (wire : List ℕ) → advanced (down_stream None wire 0) 0 ≡ down_stream None wire 0
+pub down_stands : (wire : List ℕ) → advanced (down_stream None wire 0) 0 ≡ down_stream None wire 0
 unfolding up_stream
 down_stands wire = refl
 

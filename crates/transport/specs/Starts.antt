@@ -3,6 +3,7 @@ use Rattle.std.specs.Prelude.{◌≡◌, ◌<◌, ◌≤◌, ◌⊎◌, ⊤, ℕ
 use Rattle.std.specs.List.{starts_with}
 use Rattle.cipher_modes.specs.CounterMode.{CtrState}
 use Rattle.obfus.specs.Starts as obfus
+use Rattle.obfus.specs.Streams.{ciphered}
 use Rattle.obfus.specs.Reads.{Reads, IsFaultOf}
 use Rattle.obfus.specs.declared.fault.ObfusFault.{ObfusFault}
 use Rattle.obfus.specs.declared.init.Pair.{Pair}
@@ -82,3 +83,10 @@ pub record IsRefused (bytes wire : List ℕ) : Type 0 where
   pub not_plain : obfus.begins_plain bytes ≡ false
   pub fault : ObfusFault
   pub none : IsFaultOf None wire fault
+
+-- The first bytes that a client sends, from those drawn: the start of its form, and where it is obfuscated one for data
+-- centre 2.
+abbrev pub IsSentStart : Bool → Form → List ℕ → List ℕ → Type 0
+IsSentStart false form drawn start = start ≡ start_of form
+IsSentStart true form drawn start =
+    (tag : Tag) × (form_of_tag tag ≡ form) × (start ≡ ciphered None (obfus.start_of tag 2 drawn))

@@ -6,7 +6,7 @@ use Rattle.framing.specs.Holding.{Stands}
 use Rattle.framing.specs.Streams.{Frames, number_after}
 use Rattle.transport.specs.Forms.{framing_of}
 use Rattle.transport.specs.Directions.{through, behind}
-use Rattle.transport.specs.Starts.{Opening, Starts}
+use Rattle.transport.specs.Starts.{Opening, Starts, IsTold}
 use Rattle.transport.specs.declared.form.Form.{Form}
 use Rattle.transport.specs.declared.form.Form.TheVariants.{Abridged, Intermediate, Padded, Full}
 
@@ -46,3 +46,13 @@ pub record HasStarted (line : Line) (bytes : List ℕ) : Type 0 where
   pub form : line.form ≡ opening.form
   pub hears : Hears line opening.up [] rest
   pub tells : Tells line opening.down [] []
+
+-- A client's end of a form that has sent these bytes and no packet yet. Whatever follows them, the server takes them for a
+-- start of that form.
+pub record HasBegun (line : Line) (its : Form) (start : List ℕ) : Type 0 where
+  pub opening : Opening
+  pub opens : opening.form ≡ its
+  pub form : line.form ≡ its
+  pub hears : Hears line opening.down [] []
+  pub tells : Tells line opening.up [] []
+  pub starts : (rest : List ℕ) → IsTold its (start ++ rest) → Starts (start ++ rest) opening rest

@@ -1,8 +1,9 @@
 //! What the first bytes of a connection tell.
 
-ghost use Rattle.std.specs.Prelude.{◌≡◌, ◌≤◌, length, None};
+ghost use Rattle.std.specs.Prelude.{◌≡◌, ◌≢◌, ◌≤◌, length, None};
 ghost use Rattle.obfus.specs.Starts.{begins_full};
-ghost use Rattle.transport.specs.Starts.{form_of_tag};
+ghost use Rattle.transport.specs.Starts.{form_of_tag, start_of};
+ghost use Rattle.transport.specs.declared.form.Form.TheVariants.{Full};
 ghost use Rattle.transport.specs.declared.start.Told.TheVariants.{Opens};
 ghost use Rattle.transport.specs.Told.{TellsStart};
 
@@ -42,6 +43,31 @@ fn form_of_tag(tag: Tag) -> Form
         Tag::Abridged => Form::Abridged,
         Tag::Intermediate => Form::Intermediate,
         Tag::Padded => Form::Padded,
+    }
+}
+
+/// The tag of a form, which isn't the full one.
+pub(crate) fn tag_of(form: Form) -> Tag
+    requires { form ≢ Full }
+    ensures { form_of_tag result ≡ form }
+{
+    match form {
+        Form::Abridged => Tag::Abridged,
+        Form::Intermediate => Tag::Intermediate,
+        Form::Padded => Tag::Padded,
+        Form::Full => unreachable!(),
+    }
+}
+
+/// The bytes of a form's start, where it isn't obfuscated.
+pub(crate) fn start_of(form: Form) -> &'static [u8]
+    ensures { result.now ≡ start_of form }
+{
+    match form {
+        Form::Abridged => b"\xef",
+        Form::Intermediate => b"\xee\xee\xee\xee",
+        Form::Padded => b"\xdd\xdd\xdd\xdd",
+        Form::Full => b"",
     }
 }
 

@@ -4,15 +4,20 @@ use crate::direction::Direction;
 use crate::form::Form;
 use crate::framed::Framed;
 use crate::raw::{Raw, START_MAX};
-use crate::start::{Told, look_at};
+use crate::start::{Told, look_at, start_of, tag_of};
 use cipher_modes::Ctr;
 use cipher_modes::laws::{ctr_pieces_equal_the_whole, ctr_undoes_itself};
+use draws::Draw;
 use frame_full::Framer;
 use framing::laws::{buffers_stand, streams_go_on};
 use framing::{Incoming, Next};
-use octets::{Memory, Octets};
+use obfus::Init;
+use octets::{Buffer, Memory, Octets};
 use std::alloc::Global;
 use std::marker::Model;
+
+/// The data centre that a client names.
+const DATA_CENTRE: u16 = 2;
 
 /// One end of a connection. `Wire<Raw>` is a server's end whose form isn't known yet, `Wire<Framed>` an end of either
 /// side whose form is known. Contracts see its state.
@@ -104,7 +109,11 @@ impl Wire<Framed> {
     ghost use Rattle.transport.specs.contracts.wire.Wire.{the_row};
     ghost use Rattle.transport.specs.Forms.{framing_of, frame_of, IsSent};
     ghost use Rattle.transport.specs.Directions.{through};
-    ghost use Rattle.transport.specs.Wires.{Line, Hears, Tells};
+    ghost use Rattle.std.specs.Prelude.{◌≢◌, true};
+    ghost use Rattle.draws.specs.Draws.{next_bytes};
+    ghost use Rattle.transport.specs.Starts.{IsSentStart};
+    ghost use Rattle.transport.specs.declared.form.Form.TheVariants as forms;
+    ghost use Rattle.transport.specs.Wires.{Line, Hears, Tells, HasBegun};
 
     // An end of this form, whose two directions go through these streams. Takes no memory.
     fn new(alloc: Global, form: Form, reading: Option<Ctr>, writing: Option<Ctr>) -> Wire<Framed>
@@ -119,6 +128,36 @@ impl Wire<Framed> {
                 full: Framer::new(),
             },
         }
+    }
+
+    /// A client's end of this form, and the bytes that it sends first. The full form isn't obfuscated. An obfuscated
+    /// connection draws 8 words.
+    ///
+    /// # Errors
+    ///
+    /// `Memory`, and then nothing was drawn.
+    pub fn client<D: Draw>(
+        alloc: Global,
+        form: Form,
+        obfuscate: bool,
+        draw: &mut D,
+    ) -> Result<(Wire<Framed>, Octets), Memory>
+        requires full_is_plain { obfuscate ≡ true → form ≢ forms.Full }
+        ensures begun { IfOk result (λ made. HasBegun made.0 form made.1) }
+        ensures sent { IfOk result (λ made. IsSentStart obfuscate form (next_bytes D.step 64 draw.old) made.1) }
+        ensures unchanged_on_memory { OnErr result (draw.new ≡ draw.old) }
+    {
+        buffers_stand::<Form>();
+        if !obfuscate {
+            let start = Octets::copy(alloc, start_of(form))?;
+            let wire = Wire::<Framed>::new(alloc, form, None, None);
+            return Ok((wire, start));
+        }
+        let mut start = Buffer::new(alloc, START_MAX)?;
+        let Init { wire, up, down } = Init::make(draw, tag_of(form), DATA_CENTRE);
+        start.push_all(&wire);
+        let wire = Wire::<Framed>::new(alloc, form, Some(down), Some(up));
+        Ok((wire, start.into_octets()))
     }
 
     /// Puts the next piece of the connection behind what came before, deciphered where it is obfuscated. After a fault
