@@ -2,15 +2,15 @@
 
 ghost use Rattle.byteorder.specs.Endian.{little_number};
 ghost use Rattle.call_table.specs.Table.{calls_max};
-ghost use Rattle.client_rules.specs.Asking.{begins_service, fault_at, has_earlier};
+ghost use Rattle.client_rules.specs.Asking.{begins_service, fault_at, has_earlier, is_refused};
 ghost use Rattle.client_core.specs.Told.{TellsFault};
-ghost use Rattle.std.specs.Prelude.{◌≡◌, if◌then◌else◌, ◌<◌, None, option_map, Option, Some, IfOk, OnOk, OnErr, length};
+ghost use Rattle.std.specs.Prelude.{◌≡◌, if◌then◌else◌, ◌<◌, [], None, option_map, Option, Some, IfOk, OnOk, OnErr, length};
 
 use crate::binding::{BindState, Temporary};
 use crate::fault::{NotSent, SubmitFault};
 use crate::waiting::{Asked, Waiting};
 use byteorder::{ByteOrder, LittleEndian};
-use call_table::{CALLS_MAX, CallNo, CallState, Calls};
+use call_table::{CALLS_MAX, CallNo, CallState, Calls, Group};
 use draws::Draw;
 use msg_ids::{Moment, Numbers};
 use octets::{IdList, Memory};
@@ -77,10 +77,10 @@ impl Model for Core {
 
 impl Core {
     ghost use Rattle.draws.specs.Draws.{draw_after, word_after};
-    ghost use Rattle.call_table.specs.Table.{IsGiven, call_no, state_at};
-    ghost use Rattle.call_table.specs.Kept.{shown as told};
+    ghost use Rattle.call_table.specs.Table.{Queued, IsGiven, call_no, state_at};
+    ghost use Rattle.call_table.specs.Kept.{shown as told, state_in};
     ghost use Rattle.client_rules.specs.Client.{Client, fresh_client, calls_of};
-    ghost use Rattle.client_rules.specs.Asking.{binding_of, submit_fault, submitted, pinged, salts_asked};
+    ghost use Rattle.client_rules.specs.Asking.{binding_of, submit_fault, submitted, ticked, pinged, salts_asked};
     ghost use Rattle.client_core.specs.Kept.{Stands, temporary_in};
     ghost use Rattle.client_core.specs.Told.{shown};
 
@@ -93,6 +93,7 @@ impl Core {
     ) -> Result<Core, Memory>
         ensures stands { IfOk result (λ core. Stands core (fresh_client key (option_map temporary_in temporary) (word_after D.step 0 draw.old))) }
         ensures after { OnOk result (draw.new ≡ draw_after D.step 1 draw.old) }
+        ensures learnt { IfOk result (λ core. core.rest.learnt ≡ []) }
     {
         let calls = Calls::new(alloc)?;
         Ok(Core {
@@ -153,6 +154,9 @@ impl Core {
         ensures refused { (client : Client) → Stands self.old client → TellsFault (submit_fault body.now after client) result }
         ensures call { IfOk result (λ call. (client : Client) → Stands self.old client → call ≡ call_no (length (calls_of client))) }
         ensures stands { OnOk result ((client : Client) → Stands self.old client → Stands self.new (submitted body.now after client)) }
+        ensures rest { self.new.rest ≡ self.old.rest }
+        ensures given { IfOk result (λ call. IsGiven call self.new.calls.rows) }
+        ensures queued { IfOk result (λ call. state_in call self.new.calls.rows ≡ Some Queued) }
         ensures unchanged { OnErr result (self.new ≡ self.old) }
     {
         check(self.calls.count(), body, after)?;
@@ -160,6 +164,15 @@ impl Core {
             Ok(call) => Ok(call),
             Err(Memory) => Err(SubmitFault::Memory),
         }
+    }
+
+    /// The states of the calls are to be asked for, where one is sent.
+    #[tactic(auto, using(crate::proofs::Tests::any_of_group))]
+    pub(crate) fn tick(&mut self)
+        ensures { (client : Client) → Stands self.old client → Stands self.new (ticked client) }
+    {
+        let has_sent = self.calls.members(Group::Outstanding) > 0;
+        self.waiting.states = has_sent || self.waiting.states;
     }
 
     /// A ping waits, in place of an earlier one.
@@ -228,8 +241,15 @@ fn service_tag(body: &[u8]) -> Option<u32>
         return None;
     }
     let tag = LittleEndian::read_u32(body);
-    if tag == GZIP_PACKED || !is_service(tag) {
-        return None;
+    if is_refused(tag) { Some(tag) } else { None }
+}
+
+#[tactic(auto, using(crate::proofs::Tests::refused_is))]
+fn is_refused(tag: u32) -> bool
+    ensures { result ≡ is_refused tag }
+{
+    if tag == GZIP_PACKED {
+        return false;
     }
-    Some(tag)
+    is_service(tag)
 }

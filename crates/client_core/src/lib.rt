@@ -7,8 +7,13 @@
 mod binding;
 mod core_client;
 mod fault;
+mod opening;
 mod waiting;
 
 pub use binding::BindState;
 pub use call_table::{CallNo, CallState, Cause};
 pub use fault::{NotSent, SubmitFault};
+pub use opening::OpeningClient;
+
+#[cfg(test)]
+mod tests;
