@@ -167,7 +167,7 @@ impl Core {
     }
 
     /// The states of the calls are to be asked for, where one is sent.
-    #[tactic(auto, using(crate::proofs::Tests::any_of_group))]
+    #[tactic(auto, using(crate::proofs::TestLemmas::any_of_group))]
     pub(crate) fn tick(&mut self)
         ensures { (client : Client) → Stands self.old client → Stands self.new (ticked client) }
     {
@@ -244,7 +244,6 @@ fn service_tag(body: &[u8]) -> Option<u32>
     if is_refused(tag) { Some(tag) } else { None }
 }
 
-#[tactic(auto, using(crate::proofs::Tests::refused_is))]
 fn is_refused(tag: u32) -> bool
     ensures { result ≡ is_refused tag }
 {
