@@ -3,7 +3,6 @@ use Rattle.std.proofs.Common.{◌≡◌, ℕ, ◌+◌, Bool, true, false, nat_eq
 use Rattle.std.specs.Prelude.{IsTrue, ◌↔◌, ◌≢◌, if◌then◌else◌, ◌||◌}
 use Rattle.std.proofs.lemmas.Bool.Decides.{nat_tests}
 use Rattle.service_tl.specs.Schema.{service_numbers, gzip_packed}
-use Rattle.call_table.specs.declared.call.CallNo.{CallNo}
 use Rattle.call_table.specs.declared.call.Group.{Group}
 use Rattle.call_table.specs.Table.{Call, call_no, group_of, is_in, places_from}
 use Rattle.client_rules.specs.Asking.{is_refused}

@@ -1,8 +1,8 @@
 -- What a client keeps, and the client that it stands for.
-use Rattle.std.specs.Prelude.{◌≡◌, ℕ, false, Option, option_map, List}
+use Rattle.std.specs.Prelude.{◌≡◌, option_map}
 use Rattle.call_table.specs.Table.{no_calls}
 use Rattle.call_table.specs.Kept.{Contents as Calls, Stands as StandsFor}
-use Rattle.client_rules.specs.Client.{Client, Clock, Temporary, Waiting, States, StateRequest, Binding, Needed, Asked, Held, Bound, Refused}
+use Rattle.client_rules.specs.Client.{Client, Temporary, Waiting, States, StateRequest, Binding, Needed, Asked, Held, Bound, Refused}
 use Rattle.client_core.specs.declared.binding.Binding.{Binding as KeptBinding}
 use Rattle.client_core.specs.declared.binding.Binding.TheVariants as kept
 use Rattle.client_core.specs.declared.binding.Temporary.{Temporary as KeptTemporary}
@@ -22,8 +22,10 @@ binding_in (kept.Refused code) = Refused code
 abbrev pub temporary_in : KeptTemporary → Temporary
 temporary_in temporary =
     record {
-      perm = temporary.perm; expires = temporary.expires;
-      binding = binding_in temporary.binding; is_alone = temporary.is_alone;
+      perm = temporary.perm;
+      expires = temporary.expires;
+      binding = binding_in temporary.binding;
+      is_alone = temporary.is_alone;
     }
 
 abbrev pub states_in : KeptStates → States
@@ -32,8 +34,12 @@ states_in states = record { request = states.request; info = states.info }
 abbrev pub waiting_in : KeptWaiting → Waiting
 waiting_in waiting =
     record {
-      told = option_map states_in waiting.told; resent = waiting.resent; states = waiting.states;
-      ping = waiting.ping; salts = waiting.salts; destroyed = waiting.destroyed;
+      told = option_map states_in waiting.told;
+      resent = waiting.resent;
+      states = waiting.states;
+      ping = waiting.ping;
+      salts = waiting.salts;
+      destroyed = waiting.destroyed;
     }
 
 abbrev pub asked_in : KeptAsked → StateRequest

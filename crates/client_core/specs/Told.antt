@@ -1,6 +1,5 @@
 -- What is answered to a client's user.
-use Rattle.std.specs.Prelude.{◌≡◌, ℕ, Option, Some, None, option_map, Result, Ok, Err}
-use Rattle.call_table.specs.declared.call.CallNo.{CallNo}
+use Rattle.std.specs.Prelude.{◌≡◌, Option, Some, None, Result, Ok, Err}
 use Rattle.client_rules.specs.Client.{Binding, Needed, Asked, Held, Bound, Refused}
 use Rattle.client_rules.specs.Asking.{Fault}
 use Rattle.client_rules.specs.Asking as fault

@@ -22,11 +22,7 @@ pub enum BindState {
 #[derive(Debug, Drop)]
 pub(crate) enum Binding {
     Needed,
-    Asked {
-        number: u64,
-        seq: u32,
-        body: Octets,
-    },
+    Asked { number: u64, seq: u32, body: Octets },
     Held,
     Bound,
     Refused(u32),

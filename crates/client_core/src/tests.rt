@@ -34,13 +34,28 @@ fn bodies_that_are_no_calls(rt: HostRuntime) -> Result<(), Fail> {
     let most = vec![in alloc; 0u8; 262_144]?;
     let ack = [0x59, 0xb4, 0xd6, 0x62];
     let packed = [0xa1, 0xcf, 0x72, 0x30];
-    assert_eq!(rt; submit(&mut client, alloc, &long, None), Err(SubmitFault::TooLong { len: 262_148 }));
-    assert_eq!(rt; submit(&mut client, alloc, &[1, 2], None), Err(SubmitFault::NotWords { len: 2 }));
-    assert_eq!(rt; submit(&mut client, alloc, &ack, None), Err(SubmitFault::ServiceTag { tag: 0x62d6b459 }));
-    assert_eq!(rt; submit(&mut client, alloc, &most, Some(CallNo { n: 1 })), Err(SubmitFault::NoSuchCall));
+    assert_eq!(rt;
+        submit(&mut client, alloc, &long, None),
+        Err(SubmitFault::TooLong { len: 262_148 })
+    );
+    assert_eq!(rt;
+        submit(&mut client, alloc, &[1, 2], None),
+        Err(SubmitFault::NotWords { len: 2 })
+    );
+    assert_eq!(rt;
+        submit(&mut client, alloc, &ack, None),
+        Err(SubmitFault::ServiceTag { tag: 0x62d6b459 })
+    );
+    assert_eq!(rt;
+        submit(&mut client, alloc, &most, Some(CallNo { n: 1 })),
+        Err(SubmitFault::NoSuchCall)
+    );
     assert_eq!(rt; client.calls(), 0);
     assert_eq!(rt; submit(&mut client, alloc, &packed, None), Ok(true));
-    assert_eq!(rt; submit(&mut client, alloc, &most, Some(CallNo { n: 1 })), Ok(true));
+    assert_eq!(rt;
+        submit(&mut client, alloc, &most, Some(CallNo { n: 1 })),
+        Ok(true)
+    );
     assert_eq!(rt; client.calls(), 2);
     Ok(())
 }
