@@ -7,15 +7,17 @@ ghost use Rattle.service_tl.specs.declared.lists.Message.{Message};
 ghost use Rattle.service_tl.specs.declared.item.Item.TheVariants.{RpcResult, Pong, NewSessionCreated, MsgsAck, MsgsStateInfo, BadMsgNotification, BadServerSalt, DestroySessionOk, DestroySessionNone};
 ghost use Rattle.service_tl.specs.Items.{ItemFits, spelling_of};
 ghost use Rattle.service_tl.specs.Words.{IsWords};
-ghost use Rattle.envelope.specs.Packet.{least_padding};
+ghost use Rattle.auth_keys.specs.declared.ring.RingKey.{RingKey};
+ghost use Rattle.envelope.specs.Packet.{Lock, least_padding};
 ghost use Rattle.packing.specs.Packing.{groups, packets_of};
-ghost use Rattle.server_rules.specs.Event.{Setting, Speaker};
+ghost use Rattle.server_rules.specs.Event.{Sent, Setting, Speaker};
 ghost use Rattle.server_rules.specs.Sending.{padding_bytes, seals};
+ghost use Rattle.owing.specs.declared.outs.Out.{Out};
 ghost use Rattle.owing.specs.declared.said.Said.{Said};
 ghost use Rattle.owing.specs.Items.{CanBeSaid, acks_bytes, bad_salt_bytes, destroyed_bytes, item_of, new_session_bytes, notice_bytes, pong_bytes, result_bytes, said_bytes, salts_bytes, salts_item, states_bytes};
 ghost use Rattle.owing.specs.Dues.{bodies_bytes};
 ghost use Rattle.owing.specs.Batch.{packets_most};
-ghost use Rattle.owing.specs.Outs.{draw_after_sent, sent_of};
+ghost use Rattle.owing.specs.Outs.{AreSent, draw_after_sent, sent_of};
 
 use draws::Draw;
 use service_tl::laws::items_are_words;
@@ -53,6 +55,11 @@ pub fn sent_as_the_rules_say<D: Draw>()
           sent = speaker.sent ++ sent_of setting.step (record { key = speaker.session.key; session = speaker.session.number; salt = salt }) messages speaker.draw;
         } }
     ensures padded { (body : ℕ) → padding_bytes body ≡ least_padding body }
+{}
+
+/// As many packets go out as are sent.
+pub fn sent_one_for_one()
+    ensures { (lock : Lock) (ring : List RingKey) (sent : List Sent) (outs : List Out) → AreSent lock ring sent outs → length sent ≡ length outs }
 {}
 
 // What is said has so many bytes, which are whole words and can go in a packet.

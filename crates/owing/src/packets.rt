@@ -6,7 +6,7 @@ ghost use Rattle.auth_keys.specs.Rings.{entry_of};
 ghost use Rattle.envelope.specs.Packet.{body_max};
 ghost use Rattle.msg_ids.specs.Counters.{room};
 ghost use Rattle.containers.specs.Lent.{message_of};
-ghost use Rattle.packing.specs.Packing.{IsPacket, after_outer, after_packets, outer_of, packed, packets_of};
+ghost use Rattle.packing.specs.Packing.{IsPacket, after_outer, after_packets, groups, outer_of, packed, packets_of};
 ghost use Rattle.server_rules.specs.Event.{Sent};
 ghost use Rattle.owing.specs.Batch.{IsPlace, packed_most, packets_most, seal_most};
 ghost use Rattle.owing.specs.Outs.{AreSent, GoesOn, IsSent, draw_after_one, draw_after_sent, one_sent, sent_of};
@@ -140,6 +140,7 @@ impl Packets {
             → AreSent S.lock (S.keys seal.now) (before ++ sent_of D.step header (packets_of now numbers.old owing.now.messages) draw.old) outs.new.outs }
         ensures counted { numbers.new ≡ after_packets now numbers.old owing.now.messages }
         ensures drawn { draw.new ≡ draw_after_sent D.step (packets_of now numbers.old owing.now.messages) draw.old }
+        ensures left { outs.new.room + length (groups owing.now.messages) ≡ outs.old.room }
         ensures room_lasts { outs.old.room ≤ outs.new.room + packets_most self.messages self.bytes }
         ensures numbers_last { room numbers.old ≤ room numbers.new + packets_most self.messages self.bytes }
     {

@@ -163,29 +163,34 @@ fn what_is_said_is_spelt(rt: HostRuntime) -> Result<(), Fail> {
 }
 
 #[test]
-fn fifteen_great_results_go_by_threes(rt: HostRuntime) -> Result<(), Fail> {
+fn great_results_go_by_threes(rt: HostRuntime) -> Result<(), Fail> {
     let alloc = rt.alloc();
     let seal = ClearSeal::new(ring(alloc)?);
-    let content = vec![in alloc; 0u8; 262_144]?;
-    let mut owing = Owing::new(alloc, 15, 15 * 262_156)?;
+    let zeros = vec![in alloc; 0u8; 262_144]?;
+    let content = zeros.as_slice();
     let mut numbers = Numbers::new();
-    for _ in 0..15 {
-        owing.result(Moment::new(0), &mut numbers, 4, content.as_slice());
-    }
-    let packets = Packets::new(alloc, 15, 15 * 262_156)?;
-    let mut outs = Outs::new(alloc, packets_most(15, 15 * 262_156))?;
+    assert!(rt; seal.has(KEY_ID) && numbers.room() >= 16 && content.len() == 262_144);
+    let mut owing = Owing::new(alloc, 4, 1_048_624)?;
+    let packets = Packets::new(alloc, 4, 1_048_624)?;
+    let mut outs = Outs::new(alloc, packets_most(4, 1_048_624))?;
+    let now = Moment::new(0);
+    owing.result(now, &mut numbers, 4, content);
+    owing.result(now, &mut numbers, 8, content);
+    owing.result(now, &mut numbers, 12, content);
+    owing.result(now, &mut numbers, 16, content);
+    let mut draw = StepDraw::new();
     packets.send(
-        Moment::new(0),
+        now,
         &mut numbers,
         &owing,
         HEADER,
         &seal,
-        &mut StepDraw::new(),
+        &mut draw,
         &mut outs,
     );
-    assert_eq!(rt; outs.as_slice().len(), 5);
-    for out in outs.as_slice() {
-        assert_eq!(rt; out.packet.as_slice().len(), 786_600);
-    }
+    let sent = outs.as_slice();
+    assert_eq!(rt; sent.len(), 2);
+    assert_eq!(rt; sent[0].packet.as_slice().len(), 786_600);
+    assert_eq!(rt; sent[1].packet.as_slice().len(), 262_232);
     Ok(())
 }

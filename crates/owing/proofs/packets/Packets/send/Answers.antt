@@ -164,3 +164,12 @@ returns-clause-numbers_last g c =
     subst P (sym c.lent-parts.ensures.lent) (record { few = omega (arith, c.lent-parts.ensures.few, c.requires.few); short = omega (arith, c.lent-parts.ensures.short, c.requires.short); go = c.lent-parts.ensures.can_go }) in
     let few = packets-few messages c.args.self.messages c.args.self.bytes left.few left.short in
     omega (arith, few, c.loop-start.invariant.numbers_last)
+
+pub returns-clause-left : goal.returns-clause-left
+returns-clause-left g c =
+    let parts = c.lent-parts.result.items in
+    let messages = map message_of parts in
+    let long : length messages ≤ c.loop-start.start = omega (arith, length-map parts message_of, c.len.ensures, c.loop-start-test.false) in
+    let none : drop c.loop-start.start messages ≡ [] = drop_of_length-le messages long in
+    let ended : length (groups (drop c.loop-start.start messages)) ≡ 0 = ap (λ (rest : List Message). length (groups rest)) none in
+    rw (← c.lent-parts.ensures.lent) (omega (arith, ended, c.loop-start.invariant.room_lasts))

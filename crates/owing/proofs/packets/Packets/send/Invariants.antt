@@ -25,7 +25,7 @@ invariant-loop-start g l =
           (sent_of g.D.Draw.step l.header (packets_of l.now l.fn.numbers messages) l.fn.draw);
       drawn : draw_after_sent g.D.Draw.step (outers_of l.now l.numbers (groups rest)) l.draw ≡ draw_after_sent g.D.Draw.step (packets_of l.now l.fn.numbers messages) l.fn.draw;
       counted : after_outers l.now l.numbers (groups rest) ≡ after_packets l.now l.fn.numbers messages;
-      room_lasts : l.fn.outs.room + length (groups rest) ≤ l.outs.room + length (groups messages);
+      room_lasts : l.fn.outs.room + length (groups rest) ≡ l.outs.room + length (groups messages);
       numbers_last : room l.fn.numbers + length (groups rest) ≤ room l.numbers + length (groups messages);
     }
 
