@@ -1,6 +1,6 @@
 //! A session.
 
-ghost use Rattle.std.specs.Prelude.{◌≡◌, ◌≤◌, ◌<◌, ◌+◌, ℕ, List, [], length, min, not, IfOk};
+ghost use Rattle.std.specs.Prelude.{◌≡◌, ◌≤◌, ◌<◌, ◌+◌, ℕ, List, [], length, min, not, IfOk, IsSome};
 ghost use Rattle.draws.specs.Draws.{draw_after, word_after};
 ghost use Rattle.salt_line.specs.Rows.{future_rows_max};
 ghost use Rattle.service_tl.specs.declared.item.Item.TheVariants.{Pong};
@@ -9,16 +9,22 @@ ghost use Rattle.server_rules.specs.Server.{Session, has_accepted, mark_in};
 ghost use Rattle.server_rules.specs.Answer.{session_for};
 ghost use Rattle.server_rules.specs.Speaking.{says, says_it_is_new};
 ghost use Rattle.server_rules.specs.Rows.{acknowledges, notices, tells_salts};
+ghost use Rattle.auth_keys.specs.Rings.{entry_of};
+ghost use Rattle.server_rules.specs.Sending.{sends};
+ghost use Rattle.owing.specs.Batch.{packets_most};
+ghost use Rattle.owing.specs.Outs.{AreSent};
 ghost use Rattle.owing.specs.Items.{acks_bytes, bad_salt_bytes, destroyed_bytes, destroyed_item, ids_max, new_session_bytes, pong_bytes, salts_bytes};
 ghost use Rattle.standing.specs.Standing.{Stands, numbers_left};
 ghost use Rattle.standing.specs.Says.{Keys, Says, setting_of};
 
 use draws::Draw;
+use envelope::Seal;
 use inbox::{Inbox, Mark};
 use msg_ids::{Moment, Numbers};
 use octets::Memory;
 use outbox::Outbox;
-use owing::Owing;
+use owing::laws::sent_as_the_rules_say;
+use owing::{Header, Outs, Owing, Packets};
 use salt_line::{SaltLine, SaltRow};
 use std::alloc::Global;
 
@@ -207,5 +213,41 @@ impl Standing {
         let mut rows = [NO_SALT; SALT_ROWS_MAX];
         let told = self.salts.future(now, count as usize, draw, &mut rows);
         owing.salts(now, &mut self.numbers, request, &rows[..told]);
+    }
+
+    /// Sends all that it owes, under its current salt: in packets, whose containers are numbered now, one sealed after the
+    /// other. Takes no memory.
+    pub fn sends<S: Seal, D: Draw>(
+        &mut self,
+        now: Moment,
+        owing: &Owing,
+        packets: Packets,
+        seal: &S,
+        draw: &mut D,
+        outs: &mut Outs,
+    )
+        requires few { owing.now.places_taken ≤ packets.messages }
+        requires short { owing.now.bytes_taken ≤ packets.bytes }
+        requires key { IsSome (entry_of self.old.key (S.keys seal.now)) }
+        requires numbers { packets_most packets.messages packets.bytes ≤ numbers_left self.old }
+        requires outs { packets_most packets.messages packets.bytes ≤ outs.old.room }
+        requires latest { self.old.salts.latest ≤ now }
+        ensures stands { (keys : Keys) (speaker : Speaker D) → Says now self.old owing.now draw.old speaker
+            → Stands now self.new (sends (setting_of now D.step keys) owing.now.messages speaker).session }
+        ensures drawn { (keys : Keys) (speaker : Speaker D) → Says now self.old owing.now draw.old speaker
+            → draw.new ≡ (sends (setting_of now D.step keys) owing.now.messages speaker).draw }
+        ensures sent { (keys : Keys) (speaker : Speaker D) → Says now self.old owing.now draw.old speaker
+            → AreSent S.lock (S.keys seal.now) speaker.sent outs.old.outs
+            → AreSent S.lock (S.keys seal.now) (sends (setting_of now D.step keys) owing.now.messages speaker).sent outs.new.outs }
+        ensures room_lasts { outs.old.room ≤ outs.new.room + packets_most packets.messages packets.bytes }
+    {
+        sent_as_the_rules_say::<D>();
+        let salt = self.salts.current(now, draw);
+        let header = Header {
+            key: self.key,
+            session: self.number,
+            salt,
+        };
+        packets.send(now, &mut self.numbers, owing, header, seal, draw, outs);
     }
 }
