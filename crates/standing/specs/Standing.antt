@@ -26,3 +26,11 @@ pub record Stands (now : ℕ) (standing : Standing) (session : Session) : Type 0
 -- for how many further messages it has numbers
 abbrev pub numbers_left : Standing → ℕ
 numbers_left standing = room standing.numbers
+
+-- its salts were needed at no later moment than this
+abbrev pub IsAt : ℕ → Standing → Type 0
+IsAt now standing = standing.salts.latest ≤ now
+
+-- the key that it is a session of
+abbrev pub key_of : Standing → ℕ
+key_of standing = standing.key

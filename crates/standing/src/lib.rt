@@ -6,3 +6,6 @@
 mod standing;
 
 pub use standing::Standing;
+
+#[cfg(test)]
+mod tests;

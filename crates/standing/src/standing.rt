@@ -1,7 +1,8 @@
 //! A session.
 
-ghost use Rattle.std.specs.Prelude.{◌≡◌, ◌≤◌, ◌<◌, ◌+◌, ℕ, List, [], length, min, not, IfOk, IsSome};
+ghost use Rattle.std.specs.Prelude.{◌≡◌, ◌≤◌, ◌<◌, ◌+◌, ℕ, List, [], length, min, not, IfOk, IsSome, OnOk};
 ghost use Rattle.draws.specs.Draws.{draw_after, word_after};
+ghost use Rattle.msg_ids.specs.Counters.{none_given, room};
 ghost use Rattle.salt_line.specs.Rows.{future_rows_max};
 ghost use Rattle.service_tl.specs.declared.item.Item.TheVariants.{Pong};
 ghost use Rattle.server_rules.specs.Event.{Speaker};
@@ -14,7 +15,7 @@ ghost use Rattle.server_rules.specs.Sending.{sends};
 ghost use Rattle.owing.specs.Batch.{packets_most};
 ghost use Rattle.owing.specs.Outs.{AreSent};
 ghost use Rattle.owing.specs.Items.{acks_bytes, bad_salt_bytes, destroyed_bytes, destroyed_item, ids_max, new_session_bytes, pong_bytes, salts_bytes};
-ghost use Rattle.standing.specs.Standing.{Stands, numbers_left};
+ghost use Rattle.standing.specs.Standing.{IsAt, Stands, key_of, numbers_left};
 ghost use Rattle.standing.specs.Says.{Keys, Says, setting_of};
 
 use draws::Draw;
@@ -72,7 +73,10 @@ impl Standing {
     ) -> Result<Standing, Memory>
         ensures stands { (keys : Keys) (salt seq : ℕ) (body : List ℕ) → IfOk result (λ standing. Stands now standing (session_for (setting_of now D.step keys)
             (record { key = key; salt = salt; session = number; number = first; seq = seq; body = body }) draw.old)) }
-        ensures drawn { draw.new ≡ draw_after D.step 2 draw.old }
+        ensures drawn { OnOk result (draw.new ≡ draw_after D.step 2 draw.old) }
+        ensures key { IfOk result (λ standing. key_of standing ≡ key) }
+        ensures numbers { IfOk result (λ standing. numbers_left standing ≡ room none_given) }
+        ensures at { IfOk result (IsAt now) }
     {
         let unique = draw.word();
         let salt = draw.word();
@@ -107,12 +111,14 @@ impl Standing {
         requires place { 0 < owing.old.places }
         requires bytes { new_session_bytes ≤ owing.old.room }
         requires numbers { 0 < numbers_left self.old }
-        requires latest { self.old.salts.latest ≤ now }
+        requires at { IsAt now self.old }
         ensures says { (keys : Keys) (speaker : Speaker D) → Says now self.old owing.old draw.old speaker
             → Says now self.new owing.new draw.new (says_it_is_new (setting_of now D.step keys) speaker) }
         ensures places { owing.new.places + 1 ≡ owing.old.places }
         ensures left { owing.new.room + new_session_bytes ≡ owing.old.room }
         ensures numbers_last { numbers_left self.old ≤ numbers_left self.new + 1 }
+        ensures same_key { key_of self.new ≡ key_of self.old }
+        ensures at { IsAt now self.old → IsAt now self.new }
     {
         let salt = self.salts.current(now, draw);
         owing.new_session(now, &mut self.numbers, self.first, self.unique, salt);
@@ -129,6 +135,8 @@ impl Standing {
         ensures places { owing.old.places ≤ owing.new.places + 1 }
         ensures left { owing.old.room ≤ owing.new.room + acks_bytes (length ids.now) }
         ensures numbers_last { numbers_left self.old ≤ numbers_left self.new + 1 }
+        ensures same_key { key_of self.new ≡ key_of self.old }
+        ensures at { IsAt now self.old → IsAt now self.new }
     {
         if !ids.is_empty() {
             owing.acks(now, &mut self.numbers, ids);
@@ -148,12 +156,14 @@ impl Standing {
         requires place { 0 < owing.old.places }
         requires bytes { bad_salt_bytes ≤ owing.old.room }
         requires numbers { 0 < numbers_left self.old }
-        requires latest { self.old.salts.latest ≤ now }
+        requires at { IsAt now self.old }
         ensures says { (keys : Keys) (speaker : Speaker D) → Says now self.old owing.old draw.old speaker
             → Says now self.new owing.new draw.new (notices (setting_of now D.step keys) number seq code speaker) }
         ensures places { owing.new.places + 1 ≡ owing.old.places }
         ensures left { owing.old.room ≤ owing.new.room + bad_salt_bytes }
         ensures numbers_last { numbers_left self.old ≤ numbers_left self.new + 1 }
+        ensures same_key { key_of self.new ≡ key_of self.old }
+        ensures at { IsAt now self.old → IsAt now self.new }
     {
         if code == WRONG_SALT {
             let salt = self.salts.current(now, draw);
@@ -173,6 +183,8 @@ impl Standing {
         ensures places { owing.new.places + 1 ≡ owing.old.places }
         ensures left { owing.new.room + pong_bytes ≡ owing.old.room }
         ensures numbers_last { numbers_left self.old ≤ numbers_left self.new + 1 }
+        ensures same_key { key_of self.new ≡ key_of self.old }
+        ensures at { IsAt now self.old → IsAt now self.new }
     {
         owing.pong(now, &mut self.numbers, message, ping);
     }
@@ -187,6 +199,8 @@ impl Standing {
         ensures places { owing.new.places + 1 ≡ owing.old.places }
         ensures left { owing.new.room + destroyed_bytes ≡ owing.old.room }
         ensures numbers_last { numbers_left self.old ≤ numbers_left self.new + 1 }
+        ensures same_key { key_of self.new ≡ key_of self.old }
+        ensures at { IsAt now self.old → IsAt now self.new }
     {
         owing.destroyed(now, &mut self.numbers, session, ok);
     }
@@ -203,12 +217,14 @@ impl Standing {
         requires place { 0 < owing.old.places }
         requires bytes { salts_bytes (min count future_rows_max) ≤ owing.old.room }
         requires numbers { 0 < numbers_left self.old }
-        requires latest { self.old.salts.latest ≤ now }
+        requires at { IsAt now self.old }
         ensures says { (keys : Keys) (speaker : Speaker D) → Says now self.old owing.old draw.old speaker
             → Says now self.new owing.new draw.new (tells_salts (setting_of now D.step keys) request (min count future_rows_max) speaker) }
         ensures places { owing.new.places + 1 ≡ owing.old.places }
         ensures left { owing.new.room + salts_bytes (min count future_rows_max) ≡ owing.old.room }
         ensures numbers_last { numbers_left self.old ≤ numbers_left self.new + 1 }
+        ensures same_key { key_of self.new ≡ key_of self.old }
+        ensures at { IsAt now self.old → IsAt now self.new }
     {
         let mut rows = [NO_SALT; SALT_ROWS_MAX];
         let told = self.salts.future(now, count as usize, draw, &mut rows);
@@ -228,10 +244,10 @@ impl Standing {
     )
         requires few { owing.now.places_taken ≤ packets.messages }
         requires short { owing.now.bytes_taken ≤ packets.bytes }
-        requires key { IsSome (entry_of self.old.key (S.keys seal.now)) }
+        requires key { IsSome (entry_of (key_of self.old) (S.keys seal.now)) }
         requires numbers { packets_most packets.messages packets.bytes ≤ numbers_left self.old }
         requires outs { packets_most packets.messages packets.bytes ≤ outs.old.room }
-        requires latest { self.old.salts.latest ≤ now }
+        requires at { IsAt now self.old }
         ensures stands { (keys : Keys) (speaker : Speaker D) → Says now self.old owing.now draw.old speaker
             → Stands now self.new (sends (setting_of now D.step keys) owing.now.messages speaker).session }
         ensures drawn { (keys : Keys) (speaker : Speaker D) → Says now self.old owing.now draw.old speaker
@@ -240,6 +256,9 @@ impl Standing {
             → AreSent S.lock (S.keys seal.now) speaker.sent outs.old.outs
             → AreSent S.lock (S.keys seal.now) (sends (setting_of now D.step keys) owing.now.messages speaker).sent outs.new.outs }
         ensures room_lasts { outs.old.room ≤ outs.new.room + packets_most packets.messages packets.bytes }
+        ensures numbers_last { numbers_left self.old ≤ numbers_left self.new + packets_most packets.messages packets.bytes }
+        ensures same_key { key_of self.new ≡ key_of self.old }
+        ensures at { IsAt now self.new }
     {
         sent_as_the_rules_say::<D>();
         let salt = self.salts.current(now, draw);
