@@ -1,11 +1,11 @@
 -- What a client is asked to do by its user, none of which sends anything at once.
-use Rattle.std.specs.Prelude.{ℕ, ◌+◌, ◌%◌, ◌==◌, ◌&&◌, ◌||◌, not, nat_lt, nat_le, Bool, true, false, if◌then◌else◌, Option, Some, None, option_map, List, [], ◌∷◌, length, map}
+use Rattle.std.specs.Prelude.{ℕ, ◌%◌, ◌==◌, ◌&&◌, ◌||◌, not, nat_lt, nat_le, Bool, true, false, if◌then◌else◌, Option, Some, None, option_map, List, length, map}
 use Rattle.std.specs.List.{list_any}
 use Rattle.byteorder.specs.Endian.{little_number}
 use Rattle.service_tl.specs.Schema.{service_numbers, gzip_packed}
 use Rattle.call_table.specs.declared.call.CallNo.{CallNo}
-use Rattle.call_table.specs.Table.{Call, calls_max, added, call_no, at, flagged, is_sent}
-use Rattle.client_rules.specs.Client.{Binding, Needed, Asked, Held, Bound, Refused, Temporary, Client, calls_of, with_calls, with_call, has_sent}
+use Rattle.call_table.specs.Table.{Call, calls_max, added, at, flagged, is_sent}
+use Rattle.client_rules.specs.Client.{Binding, Asked, Temporary, Client, calls_of, with_calls, with_call, has_sent}
 
 -- a body begins with this constructor
 abbrev pub begins : ℕ → List ℕ → Bool

@@ -1,7 +1,7 @@
 -- A client: its keys, its present session and the former ones, what it learnt of the server's session, its numbers, its
 -- calls, and what waits to be sent (core.telegram.org/mtproto/description, "Session", "Server Salt" and "Message
 -- Identifier"; core.telegram.org/mtproto/pfs).
-use Rattle.std.specs.Prelude.{ℕ, ◌+◌, ◌-◌, max, Bool, true, false, not, is_none, is_some, Option, Some, None, option_map, List, [], ◌∷◌, length}
+use Rattle.std.specs.Prelude.{ℕ, ◌+◌, ◌-◌, max, Bool, true, false, Option, None, option_map, List, []}
 use Rattle.std.specs.List.{list_any}
 use Rattle.service_tl.specs.declared.lists.Message.{Message}
 use Rattle.msg_ids.specs.Moments.{moment_of}

@@ -1,5 +1,5 @@
 -- The events of a client, one after the other.
-use Rattle.std.specs.Prelude.{ℕ, Bool, true, false, if◌then◌else◌, is_none, Option, Some, None, option_map, List, [], ◌∷◌, ◌++◌, fold}
+use Rattle.std.specs.Prelude.{ℕ, if◌then◌else◌, is_none, Option, Some, None, List, [], ◌∷◌, ◌++◌, fold}
 use Rattle.draws.specs.Draws.{draw_after, word_after}
 use Rattle.msg_ids.specs.Counters.{none_given}
 use Rattle.envelope.specs.declared.parts.Envelope.{Envelope}
@@ -9,7 +9,7 @@ use Rattle.call_table.specs.declared.call.Fate.TheVariants as fate
 use Rattle.call_table.specs.declared.call.Cause.TheVariants as cause
 use Rattle.call_table.specs.Table.{State}
 use Rattle.call_table.specs.Table as table
-use Rattle.client_rules.specs.Client.{Client, Temporary, Needed, at_moment, fresh_client, nothing_waits, is_open, with_binding}
+use Rattle.client_rules.specs.Client.{Client, Temporary, Needed, at_moment, fresh_client, nothing_waits, with_binding}
 use Rattle.client_rules.specs.Sending.{Setting}
 use Rattle.client_rules.specs.Asking.{submit_fault, submitted, attached, ticked, pinged, salts_asked, dropped}
 use Rattle.client_rules.specs.Flush.{Flushed, flush}

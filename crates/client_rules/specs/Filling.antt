@@ -1,7 +1,6 @@
 -- The items of a client's next packet, in order (core.telegram.org/mtproto/service_messages,
 -- core.telegram.org/mtproto/service_messages_about_messages; core.telegram.org/api/invoking, "Saving query order").
-use Rattle.std.specs.Prelude.{ℕ, ◌==◌, ◌&&◌, ◌||◌, not, nat_lt, Bool, true, false, if◌then◌else◌, Option, Some, None, option_map, List, [], ◌∷◌, ◌++◌, fold, map, take, filter_map}
-use Rattle.std.specs.List.{filter}
+use Rattle.std.specs.Prelude.{ℕ, ◌&&◌, ◌||◌, not, nat_lt, Bool, true, false, if◌then◌else◌, Option, Some, None, option_map, List, [], ◌∷◌, ◌++◌, fold, take, filter_map}
 use Rattle.service_tl.specs.declared.lists.Message.{Message}
 use Rattle.service_tl.specs.declared.item.Item.{Item}
 use Rattle.service_tl.specs.declared.item.Item.TheVariants.{RpcDropAnswer, GetFutureSalts, Ping, DestroySession, MsgsAck, MsgsStateReq, MsgsStateInfo, MsgResendReq, InvokeAfterMsg}
@@ -14,7 +13,7 @@ use Rattle.call_table.specs.declared.call.Fate.TheVariants as fate
 use Rattle.call_table.specs.declared.call.Group.TheVariants as group
 use Rattle.call_table.specs.Table.{State, Name, Call, at, flagged, group_of, living_name, sent, settled}
 use Rattle.call_table.specs.Table as table
-use Rattle.client_rules.specs.Client.{Client, Binding, Needed, Asked, Held, Bound, Refused, Temporary, States, calls_of, is_open, with_binding, with_call, numbered, after_message}
+use Rattle.client_rules.specs.Client.{Client, Binding, Needed, Asked, Bound, Refused, Temporary, States, calls_of, is_open, with_binding, with_call, numbered, after_message}
 use Rattle.client_rules.specs.Sending.{Setting, binding_body, draw_after_binding}
 use Rattle.client_rules.specs.Asking.{begins}
 

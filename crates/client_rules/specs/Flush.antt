@@ -4,10 +4,9 @@ use Rattle.msg_ids.specs.Counters.{room}
 use Rattle.service_tl.specs.declared.lists.Message.{Message}
 use Rattle.containers.specs.Container.{container_of}
 use Rattle.call_table.specs.declared.call.CallNo.{CallNo}
-use Rattle.call_table.specs.declared.call.Living.{Living}
 use Rattle.call_table.specs.declared.call.Group.TheVariants.{Alone}
-use Rattle.call_table.specs.Table.{Name, Call, at, flagged, group_of, is_in, living_name, owner, sent_again, remembered}
-use Rattle.client_rules.specs.Client.{Client, Binding, Needed, Asked, Held, Bound, Refused, Temporary, at_moment, calls_of, with_binding, with_call, numbered, after_message}
+use Rattle.call_table.specs.Table.{Name, Call, at, flagged, group_of, living_name, owner, sent_again, remembered}
+use Rattle.client_rules.specs.Client.{Client, Binding, Asked, Temporary, at_moment, calls_of, with_binding, with_call, numbered, after_message}
 use Rattle.client_rules.specs.Sending.{Setting, Packet, packet_of, draw_after_packet}
 use Rattle.client_rules.specs.Filling.{Filling, empty, fills, body_behind}
 

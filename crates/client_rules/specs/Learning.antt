@@ -1,16 +1,15 @@
 -- What a client learns when the server tells of a new session, and how a session ends
 -- (core.telegram.org/mtproto/service_messages, "New Session Creation Notification").
-use Rattle.std.specs.Prelude.{ℕ, ◌+◌, ◌-◌, ◌/◌, ◌^◌, ◌==◌, ◌&&◌, ◌||◌, not, nat_le, Bool, true, false, if◌then◌else◌, Option, Some, None, option_map, List, [], ◌∷◌, ◌++◌, length, map}
+use Rattle.std.specs.Prelude.{ℕ, ◌/◌, ◌^◌, ◌==◌, ◌&&◌, not, nat_le, Bool, true, if◌then◌else◌, Option, Some, None, [], ◌∷◌, ◌++◌, length, map}
 use Rattle.std.specs.List.{list_any}
 use Rattle.call_table.specs.declared.call.Fate.{Fate}
 use Rattle.call_table.specs.declared.call.Fate.TheVariants as fate
-use Rattle.call_table.specs.declared.call.Cause.{Cause}
 use Rattle.call_table.specs.declared.call.Cause.TheVariants as cause
 use Rattle.call_table.specs.declared.call.Under.{Under}
 use Rattle.call_table.specs.declared.call.Under.TheVariants.{Zero, One, More}
 use Rattle.call_table.specs.Table.{State, Name, Call, living_name, settled, under_of}
 use Rattle.call_table.specs.Table as table
-use Rattle.client_rules.specs.Client.{Client, Needed, Clock, calls_of, with_calls, with_binding, is_open}
+use Rattle.client_rules.specs.Client.{Client, Needed, calls_of, with_calls, with_binding, is_open}
 
 -- ---- the server's time
 

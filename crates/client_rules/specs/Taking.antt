@@ -1,8 +1,7 @@
 -- What a packet from the server changes (core.telegram.org/mtproto/service_messages,
 -- core.telegram.org/mtproto/service_messages_about_messages).
-use Rattle.std.specs.Prelude.{ℕ, ◌+◌, ◌%◌, ◌==◌, ◌&&◌, ◌||◌, not, max, nat_lt, nat_le, bit_and, Bool, true, false, if◌then◌else◌, is_some, Option, Some, None, option_map, List, [], ◌∷◌, ◌++◌, fold, length, map, replicate, Result, Ok, Err}
+use Rattle.std.specs.Prelude.{ℕ, ◌%◌, ◌==◌, ◌&&◌, ◌||◌, not, nat_lt, bit_and, Bool, true, false, if◌then◌else◌, Option, Some, None, option_map, List, [], ◌∷◌, ◌++◌, fold, length, replicate, Result, Ok, Err}
 use Rattle.std.specs.List.{list_any, zip}
-use Rattle.byteorder.specs.Endian.{little_number}
 use Rattle.tl_codec.specs.Standard.{bool_true}
 use Rattle.service_tl.specs.declared.lists.Message.{Message}
 use Rattle.service_tl.specs.declared.item.Item.{Item}

@@ -1,5 +1,5 @@
 -- Events that show what the definitions give.
-use Rattle.std.specs.Prelude.{ℕ, zero, suc, ◌+◌, ◌-◌, ◌^◌, Bool, false, true, Option, Some, None, codes, List, [], ◌∷◌, map, length}
+use Rattle.std.specs.Prelude.{ℕ, zero, suc, ◌+◌, ◌-◌, ◌^◌, true, Option, Some, None, codes, List, [], ◌∷◌, map}
 use Rattle.draws.specs.Steps.{step_word}
 use Rattle.tl_codec.specs.Spelling.{Truth, spelling}
 use Rattle.containers.specs.Container.{container_of}
@@ -9,8 +9,8 @@ use Rattle.service_tl.specs.declared.item.Item.TheVariants.{RpcResult, RpcError,
 use Rattle.service_tl.specs.Items.{spelling_of}
 use Rattle.envelope.specs.declared.parts.Envelope.{Envelope}
 use Rattle.call_table.specs.Table.{State, call_no}
-use Rattle.client_rules.specs.Client.{Binding, Client, temporary_of, calls_of}
-use Rattle.client_rules.specs.Sending.{Setting, Packet}
+use Rattle.client_rules.specs.Client.{Binding, temporary_of, calls_of}
+use Rattle.client_rules.specs.Sending.{Setting}
 use Rattle.client_rules.specs.Asking.{binding_of}
 use Rattle.client_rules.specs.Flush.{Answer, Nothing, Spent, Sends, Flushed, flush}
 use Rattle.client_rules.specs.Events.{Run, Event, Submit, Attach, Drop, Flush, Take, Renew, End, Tick, made, run_of}

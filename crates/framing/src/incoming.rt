@@ -3,6 +3,7 @@
 use crate::form::Framing;
 use crate::look::{Look, look_at};
 use crate::next::Next;
+use crate::passage::Passage;
 use octets::Memory;
 use std::alloc::Global;
 use std::marker::Model;
@@ -29,7 +30,7 @@ impl Model for Incoming {
 }
 
 impl Incoming {
-    ghost use Rattle.std.specs.Prelude.{◌≡◌, List, ℕ, Ok, Some, IfSome, OnOk, OnErr};
+    ghost use Rattle.std.specs.Prelude.{◌≡◌, List, ℕ, Ok, Some, IfSome, IfNone, OnOk, OnErr};
     ghost use Rattle.std.specs.Borrow.{sem};
     ghost use Rattle.tl_codec.specs.declared.fault.FrameFault.{FrameFault as StreamFault};
     ghost use Rattle.framing.specs.contracts.incoming.Incoming.{the_row};
@@ -63,6 +64,32 @@ impl Incoming {
         }
         self.give_back();
         self.bytes.extend_from_slice(piece)?;
+        Ok(())
+    }
+
+    /// The same of a piece that goes through `passage`, in place in the buffer. After a fault nothing goes through it.
+    ///
+    /// # Errors
+    ///
+    /// `Memory`, and then the stream is where it was, and so is the passage.
+    pub fn feed_through<P: Passage>(
+        &mut self,
+        _alloc: Global,
+        piece: &[u8],
+        passage: &mut P,
+    ) -> Result<(), Memory>
+        ensures put { OnOk result (self.new ≡ with_piece (P.behind passage.old piece.now).0 self.old) }
+        ensures passed { IfNone self.old.fault (OnOk result (passage.new ≡ (P.behind passage.old piece.now).1)) }
+        ensures nothing_after_a_fault { IfSome self.old.fault (λ _. (result ≡ Ok tt) × (passage.new ≡ passage.old)) }
+        ensures unchanged_on_memory { OnErr result ((self.new ≡ self.old) × (passage.new ≡ passage.old)) }
+    {
+        let None = self.fault else {
+            return Ok(());
+        };
+        self.give_back();
+        let start = self.bytes.len();
+        self.bytes.extend_from_slice(piece)?;
+        passage.pass(&mut self.bytes[start..]);
         Ok(())
     }
 

@@ -7,8 +7,10 @@ mod incoming;
 pub mod laws;
 mod look;
 mod next;
+mod passage;
 
 pub use form::{Framing, Length, PAYLOAD_MAX, Span};
 pub use incoming::Incoming;
 pub use next::Next;
+pub use passage::Passage;
 pub use tl_codec::FrameFault;

@@ -1,8 +1,8 @@
 //! What a server does with these: it takes room, says what it owes, and sends it.
 
-ghost use Rattle.std.specs.Prelude.{◌≡◌, ◌≤◌, ◌<◌, ◌+◌, ◌++◌, ◌∷◌, [], IfOk, IsSome, length};
+ghost use Rattle.std.specs.Prelude.{◌≤◌, IsSome};
 ghost use Rattle.auth_keys.specs.Rings.{entry_of};
-ghost use Rattle.msg_ids.specs.Counters.{none_given, room};
+ghost use Rattle.msg_ids.specs.Counters.{room};
 
 use super::*;
 use auth_keys::Ring;
@@ -159,38 +159,5 @@ fn what_is_said_is_spelt(rt: HostRuntime) -> Result<(), Fail> {
         assert_eq!(rt; (part.number, part.seq), (number, seq));
         assert_eq!(rt; part.body, body);
     }
-    Ok(())
-}
-
-#[test]
-fn great_results_go_by_threes(rt: HostRuntime) -> Result<(), Fail> {
-    let alloc = rt.alloc();
-    let seal = ClearSeal::new(ring(alloc)?);
-    let zeros = vec![in alloc; 0u8; 262_144]?;
-    let content = zeros.as_slice();
-    let mut numbers = Numbers::new();
-    assert!(rt; seal.has(KEY_ID) && numbers.room() >= 16 && content.len() == 262_144);
-    let mut owing = Owing::new(alloc, 4, 1_048_624)?;
-    let packets = Packets::new(alloc, 4, 1_048_624)?;
-    let mut outs = Outs::new(alloc, packets_most(4, 1_048_624))?;
-    let now = Moment::new(0);
-    owing.result(now, &mut numbers, 4, content);
-    owing.result(now, &mut numbers, 8, content);
-    owing.result(now, &mut numbers, 12, content);
-    owing.result(now, &mut numbers, 16, content);
-    let mut draw = StepDraw::new();
-    packets.send(
-        now,
-        &mut numbers,
-        &owing,
-        HEADER,
-        &seal,
-        &mut draw,
-        &mut outs,
-    );
-    let sent = outs.as_slice();
-    assert_eq!(rt; sent.len(), 2);
-    assert_eq!(rt; sent[0].packet.as_slice().len(), 786_600);
-    assert_eq!(rt; sent[1].packet.as_slice().len(), 262_232);
     Ok(())
 }

@@ -1,11 +1,4 @@
 use Rattle.std.proofs.Common.{refl}
-use Rattle.tl_codec.specs.Spelling.{spelling}
-use Rattle.tl_codec.specs.Reading.{number_at, tag_at, truth_at, head_at, bytes_at, longs_at}
-use Rattle.msg_ids.specs.Counters.{room}
-use Rattle.containers.specs.Container.{row, head_of, container_of, begins_container}
-use Rattle.containers.specs.Parts.{message_in, after, cause_in, parts_of}
-use Rattle.service_tl.specs.Fields.{salt_at, message_at, items_at, vector_at}
-use Rattle.service_tl.specs.Schema.{schema, service_numbers}
 use Rattle.client_rules.proofs.laws.numbers_decide.Goals as goal
 
 pub returns-clause-result : goal.returns-clause-result

@@ -1,0 +1,58 @@
+-- What a client keeps, and the client that it stands for.
+use Rattle.std.specs.Prelude.{◌≡◌, option_map}
+use Rattle.call_table.specs.Table.{no_calls}
+use Rattle.call_table.specs.Kept.{Contents as Calls, Stands as StandsFor}
+use Rattle.client_rules.specs.Client.{Client, Temporary, Waiting, States, StateRequest, Binding, Needed, Asked, Held, Bound, Refused}
+use Rattle.client_core.specs.declared.binding.Binding.{Binding as KeptBinding}
+use Rattle.client_core.specs.declared.binding.Binding.TheVariants as kept
+use Rattle.client_core.specs.declared.binding.Temporary.{Temporary as KeptTemporary}
+use Rattle.client_core.specs.declared.waiting.Waiting.{Waiting as KeptWaiting}
+use Rattle.client_core.specs.declared.waiting.States.{States as KeptStates}
+use Rattle.client_core.specs.declared.waiting.Asked.{Asked as KeptAsked}
+
+-- ---- what the parts tell
+
+abbrev pub binding_in : KeptBinding → Binding
+binding_in kept.Needed = Needed
+binding_in (kept.Asked number seq body) = Asked (record { number = number; seq = seq; body = body })
+binding_in kept.Held = Held
+binding_in kept.Bound = Bound
+binding_in (kept.Refused code) = Refused code
+
+abbrev pub temporary_in : KeptTemporary → Temporary
+temporary_in temporary =
+    record {
+      perm = temporary.perm;
+      expires = temporary.expires;
+      binding = binding_in temporary.binding;
+      is_alone = temporary.is_alone;
+    }
+
+abbrev pub states_in : KeptStates → States
+states_in states = record { request = states.request; info = states.info }
+
+abbrev pub waiting_in : KeptWaiting → Waiting
+waiting_in waiting =
+    record {
+      told = option_map states_in waiting.told;
+      resent = waiting.resent;
+      states = waiting.states;
+      ping = waiting.ping;
+      salts = waiting.salts;
+      destroyed = waiting.destroyed;
+    }
+
+abbrev pub asked_in : KeptAsked → StateRequest
+asked_in asked = record { number = asked.number; numbers = asked.numbers }
+
+-- ---- the whole
+
+-- what contracts see: the client but for its table, and what is kept of the table
+pub record Contents : Type 0 where
+  pub rest : Client
+  pub calls : Calls
+
+-- What is kept stands for a client: it is the client's own, and of the calls what a table keeps.
+pub record Stands (contents : Contents) (client : Client) : Type 0 where
+  pub rest : contents.rest ≡ record client { table = no_calls }
+  pub calls : StandsFor contents.calls client.table

@@ -1,0 +1,254 @@
+//! What an opening and an open client share.
+
+ghost use Rattle.byteorder.specs.Endian.{little_number};
+ghost use Rattle.call_table.specs.Table.{calls_max};
+ghost use Rattle.client_rules.specs.Asking.{begins_service, fault_at, has_earlier, is_refused};
+ghost use Rattle.client_core.specs.Told.{TellsFault};
+ghost use Rattle.std.specs.Prelude.{◌≡◌, if◌then◌else◌, ◌<◌, [], None, option_map, Option, Some, IfOk, OnOk, OnErr, length};
+
+use crate::binding::{BindState, Temporary};
+use crate::fault::{NotSent, SubmitFault};
+use crate::waiting::{Asked, Waiting};
+use byteorder::{ByteOrder, LittleEndian};
+use call_table::{CALLS_MAX, CallNo, CallState, Calls, Group};
+use draws::Draw;
+use msg_ids::{Moment, Numbers};
+use octets::{IdList, Memory};
+use service_tl::{GZIP_PACKED, is_service};
+use std::alloc::Global;
+use std::marker::Model;
+
+/// The most bytes of a call's body.
+const BODY_BYTES_MAX: usize = 262_144;
+
+/// The bytes of a word.
+const WORD_BYTES: usize = 4;
+
+/// The server's time at a moment of the client's own.
+#[derive(Clone, Copy, Debug)]
+pub(crate) struct Clock {
+    pub(crate) there: u64,
+    pub(crate) here: Moment,
+}
+
+/// A client that hasn't ended.
+#[derive(Debug, Drop)]
+pub(crate) struct Core {
+    key: u64,
+    temporary: Option<Temporary>,
+    session: u64,
+    former: Vec<u64>,
+    salt: u64,
+    learnt: Vec<u64>,
+    moment: Moment,
+    clock: Clock,
+    numbers: Numbers,
+    waiting: Waiting,
+    asked: Option<Asked>,
+    calls: Calls,
+}
+
+impl Model for Core {
+    ghost use Rattle.std.specs.Prelude.{false, option_map};
+    ghost use Rattle.call_table.specs.Table.{no_calls};
+    ghost use Rattle.client_core.specs.Kept.{Contents, temporary_in, waiting_in, asked_in};
+
+    ghost Value = { Contents };
+
+    ghost view = { λ core. record {
+      rest = record {
+        key = core.key;
+        temporary = option_map temporary_in core.temporary;
+        session = core.session;
+        former = core.former.items;
+        salt = core.salt;
+        learnt = core.learnt.items;
+        now = core.moment;
+        clock = record { there = core.clock.there; here = core.clock.here };
+        counters = core.numbers;
+        waiting = waiting_in core.waiting;
+        asked = option_map asked_in core.asked;
+        table = no_calls;
+        has_ended = false;
+      };
+      calls = core.calls;
+    } };
+}
+
+impl Core {
+    ghost use Rattle.draws.specs.Draws.{draw_after, word_after};
+    ghost use Rattle.call_table.specs.Table.{Queued, IsGiven, call_no, state_at};
+    ghost use Rattle.call_table.specs.Kept.{shown as told, state_in};
+    ghost use Rattle.client_rules.specs.Client.{Client, fresh_client, calls_of};
+    ghost use Rattle.client_rules.specs.Asking.{binding_of, submit_fault, submitted, ticked, pinged, salts_asked};
+    ghost use Rattle.client_core.specs.Kept.{Stands, temporary_in};
+    ghost use Rattle.client_core.specs.Told.{shown};
+
+    /// A client in a session whose number is drawn.
+    pub(crate) fn new<D: Draw>(
+        alloc: Global,
+        key: u64,
+        temporary: Option<Temporary>,
+        draw: &mut D,
+    ) -> Result<Core, Memory>
+        ensures stands { IfOk result (λ core. Stands core (fresh_client key (option_map temporary_in temporary) (word_after D.step 0 draw.old))) }
+        ensures after { OnOk result (draw.new ≡ draw_after D.step 1 draw.old) }
+        ensures learnt { IfOk result (λ core. core.rest.learnt ≡ []) }
+    {
+        let calls = Calls::new(alloc)?;
+        Ok(Core {
+            key,
+            temporary,
+            session: draw.word(),
+            former: Vec::new(alloc),
+            salt: 0,
+            learnt: Vec::new(alloc),
+            moment: Moment::new(0),
+            clock: Clock {
+                there: 0,
+                here: Moment::new(0),
+            },
+            numbers: Numbers::new(),
+            waiting: Waiting {
+                told: None,
+                resent: IdList::new(alloc),
+                states: false,
+                ping: None,
+                salts: None,
+                destroyed: None,
+            },
+            asked: None,
+            calls,
+        })
+    }
+
+    /// The number of the present session.
+    pub(crate) fn session(&self) -> u64
+        ensures { (client : Client) → Stands self.now client → result ≡ client.session }
+    {
+        self.session
+    }
+
+    /// How many calls there are.
+    pub(crate) fn count(&self) -> u32
+        ensures { (client : Client) → Stands self.now client → result ≡ length (calls_of client) }
+    {
+        self.calls.count()
+    }
+
+    /// What became of a call.
+    pub(crate) fn state(&self, call: CallNo) -> CallState<'_>
+        requires given { IsGiven call self.now.calls.rows }
+        ensures { (client : Client) → Stands self.now client → state_at call (calls_of client) ≡ Some (told result) }
+    {
+        self.calls.state(call)
+    }
+
+    /// Submits a call.
+    pub(crate) fn submit(
+        &mut self,
+        alloc: Global,
+        body: &[u8],
+        after: Option<CallNo>,
+    ) -> Result<CallNo, SubmitFault>
+        ensures refused { (client : Client) → Stands self.old client → TellsFault (submit_fault body.now after client) result }
+        ensures call { IfOk result (λ call. (client : Client) → Stands self.old client → call ≡ call_no (length (calls_of client))) }
+        ensures stands { OnOk result ((client : Client) → Stands self.old client → Stands self.new (submitted body.now after client)) }
+        ensures rest { self.new.rest ≡ self.old.rest }
+        ensures given { IfOk result (λ call. IsGiven call self.new.calls.rows) }
+        ensures queued { IfOk result (λ call. state_in call self.new.calls.rows ≡ Some Queued) }
+        ensures unchanged { OnErr result (self.new ≡ self.old) }
+    {
+        check(self.calls.count(), body, after)?;
+        match self.calls.add(alloc, body, after) {
+            Ok(call) => Ok(call),
+            Err(Memory) => Err(SubmitFault::Memory),
+        }
+    }
+
+    /// The states of the calls are to be asked for, where one is sent.
+    #[tactic(auto, using(crate::proofs::TestLemmas::any_of_group))]
+    pub(crate) fn tick(&mut self)
+        ensures { (client : Client) → Stands self.old client → Stands self.new (ticked client) }
+    {
+        let has_sent = self.calls.members(Group::Outstanding) > 0;
+        self.waiting.states = has_sent || self.waiting.states;
+    }
+
+    /// A ping waits, in place of an earlier one.
+    pub(crate) fn ping(&mut self, id: u64)
+        ensures { (client : Client) → Stands self.old client → Stands self.new (pinged id client) }
+    {
+        self.waiting.ping = Some(id);
+    }
+
+    /// A request for salts waits, in place of an earlier one.
+    pub(crate) fn ask_salts(&mut self, n: u32)
+        ensures { (client : Client) → Stands self.old client → Stands self.new (salts_asked n client) }
+    {
+        self.waiting.salts = Some(n);
+    }
+
+    /// What became of the binding; none under a permanent key.
+    pub(crate) fn binding(&self) -> Option<BindState>
+        ensures { (client : Client) → Stands self.now client → result ≡ option_map shown (binding_of client) }
+    {
+        match &self.temporary {
+            None => None,
+            Some(temporary) => Some(temporary.binding.state()),
+        }
+    }
+}
+
+/// Whether a client of so many calls takes this one, memory aside.
+fn check(count: u32, body: &[u8], after: Option<CallNo>) -> Result<(), SubmitFault>
+    ensures told { TellsFault (fault_at count body.now after) result }
+    ensures few { OnOk result (count < calls_max) }
+{
+    let len = body.len();
+    if len > BODY_BYTES_MAX {
+        return Err(SubmitFault::TooLong { len });
+    }
+    if len % WORD_BYTES != 0 {
+        return Err(SubmitFault::NotWords { len });
+    }
+    if let Some(tag) = service_tag(body) {
+        return Err(SubmitFault::ServiceTag { tag });
+    }
+    if !has_earlier(count, after) {
+        return Err(SubmitFault::NoSuchCall);
+    }
+    if count as usize >= CALLS_MAX {
+        return Err(SubmitFault::TooMany);
+    }
+    Ok(())
+}
+
+fn has_earlier(count: u32, after: Option<CallNo>) -> bool
+    ensures { result ≡ has_earlier count after }
+{
+    match after {
+        None => true,
+        Some(call) => 0 < call.n && call.n <= count as u64,
+    }
+}
+
+/// The constructor of the session layer that begins the body, other than that of a packed body.
+fn service_tag(body: &[u8]) -> Option<u32>
+    ensures { result ≡ (if begins_service body.now then Some (little_number 4 body.now) else None) }
+{
+    if body.len() < WORD_BYTES {
+        return None;
+    }
+    let tag = LittleEndian::read_u32(body);
+    if is_refused(tag) { Some(tag) } else { None }
+}
+
+fn is_refused(tag: u32) -> bool
+    ensures { result ≡ is_refused tag }
+{
+    if tag == GZIP_PACKED {
+        return false;
+    }
+    is_service(tag)
+}

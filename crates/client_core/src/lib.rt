@@ -1,0 +1,19 @@
+//! A client of one server session after another: what it submits, sends and learns, without sockets and clocks
+//! (core.telegram.org/mtproto/description). An `OpeningClient` has learnt nothing of a session, an `OpenClient` has. What
+//! each call does is the step of the definition in `client_rules`, on the client that the value stands for
+//! (`specs/Kept.antt`).
+#![tactic(auto)]
+
+mod binding;
+mod core_client;
+mod fault;
+mod opening;
+mod waiting;
+
+pub use binding::BindState;
+pub use call_table::{CallNo, CallState, Cause};
+pub use fault::{NotSent, SubmitFault};
+pub use opening::OpeningClient;
+
+#[cfg(test)]
+mod tests;

@@ -1,0 +1,125 @@
+//! A client that has learnt nothing of its present session.
+
+ghost use Rattle.std.specs.Prelude.{◌≡◌, ◌<◌, None, Some, IfOk, OnOk, OnErr, length};
+
+use crate::binding::{Binding, Temporary};
+use crate::core_client::Core;
+use crate::fault::SubmitFault;
+use call_table::{CallNo, CallState};
+use draws::Draw;
+use msg_ids::Moment;
+use octets::Memory;
+use std::alloc::Global;
+use std::marker::Model;
+
+/// A client that has learnt no unique number of its present session. Contracts see what it keeps of the client that it
+/// stands for.
+#[derive(Debug, Drop)]
+pub struct OpeningClient {
+    core: Core,
+}
+
+impl Model for OpeningClient {
+    ghost use Rattle.std.specs.Prelude.{◌≡◌, []};
+    ghost use Rattle.client_core.specs.Kept.{Contents};
+
+    ghost Value = { Contents };
+
+    ghost view = { λ client. client.core };
+
+    ghost invariant = { λ client. client.core.rest.learnt ≡ [] };
+}
+
+impl OpeningClient {
+    ghost use Rattle.draws.specs.Draws.{draw_after, word_after};
+    ghost use Rattle.call_table.specs.Table.{Queued, IsGiven, call_no, state_at};
+    ghost use Rattle.call_table.specs.Kept.{shown, state_in};
+    ghost use Rattle.client_rules.specs.Client.{Client, fresh_client, temporary_of, calls_of};
+    ghost use Rattle.client_rules.specs.Asking.{submit_fault, submitted};
+    ghost use Rattle.client_core.specs.Kept.{Stands};
+    ghost use Rattle.client_core.specs.Told.{TellsFault};
+
+    /// A client under the permanent key of this identifier, in a session whose number is drawn.
+    ///
+    /// # Errors
+    ///
+    /// `Memory`: memory ran out.
+    pub fn new<D: Draw>(alloc: Global, key: u64, draw: &mut D) -> Result<OpeningClient, Memory>
+        ensures stands { IfOk result (λ client. Stands client (fresh_client key None (word_after D.step 0 draw.old))) }
+        ensures after { OnOk result (draw.new ≡ draw_after D.step 1 draw.old) }
+    {
+        Ok(OpeningClient {
+            core: Core::new(alloc, key, None, draw)?,
+        })
+    }
+
+    /// A client under the temporary key `temp`, which is to be bound to the permanent key `perm` up to a moment.
+    ///
+    /// # Errors
+    ///
+    /// `Memory`: memory ran out.
+    pub fn new_temp<D: Draw>(
+        alloc: Global,
+        temp: u64,
+        perm: u64,
+        expires: Moment,
+        draw: &mut D,
+    ) -> Result<OpeningClient, Memory>
+        ensures stands { IfOk result (λ client. Stands client (fresh_client temp (Some (temporary_of perm expires)) (word_after D.step 0 draw.old))) }
+        ensures after { OnOk result (draw.new ≡ draw_after D.step 1 draw.old) }
+    {
+        let temporary = Temporary {
+            perm,
+            expires,
+            binding: Binding::Needed,
+            is_alone: false,
+        };
+        Ok(OpeningClient {
+            core: Core::new(alloc, temp, Some(temporary), draw)?,
+        })
+    }
+
+    /// The number of the present session.
+    pub fn session(&self) -> u64
+        ensures { (client : Client) → Stands self.now client → result ≡ client.session }
+    {
+        self.core.session()
+    }
+
+    /// How many calls there are.
+    pub fn calls(&self) -> u32
+        ensures { (client : Client) → Stands self.now client → result ≡ length (calls_of client) }
+    {
+        self.core.count()
+    }
+
+    /// What became of a call that this client gave.
+    pub fn state(&self, call: CallNo) -> CallState<'_>
+        requires given { IsGiven call self.now.calls.rows }
+        ensures { (client : Client) → Stands self.now client → state_at call (calls_of client) ≡ Some (shown result) }
+    {
+        self.core.state(call)
+    }
+
+    /// Submits a call with this body, which is to execute after an earlier call, if one is given. It answers the call,
+    /// which is the last one and `Queued`.
+    ///
+    /// # Errors
+    ///
+    /// The first `SubmitFault` that holds, in their order, and the client is as it was.
+    pub fn submit(
+        &mut self,
+        alloc: Global,
+        body: &[u8],
+        after: Option<CallNo>,
+    ) -> Result<CallNo, SubmitFault>
+        ensures refused { (client : Client) → Stands self.old client → TellsFault (submit_fault body.now after client) result }
+        ensures call { IfOk result (λ call. (client : Client) → Stands self.old client → call ≡ call_no (length (calls_of client))) }
+        ensures stands { OnOk result ((client : Client) → Stands self.old client → Stands self.new (submitted body.now after client)) }
+        ensures given { IfOk result (λ call. IsGiven call self.new.calls.rows) }
+        ensures queued { IfOk result (λ call. state_in call self.new.calls.rows ≡ Some Queued) }
+        ensures unchanged { OnErr result (self.new ≡ self.old) }
+    {
+        self.core.submit(alloc, body, after)
+    }
+}

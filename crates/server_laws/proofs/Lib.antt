@@ -1,0 +1,14 @@
+pub mod Lists
+pub mod Midway
+pub mod Names
+pub mod Own
+pub mod Speaking
+pub mod Rows
+pub mod Sessions
+pub mod Judged
+pub mod Events
+pub mod Service
+pub mod Unfailed
+pub mod Replies
+pub mod Noticed
+pub mod Count

@@ -1,0 +1,168 @@
+//! Laws of a server, each the contract of a function that does nothing.
+
+ghost use Rattle.std.specs.Prelude.{◌≡◌, ◌≢◌, ◌≤◌, ℕ, [], ◌∷◌, ◌++◌, true, false, All, Contains, List, Option, Some, length};
+ghost use Rattle.service_tl.specs.declared.item.Item.{Item};
+ghost use Rattle.service_tl.specs.declared.item.Item.TheVariants.{RpcResult};
+ghost use Rattle.service_tl.specs.Items.{spelling_of};
+ghost use Rattle.service_tl.specs.declared.lists.Message.{Message};
+ghost use Rattle.id_window.specs.History.{History, FirstJudgement, EachOnce, was_accepted};
+ghost use Rattle.id_window.specs.Marks.{mark_of};
+ghost use Rattle.id_window.specs.declared.mark.Mark.{Mark};
+ghost use Rattle.inbox.specs.Refusals.{Way};
+ghost use Rattle.inbox.specs.Judging.{judgements, session_after};
+ghost use Rattle.regs_service.specs.Served.{Step};
+ghost use Rattle.waits.specs.declared.job.Job.{Job};
+ghost use Rattle.waits.specs.Jobs.{Queue};
+ghost use Rattle.server_rules.specs.Server.{Name, Session, Reply, kept_of, kept_replies, mark_after, marks_of, name_of, remembered, reply_to, session_named};
+ghost use Rattle.server_rules.specs.Event.{Setting, Speaker, State, BindingCall, speaker_in, speaks};
+ghost use Rattle.server_rules.specs.Events.{Event, Course, course_of, after_event};
+ghost use Rattle.server_rules.specs.Speaking.{says, says_again, says_it_is_new, answers, answers_in_place, made_room};
+ghost use Rattle.server_rules.specs.Waiting.{gives_up, tells_of};
+ghost use Rattle.server_rules.specs.Calls.{accepts_call, binds, drops_answer};
+ghost use Rattle.server_rules.specs.Rows.{accepts, acknowledges, answers_broken, came_again, notices, sends_again, takes_acks, tells_salts, tells_states};
+ghost use Rattle.server_rules.specs.Answer.{attaches, finishes};
+ghost use Rattle.server_rules.specs.Sending.{sends};
+ghost use Rattle.server_laws.specs.Order.{AreOrdered, IsOrderly, IsMidway, IsSpeaking, IsTold, IsUnanswered, HasNoJob, WasCalled, is_for_service, opens_of, reply_made};
+
+use draws::Draw;
+
+/// What a fresh server has fits, each event leaves what fits so, and thus after every list of events a server's sessions,
+/// replies and jobs fit each other: no number is judged twice, each reply is the only one to a number that was accepted,
+/// each job is one of a session that stands and waits for its only answer, and none that has failed is left.
+pub fn servers_stay_in_order<D: Draw, V>()
+    ensures fresh { AreOrdered [] [] }
+    ensures event { (setting : Setting D) (serve : Step V) (service : V) (course : Course D V) (event : Event)
+        → AreOrdered course.server.sessions course.server.jobs
+        → AreOrdered (after_event setting serve service course event).server.sessions (after_event setting serve service course event).server.jobs }
+    ensures all { (setting : Setting D) (serve : Step V) (service : V) (draw : D) (events : List Event)
+        → AreOrdered (course_of setting serve service draw events).server.sessions (course_of setting serve service draw events).server.jobs }
+{
+    id_window::laws::numbers_are_judged_once();
+    server_rules::laws::marks_follow_history();
+}
+
+/// After a packet's messages were judged the marks are those of the history then and of the same replies; what was
+/// accepted is open, and was accepted as a call where it is one for the service.
+pub fn packets_are_judged()
+    ensures marks { (way : Way) (session : Session) (message : Message) (jobs : Queue)
+        → IsOrderly session.history session.replies session.counters.last jobs
+        → session_after way (remembered session) message ≡ record {
+          history = (session_after way (remembered session) message).history;
+          marks = marks_of (session_after way (remembered session) message).history session.replies;
+        } }
+    ensures opened { (way : Way) (session : Session) (message : Message) (jobs : Queue)
+        → IsOrderly session.history session.replies session.counters.last jobs
+        → IsMidway (opens_of (judgements way (remembered session) message)) (session_after way (remembered session) message).history
+        session.replies session.counters.last jobs }
+    ensures told { (way : Way) (session : Session) (message : Message) (jobs : Queue)
+        → IsOrderly session.history session.replies session.counters.last jobs
+        → All (λ judgement. IsTold judgement.number judgement.verdict (session_after way (remembered session) message).history) (judgements way (remembered session) message) }
+{
+    id_window::laws::numbers_are_judged_once();
+    server_rules::laws::marks_follow_history();
+}
+
+/// What a session says, and what becomes of its replies and jobs, leaves it in order, its other numbers open as they were
+/// and the jobs of other sessions alone.
+pub fn speech_keeps_order<D: Draw>()
+    ensures says { (setting : Setting D) (item : Item) (name : Name) (others : Name → Queue) (past : History) (opened : List ℕ) (speaker : Speaker D)
+        → IsSpeaking name others past opened speaker → IsSpeaking name others past opened (says setting item speaker) }
+    ensures says_again { (reply : Reply) (name : Name) (others : Name → Queue) (past : History) (opened : List ℕ) (speaker : Speaker D)
+        → IsSpeaking name others past opened speaker → IsSpeaking name others past opened (says_again reply speaker) }
+    ensures new { (setting : Setting D) (name : Name) (others : Name → Queue) (past : History) (opened : List ℕ) (speaker : Speaker D)
+        → IsSpeaking name others past opened speaker → IsSpeaking name others past opened (says_it_is_new setting speaker) }
+    ensures acknowledges { (setting : Setting D) (numbers : List ℕ) (name : Name) (others : Name → Queue) (past : History) (opened : List ℕ) (speaker : Speaker D)
+        → IsSpeaking name others past opened speaker → IsSpeaking name others past opened (acknowledges setting numbers speaker) }
+    ensures notices { (setting : Setting D) (number seq code : ℕ) (name : Name) (others : Name → Queue) (past : History) (opened : List ℕ) (speaker : Speaker D)
+        → IsSpeaking name others past opened speaker → IsSpeaking name others past opened (notices setting number seq code speaker) }
+    ensures came_again { (setting : Setting D) (number seq : ℕ) (mark : Option Mark) (name : Name) (others : Name → Queue) (past : History) (opened : List ℕ) (speaker : Speaker D)
+        → IsSpeaking name others past opened speaker → IsSpeaking name others past opened (came_again setting number seq mark speaker) }
+    ensures answers { (setting : Setting D) (call : ℕ) (content : List ℕ) (name : Name) (others : Name → Queue) (past : History) (opened : List ℕ) (speaker : Speaker D)
+        → IsSpeaking name others past (call ∷ opened) speaker → IsSpeaking name others past opened (answers setting call content speaker) }
+    ensures in_place { (setting : Setting D) (call : ℕ) (request content : List ℕ) (name : Name) (others : Name → Queue) (past : History) (opened : List ℕ) (speaker : Speaker D)
+        → IsSpeaking name others past (call ∷ opened) speaker → IsSpeaking name others past opened (answers_in_place setting call request content speaker) }
+    ensures left { (number : ℕ) (name : Name) (others : Name → Queue) (past : History) (opened : List ℕ) (speaker : Speaker D)
+        → IsSpeaking name others past (number ∷ opened) speaker → IsSpeaking name others past opened speaker }
+    ensures tells { (number : ℕ) (name : Name) (others : Name → Queue) (past : History) (opened : List ℕ) (speaker : Speaker D)
+        → IsSpeaking name others past opened speaker → IsSpeaking name others past opened (tells_of number speaker) }
+    ensures acks { (numbers : List ℕ) (name : Name) (others : Name → Queue) (past : History) (opened : List ℕ) (speaker : Speaker D)
+        → IsSpeaking name others past opened speaker → IsSpeaking name others past opened (takes_acks numbers speaker) }
+    ensures attaches { (setting : Setting D) (name : Name) (others : Name → Queue) (past : History) (speaker : Speaker D)
+        → IsSpeaking name others past [] speaker → IsSpeaking name others past [] (attaches setting speaker) }
+    ensures sends { (setting : Setting D) (messages : List Message) (name : Name) (others : Name → Queue) (past : History) (opened : List ℕ) (speaker : Speaker D)
+        → IsSpeaking name others past opened speaker → IsSpeaking name others past opened (sends setting messages speaker) }
+{}
+
+/// Each row of what an accepted message owes leaves its session in order, and its number is answered, a job, or left.
+pub fn rows_keep_order<D: Draw>()
+    ensures accepts { (setting : Setting D) (number : ℕ) (item : Item) (body : List ℕ) (name : Name) (others : Name → Queue) (past : History) (opened : List ℕ) (speaker : Speaker D)
+        → (is_for_service item ≡ true → WasCalled number speaker.session.history)
+        → IsSpeaking name others past (number ∷ opened) speaker → IsSpeaking name others past opened (accepts setting number item body speaker) }
+    ensures call { (setting : Setting D) (number : ℕ) (numbers request : List ℕ) (name : Name) (others : Name → Queue) (past : History) (opened : List ℕ) (speaker : Speaker D)
+        → WasCalled number speaker.session.history
+        → IsSpeaking name others past (number ∷ opened) speaker → IsSpeaking name others past opened (accepts_call setting number numbers request speaker) }
+    ensures broken { (setting : Setting D) (number constructor : ℕ) (body : List ℕ) (name : Name) (others : Name → Queue) (past : History) (opened : List ℕ) (speaker : Speaker D)
+        → IsSpeaking name others past (number ∷ opened) speaker → IsSpeaking name others past opened (answers_broken setting number constructor body speaker) }
+    ensures drops { (setting : Setting D) (number call : ℕ) (name : Name) (others : Name → Queue) (past : History) (opened : List ℕ) (speaker : Speaker D)
+        → IsSpeaking name others past (number ∷ opened) speaker → IsSpeaking name others past opened (drops_answer setting number call speaker) }
+    ensures binds { (setting : Setting D) (call : BindingCall) (name : Name) (others : Name → Queue) (past : History) (opened : List ℕ) (speaker : Speaker D)
+        → IsSpeaking name others past (call.number ∷ opened) speaker → IsSpeaking name others past opened (binds setting call speaker) }
+    ensures salts { (setting : Setting D) (number count : ℕ) (name : Name) (others : Name → Queue) (past : History) (opened : List ℕ) (speaker : Speaker D)
+        → IsSpeaking name others past opened speaker → IsSpeaking name others past opened (tells_salts setting number count speaker) }
+    ensures states { (setting : Setting D) (number : ℕ) (numbers : List ℕ) (name : Name) (others : Name → Queue) (past : History) (opened : List ℕ) (speaker : Speaker D)
+        → IsSpeaking name others past opened speaker → IsSpeaking name others past opened (tells_states setting number numbers speaker) }
+    ensures sends_again { (setting : Setting D) (number : ℕ) (numbers : List ℕ) (name : Name) (others : Name → Queue) (past : History) (opened : List ℕ) (speaker : Speaker D)
+        → IsSpeaking name others past opened speaker → IsSpeaking name others past opened (sends_again setting number numbers speaker) }
+    ensures finishes { (setting : Setting D) (job : Job) (reply : List ℕ) (name : Name) (others : Name → Queue) (past : History) (opened : List ℕ) (speaker : Speaker D)
+        → IsSpeaking name others past (job.number ∷ opened) speaker → IsSpeaking name others past opened (finishes setting job reply speaker) }
+    ensures gives_up { (setting : Setting D) (content : List ℕ) (job : Job) (name : Name) (others : Name → Queue) (past : History) (opened : List ℕ) (speaker : Speaker D)
+        → IsSpeaking name others past (job.number ∷ opened) speaker → IsSpeaking name others past opened (gives_up setting content job speaker) }
+{}
+
+/// The mark of a number that was judged is that of its outcome, and of the reply to it where there is one.
+pub fn marks_are_of_replies()
+    ensures { (history : History) (replies : List Reply) (judgement : FirstJudgement) → EachOnce history → Contains history judgement
+        → mark_of judgement.number (marks_of history replies) ≡ Some (mark_after replies judgement.number judgement.outcome) }
+{}
+
+/// An answer is the reply to its call, and the reply to another call is what making room left of it; the kept replies
+/// are those that room left, and then the new one.
+pub fn answers_are_kept<D: Draw>()
+    ensures reply { (setting : Setting D) (call : ℕ) (content : List ℕ) (speaker : Speaker D) → IsUnanswered speaker.session.replies call
+        → reply_to call (answers setting call content speaker).session.replies ≡ Some (reply_made setting call content speaker) }
+    ensures others { (setting : Setting D) (call : ℕ) (content : List ℕ) (speaker : Speaker D) (number : ℕ) → number ≢ call
+        → reply_to number (answers setting call content speaker).session.replies
+        ≡ reply_to number (made_room (length (spelling_of (RpcResult call content))) speaker.session.replies) }
+    ensures kept { (setting : Setting D) (call : ℕ) (content : List ℕ) (speaker : Speaker D)
+        → kept_replies (answers setting call content speaker).session.replies
+        ≡ kept_replies (made_room (length (spelling_of (RpcResult call content))) speaker.session.replies) ++ kept_of (reply_made setting call content speaker) ∷ [] }
+{}
+
+/// Where a session speaks and keeps its name, it is the one of that name afterwards, and the sessions of other names are
+/// what they were.
+pub fn sessions_speak<D: Draw>()
+    ensures own { (name : Name) (speak : Speaker D → Speaker D) (state : State D) (session : Session) → session_named name state.sessions ≡ Some session
+        → name_of (speak (speaker_in state session)).session ≡ name
+        → session_named name (speaks name speak state).sessions ≡ Some (speak (speaker_in state session)).session }
+    ensures others { (name other : Name) (speak : Speaker D → Speaker D) (state : State D) (session : Session) → session_named name state.sessions ≡ Some session
+        → name_of (speak (speaker_in state session)).session ≡ name → other ≢ name
+        → session_named other (speaks name speak state).sessions ≡ session_named other state.sessions }
+{}
+
+/// A number of a standing session that was noticed has neither a reply nor a job, and two judgements of one number are one.
+pub fn noticed_numbers_are_over()
+    ensures once { (history : History) (one other : FirstJudgement) → EachOnce history → Contains history one → Contains history other
+        → one.number ≡ other.number → one ≡ other }
+    ensures replies { (history : History) (replies : List Reply) (last : ℕ) (jobs : Queue) (judgement : FirstJudgement) → IsOrderly history replies last jobs
+        → Contains history judgement → was_accepted judgement.outcome ≡ false → IsUnanswered replies judgement.number }
+    ensures jobs { (history : History) (replies : List Reply) (last : ℕ) (jobs : Queue) (judgement : FirstJudgement) → IsOrderly history replies last jobs
+        → Contains history judgement → was_accepted judgement.outcome ≡ false → HasNoJob jobs judgement.number }
+{}
+
+/// A server has 256 sessions at most after every list of events.
+pub fn sessions_are_few<D: Draw, V>()
+    ensures event { (setting : Setting D) (serve : Step V) (service : V) (course : Course D V) (event : Event)
+        → length course.server.sessions ≤ 256 → length (after_event setting serve service course event).server.sessions ≤ 256 }
+    ensures all { (setting : Setting D) (serve : Step V) (service : V) (draw : D) (events : List Event)
+        → length (course_of setting serve service draw events).server.sessions ≤ 256 }
+{}

@@ -1,0 +1,11 @@
+//! One session of a server as it is kept, and what it says within an event, in room that was taken before
+//! (core.telegram.org/mtproto/description, "Session"; core.telegram.org/mtproto/service_messages). A `Standing` stands for a
+//! session of the definitions (`Stands`); what it says, they say (`Says`). Only `new` takes memory.
+#![tactic(auto)]
+
+mod standing;
+
+pub use standing::Standing;
+
+#[cfg(test)]
+mod tests;

@@ -1,0 +1,4 @@
+pub mod Hearing
+pub mod Telling
+pub mod Starting
+pub mod Begun
