@@ -1,20 +1,19 @@
 -- That a seal opens what it sealed.
-use Rattle.std.proofs.Common.{◌≡◌, ◌≢◌, ℕ, ◌<◌, ◌≤◌, ◌+◌, ◌-◌, ◌*◌, ◌/◌, ◌%◌, ◌^◌, List, ◌++◌, length, take, drop, Some, refl, sym, ap, ◌∙◌, subst, arith, length-append, length-drop, drop-drop}
+use Rattle.std.proofs.Common.{◌≡◌, ℕ, ◌<◌, ◌≤◌, ◌+◌, ◌-◌, ◌*◌, ◌/◌, ◌^◌, List, ◌++◌, length, drop, Some, refl, sym, ap, ◌∙◌, subst, arith, length-append, length-drop, drop-drop}
 use Rattle.std.proofs.lemmas.List.{take_at, drop_at, take-append-drop, length-take-le}
-use Rattle.byteorder.specs.Endian.{little_bytes, little_number}
+use Rattle.byteorder.specs.Endian.{little_bytes}
 use Rattle.byteorder.specs.Numbers.{little_number-reads_back, little_from-lt}
 use Rattle.octets.specs.Bytes.{IsBytes, HasBytes}
 use Rattle.auth_keys.specs.Keys.{IsGoodAt}
 use Rattle.auth_keys.specs.Rings.{entry_of}
 use Rattle.auth_keys.specs.declared.ring.RingKey.{RingKey}
-use Rattle.msg_key.specs.Keys.{substr}
 use Rattle.envelope.specs.declared.parts.Dir.{Dir}
 use Rattle.envelope.specs.declared.parts.Envelope.{Envelope}
 use Rattle.envelope.specs.declared.parts.Opened.{Opened}
 use Rattle.envelope.specs.declared.parts.Opened.TheVariants as opened
 use Rattle.envelope.specs.declared.refusal.Refusal.{Refusal}
 use Rattle.envelope.specs.declared.refusal.Refusal.TheVariants.{Size, NoKey, KeyMismatch, Length, Padding}
-use Rattle.envelope.specs.Packet.{Lock, Sealed, IsEnvelope, IsPadding, plain_text, packet_of}
+use Rattle.envelope.specs.Packet.{Lock, Sealed, IsEnvelope, plain_text, packet_of}
 use Rattle.envelope.specs.Opening.{Opens, IsRefused, IsPacketSize, IsGoodKey, HasKey, HasPlain, IsKeyMismatch, IsBodyLength, key_named, message_key_said, text_of, length_said, padding_left}
 use Rattle.envelope.specs.Answers.{IfEnvelope, IfRefused}
 use Rattle.envelope.specs.Lawful.{OpensWhatItSealed}

@@ -1,14 +1,14 @@
 -- Plain texts: how long they are, and that they spell one envelope.
-use Rattle.std.proofs.Common.{◌≡◌, ℕ, zero, suc, ◌<◌, ◌≤◌, ◌+◌, ◌-◌, ◌*◌, ◌/◌, ◌%◌, ◌^◌, List, [], ◌∷◌, ◌++◌, length, take, drop, refl, sym, ap, ◌∙◌, drop-drop, arith, length-append, length-drop}
-use Rattle.std.proofs.lemmas.List.{append_assoc, take_at, drop_at, take-append-drop, length-take-le}
+use Rattle.std.proofs.Common.{◌≡◌, ℕ, zero, suc, ◌<◌, ◌≤◌, ◌+◌, ◌-◌, ◌*◌, ◌/◌, ◌^◌, List, ◌++◌, length, take, drop, refl, sym, ap, ◌∙◌, drop-drop, arith, length-append, length-drop}
+use Rattle.std.proofs.lemmas.List.{append_assoc, take_at, take-append-drop, length-take-le}
 use Rattle.std.proofs.lemmas.Nat.{le_bytes_4, le_bytes_8}
 use Rattle.std.specs.Int.{byte_at, bytes_low_first, from_le_bytes, w32, w64}
 use Rattle.byteorder.specs.Endian.{little_bytes, little_number}
-use Rattle.byteorder.specs.Numbers.{little_number-reads_back, little_from-take, length-bytes_low_first}
+use Rattle.byteorder.specs.Numbers.{little_number-reads_back, little_from-take}
 use Rattle.octets.specs.Bytes.{IsBytes, HasBytes}
 use Rattle.envelope.specs.declared.parts.Envelope.{Envelope}
 use Rattle.envelope.specs.Packet.{IsEnvelope, IsPadding, plain_text}
-use Rattle.envelope.specs.Opening.{length_said, padding_left, IsBodyLength}
+use Rattle.envelope.specs.Opening.{length_said}
 use Rattle.envelope.specs.Lock.{ByteLaws}
 use Rattle.envelope.specs.Reading.{envelope_in}
 

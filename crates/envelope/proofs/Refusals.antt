@@ -1,6 +1,5 @@
 -- That a packet is refused for one cause.
-use Rattle.std.proofs.Common.{◌≡◌, ◌≢◌, ℕ, ◌∷◌, List, length, Some, refl, sym, ap, ap₂, ◌∙◌, subst, replicate}
-use Rattle.auth_keys.specs.Rings.{entry_of}
+use Rattle.std.proofs.Common.{◌≡◌, ◌≢◌, ℕ, ◌∷◌, List, length, refl, sym, ap, ap₂, ◌∙◌, subst, replicate}
 use Rattle.auth_keys.specs.declared.ring.RingKey.{RingKey}
 use Rattle.envelope.specs.declared.parts.Dir.{Dir}
 use Rattle.envelope.specs.declared.parts.Dir.TheVariants.{Up, Down}

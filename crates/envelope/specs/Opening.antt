@@ -1,5 +1,5 @@
 -- What a packet opens to, and why one doesn't open (core.telegram.org/mtproto/security_guidelines).
-use Rattle.std.specs.Prelude.{◌≡◌, ◌≢◌, ℕ, ◌≤◌, ◌+◌, ◌-◌, ◌%◌, List, length, drop, Some, ⊤}
+use Rattle.std.specs.Prelude.{◌≡◌, ◌≢◌, ℕ, ◌≤◌, ◌-◌, ◌%◌, List, length, drop, Some}
 use Rattle.byteorder.specs.Endian.{little_number}
 use Rattle.auth_keys.specs.Keys.{IsGoodAt}
 use Rattle.auth_keys.specs.Rings.{entry_of}

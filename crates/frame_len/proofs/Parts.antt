@@ -1,12 +1,11 @@
 -- The parts of a frame whose length is right.
-use Rattle.std.proofs.Common.{◌≡◌, ℕ, ◌+◌, ◌-◌, ◌*◌, ◌/◌, ◌%◌, ◌<◌, ◌≤◌, Bool, true, false, List, [], ◌++◌, length, take, drop, refl, sym, ap, ap₂, subst, ◌∙◌, arith, inl, inr}
-use Rattle.std.specs.Prelude.{slice_range}
+use Rattle.std.proofs.Common.{◌≡◌, ℕ, ◌+◌, ◌-◌, ◌%◌, ◌≤◌, Bool, true, false, List, ◌++◌, length, take, drop, sym, ap, ap₂, subst, ◌∙◌, arith}
 use Rattle.std.proofs.lemmas.List.{take-append-drop, length-drop, length-take-le, take_all}
 use Rattle.byteorder.specs.Endian.{little_bytes, little_number}
 use Rattle.octets.specs.Bytes.{IsBytes}
 use Rattle.framing.specs.Looks.{IsFrameAt}
 use Rattle.framing.specs.Fields.{field-spelled}
-use Rattle.framing.specs.Payload.{payload_max, IsPayload}
+use Rattle.framing.specs.Payload.{payload_max}
 use Rattle.frame_len.specs.Lengths.{IsBad, IsPaddedSize, length_max, padding_max, padded_payload, payload_of, LenFrame, LenSize, form_of}
 
 -- a length that is right has a payload

@@ -1,7 +1,7 @@
 -- What is written is read, and a padded frame's length tells its packet.
-use Rattle.std.proofs.Common.{◌≡◌, ℕ, ◌+◌, ◌-◌, Bool, true, false, List, [], ◌++◌, length, take, drop, refl, sym, ap, ap₂, ◌∙◌, arith, append-nil}
+use Rattle.std.proofs.Common.{◌≡◌, ℕ, ◌+◌, ◌-◌, Bool, true, false, List, [], ◌++◌, length, take, drop, refl, sym, ap₂, ◌∙◌, arith, append-nil}
 use Rattle.std.proofs.lemmas.Bool.{OnTrue_at}
-use Rattle.byteorder.specs.Endian.{little_bytes, little_number}
+use Rattle.byteorder.specs.Endian.{little_bytes}
 use Rattle.frame_len.specs.Lengths.{IsWritten, LenFrame, frame_of, PaddedFrame, padded_payload}
 use Rattle.frame_len.specs.Heads.{parts_of, long, says, packet_is}
 

@@ -1,10 +1,10 @@
 -- Scaffolding of proofs, and no promise: the parts of a frame, by their places.
-use Rattle.std.proofs.Common.{◌≡◌, ℕ, ◌+◌, ◌-◌, ◌*◌, ◌/◌, ◌%◌, ◌<◌, ◌≤◌, ◌^◌, Bool, true, false, List, [], ◌++◌, length, take, drop, refl, sym, ap, subst, ◌∙◌, arith, inl, inr, length-append, append-nil}
+use Rattle.std.proofs.Common.{◌≡◌, ℕ, ◌+◌, ◌<◌, ◌≤◌, ◌^◌, Bool, true, false, List, [], ◌++◌, length, take, drop, sym, ap, ◌∙◌, arith, inl, inr, length-append, append-nil}
 use Rattle.std.proofs.lemmas.List.{take_at, drop_at}
 use Rattle.byteorder.specs.Endian.{little_bytes, little_number}
 use Rattle.byteorder.specs.Numbers.{length-bytes_low_first, little_number-reads_back}
 use Rattle.framing.specs.Payload.{payload_max, IsPayload}
-use Rattle.frame_len.specs.Lengths.{IntermediateFrame, PaddedFrame, IsPaddedSize, LenFrame, padding_max, payload_of, length_max, IsBad, Says}
+use Rattle.frame_len.specs.Lengths.{IsPaddedSize, LenFrame, padding_max, payload_of, length_max, IsBad}
 
 -- the parts of a frame of either form: the length, the payload, and the padding, which may be none
 pub record Parts (padded : Bool) (packet bytes : List ℕ) : Type 0 where

@@ -1,11 +1,11 @@
 -- Scaffolding of proofs, and no promise: both forms are such that can be read.
-use Rattle.std.proofs.Common.{◌≡◌, ℕ, ◌+◌, ◌<◌, ◌≤◌, Bool, List, ◌++◌, length, take, refl, sym, ap, subst, ◌∙◌, arith, length-append}
+use Rattle.std.proofs.Common.{◌≡◌, ℕ, ◌+◌, ◌<◌, ◌≤◌, Bool, List, ◌++◌, length, take, sym, ap, subst, ◌∙◌, arith, length-append}
 use Rattle.std.proofs.lemmas.List.{length-take-le}
 use Rattle.byteorder.specs.Numbers.{little_from-append, little_from-take}
 use Rattle.tl_codec.specs.declared.fault.FrameFault.{FrameFault}
 use Rattle.tl_codec.specs.declared.fault.FrameFault.TheVariants.{TooLong, BadLength, Sum, Count}
 use Rattle.framing.specs.Laws.{IsForm}
-use Rattle.frame_len.specs.Lengths.{LenFrame, Says, LenSize, len_wrong, IsBad, length_max, form_of}
+use Rattle.frame_len.specs.Lengths.{LenFrame, Says, LenSize, len_wrong, IsBad, form_of}
 use Rattle.frame_len.specs.Heads as parts
 
 one_length : (one other : ℕ) (bytes : List ℕ) → Says one bytes → Says other bytes → one ≡ other

@@ -4,7 +4,7 @@ use Rattle.std.proofs.lemmas.Grind.{common_steps}
 use Rattle.std.proofs.lemmas.List.{take-append-drop, drop-drop}
 use Rattle.mt_edge.specs.declared.source.Got.TheVariants.{Bytes}
 use Rattle.mt_edge.specs.declared.link_read.LinkRead.{LinkRead}
-use Rattle.mt_edge.specs.Links.{Told, ReadsOver}
+use Rattle.mt_edge.specs.Links.{ReadsOver}
 use Rattle.mt_edge.proofs.TakeLemmas.{take_more}
 
 -- what came grows by what is copied

@@ -1,5 +1,5 @@
 -- What a link tells.
-use Rattle.std.specs.Prelude.{◌≡◌, ℕ, List, [], ◌∷◌, ◌++◌, length, take}
+use Rattle.std.specs.Prelude.{◌≡◌, ℕ, List, [], ◌∷◌, ◌++◌, length}
 use Rattle.mt_edge.specs.declared.source.Got.{Got}
 use Rattle.mt_edge.specs.declared.source.Got.TheVariants.{Bytes, End, Failed}
 use Rattle.mt_edge.specs.declared.sink.Put.{Put}

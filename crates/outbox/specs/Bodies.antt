@@ -8,6 +8,10 @@ use Rattle.outbox.specs.declared.body.Rest.TheVariants.{Shared, Short}
 abbrev pub head_bytes : ℕ
 head_bytes = 12
 
+-- an `rpc_answer_dropped`: its constructor, a number, a sequence number and a length
+abbrev pub short_bytes : ℕ
+short_bytes = 20
+
 -- the bytes behind the head
 abbrev pub rest_of : Rest → List ℕ
 rest_of (Shared bytes) = bytes

@@ -69,7 +69,7 @@ impl Outbox {
         })
     }
 
-    /// The same outbox once more. The bodies are shared.
+    /// The same outbox once more. What bodies share stays shared.
     ///
     /// # Errors
     ///

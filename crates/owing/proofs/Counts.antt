@@ -1,8 +1,8 @@
 -- How many packets messages make at most.
-use Rattle.std.proofs.Common.{◌≡◌, ◌∙◌, ℕ, ◌+◌, ◌*◌, ◌/◌, ◌<◌, ◌≤◌, true, false, List, [], ◌∷◌, ◌++◌, length, sum_by, ap, sym, refl, arith, length-append, inl, inr}
+use Rattle.std.proofs.Common.{◌≡◌, ℕ, ◌+◌, ◌*◌, ◌/◌, ◌≤◌, true, false, List, [], ◌∷◌, ◌++◌, length, sum_by, refl, arith, length-append, inl, inr}
 use Rattle.std.proofs.lemmas.Bool.{leb-true, leb-false, le-leb, and_from, and_parts, cases_Bool}
 use Rattle.std.proofs.lemmas.List.Sums.{sum_by-cons, sum_by_push}
-use Rattle.std.specs.Prelude.{nat_le, ◌&&◌}
+use Rattle.std.specs.Prelude.{nat_le}
 use Rattle.service_tl.specs.declared.lists.Message.{Message}
 use Rattle.containers.specs.Container.{size_of}
 use Rattle.packing.specs.Packing.{is_within, grouped, groups}

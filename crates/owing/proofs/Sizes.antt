@@ -1,14 +1,13 @@
 -- How many bytes what is said has, and that these are whole words.
-use Rattle.std.proofs.Common.{◌≡◌, ◌∙◌, ℕ, ◌+◌, ◌*◌, ◌%◌, ◌<◌, ◌≤◌, ◌^◌, List, [], ◌∷◌, ◌++◌, length, map, ap, sym, refl, arith, length-append, lit<}
+use Rattle.std.proofs.Common.{◌≡◌, ℕ, ◌+◌, ◌*◌, ◌<◌, ◌≤◌, ◌^◌, List, [], ◌∷◌, ◌++◌, length, map, refl, arith, length-append, lit<}
 use Rattle.std.specs.List.{flat_map, AllByRecursion}
 use Rattle.std.proofs.lemmas.List.{length-map}
 use Rattle.tl_codec.specs.Spelling.{Form, Int, Long, Of, Fits, spelling, size_of}
 use Rattle.service_tl.specs.declared.lists.FutureSalt.{FutureSalt}
-use Rattle.service_tl.specs.declared.item.Item.{Item}
 use Rattle.service_tl.specs.Sizes.{SaltFits}
 use Rattle.service_tl.specs.Fields.{Field, Plain, Rest, Salts, Bodies, Holds, FieldFits, salt_row, field_spelling}
 use Rattle.service_tl.specs.Items.{Values, FieldsFit, ItemFits, fields_spelling, spelling_of}
-use Rattle.service_tl.specs.Words.{IsWords, ItemIsWords}
+use Rattle.service_tl.specs.Words.{ItemIsWords}
 use Rattle.service_tl.specs.Schema.{rpc_result, future_salts, pong, destroy_session_ok, destroy_session_none, new_session_created, msgs_ack, msgs_state_info, bad_msg_notification, bad_server_salt}
 use Rattle.server_rules.specs.Rows.{future_salt_of}
 use Rattle.owing.specs.declared.said.Said.{Said}

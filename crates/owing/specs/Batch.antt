@@ -1,5 +1,5 @@
 -- The room for all packets of a session's messages.
-use Rattle.std.specs.Prelude.{◌≡◌, ℕ, ◌+◌, ◌*◌, ◌/◌, ◌&&◌, nat_le, Bool, min, if◌then◌else◌, [], length}
+use Rattle.std.specs.Prelude.{◌≡◌, ℕ, ◌+◌, ◌*◌, ◌/◌, ◌&&◌, nat_le, Bool, min, if◌then◌else◌, []}
 use Rattle.owing.specs.declared.packets.Place.{Place}
 
 -- For what there is room: any list of so many messages at most, whose bodies have so many bytes together at most.

@@ -1,5 +1,5 @@
 -- Scaffolding, and no promise: how far a session's messages were sent.
-use Rattle.std.specs.Prelude.{◌≡◌, ℕ, List, ◌++◌}
+use Rattle.std.specs.Prelude.{◌≡◌, List, ◌++◌}
 use Rattle.auth_keys.specs.declared.ring.RingKey.{RingKey}
 use Rattle.envelope.specs.Packet.{Lock}
 use Rattle.server_rules.specs.Event.{Sent}

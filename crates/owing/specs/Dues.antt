@@ -1,5 +1,5 @@
 -- What an event of a session owes.
-use Rattle.std.specs.Prelude.{◌≡◌, ◌≤◌, ◌<◌, ◌^◌, ℕ, ◌+◌, ◌%◌, Bool, ◌==◌, List, length, take, drop, map, sum_by}
+use Rattle.std.specs.Prelude.{◌≡◌, ◌≤◌, ℕ, ◌+◌, ◌%◌, Bool, ◌==◌, List, length, take, drop, sum_by}
 use Rattle.std.specs.List.{list_any}
 use Rattle.service_tl.specs.declared.lists.Message.{Message}
 use Rattle.owing.specs.declared.owing.Row.{Row}

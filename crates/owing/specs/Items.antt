@@ -1,7 +1,6 @@
 -- What a server says in an event, with the bytes that it takes (core.telegram.org/mtproto/service_messages,
 -- core.telegram.org/mtproto/service_messages_about_messages).
 use Rattle.std.specs.Prelude.{◌≡◌, ◌<◌, ◌≤◌, ◌^◌, ℕ, ◌+◌, ◌*◌, ◌%◌, Bool, if◌then◌else◌, List, length, map, All, ⊤}
-use Rattle.octets.specs.Bytes.{AreLongs}
 use Rattle.tl_codec.specs.Spelling.{string_size}
 use Rattle.service_tl.specs.declared.item.Item.{Item}
 use Rattle.service_tl.specs.declared.item.Item.TheVariants.{RpcResult, FutureSalts, Pong, DestroySessionOk, DestroySessionNone, NewSessionCreated, MsgsAck, MsgsStateInfo, BadMsgNotification, BadServerSalt}

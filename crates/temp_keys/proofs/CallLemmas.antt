@@ -1,12 +1,11 @@
 -- A call has one answer.
-use Rattle.std.proofs.Common.{◌≡◌, ◌≢◌, ◌∙◌, ℕ, ◌+◌, ◌<◌, ◌≤◌, ◌^◌, List, ◌==◌, ◌&&◌, not, true, false, Bool, Option, Some, None, Result, Ok, Err, IfOk, IfErr, sym, ap, refl, subst, arith, eqb}
+use Rattle.std.proofs.Common.{◌≡◌, ◌∙◌, ℕ, ◌<◌, List, true, Some, None, Result, Ok, Err, IfOk, IfErr, sym, ap, refl, subst, arith}
 use Rattle.std.proofs.lemmas.Bool.{eq-eqb}
 use Rattle.std.proofs.lemmas.Option.{none-some}
-use Rattle.auth_keys.specs.declared.key.KeyKind.{KeyKind}
 use Rattle.auth_keys.specs.declared.key.KeyKind.TheVariants.{Perm}
 use Rattle.auth_keys.specs.declared.ring.RingKey.{RingKey}
 use Rattle.temp_keys.specs.Below.{SealLaws}
-use Rattle.temp_keys.specs.Checking.{Agrees, Binds, Call, Differs, HasNoPerm, IsFaultOf, IsNoMessage, IsPermanent, Opens, bound_of, first_difference, inner_of, is_temporary}
+use Rattle.temp_keys.specs.Checking.{Agrees, Binds, Call, Differs, IsFaultOf, IsNoMessage, IsPermanent, Opens, bound_of, first_difference, inner_of, is_temporary}
 use Rattle.temp_keys.specs.Messages.{Says}
 use Rattle.temp_keys.specs.declared.binding.Bound.{Bound}
 use Rattle.temp_keys.specs.declared.binding.Inner.{Inner}

@@ -1,13 +1,13 @@
 -- A sealed text has one plain text.
-use Rattle.std.proofs.Common.{◌≡◌, ◌≢◌, ◌∙◌, ℕ, ◌+◌, ◌*◌, ◌<◌, ◌≤◌, ◌^◌, Option, Some, None, IfSome, IfNone, take-append-drop, List, [], ◌∷◌, ◌++◌, length, take, drop, sym, ap, refl, subst, arith, append_assoc, length-append}
+use Rattle.std.proofs.Common.{◌≡◌, ◌≢◌, ◌∙◌, ℕ, ◌+◌, ◌<◌, ◌≤◌, ◌^◌, Option, Some, None, IfSome, IfNone, take-append-drop, List, ◌++◌, length, take, drop, sym, ap, refl, subst, arith, append_assoc, length-append}
 use Rattle.std.proofs.Math.Seq.{take-append_seam, drop-append_seam}
-use Rattle.octets.specs.Bytes.{IsBytes, HasBytes}
+use Rattle.octets.specs.Bytes.{HasBytes}
 use Rattle.sha1.specs.Sha1.{sha1}
 use Rattle.cipher_modes.specs.Ige.{ige, inverse_ige}
 use Rattle.auth_keys.specs.Keys.{identifier, substr}
 use Rattle.temp_keys.specs.Below.{SealLaws}
-use Rattle.temp_keys.specs.Derivation.{message_key, aes_key, aes_iv, sha1_a, sha1_b, sha1_c, sha1_d}
-use Rattle.temp_keys.specs.Messages.{IsInner, Says, plain_text, sealed, binding_message, int, long}
+use Rattle.temp_keys.specs.Derivation.{message_key, aes_key, aes_iv}
+use Rattle.temp_keys.specs.Messages.{IsInner, Says, plain_text, sealed, long}
 use Rattle.temp_keys.specs.declared.binding.Inner.{Inner}
 use Rattle.temp_keys.specs.declared.plain.Said.{Said}
 use Rattle.temp_keys.proofs.TextLemmas.{cut, three_written, int-bytes, long-bytes, int-one, long-one, plain-parts, number-part, nonce-part, temp-part, perm-part, session-part, expires-part}

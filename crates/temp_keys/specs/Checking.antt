@@ -1,5 +1,5 @@
 -- What a binding binds, and why one is refused (core.telegram.org/method/auth.bindTempAuthKey).
-use Rattle.std.specs.Prelude.{◌≡◌, ◌≢◌, ℕ, ◌<◌, ◌≤◌, ◌==◌, ◌&&◌, not, Bool, true, false, List, Option, Some, None, if◌then◌else◌}
+use Rattle.std.specs.Prelude.{◌≡◌, ℕ, ◌<◌, ◌≤◌, ◌==◌, ◌&&◌, not, Bool, true, false, List, Option, Some, None, if◌then◌else◌}
 use Rattle.auth_keys.specs.Rings.{entry_of, kind_in}
 use Rattle.auth_keys.specs.declared.key.KeyKind.{KeyKind}
 use Rattle.auth_keys.specs.declared.key.KeyKind.TheVariants.{Perm, Temp}

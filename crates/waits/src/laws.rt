@@ -17,8 +17,8 @@ pub fn limits_are_kept()
 {}
 
 /// A job that waits isn't ready before a good answer came to each call that it waits for. Answers that come one after
-/// the other, in any order and with answers to other calls between them, tell each job alone; and where a job is taken
-/// out the others stay as they are.
+/// the other, in any order and with answers to other calls between them, tell each job alone; and where jobs are taken
+/// out, each that is left was there before, as it is.
 pub fn ready_after_each()
     ensures each { (answers : List Answer) (queue : Queue) → all_settled answers queue ≡ map (after_answers answers) queue }
     ensures named { (answers : List Answer) (one : One) (number : ℕ) → is_ready (after_answers answers one) ≡ true → awaits number one ≡ true → list_any (is_well one.job.key one.job.session number) answers ≡ true }

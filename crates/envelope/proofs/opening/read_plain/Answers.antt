@@ -1,4 +1,4 @@
-use Rattle.std.proofs.Common.{◌≡◌, ◌%◌, ◌∙◌, ℕ, ap, subst, length, arith, take, drop}
+use Rattle.std.proofs.Common.{◌≡◌, ◌%◌, ◌∙◌, ℕ, ap, subst, arith, take, drop}
 use Rattle.envelope.specs.Opening.{length_said}
 use Rattle.envelope.proofs.PlainTexts.{read_fields}
 use Rattle.envelope.proofs.opening.read_plain.Goals as goal

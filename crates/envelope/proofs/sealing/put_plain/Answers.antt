@@ -1,4 +1,4 @@
-use Rattle.std.proofs.Common.{◌≡◌, ◌∙◌, ◌++◌, ap, length, length-append, arith}
+use Rattle.std.proofs.Common.{◌∙◌, ◌++◌, ap, length, length-append, arith}
 use Rattle.byteorder.specs.Endian.{little_bytes}
 use Rattle.envelope.specs.Packet.{plain_text}
 use Rattle.envelope.proofs.PlainTexts.{in_turn, length-plain_text}

@@ -1,4 +1,4 @@
-use Rattle.std.proofs.Common.{◌≡◌, ◌∙◌, ℕ, List, ◌∷◌, [], length, suc, ap, refl, arith}
+use Rattle.std.proofs.Common.{◌≡◌, ℕ, List, ◌∷◌, [], length, suc, ap, refl}
 use Rattle.msg_ids.specs.Counters.{Counters}
 use Rattle.service_tl.specs.declared.lists.Message.{Message}
 use Rattle.packing.specs.Packing.{groups, outers_of, after_outer}

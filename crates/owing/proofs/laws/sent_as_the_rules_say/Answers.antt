@@ -1,4 +1,4 @@
-use Rattle.std.proofs.Common.{◌≡◌, ◌∙◌, ℕ, List, [], ◌∷◌, ◌++◌, fold, ap, sym, refl, append_assoc, append-nil}
+use Rattle.std.proofs.Common.{◌≡◌, ◌∙◌, ℕ, List, [], ◌∷◌, ◌++◌, fold, ap, sym, append_assoc, append-nil}
 use Rattle.service_tl.specs.declared.lists.Message.{Message}
 use Rattle.server_rules.specs.Event.{Setting, Speaker, Sent}
 use Rattle.server_rules.specs.Sending.{seals}

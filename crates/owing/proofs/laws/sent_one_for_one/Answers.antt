@@ -1,4 +1,4 @@
-use Rattle.std.proofs.Common.{◌≡◌, ℕ, List, [], ◌∷◌, length, suc, ap, refl}
+use Rattle.std.proofs.Common.{◌≡◌, List, [], ◌∷◌, length, suc, ap, refl}
 use Rattle.auth_keys.specs.declared.ring.RingKey.{RingKey}
 use Rattle.envelope.specs.Packet.{Lock}
 use Rattle.server_rules.specs.Event.{Sent}

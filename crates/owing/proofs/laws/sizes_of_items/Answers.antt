@@ -1,4 +1,4 @@
-use Rattle.std.proofs.Common.{◌≡◌, ◌+◌, ◌≤◌, ℕ, List, ◌∷◌, [], length, map, arith, lit<}
+use Rattle.std.proofs.Common.{map, arith, lit<}
 use Rattle.std.proofs.lemmas.List.{length-map}
 use Rattle.service_tl.specs.Schema.{rpc_result, future_salts, pong, destroy_session_ok, destroy_session_none, new_session_created, msgs_ack, msgs_state_info, bad_msg_notification, bad_server_salt}
 use Rattle.server_rules.specs.Rows.{future_salt_of}

@@ -1,6 +1,6 @@
-use Rattle.std.proofs.Common.{◌≡◌, ◌≢◌, ◌∙◌, ℕ, List, take, drop, length, ap, arith, length-drop, sym, refl, take_all}
+use Rattle.std.proofs.Common.{◌≡◌, ◌∙◌, ℕ, List, take, drop, length, ap, arith, length-drop, sym, refl, take_all}
 use Rattle.temp_keys.specs.Derivation.{message_key, aes_key, aes_iv}
-use Rattle.temp_keys.specs.Messages.{long, sealed}
+use Rattle.temp_keys.specs.Messages.{long}
 use Rattle.temp_keys.proofs.SealLemmas.{deciphered-same, enciphered-same, identifier-part, length-sealed, plain_of, plain_of-sealed, said-part, sealed-from_parts}
 use Rattle.temp_keys.proofs.TextLemmas.{not_other, not_same}
 use Rattle.temp_keys.proofs.message.plain_of.Goals as goal

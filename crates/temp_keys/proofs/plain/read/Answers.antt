@@ -1,4 +1,4 @@
-use Rattle.std.proofs.Common.{◌≡◌, ◌∙◌, ℕ, List, take, drop, ap, sym, arith}
+use Rattle.std.proofs.Common.{◌∙◌, ℕ, List, take, drop, ap, sym, arith}
 use Rattle.temp_keys.specs.Messages.{int}
 use Rattle.temp_keys.proofs.TextLemmas.{int-one, seq-part, length-part, constructor-part, plain-from_parts}
 use Rattle.temp_keys.proofs.plain.read.Goals as goal

@@ -1,4 +1,4 @@
-use Rattle.std.proofs.Common.{List, ℕ, [], sym, subst}
+use Rattle.std.proofs.Common.{[], sym, subst}
 use Rattle.framing.specs.Held.{Held, nothing}
 use Rattle.frame_len.specs.Reading.{StandsFor}
 use Rattle.frame_len.proofs.Standing.{stands_for}

@@ -1,4 +1,4 @@
-use Rattle.std.proofs.Common.{◌≡◌, ◌+◌, length, map, arith}
+use Rattle.std.proofs.Common.{arith}
 use Rattle.std.proofs.lemmas.List.{length-map}
 use Rattle.owing.specs.Dues.{message_at}
 use Rattle.owing.proofs.Rows.{rows-go, rows-bytes}

@@ -1,4 +1,4 @@
-use Rattle.std.proofs.Common.{◌≡◌, ◌≤◌, length, map, take, vec_len, vec_capacity}
+use Rattle.std.proofs.Common.{◌≡◌, ◌≤◌, map, take, vec_len, vec_capacity}
 use Rattle.containers.specs.Lent.{message_of}
 use Rattle.owing.proofs.owing.Owing.lent.Given as goal
 

@@ -1,4 +1,4 @@
-use Rattle.std.proofs.Common.{◌≡◌, ◌∙◌, ◌+◌, ◌-◌, ◌++◌, ◌≤◌, ℕ, List, length, ap, length-append, arith}
+use Rattle.std.proofs.Common.{◌≡◌, ◌∙◌, ◌+◌, ◌-◌, ◌≤◌, ℕ, List, length, ap, length-append, arith}
 use Rattle.service_tl.specs.Items.{spelling_of}
 use Rattle.owing.specs.Items.{item_of}
 use Rattle.owing.proofs.Rows.{rows-more, rows-hold, rows-bytes-more}

@@ -1,8 +1,8 @@
-use Rattle.std.proofs.Common.{◌≡◌, ◌∙◌, ◌≤◌, ◌<◌, ◌+◌, ◌-◌, ◌∷◌, ◌++◌, [], ℕ, List, length, map, take, drop, vec_len, ap, sym, subst, refl, arith}
+use Rattle.std.proofs.Common.{◌≡◌, ◌∙◌, ◌≤◌, ◌+◌, ◌-◌, ◌∷◌, ◌++◌, [], List, length, map, take, drop, vec_len, ap, sym, subst, refl, arith}
 use Rattle.std.specs.List.{AllByRecursion}
 use Rattle.service_tl.specs.declared.lists.Message.{Message}
 use Rattle.containers.specs.Lent.{message_of}
-use Rattle.packing.specs.Packing.{groups, outer_of, after_outer, outers_of, packets_of}
+use Rattle.packing.specs.Packing.{groups, outer_of, outers_of, packets_of}
 use Rattle.owing.specs.Batch.{Batch, IsPlace, packed_most, packets_most}
 use Rattle.owing.specs.Outs.{GoesOn, one_sent, sent_of}
 use Rattle.owing.specs.Course.{Course}
