@@ -12,3 +12,5 @@ pub mod Unfailed
 pub mod Replies
 pub mod Noticed
 pub mod Count
+pub mod Floor
+pub mod Binding

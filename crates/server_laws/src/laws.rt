@@ -5,11 +5,11 @@ ghost use Rattle.service_tl.specs.declared.item.Item.{Item};
 ghost use Rattle.service_tl.specs.declared.item.Item.TheVariants.{RpcResult};
 ghost use Rattle.service_tl.specs.Items.{spelling_of};
 ghost use Rattle.service_tl.specs.declared.lists.Message.{Message};
-ghost use Rattle.id_window.specs.History.{History, FirstJudgement, EachOnce, was_accepted};
+ghost use Rattle.id_window.specs.History.{History, FirstJudgement, EachOnce, floor, is_kept, was_accepted};
 ghost use Rattle.id_window.specs.Marks.{mark_of};
 ghost use Rattle.id_window.specs.declared.mark.Mark.{Mark};
 ghost use Rattle.inbox.specs.Refusals.{Way};
-ghost use Rattle.inbox.specs.Judging.{judgements, session_after};
+ghost use Rattle.inbox.specs.Judging.{judgements, session_after, Session as Remembered};
 ghost use Rattle.regs_service.specs.Served.{Step};
 ghost use Rattle.waits.specs.declared.job.Job.{Job};
 ghost use Rattle.waits.specs.Jobs.{Queue};
@@ -165,4 +165,22 @@ pub fn sessions_are_few<D: Draw, V>()
         → length course.server.sessions ≤ 256 → length (after_event setting serve service course event).server.sessions ≤ 256 }
     ensures all { (setting : Setting D) (serve : Step V) (service : V) (draw : D) (events : List Event)
         → length (course_of setting serve service draw events).server.sessions ≤ 256 }
+{}
+
+/// The floor never falls as a history goes on, so a number that was judged and is kept no more is at most the floor from
+/// then on. A packet only adds to its session's history.
+pub fn floors_never_fall()
+    ensures rises { (history later : History) → floor history ≤ floor (history ++ later) }
+    ensures dropped { (history later : History) (judgement : FirstJudgement) → Contains history judgement → is_kept judgement.number history ≡ false
+        → judgement.number ≤ floor (history ++ later) }
+    ensures added { (way : Way) (session : Remembered) (message : Message)
+        → (later : History) × ((session_after way session message).history ≡ session.history ++ later) }
+{
+    id_window::laws::others_are_not_above_the_floor();
+}
+
+/// A binding call that is spelt right becomes no job and makes no entry, whether it is right or not.
+pub fn binding_calls_enter_nothing<D: Draw>()
+    ensures jobs { (setting : Setting D) (call : BindingCall) (speaker : Speaker D) → (binds setting call speaker).jobs ≡ speaker.jobs }
+    ensures entries { (setting : Setting D) (call : BindingCall) (speaker : Speaker D) → (binds setting call speaker).entries ≡ speaker.entries }
 {}
