@@ -1,5 +1,5 @@
 -- Numbers that are kept no more stay at most the floor.
-use Rattle.std.proofs.Common.{◌≡◌, ◌∙◌, ℕ, zero, suc, ◌-◌, ◌≤◌, true, false, ltb, Option, Some, None, List, [], ◌∷◌, ◌++◌, length, take, get_or, ap, sym, subst, refl, arith, inl, inr, append_assoc}
+use Rattle.std.proofs.Common.{◌≡◌, ◌∙◌, ℕ, zero, suc, ◌-◌, ◌≤◌, true, false, ltb, Option, Some, None, List, [], ◌∷◌, ◌++◌, length, take, ap, sym, subst, refl, arith, inl, inr, append_assoc}
 use Rattle.std.specs.List.{All, Contains}
 use Rattle.std.proofs.lemmas.Bool.{cases_lt, le-ltb, lt-ltb}
 use Rattle.std.proofs.lemmas.Grind.{fold-append}

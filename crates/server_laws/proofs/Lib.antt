@@ -14,3 +14,4 @@ pub mod Noticed
 pub mod Count
 pub mod Floor
 pub mod Binding
+pub mod Start

@@ -13,15 +13,20 @@ ghost use Rattle.inbox.specs.Judging.{judgements, session_after, Session as Reme
 ghost use Rattle.regs_service.specs.Served.{Step};
 ghost use Rattle.waits.specs.declared.job.Job.{Job};
 ghost use Rattle.waits.specs.Jobs.{Queue};
-ghost use Rattle.server_rules.specs.Server.{Name, Session, Reply, kept_of, kept_replies, mark_after, marks_of, name_of, remembered, reply_to, session_named};
-ghost use Rattle.server_rules.specs.Event.{Setting, Speaker, State, BindingCall, speaker_in, speaks};
+ghost use Rattle.server_rules.specs.Server.{Name, Session, Reply, has_accepted, kept_of, kept_replies, mark_after, marks_of, name_of, remembered, reply_to, session_named};
+ghost use Rattle.server_rules.specs.Event.{Owed, Setting, Speaker, State, BindingCall, speaker_in, speaks};
 ghost use Rattle.server_rules.specs.Events.{Event, Course, course_of, after_event};
 ghost use Rattle.server_rules.specs.Speaking.{says, says_again, says_it_is_new, answers, answers_in_place, made_room};
 ghost use Rattle.server_rules.specs.Waiting.{gives_up, tells_of};
 ghost use Rattle.server_rules.specs.Calls.{accepts_call, binds, drops_answer};
 ghost use Rattle.server_rules.specs.Rows.{accepts, acknowledges, answers_broken, came_again, notices, sends_again, takes_acks, tells_salts, tells_states};
-ghost use Rattle.server_rules.specs.Answer.{attaches, finishes};
+ghost use Rattle.server_rules.specs.Answer.{attaches, finishes, opens};
 ghost use Rattle.server_rules.specs.Sending.{sends};
+ghost use Rattle.inbox.specs.Inbox.{was_heard};
+ghost use Rattle.inbox.specs.declared.judged.Judgement.{Judgement};
+ghost use Rattle.msg_ids.specs.Counters.{Counters};
+ghost use Rattle.packing.specs.Packing.{packets_of};
+ghost use Rattle.server_laws.specs.Start.{BeginsWith, new_owed};
 ghost use Rattle.server_laws.specs.Order.{AreOrdered, IsOrderly, IsMidway, IsSpeaking, IsTold, IsUnanswered, HasNoJob, WasCalled, is_for_service, opens_of, reply_made};
 
 use draws::Draw;
@@ -183,4 +188,20 @@ pub fn floors_never_fall()
 pub fn binding_calls_enter_nothing<D: Draw>()
     ensures jobs { (setting : Setting D) (call : BindingCall) (speaker : Speaker D) → (binds setting call speaker).jobs ≡ speaker.jobs }
     ensures entries { (setting : Setting D) (call : BindingCall) (speaker : Speaker D) → (binds setting call speaker).entries ≡ speaker.entries }
+{}
+
+/// A session that has accepted nothing has no replies and no jobs. What it owes for a packet begins with its
+/// `new_session_created`, an attach owes that alone, and the first packet made of messages begins with the first of these.
+pub fn new_sessions_say_so<D: Draw>()
+    ensures replies { (history : History) (replies : List Reply) (last : ℕ) (jobs : Queue) → IsOrderly history replies last jobs
+        → was_heard history ≡ false → replies ≡ [] }
+    ensures jobs { (history : History) (replies : List Reply) (last : ℕ) (jobs : Queue) → IsOrderly history replies last jobs
+        → was_heard history ≡ false → jobs ≡ [] }
+    ensures packet { (setting : Setting D) (history : History) (judged : List Judgement) (speaker : Speaker D) → was_heard history ≡ false
+        → (later : List Owed) × ((opens setting history judged speaker).owed ≡ speaker.owed ++ new_owed setting speaker ∷ later) }
+    ensures attach { (setting : Setting D) (speaker : Speaker D) (jobs : Queue)
+        → IsOrderly speaker.session.history speaker.session.replies speaker.session.counters.last jobs → has_accepted speaker.session ≡ false
+        → attaches setting speaker ≡ says_it_is_new setting speaker }
+    ensures begins { (now : ℕ) (counters : Counters) (message : Message) (messages : List Message)
+        → (first : Message) × (others : List Message) × (packets_of now counters (message ∷ messages) ≡ first ∷ others) × BeginsWith message first.body }
 {}
