@@ -15,3 +15,4 @@ pub mod Count
 pub mod Floor
 pub mod Binding
 pub mod Start
+pub mod Words

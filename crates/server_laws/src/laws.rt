@@ -27,6 +27,9 @@ ghost use Rattle.inbox.specs.declared.judged.Judgement.{Judgement};
 ghost use Rattle.msg_ids.specs.Counters.{Counters};
 ghost use Rattle.packing.specs.Packing.{packets_of};
 ghost use Rattle.server_laws.specs.Start.{BeginsWith, new_owed};
+ghost use Rattle.inbox.specs.declared.judged.Verdict.{Verdict};
+ghost use Rattle.server_rules.specs.Rows.{owes};
+ghost use Rattle.server_laws.specs.Speech.{SaidFor};
 ghost use Rattle.server_laws.specs.Order.{AreOrdered, IsOrderly, IsMidway, IsSpeaking, IsTold, IsUnanswered, HasNoJob, WasCalled, is_for_service, opens_of, reply_made};
 
 use draws::Draw;
@@ -204,4 +207,14 @@ pub fn new_sessions_say_so<D: Draw>()
         → attaches setting speaker ≡ says_it_is_new setting speaker }
     ensures begins { (now : ℕ) (counters : Counters) (message : Message) (messages : List Message)
         → (first : Message) × (others : List Message) × (packets_of now counters (message ∷ messages) ≡ first ∷ others) × BeginsWith message first.body }
+{}
+
+/// A session that speaks does so for itself: it stays the same one with the same history, and what it owes further and
+/// what is entered further is its own. This is so of each row, of a job that is given up or has run, and of an attach.
+pub fn sessions_speak_for_themselves<D: Draw>()
+    ensures owes { (setting : Setting D) (speaker : Speaker D) (number seq : ℕ) (verdict : Verdict) (body : List ℕ)
+        → SaidFor D speaker (owes setting number seq verdict body speaker) }
+    ensures gives_up { (setting : Setting D) (speaker : Speaker D) (content : List ℕ) (job : Job) → SaidFor D speaker (gives_up setting content job speaker) }
+    ensures finishes { (setting : Setting D) (speaker : Speaker D) (job : Job) (reply : List ℕ) → SaidFor D speaker (finishes setting job reply speaker) }
+    ensures attaches { (setting : Setting D) (speaker : Speaker D) → SaidFor D speaker (attaches setting speaker) }
 {}
