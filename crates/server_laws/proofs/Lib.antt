@@ -16,3 +16,4 @@ pub mod Floor
 pub mod Binding
 pub mod Start
 pub mod Words
+pub mod Room

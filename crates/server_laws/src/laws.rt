@@ -24,7 +24,7 @@ ghost use Rattle.server_rules.specs.Answer.{attaches, finishes, opens};
 ghost use Rattle.server_rules.specs.Sending.{sends};
 ghost use Rattle.inbox.specs.Inbox.{was_heard};
 ghost use Rattle.inbox.specs.declared.judged.Judgement.{Judgement};
-ghost use Rattle.msg_ids.specs.Counters.{Counters};
+ghost use Rattle.msg_ids.specs.Counters.{Counters, room};
 ghost use Rattle.packing.specs.Packing.{packets_of};
 ghost use Rattle.server_laws.specs.Start.{BeginsWith, new_owed};
 ghost use Rattle.inbox.specs.declared.judged.Verdict.{Verdict};
@@ -217,4 +217,13 @@ pub fn sessions_speak_for_themselves<D: Draw>()
     ensures gives_up { (setting : Setting D) (speaker : Speaker D) (content : List ℕ) (job : Job) → SaidFor D speaker (gives_up setting content job speaker) }
     ensures finishes { (setting : Setting D) (speaker : Speaker D) (job : Job) (reply : List ℕ) → SaidFor D speaker (finishes setting job reply speaker) }
     ensures attaches { (setting : Setting D) (speaker : Speaker D) → SaidFor D speaker (attaches setting speaker) }
+{}
+
+/// After every list of events each session of a server has room for 16,384 further numbers.
+pub fn sessions_have_room<D: Draw, V>()
+    ensures event { (setting : Setting D) (serve : Step V) (service : V) (course : Course D V) (event : Event)
+        → All (λ session. 16384 ≤ room session.counters) course.server.sessions
+        → All (λ session. 16384 ≤ room session.counters) (after_event setting serve service course event).server.sessions }
+    ensures all { (setting : Setting D) (serve : Step V) (service : V) (draw : D) (events : List Event)
+        → All (λ session. 16384 ≤ room session.counters) (course_of setting serve service draw events).server.sessions }
 {}
