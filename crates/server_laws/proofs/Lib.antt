@@ -17,3 +17,4 @@ pub mod Binding
 pub mod Start
 pub mod Words
 pub mod Room
+pub mod Attached

@@ -13,20 +13,20 @@ ghost use Rattle.inbox.specs.Judging.{judgements, session_after, Session as Reme
 ghost use Rattle.regs_service.specs.Served.{Step};
 ghost use Rattle.waits.specs.declared.job.Job.{Job};
 ghost use Rattle.waits.specs.Jobs.{Queue};
-ghost use Rattle.server_rules.specs.Server.{Name, Session, Reply, has_accepted, kept_of, kept_replies, mark_after, marks_of, name_of, remembered, reply_to, session_named};
-ghost use Rattle.server_rules.specs.Event.{Owed, Setting, Speaker, State, BindingCall, speaker_in, speaks};
+ghost use Rattle.server_rules.specs.Server.{Name, Server, Session, Reply, has_accepted, kept_of, kept_replies, mark_after, marks_of, name_of, remembered, reply_to, session_named};
+ghost use Rattle.server_rules.specs.Event.{Owed, Sent, Setting, Speaker, State, BindingCall, speaker_in, speaks};
 ghost use Rattle.server_rules.specs.Events.{Event, Course, course_of, after_event};
 ghost use Rattle.server_rules.specs.Speaking.{says, says_again, says_it_is_new, answers, answers_in_place, made_room};
 ghost use Rattle.server_rules.specs.Waiting.{gives_up, tells_of};
 ghost use Rattle.server_rules.specs.Calls.{accepts_call, binds, drops_answer};
 ghost use Rattle.server_rules.specs.Rows.{accepts, acknowledges, answers_broken, came_again, notices, sends_again, takes_acks, tells_salts, tells_states};
-ghost use Rattle.server_rules.specs.Answer.{attaches, finishes, opens};
+ghost use Rattle.server_rules.specs.Answer.{after_attach, attaches, finishes, opens};
 ghost use Rattle.server_rules.specs.Sending.{sends};
 ghost use Rattle.inbox.specs.Inbox.{was_heard};
 ghost use Rattle.inbox.specs.declared.judged.Judgement.{Judgement};
 ghost use Rattle.msg_ids.specs.Counters.{Counters, room};
 ghost use Rattle.packing.specs.Packing.{packets_of};
-ghost use Rattle.server_laws.specs.Start.{BeginsWith, new_owed};
+ghost use Rattle.server_laws.specs.Start.{BeginsWith, SaysItIsNew, new_owed};
 ghost use Rattle.inbox.specs.declared.judged.Verdict.{Verdict};
 ghost use Rattle.server_rules.specs.Rows.{owes};
 ghost use Rattle.server_laws.specs.Speech.{SaidFor};
@@ -226,4 +226,13 @@ pub fn sessions_have_room<D: Draw, V>()
         → All (λ session. 16384 ≤ room session.counters) (after_event setting serve service course event).server.sessions }
     ensures all { (setting : Setting D) (serve : Step V) (service : V) (draw : D) (events : List Event)
         → All (λ session. 16384 ≤ room session.counters) (course_of setting serve service draw events).server.sessions }
+{}
+
+/// Where a connection is opened for a session that has accepted nothing, it makes one packet, and that is its
+/// `new_session_created`.
+pub fn attached_sessions_start<D: Draw>()
+    ensures { (setting : Setting D) (name : Name) (server : Server) (draw : D) (session : Session) → AreOrdered server.sessions server.jobs
+        → session_named name server.sessions ≡ Some session → has_accepted session ≡ false
+        → (packet : Sent) × ((after_attach setting name server draw).packets ≡ packet ∷ []) × (packet.envelope.key ≡ session.key)
+        × (packet.envelope.session ≡ session.number) × SaysItIsNew session packet.envelope.body }
 {}
