@@ -1,5 +1,5 @@
 -- A session that has accepted nothing and is attached makes one packet, which says that it is new.
-use Rattle.std.proofs.Common.{◌≡◌, ◌∙◌, ℕ, true, false, Option, Some, None, List, [], ◌∷◌, ◌++◌, ap, sym, subst, refl}
+use Rattle.std.proofs.Common.{◌≡◌, ◌∙◌, true, false, Option, Some, List, [], ◌∷◌, ◌++◌, ap, sym, subst, refl}
 use Rattle.std.specs.Prelude.{fold}
 use Rattle.std.specs.List.{filter}
 use Rattle.service_tl.specs.declared.lists.Message.{Message}
@@ -51,7 +51,7 @@ attach-starts {S} setting name server draw session ordered is unheard =
     let packet = one-sent setting one.message (speaker_in done said.session) in (
       packet.0,
       spent-sent (filter is_spent all.sessions) all
-      ∙ (ap (λ (state : State S). (all_sent setting state).sent) attached ∙ (ap (λ (state : State S). state.sent) sent ∙ packet.1)),
+          ∙ (ap (λ (state : State S). (all_sent setting state).sent) attached ∙ (ap (λ (state : State S). state.sent) sent ∙ packet.1)),
       packet.2,
       packet.3,
       (_, packet.4),

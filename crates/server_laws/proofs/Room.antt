@@ -1,5 +1,5 @@
 -- The sessions that an event leaves have room for further numbers.
-use Rattle.std.proofs.Common.{◌≡◌, ◌∙◌, ℕ, ◌≤◌, Bool, true, false, Option, Some, None, List, [], ◌∷◌, ap, sym, subst, refl, inl, inr}
+use Rattle.std.proofs.Common.{◌≡◌, ◌∙◌, ℕ, ◌≤◌, Bool, false, Option, Some, None, List, [], ◌∷◌, ap, sym, refl, inl, inr}
 use Rattle.std.specs.Prelude.{fold, not, ◌⊎◌}
 use Rattle.std.specs.List.{filter, All}
 use Rattle.std.proofs.lemmas.Bool.{cases_Bool, cond_both, ltb-false, false≢true}

@@ -1,6 +1,6 @@
 //! Laws of a server, each the contract of a function that does nothing.
 
-ghost use Rattle.std.specs.Prelude.{◌≡◌, ◌≢◌, ◌≤◌, ℕ, [], ◌∷◌, ◌++◌, true, false, All, Contains, List, Option, Some, length};
+ghost use Rattle.std.specs.Prelude.{map, ◌≡◌, ◌≢◌, ◌≤◌, ℕ, [], ◌∷◌, ◌++◌, true, false, All, Contains, List, Option, Some, length};
 ghost use Rattle.service_tl.specs.declared.item.Item.{Item};
 ghost use Rattle.service_tl.specs.declared.item.Item.TheVariants.{RpcResult};
 ghost use Rattle.service_tl.specs.Items.{spelling_of};
@@ -30,6 +30,7 @@ ghost use Rattle.server_laws.specs.Start.{BeginsWith, SaysItIsNew, new_owed};
 ghost use Rattle.inbox.specs.declared.judged.Verdict.{Verdict};
 ghost use Rattle.server_rules.specs.Rows.{owes};
 ghost use Rattle.server_laws.specs.Speech.{SaidFor};
+ghost use Rattle.server_laws.specs.Witness as shown;
 ghost use Rattle.server_laws.specs.Order.{AreOrdered, IsOrderly, IsMidway, IsSpeaking, IsTold, IsUnanswered, HasNoJob, WasCalled, is_for_service, opens_of, reply_made};
 
 use draws::Draw;
@@ -235,4 +236,15 @@ pub fn attached_sessions_start<D: Draw>()
         → session_named name server.sessions ≡ Some session → has_accepted session ≡ false
         → (packet : Sent) × ((after_attach setting name server draw).packets ≡ packet ∷ []) × (packet.envelope.key ≡ session.key)
         × (packet.envelope.session ≡ session.number) × SaysItIsNew session packet.envelope.body }
+{}
+
+/// A session speaks before it has accepted anything. Two calls are accepted, of which one waits for the other, and are
+/// entered once each when both have run.
+pub fn courses_that_happen()
+    ensures unheard { shown.accepted (shown.course (shown.wrong_salt ∷ [])) ≡ false ∷ [] }
+    ensures packets { length (shown.course (shown.wrong_salt ∷ [])).packets ≡ 1 }
+    ensures waits { shown.waiting (shown.course (shown.call ∷ shown.waiting_call ∷ [])) ≡ (4, []) ∷ (8, 4 ∷ []) ∷ [] }
+    ensures none_yet { shown.entered (shown.course (shown.call ∷ shown.waiting_call ∷ [])) ≡ [] }
+    ensures ran { shown.entered (shown.course (shown.call ∷ shown.waiting_call ∷ shown.run ∷ shown.run ∷ [])) ≡ (4, true) ∷ (8, true) ∷ [] }
+    ensures done { shown.waiting (shown.course (shown.call ∷ shown.waiting_call ∷ shown.run ∷ shown.run ∷ [])) ≡ [] }
 {}
