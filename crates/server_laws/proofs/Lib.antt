@@ -18,3 +18,4 @@ pub mod Start
 pub mod Words
 pub mod Room
 pub mod Attached
+pub mod OwedBy

@@ -21,7 +21,7 @@ ghost use Rattle.server_rules.specs.Waiting.{gives_up, tells_of};
 ghost use Rattle.server_rules.specs.Calls.{accepts_call, binds, drops_answer};
 ghost use Rattle.server_rules.specs.Rows.{accepts, acknowledges, answers_broken, came_again, notices, sends_again, takes_acks, tells_salts, tells_states};
 ghost use Rattle.server_rules.specs.Answer.{after_attach, attaches, finishes, opens};
-ghost use Rattle.server_rules.specs.Sending.{sends};
+ghost use Rattle.server_rules.specs.Sending.{messages_by, sends};
 ghost use Rattle.inbox.specs.Inbox.{was_heard};
 ghost use Rattle.inbox.specs.declared.judged.Judgement.{Judgement};
 ghost use Rattle.msg_ids.specs.Counters.{Counters, room};
@@ -247,4 +247,12 @@ pub fn courses_that_happen()
     ensures none_yet { shown.entered (shown.course (shown.call ∷ shown.waiting_call ∷ [])) ≡ [] }
     ensures ran { shown.entered (shown.course (shown.call ∷ shown.waiting_call ∷ shown.run ∷ shown.run ∷ [])) ≡ (4, true) ∷ (8, true) ∷ [] }
     ensures done { shown.waiting (shown.course (shown.call ∷ shown.waiting_call ∷ shown.run ∷ shown.run ∷ [])) ≡ [] }
+{}
+
+/// What a session owes further comes after what it owed, and leaves what the others owe as it was.
+pub fn messages_are_owed_by_name<D: Draw>()
+    ensures own { (before after : Speaker D) → SaidFor D before after
+        → (more : List Message) × (messages_by (name_of before.session) after.owed ≡ messages_by (name_of before.session) before.owed ++ more) }
+    ensures others { (before after : Speaker D) (other : Name) → SaidFor D before after → other ≢ name_of before.session
+        → messages_by other after.owed ≡ messages_by other before.owed }
 {}
