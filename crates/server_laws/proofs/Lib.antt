@@ -12,3 +12,10 @@ pub mod Unfailed
 pub mod Replies
 pub mod Noticed
 pub mod Count
+pub mod Floor
+pub mod Binding
+pub mod Start
+pub mod Words
+pub mod Room
+pub mod Attached
+pub mod OwedBy

@@ -1,27 +1,36 @@
 //! Laws of a server, each the contract of a function that does nothing.
 
-ghost use Rattle.std.specs.Prelude.{◌≡◌, ◌≢◌, ◌≤◌, ℕ, [], ◌∷◌, ◌++◌, true, false, All, Contains, List, Option, Some, length};
+ghost use Rattle.std.specs.Prelude.{map, ◌≡◌, ◌≢◌, ◌≤◌, ℕ, [], ◌∷◌, ◌++◌, true, false, All, Contains, List, Option, Some, length};
 ghost use Rattle.service_tl.specs.declared.item.Item.{Item};
 ghost use Rattle.service_tl.specs.declared.item.Item.TheVariants.{RpcResult};
 ghost use Rattle.service_tl.specs.Items.{spelling_of};
 ghost use Rattle.service_tl.specs.declared.lists.Message.{Message};
-ghost use Rattle.id_window.specs.History.{History, FirstJudgement, EachOnce, was_accepted};
+ghost use Rattle.id_window.specs.History.{History, FirstJudgement, EachOnce, floor, is_kept, was_accepted};
 ghost use Rattle.id_window.specs.Marks.{mark_of};
 ghost use Rattle.id_window.specs.declared.mark.Mark.{Mark};
 ghost use Rattle.inbox.specs.Refusals.{Way};
-ghost use Rattle.inbox.specs.Judging.{judgements, session_after};
+ghost use Rattle.inbox.specs.Judging.{judgements, session_after, Session as Remembered};
 ghost use Rattle.regs_service.specs.Served.{Step};
 ghost use Rattle.waits.specs.declared.job.Job.{Job};
 ghost use Rattle.waits.specs.Jobs.{Queue};
-ghost use Rattle.server_rules.specs.Server.{Name, Session, Reply, kept_of, kept_replies, mark_after, marks_of, name_of, remembered, reply_to, session_named};
-ghost use Rattle.server_rules.specs.Event.{Setting, Speaker, State, BindingCall, speaker_in, speaks};
+ghost use Rattle.server_rules.specs.Server.{Name, Server, Session, Reply, has_accepted, kept_of, kept_replies, mark_after, marks_of, name_of, remembered, reply_to, session_named};
+ghost use Rattle.server_rules.specs.Event.{Owed, Sent, Setting, Speaker, State, BindingCall, speaker_in, speaks};
 ghost use Rattle.server_rules.specs.Events.{Event, Course, course_of, after_event};
 ghost use Rattle.server_rules.specs.Speaking.{says, says_again, says_it_is_new, answers, answers_in_place, made_room};
 ghost use Rattle.server_rules.specs.Waiting.{gives_up, tells_of};
 ghost use Rattle.server_rules.specs.Calls.{accepts_call, binds, drops_answer};
 ghost use Rattle.server_rules.specs.Rows.{accepts, acknowledges, answers_broken, came_again, notices, sends_again, takes_acks, tells_salts, tells_states};
-ghost use Rattle.server_rules.specs.Answer.{attaches, finishes};
-ghost use Rattle.server_rules.specs.Sending.{sends};
+ghost use Rattle.server_rules.specs.Answer.{after_attach, attaches, finishes, opens};
+ghost use Rattle.server_rules.specs.Sending.{messages_by, sends};
+ghost use Rattle.inbox.specs.Inbox.{was_heard};
+ghost use Rattle.inbox.specs.declared.judged.Judgement.{Judgement};
+ghost use Rattle.msg_ids.specs.Counters.{Counters, room};
+ghost use Rattle.packing.specs.Packing.{packets_of};
+ghost use Rattle.server_laws.specs.Start.{BeginsWith, SaysItIsNew, new_owed};
+ghost use Rattle.inbox.specs.declared.judged.Verdict.{Verdict};
+ghost use Rattle.server_rules.specs.Rows.{owes};
+ghost use Rattle.server_laws.specs.Speech.{SaidFor};
+ghost use Rattle.server_laws.specs.Witness as shown;
 ghost use Rattle.server_laws.specs.Order.{AreOrdered, IsOrderly, IsMidway, IsSpeaking, IsTold, IsUnanswered, HasNoJob, WasCalled, is_for_service, opens_of, reply_made};
 
 use draws::Draw;
@@ -165,4 +174,85 @@ pub fn sessions_are_few<D: Draw, V>()
         → length course.server.sessions ≤ 256 → length (after_event setting serve service course event).server.sessions ≤ 256 }
     ensures all { (setting : Setting D) (serve : Step V) (service : V) (draw : D) (events : List Event)
         → length (course_of setting serve service draw events).server.sessions ≤ 256 }
+{}
+
+/// The floor never falls as a history goes on, so a number that was judged and is kept no more is at most the floor from
+/// then on. A packet only adds to its session's history.
+pub fn floors_never_fall()
+    ensures rises { (history later : History) → floor history ≤ floor (history ++ later) }
+    ensures dropped { (history later : History) (judgement : FirstJudgement) → Contains history judgement → is_kept judgement.number history ≡ false
+        → judgement.number ≤ floor (history ++ later) }
+    ensures added { (way : Way) (session : Remembered) (message : Message)
+        → (later : History) × ((session_after way session message).history ≡ session.history ++ later) }
+{
+    id_window::laws::others_are_not_above_the_floor();
+}
+
+/// A binding call that is spelt right becomes no job and makes no entry, whether it is right or not.
+pub fn binding_calls_enter_nothing<D: Draw>()
+    ensures jobs { (setting : Setting D) (call : BindingCall) (speaker : Speaker D) → (binds setting call speaker).jobs ≡ speaker.jobs }
+    ensures entries { (setting : Setting D) (call : BindingCall) (speaker : Speaker D) → (binds setting call speaker).entries ≡ speaker.entries }
+{}
+
+/// A session that has accepted nothing has no replies and no jobs. What it owes for a packet begins with its
+/// `new_session_created`, an attach owes that alone, and the first packet made of messages begins with the first of these.
+pub fn new_sessions_say_so<D: Draw>()
+    ensures replies { (history : History) (replies : List Reply) (last : ℕ) (jobs : Queue) → IsOrderly history replies last jobs
+        → was_heard history ≡ false → replies ≡ [] }
+    ensures jobs { (history : History) (replies : List Reply) (last : ℕ) (jobs : Queue) → IsOrderly history replies last jobs
+        → was_heard history ≡ false → jobs ≡ [] }
+    ensures packet { (setting : Setting D) (history : History) (judged : List Judgement) (speaker : Speaker D) → was_heard history ≡ false
+        → (later : List Owed) × ((opens setting history judged speaker).owed ≡ speaker.owed ++ new_owed setting speaker ∷ later) }
+    ensures attach { (setting : Setting D) (speaker : Speaker D) (jobs : Queue)
+        → IsOrderly speaker.session.history speaker.session.replies speaker.session.counters.last jobs → has_accepted speaker.session ≡ false
+        → attaches setting speaker ≡ says_it_is_new setting speaker }
+    ensures begins { (now : ℕ) (counters : Counters) (message : Message) (messages : List Message)
+        → (first : Message) × (others : List Message) × (packets_of now counters (message ∷ messages) ≡ first ∷ others) × BeginsWith message first.body }
+{}
+
+/// A session that speaks does so for itself: it stays the same one with the same history, and what it owes further and
+/// what is entered further is its own. This is so of each row, of a job that is given up or has run, and of an attach.
+pub fn sessions_speak_for_themselves<D: Draw>()
+    ensures owes { (setting : Setting D) (speaker : Speaker D) (number seq : ℕ) (verdict : Verdict) (body : List ℕ)
+        → SaidFor D speaker (owes setting number seq verdict body speaker) }
+    ensures gives_up { (setting : Setting D) (speaker : Speaker D) (content : List ℕ) (job : Job) → SaidFor D speaker (gives_up setting content job speaker) }
+    ensures finishes { (setting : Setting D) (speaker : Speaker D) (job : Job) (reply : List ℕ) → SaidFor D speaker (finishes setting job reply speaker) }
+    ensures attaches { (setting : Setting D) (speaker : Speaker D) → SaidFor D speaker (attaches setting speaker) }
+{}
+
+/// After every list of events each session of a server has room for 16,384 further numbers.
+pub fn sessions_have_room<D: Draw, V>()
+    ensures event { (setting : Setting D) (serve : Step V) (service : V) (course : Course D V) (event : Event)
+        → All (λ session. 16384 ≤ room session.counters) course.server.sessions
+        → All (λ session. 16384 ≤ room session.counters) (after_event setting serve service course event).server.sessions }
+    ensures all { (setting : Setting D) (serve : Step V) (service : V) (draw : D) (events : List Event)
+        → All (λ session. 16384 ≤ room session.counters) (course_of setting serve service draw events).server.sessions }
+{}
+
+/// Where a connection is opened for a session that has accepted nothing, it makes one packet, and that is its
+/// `new_session_created`.
+pub fn attached_sessions_start<D: Draw>()
+    ensures { (setting : Setting D) (name : Name) (server : Server) (draw : D) (session : Session) → AreOrdered server.sessions server.jobs
+        → session_named name server.sessions ≡ Some session → has_accepted session ≡ false
+        → (packet : Sent) × ((after_attach setting name server draw).packets ≡ packet ∷ []) × (packet.envelope.key ≡ session.key)
+        × (packet.envelope.session ≡ session.number) × SaysItIsNew session packet.envelope.body }
+{}
+
+/// A session speaks before it has accepted anything. Two calls are accepted, of which one waits for the other, and are
+/// entered once each when both have run.
+pub fn courses_that_happen()
+    ensures unheard { shown.accepted (shown.course (shown.wrong_salt ∷ [])) ≡ false ∷ [] }
+    ensures packets { length (shown.course (shown.wrong_salt ∷ [])).packets ≡ 1 }
+    ensures waits { shown.waiting (shown.course (shown.call ∷ shown.waiting_call ∷ [])) ≡ (4, []) ∷ (8, 4 ∷ []) ∷ [] }
+    ensures none_yet { shown.entered (shown.course (shown.call ∷ shown.waiting_call ∷ [])) ≡ [] }
+    ensures ran { shown.entered (shown.course (shown.call ∷ shown.waiting_call ∷ shown.run ∷ shown.run ∷ [])) ≡ (4, true) ∷ (8, true) ∷ [] }
+    ensures done { shown.waiting (shown.course (shown.call ∷ shown.waiting_call ∷ shown.run ∷ shown.run ∷ [])) ≡ [] }
+{}
+
+/// What a session owes further comes after what it owed, and leaves what the others owe as it was.
+pub fn messages_are_owed_by_name<D: Draw>()
+    ensures own { (before after : Speaker D) → SaidFor D before after
+        → (more : List Message) × (messages_by (name_of before.session) after.owed ≡ messages_by (name_of before.session) before.owed ++ more) }
+    ensures others { (before after : Speaker D) (other : Name) → SaidFor D before after → other ≢ name_of before.session
+        → messages_by other after.owed ≡ messages_by other before.owed }
 {}
