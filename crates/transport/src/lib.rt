@@ -6,6 +6,7 @@
 mod direction;
 mod form;
 mod framed;
+pub mod laws;
 mod raw;
 mod start;
 mod wire;
