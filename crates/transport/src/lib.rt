@@ -9,6 +9,8 @@ mod framed;
 pub mod laws;
 mod raw;
 mod start;
+#[cfg(test)]
+mod tests;
 mod wire;
 
 pub use form::Form;
