@@ -1,6 +1,6 @@
 -- A wire that has just begun.
-use Rattle.std.proofs.Common.{◌≡◌, ℕ, ◌≤◌, ◌++◌, List, [], length, refl, sym, ap, subst, arith, inl, inr, ◌∙◌, Option, None, Some, true, false}
-use Rattle.std.specs.Prelude.{OnOk, Ok, Err, IfNone}
+use Rattle.std.proofs.Common.{◌≡◌, ℕ, ◌++◌, List, [], length, refl, sym, ap, subst, arith, inl, inr, ◌∙◌, Option, None, Some, false}
+use Rattle.std.specs.Prelude.{OnOk, Ok, Err}
 use Rattle.std.specs.Result.{is_err}
 use Rattle.std.specs.declared.result.Result.{Result}
 use Rattle.cipher_modes.specs.CounterMode.{CtrState, advanced}

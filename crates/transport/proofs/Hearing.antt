@@ -3,7 +3,6 @@ use Rattle.std.proofs.Common.{◌≡◌, ℕ, ◌+◌, ◌%◌, ◌^◌, List, [
 use Rattle.std.specs.Prelude.{IfNone, OnOk, Ok, Err}
 use Rattle.std.specs.declared.result.Result.{Result}
 use Rattle.framing.specs.Holding.{Answers, IsFault, taken}
-use Rattle.framing.specs.Streams.{Faulty}
 use Rattle.framing.specs.declared.next.Next.{Next}
 use Rattle.std.specs.List.{concat}
 use Rattle.std.proofs.Math.Nat.{mod-add-mod}

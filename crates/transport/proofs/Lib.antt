@@ -2,3 +2,6 @@ pub mod Hearing
 pub mod Telling
 pub mod Starting
 pub mod Begun
+pub mod OneStart
+pub mod SentStarts
+pub mod InOrder

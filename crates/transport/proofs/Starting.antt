@@ -1,5 +1,5 @@
 -- What the first bytes tell, and what they tell with more behind them.
-use Rattle.std.proofs.Common.{◌≡◌, ℕ, ◌≤◌, ◌+◌, Bool, true, false, List, [], ◌∷◌, ◌++◌, length, take, drop, append_assoc, length-append, length-drop, length-take, inl, inr, None, Some, Option, refl, sym, ap, ap₂, subst, ◌∙◌, arith, append-nil}
+use Rattle.std.proofs.Common.{◌≡◌, ℕ, ◌≤◌, ◌+◌, Bool, true, false, List, ◌++◌, length, take, drop, append_assoc, length-append, length-drop, inl, inr, None, Some, Option, refl, sym, ap, ap₂, subst, ◌∙◌, arith, append-nil}
 use Rattle.std.specs.Prelude.{◌||◌, nat_eq}
 use Rattle.std.specs.List.{starts_with}
 use Rattle.std.proofs.lemmas.List.{drop_all, take_all, take-append-drop, take_at, drop-append-le, take-append-le}
@@ -8,7 +8,7 @@ use Rattle.obfus.specs.Streams.{up_stream, down_stream}
 use Rattle.transport.specs.Directions.{behind}
 use lib.Pointwise.{pointwise, pointwise_long}
 use Rattle.std.specs.Prelude.{replicate}
-use Rattle.transport.specs.Starts.{Opening, Starts, StartsPlain, StartsObfuscated, BeginsFull, IsTold, IsRefused, start_of}
+use Rattle.transport.specs.Starts.{Opening, Starts, IsTold, IsRefused, start_of}
 use Rattle.transport.specs.declared.form.Form.{Form}
 use Rattle.transport.specs.declared.form.Form.TheVariants as forms
 use Rattle.obfus.specs.Starts.{abridged_start, intermediate_start, padded_start, begins_full, begins_plain}

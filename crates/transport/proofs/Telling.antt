@@ -1,5 +1,5 @@
 -- A wire that tells packets tells one more.
-use Rattle.std.proofs.Common.{◌≡◌, ℕ, suc, ◌+◌, ◌%◌, ◌^◌, ◌<◌, List, [], ◌∷◌, ◌++◌, length, refl, sym, ap, subst, ◌∙◌, arith, length-append, Option, None, Some, true, false, Bool}
+use Rattle.std.proofs.Common.{◌≡◌, ℕ, suc, ◌+◌, ◌^◌, ◌<◌, List, [], ◌∷◌, ◌++◌, length, refl, sym, ap, subst, ◌∙◌, arith, length-append, Option, None, Some, true, false, Bool}
 use Rattle.cipher_modes.specs.CounterMode.{CtrState, applied, xor_stream}
 use Rattle.framing.specs.Payload.{IsPayload}
 use Rattle.framing.specs.Streams.{Frame, Frames, number_after}

@@ -1,5 +1,5 @@
 -- One direction of a connection: the bytes as they are sent, and as they are framed.
-use Rattle.std.specs.Prelude.{ℕ, List, length, Option, None, Some}
+use Rattle.std.specs.Prelude.{ℕ, List, Option, None, Some}
 use Rattle.cipher_modes.specs.CounterMode.{CtrState, applied, advanced}
 
 -- the bytes of the one are those of the other, xored with the key stream where the connection is obfuscated

@@ -1,5 +1,5 @@
 -- What a wire keeps, and which bytes and packets it stands for.
-use Rattle.std.specs.Prelude.{◌≡◌, ⊤, ℕ, List, [], ◌∷◌, ◌++◌, length, Option, None, IfNone}
+use Rattle.std.specs.Prelude.{◌≡◌, ⊤, ℕ, List, [], ◌++◌, length, Option, IfNone}
 use Rattle.cipher_modes.specs.CounterMode.{CtrState}
 use Rattle.framing.specs.Held.{Held}
 use Rattle.framing.specs.Holding.{Stands}

@@ -6,8 +6,11 @@
 mod direction;
 mod form;
 mod framed;
+pub mod laws;
 mod raw;
 mod start;
+#[cfg(test)]
+mod tests;
 mod wire;
 
 pub use form::Form;

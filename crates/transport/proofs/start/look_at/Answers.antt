@@ -1,8 +1,7 @@
-use Rattle.std.proofs.Common.{◌≡◌, ℕ, List, length, sym, ap, subst, ◌∙◌, arith, inl, inr, None, Some, Option}
+use Rattle.std.proofs.Common.{ℕ, List, sym, ap, subst, ◌∙◌, arith, inr, None, Some}
 use Rattle.std.proofs.lemmas.List.{take_all}
-use Rattle.cipher_modes.specs.CounterMode.{CtrState}
 use Rattle.obfus.specs.Reads.{Reads, IsFaultOf}
-use Rattle.transport.specs.Starts.{Opening, StartsObfuscated, IsRefused}
+use Rattle.transport.specs.Starts.{Opening}
 use Rattle.transport.specs.declared.form.Form.{Form}
 use Rattle.transport.proofs.Starting.{unplain, all_of}
 use Rattle.transport.proofs.start.look_at.Goals as goal

@@ -1,7 +1,7 @@
 use Rattle.std.proofs.Common.{◌≡◌, ◌∷◌, [], ◌++◌, List, ℕ, length, drop, refl, sym, ap, subst, ◌∙◌, Option}
 use Rattle.std.proofs.lemmas.List.{drop_at}
 use Rattle.cipher_modes.specs.CounterMode.{CtrState}
-use Rattle.transport.specs.Forms.{frame_of, next_number, IsSent}
+use Rattle.transport.specs.Forms.{frame_of, IsSent}
 use Rattle.transport.specs.Directions.{through, behind}
 use Rattle.transport.specs.Wires.{Line, Tells}
 use Rattle.transport.proofs.Telling.{TellLaws, told}
