@@ -3,6 +3,7 @@
 //! session of the definitions (`Stands`); what it says, they say (`Says`). Only `new` takes memory.
 #![tactic(auto)]
 
+mod laws;
 mod standing;
 
 pub use standing::Standing;
