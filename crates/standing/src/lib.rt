@@ -4,8 +4,10 @@
 #![tactic(auto)]
 
 mod laws;
+mod outlook;
 mod standing;
 
+pub use outlook::Outlook;
 pub use standing::Standing;
 
 #[cfg(test)]

@@ -21,10 +21,13 @@ ghost use Rattle.owing.specs.Batch.{packets_most};
 ghost use Rattle.owing.specs.Outs.{AreSent};
 ghost use Rattle.owing.specs.Items.{IsContent, acks_bytes, bad_salt_bytes, destroyed_bytes, destroyed_item, ids_max, new_session_bytes, pong_bytes, salts_bytes};
 ghost use Rattle.server_laws.specs.Order.{IsOrderly};
+ghost use Rattle.server_rules.specs.Waiting.{outlook, tells_of};
+ghost use Rattle.standing.specs.Outlooks.{outlook_told};
 ghost use Rattle.standing.specs.Standing.{IsAt, Stands, key_of, numbers_left};
 ghost use Rattle.standing.specs.Says.{Keys, Says, setting_of};
 
 use crate::laws::{replies_are_results, said_by_number};
+use crate::outlook::Outlook;
 use draws::Draw;
 use envelope::Seal;
 use inbox::{Inbox, Judged, Mark, Outer};
@@ -36,6 +39,7 @@ use owing::{Header, Outs, Owing, Packets};
 use salt_line::{SaltLine, SaltRow};
 use server_laws::laws::packets_are_judged;
 use std::alloc::Global;
+use waits::Jobs;
 
 /// The code of the notice that a message's salt is wrong
 /// (core.telegram.org/mtproto/service_messages_about_messages, "Notice of Ignored Error Message").
@@ -137,11 +141,11 @@ impl Standing {
     }
 
     /// Says a kept reply once more, unless it was said in this event.
-    pub fn says_again<D: Draw>(&self, now: Moment, owing: &mut Owing, kept: &Kept)
+    pub fn says_again<D: Draw>(&self, owing: &mut Owing, kept: &Kept)
         requires content { IsContent (drop head_bytes kept.now.body) }
         requires place { 0 < owing.old.places }
         requires bytes { length kept.now.body ≤ owing.old.room }
-        ensures says { (draw : D) (speaker : Speaker D) (reply : Reply) → kept_of reply ≡ kept.now
+        ensures says { (now : ℕ) (draw : D) (speaker : Speaker D) (reply : Reply) → kept_of reply ≡ kept.now
             → Says now self.now owing.old draw speaker → Says now self.now owing.new draw (says_again reply speaker) }
         ensures places { owing.old.places ≤ owing.new.places + 1 }
         ensures left { owing.old.room ≤ owing.new.room + length kept.now.body }
@@ -150,6 +154,35 @@ impl Standing {
         replies_are_results();
         if !owing.has_said(kept.number) {
             owing.again(kept.number, kept.seq, kept.call, kept.body.rest());
+        }
+    }
+
+    /// What becomes of a number that a job of the session may wait for.
+    pub fn outlook(&self, jobs: &Jobs, number: u64) -> Outlook
+        ensures { (now : ℕ) (session : Session) → Stands now self.now session → outlook_told result ≡ outlook session jobs.now.jobs number }
+    {
+        match self.inbox.mark(number) {
+            Some(mark) => Outlook::of_mark(mark),
+            None => {
+                if number <= self.inbox.floor() && !jobs.has(self.key, self.number, number) {
+                    Outlook::InVain
+                } else {
+                    Outlook::GoesOn
+                }
+            }
+        }
+    }
+
+    /// Tells the jobs of the session that wait for this number what becomes of it. Takes no memory.
+    pub fn tells_of<D: Draw>(&self, jobs: &mut Jobs, number: u64)
+        ensures told { (now : ℕ) (speaker : Speaker D) → Stands now self.now speaker.session → jobs.old.jobs ≡ speaker.jobs
+            → jobs.new.jobs ≡ (tells_of number speaker).jobs }
+        ensures same_room { jobs.new.room ≡ jobs.old.room }
+    {
+        match self.outlook(jobs, number) {
+            Outlook::Over => jobs.settle(self.key, self.number, number, true),
+            Outlook::InVain => jobs.settle(self.key, self.number, number, false),
+            Outlook::GoesOn => {}
         }
     }
 
