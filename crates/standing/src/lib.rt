@@ -3,8 +3,11 @@
 //! session of the definitions (`Stands`); what it says, they say (`Says`). Only `new` takes memory.
 #![tactic(auto)]
 
+mod laws;
+mod outlook;
 mod standing;
 
+pub use outlook::Outlook;
 pub use standing::Standing;
 
 #[cfg(test)]

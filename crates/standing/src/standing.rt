@@ -1,33 +1,45 @@
 //! A session.
 
-ghost use Rattle.std.specs.Prelude.{◌≡◌, ◌≤◌, ◌<◌, ◌+◌, ℕ, List, [], length, min, not, IfOk, IsSome, OnOk};
+ghost use Rattle.std.specs.Prelude.{◌≡◌, ◌≤◌, ◌<◌, ◌+◌, ℕ, List, [], drop, length, min, not, IfOk, IsSome, OnErr, OnOk};
 ghost use Rattle.draws.specs.Draws.{draw_after, word_after};
 ghost use Rattle.msg_ids.specs.Counters.{none_given, room};
 ghost use Rattle.salt_line.specs.Rows.{future_rows_max};
 ghost use Rattle.service_tl.specs.declared.item.Item.TheVariants.{Pong};
+ghost use Rattle.inbox.specs.Inbox.{message_in};
+ghost use Rattle.inbox.specs.Judging.{judgements, session_after};
+ghost use Rattle.inbox.specs.Refusals.{InEnvelope};
+ghost use Rattle.outbox.specs.Bodies.{head_bytes};
+ghost use Rattle.waits.specs.Jobs.{Queue};
 ghost use Rattle.server_rules.specs.Event.{Speaker};
-ghost use Rattle.server_rules.specs.Server.{Session, has_accepted, mark_in};
+ghost use Rattle.server_rules.specs.Server.{Reply, Session, has_accepted, kept_of, mark_in, remembered};
 ghost use Rattle.server_rules.specs.Answer.{session_for};
-ghost use Rattle.server_rules.specs.Speaking.{says, says_it_is_new};
+ghost use Rattle.server_rules.specs.Speaking.{says, says_again, says_it_is_new};
 ghost use Rattle.server_rules.specs.Rows.{acknowledges, notices, tells_salts};
 ghost use Rattle.auth_keys.specs.Rings.{entry_of};
 ghost use Rattle.server_rules.specs.Sending.{sends};
 ghost use Rattle.owing.specs.Batch.{packets_most};
 ghost use Rattle.owing.specs.Outs.{AreSent};
-ghost use Rattle.owing.specs.Items.{acks_bytes, bad_salt_bytes, destroyed_bytes, destroyed_item, ids_max, new_session_bytes, pong_bytes, salts_bytes};
+ghost use Rattle.owing.specs.Items.{IsContent, acks_bytes, bad_salt_bytes, destroyed_bytes, destroyed_item, ids_max, new_session_bytes, pong_bytes, salts_bytes};
+ghost use Rattle.server_laws.specs.Order.{IsOrderly};
+ghost use Rattle.server_rules.specs.Waiting.{outlook, tells_of};
+ghost use Rattle.standing.specs.Outlooks.{outlook_told};
 ghost use Rattle.standing.specs.Standing.{IsAt, Stands, key_of, numbers_left};
 ghost use Rattle.standing.specs.Says.{Keys, Says, setting_of};
 
+use crate::laws::{replies_are_results, said_by_number};
+use crate::outlook::Outlook;
 use draws::Draw;
 use envelope::Seal;
-use inbox::{Inbox, Mark};
+use inbox::{Inbox, Judged, Mark, Outer};
 use msg_ids::{Moment, Numbers};
 use octets::Memory;
-use outbox::Outbox;
+use outbox::{Kept, Outbox};
 use owing::laws::sent_as_the_rules_say;
 use owing::{Header, Outs, Owing, Packets};
 use salt_line::{SaltLine, SaltRow};
+use server_laws::laws::packets_are_judged;
 use std::alloc::Global;
+use waits::Jobs;
 
 /// The code of the notice that a message's salt is wrong
 /// (core.telegram.org/mtproto/service_messages_about_messages, "Notice of Ignored Error Message").
@@ -104,6 +116,74 @@ impl Standing {
         ensures { (now : ℕ) (session : Session) → Stands now self.now session → result ≡ mark_in session number }
     {
         self.inbox.mark(number)
+    }
+
+    /// Judges a message that an envelope brought, and where it is accepted the messages inside it. The session remembers
+    /// what was judged; all memory is taken before.
+    ///
+    /// # Errors
+    ///
+    /// `Memory`, and then it is as it was.
+    pub fn judges(&mut self, alloc: Global, now: Moment, outer: &Outer) -> Result<Judged, Memory>
+        requires at { IsAt now self.old }
+        ensures judged { (session : Session) → Stands now self.old session
+            → IfOk result (λ judged. judged ≡ judgements (InEnvelope now session.salts outer.now.salt) (remembered session) (message_in outer.now)) }
+        ensures stands { (session : Session) (jobs : Queue) → Stands now self.old session
+            → IsOrderly session.history session.replies session.counters.last jobs
+            → OnOk result (Stands now self.new (record session { history = (session_after (InEnvelope now session.salts outer.now.salt) (remembered session) (message_in outer.now)).history })) }
+        ensures unchanged_on_memory { OnErr result (self.new ≡ self.old) }
+        ensures same_numbers { numbers_left self.new ≡ numbers_left self.old }
+        ensures same_key { key_of self.new ≡ key_of self.old }
+        ensures at { IsAt now self.new }
+    {
+        packets_are_judged();
+        self.inbox.judge(alloc, now, &self.salts, outer)
+    }
+
+    /// Says a kept reply once more, unless it was said in this event.
+    pub fn says_again<D: Draw>(&self, owing: &mut Owing, kept: &Kept)
+        requires content { IsContent (drop head_bytes kept.now.body) }
+        requires place { 0 < owing.old.places }
+        requires bytes { length kept.now.body ≤ owing.old.room }
+        ensures says { (now : ℕ) (draw : D) (speaker : Speaker D) (reply : Reply) → kept_of reply ≡ kept.now
+            → Says now self.now owing.old draw speaker → Says now self.now owing.new draw (says_again reply speaker) }
+        ensures places { owing.old.places ≤ owing.new.places + 1 }
+        ensures left { owing.old.room ≤ owing.new.room + length kept.now.body }
+    {
+        said_by_number::<D>();
+        replies_are_results();
+        if !owing.has_said(kept.number) {
+            owing.again(kept.number, kept.seq, kept.call, kept.body.rest());
+        }
+    }
+
+    /// What becomes of a number that a job of the session may wait for.
+    pub fn outlook(&self, jobs: &Jobs, number: u64) -> Outlook
+        ensures { (now : ℕ) (session : Session) → Stands now self.now session → outlook_told result ≡ outlook session jobs.now.jobs number }
+    {
+        match self.inbox.mark(number) {
+            Some(mark) => Outlook::of_mark(mark),
+            None => {
+                if number <= self.inbox.floor() && !jobs.has(self.key, self.number, number) {
+                    Outlook::InVain
+                } else {
+                    Outlook::GoesOn
+                }
+            }
+        }
+    }
+
+    /// Tells the jobs of the session that wait for this number what becomes of it. Takes no memory.
+    pub fn tells_of<D: Draw>(&self, jobs: &mut Jobs, number: u64)
+        ensures told { (now : ℕ) (speaker : Speaker D) → Stands now self.now speaker.session → jobs.old.jobs ≡ speaker.jobs
+            → jobs.new.jobs ≡ (tells_of number speaker).jobs }
+        ensures same_room { jobs.new.room ≡ jobs.old.room }
+    {
+        match self.outlook(jobs, number) {
+            Outlook::Over => jobs.settle(self.key, self.number, number, true),
+            Outlook::InVain => jobs.settle(self.key, self.number, number, false),
+            Outlook::GoesOn => {}
+        }
     }
 
     /// Says that it is new.
@@ -190,7 +270,13 @@ impl Standing {
     }
 
     /// Says that another session of its key is gone, or that there was none.
-    pub fn says_destroyed<D: Draw>(&mut self, now: Moment, owing: &mut Owing, session: u64, ok: bool)
+    pub fn says_destroyed<D: Draw>(
+        &mut self,
+        now: Moment,
+        owing: &mut Owing,
+        session: u64,
+        ok: bool,
+    )
         requires place { 0 < owing.old.places }
         requires bytes { destroyed_bytes ≤ owing.old.room }
         requires numbers { 0 < numbers_left self.old }
