@@ -25,11 +25,7 @@ impl Outlook {
         match mark {
             Mark::Waiting => Outlook::GoesOn,
             Mark::Replied(good) | Mark::Acked(good) | Mark::Dropped(good) => {
-                if good {
-                    Outlook::Over
-                } else {
-                    Outlook::InVain
-                }
+                if good { Outlook::Over } else { Outlook::InVain }
             }
             _ => Outlook::InVain,
         }

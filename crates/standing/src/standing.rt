@@ -270,7 +270,13 @@ impl Standing {
     }
 
     /// Says that another session of its key is gone, or that there was none.
-    pub fn says_destroyed<D: Draw>(&mut self, now: Moment, owing: &mut Owing, session: u64, ok: bool)
+    pub fn says_destroyed<D: Draw>(
+        &mut self,
+        now: Moment,
+        owing: &mut Owing,
+        session: u64,
+        ok: bool,
+    )
         requires place { 0 < owing.old.places }
         requires bytes { destroyed_bytes ≤ owing.old.room }
         requires numbers { 0 < numbers_left self.old }

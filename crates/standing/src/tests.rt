@@ -58,6 +58,9 @@ fn a_session_heard_first_owes_168_bytes(rt: HostRuntime) -> Result<(), Fail> {
     let Opened::Envelope(envelope) = seal.unseal(alloc, Moment::new(0), Dir::Down, packet) else {
         return Err(Fail::new("refused"));
     };
-    assert_eq!(rt; (envelope.session, envelope.number, envelope.seq), (9, 15, 2));
+    assert_eq!(rt;
+        (envelope.session, envelope.number, envelope.seq),
+        (9, 15, 2)
+    );
     Ok(())
 }

@@ -1,5 +1,5 @@
-use Rattle.std.proofs.Common.{◌≡◌, ◌∙◌, ℕ, Bool, true, false, List, [], ◌∷◌, ap, sym, refl, inl, inr}
-use Rattle.std.specs.Prelude.{◌==◌, ◌&&◌, ◌||◌}
+use Rattle.std.proofs.Common.{◌≡◌, ◌∙◌, ℕ, Bool, true, false, List, [], ◌∷◌, sym, refl, inl, inr}
+use Rattle.std.specs.Prelude.{◌==◌, ◌&&◌}
 use Rattle.std.specs.List.{list_any}
 use Rattle.std.proofs.lemmas.Bool.{cases_Bool, eqb-true, eq-eqb, and_parts, and_from, false≢true}
 use Rattle.server_rules.specs.Event.{Owed}
