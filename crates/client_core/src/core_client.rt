@@ -2,10 +2,11 @@
 
 ghost use Rattle.byteorder.specs.Endian.{little_number};
 ghost use Rattle.call_table.specs.Kept.{Stands as StandsFor, state_in};
-ghost use Rattle.call_table.specs.Table.{IsEarlier, IsGiven, Sent, Table, at, calls_max, state_at};
-ghost use Rattle.client_rules.specs.Asking.{begins_service, is_call_sent, fault_at, has_earlier, is_refused};
+ghost use Rattle.call_table.specs.Table.{IsEarlier, IsGiven, Sent, Table, at, calls_max, state_at, with_call};
+ghost use Rattle.client_rules.specs.Asking.{alone, alone_if_asked, alone_if_sent, begins_service, is_call_sent, fault_at, has_earlier, is_refused};
+ghost use Rattle.client_core.specs.Kept.{temporary_in};
 ghost use Rattle.client_core.specs.Told.{TellsDrop, TellsFault};
-ghost use Rattle.std.specs.Prelude.{◌≡◌, if◌then◌else◌, ◌<◌, [], None, option_map, Option, Some, IfOk, IfSome, IsTrue, OnOk, OnErr, length};
+ghost use Rattle.std.specs.Prelude.{◌≡◌, if◌then◌else◌, ◌<◌, [], None, option_map, Option, Some, IfOk, IfSome, IsTrue, OnOk, OnErr, length, map};
 
 use crate::binding::{BindState, Temporary};
 use crate::fault::{NotSent, SubmitFault};
@@ -81,8 +82,8 @@ impl Core {
     ghost use Rattle.call_table.specs.Table.{Queued, call_no};
     ghost use Rattle.call_table.specs.Kept.{shown as told};
     ghost use Rattle.client_rules.specs.Client.{Client, fresh_client, calls_of};
-    ghost use Rattle.client_rules.specs.Asking.{binding_of, can_drop, dropped, submit_fault, submitted, ticked, pinged, salts_asked};
-    ghost use Rattle.client_core.specs.Kept.{Stands, temporary_in};
+    ghost use Rattle.client_rules.specs.Asking.{attached, binding_of, can_drop, dropped, submit_fault, submitted, ticked, pinged, salts_asked};
+    ghost use Rattle.client_core.specs.Kept.{Stands};
     ghost use Rattle.client_core.specs.Told.{shown};
 
     /// A client in a session whose number is drawn.
@@ -193,6 +194,15 @@ impl Core {
         self.waiting.salts = Some(n);
     }
 
+    /// A connection was opened: the binding that was asked for and all calls that are sent go again.
+    pub(crate) fn attach(&mut self)
+        ensures stands { (client : Client) → Stands self.old client → Stands self.new (attached client) }
+        ensures learnt { self.new.rest.learnt ≡ self.old.rest.learnt }
+    {
+        mark_asked(&mut self.temporary);
+        mark_sent(&mut self.calls);
+    }
+
     /// The answer to a call is to be dropped.
     pub(crate) fn drop_answer(&mut self, call: CallNo) -> Result<(), NotSent>
         requires given { IsGiven call self.old.calls.rows }
@@ -224,6 +234,43 @@ impl Core {
             Some(temporary) => Some(temporary.binding.state()),
         }
     }
+}
+
+/// A binding that was asked for is to be asked for again, alone.
+fn mark_asked(temporary: &mut Option<Temporary>)
+    ensures { option_map temporary_in temporary.new ≡ option_map alone_if_asked (option_map temporary_in temporary.old) }
+{
+    if let Some(temporary) = temporary {
+        temporary.mark();
+    }
+}
+
+/// All calls that are sent are to be sent again, alone.
+fn mark_sent(calls: &mut Calls)
+    ensures { (table : Table) → StandsFor calls.old table → StandsFor calls.new (record table { calls = map alone_if_sent table.calls }) }
+{
+    let count = calls.members(Group::Outstanding);
+    for k in 0..count {
+        if let Some(call) = calls.member(Group::Outstanding, k) {
+            mark(calls, call);
+        }
+    }
+}
+
+/// A call that is sent is to be sent again, alone.
+fn mark(calls: &mut Calls, call: CallNo)
+    requires given { IsGiven call calls.old.rows }
+    requires sent { state_in call calls.old.rows ≡ Some Sent }
+    ensures { (table : Table) → StandsFor calls.old table → StandsFor calls.new (with_call call alone table) }
+{
+    let flags = calls.flags(call);
+    calls.set_flags(
+        call,
+        Flags {
+            alone: true,
+            dropping: flags.dropping,
+        },
+    );
 }
 
 /// Whether a call is `Sent`.

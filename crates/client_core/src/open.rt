@@ -32,7 +32,7 @@ impl OpenClient {
     ghost use Rattle.call_table.specs.Table.{Queued, IsGiven, call_no, state_at};
     ghost use Rattle.call_table.specs.Kept.{shown as told, state_in};
     ghost use Rattle.client_rules.specs.Client.{Client, calls_of};
-    ghost use Rattle.client_rules.specs.Asking.{binding_of, can_drop, dropped, pinged, salts_asked, submit_fault, submitted, ticked};
+    ghost use Rattle.client_rules.specs.Asking.{attached, binding_of, can_drop, dropped, pinged, salts_asked, submit_fault, submitted, ticked};
     ghost use Rattle.client_core.specs.Kept.{Stands};
     ghost use Rattle.client_core.specs.Told.{TellsDrop, TellsFault, shown};
 
@@ -78,6 +78,14 @@ impl OpenClient {
         ensures unchanged { OnErr result (self.new ≡ self.old) }
     {
         self.core.submit(alloc, body, after)
+    }
+
+    /// A connection was opened: the binding that was asked for and all calls that are `Sent` are to be sent again, each
+    /// alone and under its number.
+    pub fn attach(&mut self)
+        ensures { (client : Client) → Stands self.old client → Stands self.new (attached client) }
+    {
+        self.core.attach();
     }
 
     /// The server is to be asked how the calls that are sent fared, if there is one.
