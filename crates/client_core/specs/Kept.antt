@@ -1,5 +1,5 @@
 -- What a client keeps, and the client that it stands for.
-use Rattle.std.specs.Prelude.{◌≡◌, option_map}
+use Rattle.std.specs.Prelude.{◌≡◌, true, option_map}
 use Rattle.call_table.specs.Table.{no_calls}
 use Rattle.call_table.specs.Kept.{Contents as Calls, Stands as StandsFor}
 use Rattle.client_rules.specs.Client.{Client, Temporary, Waiting, States, StateRequest, Binding, Needed, Asked, Held, Bound, Refused}
@@ -51,6 +51,10 @@ asked_in asked = record { number = asked.number; numbers = asked.numbers }
 pub record Contents : Type 0 where
   pub rest : Client
   pub calls : Calls
+
+-- what is seen at the end
+abbrev pub at_end : Contents → Contents
+at_end contents = record contents { rest = record contents.rest { has_ended = true } }
 
 -- What is kept stands for a client: it is the client's own, and of the calls what a table keeps.
 pub record Stands (contents : Contents) (client : Client) : Type 0 where

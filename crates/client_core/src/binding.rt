@@ -46,6 +46,21 @@ impl Binding {
     }
 }
 
+impl Temporary {
+    ghost use Rattle.std.specs.Prelude.{◌≡◌};
+    ghost use Rattle.client_rules.specs.Asking.{alone_if_asked};
+    ghost use Rattle.client_core.specs.Kept.{temporary_in};
+
+    /// Where the binding was asked for, it is to be asked for again, alone.
+    pub(crate) fn mark(&mut self)
+        ensures { temporary_in self.new ≡ alone_if_asked (temporary_in self.old) }
+    {
+        if let Binding::Asked { .. } = &self.binding {
+            self.is_alone = true;
+        }
+    }
+}
+
 /// What makes a client's key a temporary one.
 #[derive(Debug, Drop)]
 pub(crate) struct Temporary {

@@ -1,16 +1,18 @@
 //! What an opening and an open client share.
 
 ghost use Rattle.byteorder.specs.Endian.{little_number};
-ghost use Rattle.call_table.specs.Table.{calls_max};
-ghost use Rattle.client_rules.specs.Asking.{begins_service, fault_at, has_earlier, is_refused};
-ghost use Rattle.client_core.specs.Told.{TellsFault};
-ghost use Rattle.std.specs.Prelude.{◌≡◌, if◌then◌else◌, ◌<◌, [], None, option_map, Option, Some, IfOk, OnOk, OnErr, length};
+ghost use Rattle.call_table.specs.Kept.{Stands as StandsFor, state_in};
+ghost use Rattle.call_table.specs.Table.{IsEarlier, IsGiven, Sent, Table, at, calls_max, state_at, with_call};
+ghost use Rattle.client_rules.specs.Asking.{alone, alone_if_asked, alone_if_sent, begins_service, is_call_sent, fault_at, has_earlier, is_refused};
+ghost use Rattle.client_core.specs.Kept.{temporary_in};
+ghost use Rattle.client_core.specs.Told.{TellsDrop, TellsFault};
+ghost use Rattle.std.specs.Prelude.{◌≡◌, if◌then◌else◌, ◌<◌, [], None, option_map, Option, Some, IfOk, IfSome, IsTrue, OnOk, OnErr, length, map};
 
 use crate::binding::{BindState, Temporary};
 use crate::fault::{NotSent, SubmitFault};
 use crate::waiting::{Asked, Waiting};
 use byteorder::{ByteOrder, LittleEndian};
-use call_table::{CALLS_MAX, CallNo, CallState, Calls, Group};
+use call_table::{CALLS_MAX, CallNo, CallState, Calls, Flags, Group};
 use draws::Draw;
 use msg_ids::{Moment, Numbers};
 use octets::{IdList, Memory};
@@ -77,11 +79,11 @@ impl Model for Core {
 
 impl Core {
     ghost use Rattle.draws.specs.Draws.{draw_after, word_after};
-    ghost use Rattle.call_table.specs.Table.{Queued, IsGiven, call_no, state_at};
-    ghost use Rattle.call_table.specs.Kept.{shown as told, state_in};
+    ghost use Rattle.call_table.specs.Table.{Queued, call_no};
+    ghost use Rattle.call_table.specs.Kept.{shown as told};
     ghost use Rattle.client_rules.specs.Client.{Client, fresh_client, calls_of};
-    ghost use Rattle.client_rules.specs.Asking.{binding_of, submit_fault, submitted, ticked, pinged, salts_asked};
-    ghost use Rattle.client_core.specs.Kept.{Stands, temporary_in};
+    ghost use Rattle.client_rules.specs.Asking.{attached, binding_of, can_drop, dropped, submit_fault, submitted, ticked, pinged, salts_asked};
+    ghost use Rattle.client_core.specs.Kept.{Stands};
     ghost use Rattle.client_core.specs.Told.{shown};
 
     /// A client in a session whose number is drawn.
@@ -124,14 +126,14 @@ impl Core {
 
     /// The number of the present session.
     pub(crate) fn session(&self) -> u64
-        ensures { (client : Client) → Stands self.now client → result ≡ client.session }
+        ensures { result ≡ self.now.rest.session }
     {
         self.session
     }
 
     /// How many calls there are.
     pub(crate) fn count(&self) -> u32
-        ensures { (client : Client) → Stands self.now client → result ≡ length (calls_of client) }
+        ensures { (table : Table) → StandsFor self.now.calls table → result ≡ length table.calls }
     {
         self.calls.count()
     }
@@ -139,7 +141,7 @@ impl Core {
     /// What became of a call.
     pub(crate) fn state(&self, call: CallNo) -> CallState<'_>
         requires given { IsGiven call self.now.calls.rows }
-        ensures { (client : Client) → Stands self.now client → state_at call (calls_of client) ≡ Some (told result) }
+        ensures { (table : Table) → StandsFor self.now.calls table → state_at call table.calls ≡ Some (told result) }
     {
         self.calls.state(call)
     }
@@ -169,7 +171,8 @@ impl Core {
     /// The states of the calls are to be asked for, where one is sent.
     #[tactic(auto, using(crate::proofs::TestLemmas::any_of_group))]
     pub(crate) fn tick(&mut self)
-        ensures { (client : Client) → Stands self.old client → Stands self.new (ticked client) }
+        ensures stands { (client : Client) → Stands self.old client → Stands self.new (ticked client) }
+        ensures learnt { self.new.rest.learnt ≡ self.old.rest.learnt }
     {
         let has_sent = self.calls.members(Group::Outstanding) > 0;
         self.waiting.states = has_sent || self.waiting.states;
@@ -177,16 +180,49 @@ impl Core {
 
     /// A ping waits, in place of an earlier one.
     pub(crate) fn ping(&mut self, id: u64)
-        ensures { (client : Client) → Stands self.old client → Stands self.new (pinged id client) }
+        ensures stands { (client : Client) → Stands self.old client → Stands self.new (pinged id client) }
+        ensures learnt { self.new.rest.learnt ≡ self.old.rest.learnt }
     {
         self.waiting.ping = Some(id);
     }
 
     /// A request for salts waits, in place of an earlier one.
     pub(crate) fn ask_salts(&mut self, n: u32)
-        ensures { (client : Client) → Stands self.old client → Stands self.new (salts_asked n client) }
+        ensures stands { (client : Client) → Stands self.old client → Stands self.new (salts_asked n client) }
+        ensures learnt { self.new.rest.learnt ≡ self.old.rest.learnt }
     {
         self.waiting.salts = Some(n);
+    }
+
+    /// A connection was opened: the binding that was asked for and all calls that are sent go again.
+    pub(crate) fn attach(&mut self)
+        ensures stands { (client : Client) → Stands self.old client → Stands self.new (attached client) }
+        ensures learnt { self.new.rest.learnt ≡ self.old.rest.learnt }
+    {
+        mark_asked(&mut self.temporary);
+        mark_sent(&mut self.calls);
+    }
+
+    /// The answer to a call is to be dropped.
+    pub(crate) fn drop_answer(&mut self, call: CallNo) -> Result<(), NotSent>
+        requires given { IsGiven call self.old.calls.rows }
+        ensures told { (client : Client) → Stands self.old client → TellsDrop (can_drop call client) result }
+        ensures stands { (client : Client) → Stands self.old client → Stands self.new (dropped call client) }
+        ensures rest { self.new.rest ≡ self.old.rest }
+        ensures unchanged { OnErr result (self.new ≡ self.old) }
+    {
+        if !is_sent(&self.calls, call) {
+            return Err(NotSent);
+        }
+        let flags = self.calls.flags(call);
+        self.calls.set_flags(
+            call,
+            Flags {
+                alone: flags.alone,
+                dropping: true,
+            },
+        );
+        Ok(())
     }
 
     /// What became of the binding; none under a permanent key.
@@ -200,10 +236,58 @@ impl Core {
     }
 }
 
+/// A binding that was asked for is to be asked for again, alone.
+fn mark_asked(temporary: &mut Option<Temporary>)
+    ensures { option_map temporary_in temporary.new ≡ option_map alone_if_asked (option_map temporary_in temporary.old) }
+{
+    if let Some(temporary) = temporary {
+        temporary.mark();
+    }
+}
+
+/// All calls that are sent are to be sent again, alone.
+fn mark_sent(calls: &mut Calls)
+    ensures { (table : Table) → StandsFor calls.old table → StandsFor calls.new (record table { calls = map alone_if_sent table.calls }) }
+{
+    let count = calls.members(Group::Outstanding);
+    for k in 0..count {
+        if let Some(call) = calls.member(Group::Outstanding, k) {
+            mark(calls, call);
+        }
+    }
+}
+
+/// A call that is sent is to be sent again, alone.
+fn mark(calls: &mut Calls, call: CallNo)
+    requires given { IsGiven call calls.old.rows }
+    requires sent { state_in call calls.old.rows ≡ Some Sent }
+    ensures { (table : Table) → StandsFor calls.old table → StandsFor calls.new (with_call call alone table) }
+{
+    let flags = calls.flags(call);
+    calls.set_flags(
+        call,
+        Flags {
+            alone: true,
+            dropping: flags.dropping,
+        },
+    );
+}
+
+/// Whether a call is `Sent`.
+fn is_sent(calls: &Calls, call: CallNo) -> bool
+    requires given { IsGiven call calls.now.rows }
+    ensures sent { IsTrue result → state_in call calls.now.rows ≡ Some Sent }
+    ensures told { (table : Table) → StandsFor calls.now table → is_call_sent (at call table.calls) ≡ result }
+    ensures state { IsTrue result → (table : Table) → StandsFor calls.now table → state_at call table.calls ≡ Some Sent }
+{
+    matches!(calls.state(call), CallState::Sent)
+}
+
 /// Whether a client of so many calls takes this one, memory aside.
 fn check(count: u32, body: &[u8], after: Option<CallNo>) -> Result<(), SubmitFault>
     ensures told { TellsFault (fault_at count body.now after) result }
     ensures few { OnOk result (count < calls_max) }
+    ensures earlier { OnOk result (IfSome after (λ one. IsEarlier count one)) }
 {
     let len = body.len();
     if len > BODY_BYTES_MAX {
@@ -225,7 +309,8 @@ fn check(count: u32, body: &[u8], after: Option<CallNo>) -> Result<(), SubmitFau
 }
 
 fn has_earlier(count: u32, after: Option<CallNo>) -> bool
-    ensures { result ≡ has_earlier count after }
+    ensures told { result ≡ has_earlier count after }
+    ensures earlier { IsTrue result → IfSome after (λ one. IsEarlier count one) }
 {
     match after {
         None => true,

@@ -6,13 +6,19 @@
 
 mod binding;
 mod core_client;
+mod ended;
 mod fault;
+mod holder;
+mod open;
 mod opening;
 mod waiting;
 
 pub use binding::BindState;
 pub use call_table::{CallNo, CallState, Cause};
+pub use ended::EndedClient;
 pub use fault::{NotSent, SubmitFault};
+pub use holder::Holder;
+pub use open::OpenClient;
 pub use opening::OpeningClient;
 
 #[cfg(test)]

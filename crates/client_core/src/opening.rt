@@ -35,7 +35,7 @@ impl OpeningClient {
     ghost use Rattle.call_table.specs.Table.{Queued, IsGiven, call_no, state_at};
     ghost use Rattle.call_table.specs.Kept.{shown, state_in};
     ghost use Rattle.client_rules.specs.Client.{Client, fresh_client, temporary_of, calls_of};
-    ghost use Rattle.client_rules.specs.Asking.{submit_fault, submitted};
+    ghost use Rattle.client_rules.specs.Asking.{attached, submit_fault, submitted};
     ghost use Rattle.client_core.specs.Kept.{Stands};
     ghost use Rattle.client_core.specs.Told.{TellsFault};
 
@@ -121,5 +121,13 @@ impl OpeningClient {
         ensures unchanged { OnErr result (self.new ≡ self.old) }
     {
         self.core.submit(alloc, body, after)
+    }
+
+    /// A connection was opened: the binding that was asked for and all calls that are `Sent` are to be sent again, each
+    /// alone and under its number.
+    pub fn attach(&mut self)
+        ensures { (client : Client) → Stands self.old client → Stands self.new (attached client) }
+    {
+        self.core.attach();
     }
 }

@@ -1,0 +1,22 @@
+use Rattle.std.proofs.Common.{◌∙◌, sym, arith}
+use Rattle.call_table.specs.declared.call.Group.TheVariants.{Outstanding}
+use Rattle.call_table.specs.Table.{is_in}
+use Rattle.client_rules.specs.Asking.{alone}
+use Rattle.client_core.proofs.MarkLemmas.{marked_all, marked_more, marked_next, marks_none}
+use Rattle.client_core.proofs.core_client.mark_sent.Goals.{in-Some, in_default}
+use Rattle.client_core.proofs.core_client.mark_sent.Goals as goal
+
+pub loop-k-init : goal.loop-k-init
+loop-k-init c table stands = rw (marks_none (is_in Outstanding) alone table.calls) stands
+
+pub loop-k-preserved : goal.loop-k-preserved
+loop-k-preserved c table stands =
+    let so_far = c.loop-k.invariant table stands in
+    elim c.match-member.branch [
+      | in-Some w ↦ rw (w.calls-is, sym (marked_more table.calls c.loop-k.k _ (sym (c.member.ensures.member _ so_far) ∙ w.in-Some.is))) (w.mark.ensures _ so_far)
+      | in_default w ↦ absurd (marked_next table.calls c.loop-k.k c.members-count.result c.loop-k-test.true (c.members-count.ensures.members table stands) (sym (c.member.ensures.member _ so_far) ∙ w.in_default.is))
+    ]
+
+pub returns : goal.returns
+returns c table stands =
+    rw (sym (marked_all table.calls c.loop-k.k (omega (arith, c.loop-k-test.false, c.loop-k.auto.k-end, c.members-count.ensures.members table stands)))) (c.loop-k.invariant table stands)
