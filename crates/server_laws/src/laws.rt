@@ -194,8 +194,9 @@ pub fn binding_calls_enter_nothing<D: Draw>()
     ensures entries { (setting : Setting D) (call : BindingCall) (speaker : Speaker D) → (binds setting call speaker).entries ≡ speaker.entries }
 {}
 
-/// A session that has accepted nothing has no replies and no jobs. What it owes for a packet begins with its
-/// `new_session_created`, an attach owes that alone, and the first packet made of messages begins with the first of these.
+/// A session that has accepted nothing has no replies and no jobs. Where it has accepted nothing once a packet was judged,
+/// what it owes then begins with its `new_session_created`; an attach owes that alone; and the first packet made of
+/// messages begins with the first of these.
 pub fn new_sessions_say_so<D: Draw>()
     ensures replies { (history : History) (replies : List Reply) (last : ℕ) (jobs : Queue) → IsOrderly history replies last jobs
         → was_heard history ≡ false → replies ≡ [] }

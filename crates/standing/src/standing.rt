@@ -1,8 +1,7 @@
 //! A session.
 
-ghost use Rattle.std.specs.Prelude.{◌≡◌, ◌≤◌, ◌<◌, ◌+◌, ℕ, List, [], drop, length, min, not, IfOk, IsSome, OnErr, OnOk};
+ghost use Rattle.std.specs.Prelude.{◌≡◌, ◌^◌, ◌≤◌, ◌<◌, ◌+◌, ℕ, List, [], drop, length, min, not, IfOk, IsSome, OnErr, OnOk};
 ghost use Rattle.draws.specs.Draws.{draw_after, word_after};
-ghost use Rattle.msg_ids.specs.Counters.{none_given, room};
 ghost use Rattle.salt_line.specs.Rows.{future_rows_max};
 ghost use Rattle.service_tl.specs.declared.item.Item.TheVariants.{Pong};
 ghost use Rattle.inbox.specs.Inbox.{message_in};
@@ -87,7 +86,7 @@ impl Standing {
             (record { key = key; salt = salt; session = number; number = first; seq = seq; body = body }) draw.old)) }
         ensures drawn { OnOk result (draw.new ≡ draw_after D.step 2 draw.old) }
         ensures key { IfOk result (λ standing. key_of standing ≡ key) }
-        ensures numbers { IfOk result (λ standing. numbers_left standing ≡ room none_given) }
+        ensures numbers { IfOk result (λ standing. numbers_left standing ≡ 2 ^ 30) }
         ensures at { IfOk result (IsAt now) }
     {
         let unique = draw.word();
@@ -149,6 +148,7 @@ impl Standing {
             → Says now self.now owing.old draw speaker → Says now self.now owing.new draw (says_again reply speaker) }
         ensures places { owing.old.places ≤ owing.new.places + 1 }
         ensures left { owing.old.room ≤ owing.new.room + length kept.now.body }
+        ensures taken { (owing.new.places_taken ≡ owing.old.places_taken) × (owing.new.bytes_taken ≡ owing.old.bytes_taken) }
     {
         said_by_number::<D>();
         replies_are_results();
@@ -196,6 +196,7 @@ impl Standing {
             → Says now self.new owing.new draw.new (says_it_is_new (setting_of now D.step keys) speaker) }
         ensures places { owing.new.places + 1 ≡ owing.old.places }
         ensures left { owing.new.room + new_session_bytes ≡ owing.old.room }
+        ensures taken { (owing.new.places_taken ≡ owing.old.places_taken) × (owing.new.bytes_taken ≡ owing.old.bytes_taken) }
         ensures numbers_last { numbers_left self.old ≤ numbers_left self.new + 1 }
         ensures same_key { key_of self.new ≡ key_of self.old }
         ensures at { IsAt now self.old → IsAt now self.new }
@@ -214,6 +215,7 @@ impl Standing {
             → Says now self.new owing.new draw (acknowledges (setting_of now D.step keys) ids.now speaker) }
         ensures places { owing.old.places ≤ owing.new.places + 1 }
         ensures left { owing.old.room ≤ owing.new.room + acks_bytes (length ids.now) }
+        ensures taken { (owing.new.places_taken ≡ owing.old.places_taken) × (owing.new.bytes_taken ≡ owing.old.bytes_taken) }
         ensures numbers_last { numbers_left self.old ≤ numbers_left self.new + 1 }
         ensures same_key { key_of self.new ≡ key_of self.old }
         ensures at { IsAt now self.old → IsAt now self.new }
@@ -241,6 +243,7 @@ impl Standing {
             → Says now self.new owing.new draw.new (notices (setting_of now D.step keys) number seq code speaker) }
         ensures places { owing.new.places + 1 ≡ owing.old.places }
         ensures left { owing.old.room ≤ owing.new.room + bad_salt_bytes }
+        ensures taken { (owing.new.places_taken ≡ owing.old.places_taken) × (owing.new.bytes_taken ≡ owing.old.bytes_taken) }
         ensures numbers_last { numbers_left self.old ≤ numbers_left self.new + 1 }
         ensures same_key { key_of self.new ≡ key_of self.old }
         ensures at { IsAt now self.old → IsAt now self.new }
@@ -262,6 +265,7 @@ impl Standing {
             → Says now self.new owing.new draw (says (setting_of now D.step keys) (Pong message ping) speaker) }
         ensures places { owing.new.places + 1 ≡ owing.old.places }
         ensures left { owing.new.room + pong_bytes ≡ owing.old.room }
+        ensures taken { (owing.new.places_taken ≡ owing.old.places_taken) × (owing.new.bytes_taken ≡ owing.old.bytes_taken) }
         ensures numbers_last { numbers_left self.old ≤ numbers_left self.new + 1 }
         ensures same_key { key_of self.new ≡ key_of self.old }
         ensures at { IsAt now self.old → IsAt now self.new }
@@ -284,6 +288,7 @@ impl Standing {
             → Says now self.new owing.new draw (says (setting_of now D.step keys) (destroyed_item session ok) speaker) }
         ensures places { owing.new.places + 1 ≡ owing.old.places }
         ensures left { owing.new.room + destroyed_bytes ≡ owing.old.room }
+        ensures taken { (owing.new.places_taken ≡ owing.old.places_taken) × (owing.new.bytes_taken ≡ owing.old.bytes_taken) }
         ensures numbers_last { numbers_left self.old ≤ numbers_left self.new + 1 }
         ensures same_key { key_of self.new ≡ key_of self.old }
         ensures at { IsAt now self.old → IsAt now self.new }
@@ -308,6 +313,7 @@ impl Standing {
             → Says now self.new owing.new draw.new (tells_salts (setting_of now D.step keys) request (min count future_rows_max) speaker) }
         ensures places { owing.new.places + 1 ≡ owing.old.places }
         ensures left { owing.new.room + salts_bytes (min count future_rows_max) ≡ owing.old.room }
+        ensures taken { (owing.new.places_taken ≡ owing.old.places_taken) × (owing.new.bytes_taken ≡ owing.old.bytes_taken) }
         ensures numbers_last { numbers_left self.old ≤ numbers_left self.new + 1 }
         ensures same_key { key_of self.new ≡ key_of self.old }
         ensures at { IsAt now self.old → IsAt now self.new }
