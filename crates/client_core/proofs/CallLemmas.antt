@@ -1,12 +1,12 @@
 -- Changes of one call.
 use Rattle.std.proofs.Common.{◌≡◌, ℕ, zero, suc, ◌-◌, true, List, [], ◌∷◌, Option, Some, None, ap, refl, sym, ◌∙◌}
-use Rattle.std.specs.Prelude.{option_map, slice_get}
+use Rattle.std.specs.Prelude.{◌&&◌, length, option_map, slice_get}
 use Rattle.call_table.specs.declared.call.CallNo.{CallNo}
 use Rattle.call_table.specs.declared.call.Flags.{Flags}
 use Rattle.call_table.specs.Table.{Call, Table, at, changed, changed_at, flagged, with_call}
 use Rattle.call_table.specs.Kept.{Contents as Calls, Stands as StandsFor}
 use Rattle.client_rules.specs.Client.{Client}
-use Rattle.client_rules.specs.Asking.{alone, dropped, drops, is_call_sent}
+use Rattle.client_rules.specs.Asking.{alone, dropped, drops, has_call, is_call_sent}
 use Rattle.client_core.specs.Kept.{Contents, Stands}
 
 abbrev pub value : {X : Type 0} → X → Option X → X
@@ -30,7 +30,7 @@ drops_told call calls flags told = same_at (flagged (record flags { dropping = t
 -- what stands for a client, with the flag put in, stands for it with the answer dropped
 pub dropped_stands : (old new : Contents) (client : Client) (call : CallNo) (flags : Flags) → Stands old client → new.rest ≡ old.rest
     → StandsFor new.calls (with_call call (flagged (record flags { dropping = true })) client.table)
-    → is_call_sent (at call client.table.calls) ≡ true → option_map (λ one. one.flags) (at call client.table.calls) ≡ Some flags
+    → (has_call (length client.table.calls) call && is_call_sent (at call client.table.calls)) ≡ true → option_map (λ one. one.flags) (at call client.table.calls) ≡ Some flags
     → Stands new (dropped call client)
 dropped_stands old new client call flags stands rest calls sent told =
     rw sent (record {

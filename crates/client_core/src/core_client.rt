@@ -3,10 +3,10 @@
 ghost use Rattle.byteorder.specs.Endian.{little_number};
 ghost use Rattle.call_table.specs.Kept.{Stands as StandsFor, state_in};
 ghost use Rattle.call_table.specs.Table.{IsEarlier, IsGiven, Sent, Table, at, calls_max, state_at, with_call};
-ghost use Rattle.client_rules.specs.Asking.{alone, alone_if_asked, alone_if_sent, begins_service, is_call_sent, fault_at, has_earlier, is_refused};
+ghost use Rattle.client_rules.specs.Asking.{alone, alone_if_asked, alone_if_sent, begins_service, is_call_sent, fault_at, has_call, has_earlier, is_refused};
 ghost use Rattle.client_core.specs.Kept.{temporary_in};
 ghost use Rattle.client_core.specs.Told.{TellsDrop, TellsFault};
-ghost use Rattle.std.specs.Prelude.{◌≡◌, if◌then◌else◌, ◌<◌, [], None, option_map, Option, Some, IfOk, IfSome, IsTrue, OnOk, OnErr, length, map};
+ghost use Rattle.std.specs.Prelude.{◌≡◌, if◌then◌else◌, ◌<◌, ◌&&◌, [], None, option_map, Option, Some, IfOk, IfSome, IsTrue, OnOk, OnErr, length, map};
 
 use crate::binding::{BindState, Temporary};
 use crate::fault::{NotSent, SubmitFault};
@@ -205,13 +205,12 @@ impl Core {
 
     /// The answer to a call is to be dropped.
     pub(crate) fn drop_answer(&mut self, call: CallNo) -> Result<(), NotSent>
-        requires given { IsGiven call self.old.calls.rows }
         ensures told { (client : Client) → Stands self.old client → TellsDrop (can_drop call client) result }
         ensures stands { (client : Client) → Stands self.old client → Stands self.new (dropped call client) }
         ensures rest { self.new.rest ≡ self.old.rest }
         ensures unchanged { OnErr result (self.new ≡ self.old) }
     {
-        if !is_sent(&self.calls, call) {
+        if !can_drop(&self.calls, call) {
             return Err(NotSent);
         }
         let flags = self.calls.flags(call);
@@ -281,6 +280,15 @@ fn is_sent(calls: &Calls, call: CallNo) -> bool
     ensures state { IsTrue result → (table : Table) → StandsFor calls.now table → state_at call table.calls ≡ Some Sent }
 {
     matches!(calls.state(call), CallState::Sent)
+}
+
+/// Whether there is this call, and it is `Sent`.
+fn can_drop(calls: &Calls, call: CallNo) -> bool
+    ensures given { IsTrue result → IsGiven call calls.now.rows }
+    ensures sent { IsTrue result → state_in call calls.now.rows ≡ Some Sent }
+    ensures told { (table : Table) → StandsFor calls.now table → (has_call (length table.calls) call && is_call_sent (at call table.calls)) ≡ result }
+{
+    has_earlier(calls.count(), Some(call)) && is_sent(calls, call)
 }
 
 /// Whether a client of so many calls takes this one, memory aside.

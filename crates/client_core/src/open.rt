@@ -109,13 +109,12 @@ impl OpenClient {
         self.core.ask_salts(n);
     }
 
-    /// The server is to be asked to drop the answer to a call that this client gave.
+    /// The server is to be asked to drop the answer to a call.
     ///
     /// # Errors
     ///
-    /// `NotSent`: the call isn't `Sent`, and the client is as it was.
+    /// `NotSent`: the client has no such call, or it isn't `Sent`, and the client is as it was.
     pub fn drop_answer(&mut self, call: CallNo) -> Result<(), NotSent>
-        requires given { IsGiven call self.old.calls.rows }
         ensures told { (client : Client) → Stands self.old client → TellsDrop (can_drop call client) result }
         ensures stands { (client : Client) → Stands self.old client → Stands self.new (dropped call client) }
         ensures unchanged { OnErr result (self.new ≡ self.old) }

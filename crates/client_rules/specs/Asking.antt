@@ -99,7 +99,7 @@ is_call_sent None = false
 is_call_sent (Some call) = is_sent call.state
 
 abbrev pub can_drop : CallNo → Client → Bool
-can_drop call client = is_call_sent (at call (calls_of client))
+can_drop call client = has_call (length (calls_of client)) call && is_call_sent (at call (calls_of client))
 
 -- to have the answer to a call that is sent dropped
 abbrev pub drops : Call → Call

@@ -8,5 +8,5 @@ returns-clause-stands c client stands =
     let inside : Stands (Rattle.client_core.specs.contracts.core_client.Core.the_view c.self.inside) client = rw c.self.view_is stands in
     dropped_stands _ _ client c.args.call c.flags-flags.result inside refl
     (c.set_flags.ensures.stands client.table inside.calls)
-    (c.is_sent.ensures.told client.table inside.calls ∙ c.if-not-is_sent.false)
+    (c.can_drop.ensures.told client.table inside.calls ∙ c.if-not-can_drop.false)
     (c.flags-flags.ensures.flags client.table inside.calls)
