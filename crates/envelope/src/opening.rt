@@ -45,7 +45,7 @@ pub fn opened<C: Cipher>(alloc: Global, ring: &Ring, now: Moment, dir: Dir, pack
     if !is_same(&said, &found) {
         return Opened::Refused(Refusal::KeyMismatch { said, found });
     }
-    read_plain(alloc, id, plain)
+    read_plain(id, text)
 }
 
 // The plain text of a text.
@@ -135,12 +135,13 @@ fn int_at(bytes: &[u8], place: usize) -> u32
     LittleEndian::read_u32(number)
 }
 
-// Reads the envelope of a plain text.
-fn read_plain(alloc: Global, key: u64, plain: &[u8]) -> Opened
-    requires { 32 ≤ length plain.now }
-    ensures envelope { IfEnvelope result (λ envelope. (envelope ≡ envelope_in key plain.now) × IsWhole plain.now) }
-    ensures refused { IfRefused result (IsPlainRefused plain.now) }
+// Reads the envelope of a plain text, whose memory becomes the body's.
+fn read_plain(key: u64, text: Octets) -> Opened
+    requires { 32 ≤ length text }
+    ensures envelope { IfEnvelope result (λ envelope. (envelope ≡ envelope_in key text) × IsWhole text) }
+    ensures refused { IfRefused result (IsPlainRefused text) }
 {
+    let plain = text.as_slice();
     let said = int_at(plain, 28);
     let behind = plain.len() - PLAIN_HEAD_BYTES;
     if said % 4 != 0 || said as usize > behind {
@@ -150,25 +151,23 @@ fn read_plain(alloc: Global, key: u64, plain: &[u8]) -> Opened
     if bytes < PADDING_BYTES_MIN || bytes > PADDING_BYTES_MAX {
         return Opened::Refused(Refusal::Padding { bytes });
     }
-    let Ok(body) = body_of(alloc, plain, said as usize) else {
-        return Opened::Memory;
-    };
     Opened::Envelope(Envelope {
         key,
         salt: long_at(plain, 0),
         session: long_at(plain, 8),
         number: long_at(plain, 16),
         seq: int_at(plain, 24),
-        body,
+        body: body_of(text, said as usize),
     })
 }
 
-// The body of a plain text.
-fn body_of(alloc: Global, plain: &[u8], count: usize) -> Result<Octets, Memory>
-    requires { 32 + count ≤ length plain.now }
-    ensures { IfOk result (λ body. body ≡ take count (drop 32 plain.now)) }
+// The body of a plain text, moved to the front of its memory.
+fn body_of(text: Octets, count: usize) -> Octets
+    requires { 32 + count ≤ length text }
+    ensures { result ≡ take count (drop 32 text) }
 {
-    let (_head, behind) = plain.split_at(PLAIN_HEAD_BYTES);
-    let (body, _padding) = behind.split_at(count);
-    Octets::copy(alloc, body)
+    let mut bytes = text.into_vec();
+    bytes.copy_within(PLAIN_HEAD_BYTES..PLAIN_HEAD_BYTES + count, 0);
+    bytes.truncate(count);
+    Octets::from(bytes)
 }
