@@ -1,5 +1,6 @@
 /* The work of mtp_bench's cipher words over OpenSSL's portable AES, with the same line as output:
- * AES_ige_encrypt, and AES_encrypt in a loop. A text, a key and a checksum as mtp_bench has them. */
+ * AES_ige_encrypt, and AES_encrypt in a loop; and that of its word crc32 over zlib's crc32. A text, a key and a
+ * checksum as mtp_bench has them. */
 #define OPENSSL_SUPPRESS_DEPRECATED
 #include <inttypes.h>
 #include <openssl/aes.h>
@@ -7,6 +8,7 @@
 #include <stdio.h>
 #include <stdlib.h>
 #include <string.h>
+#include <zlib.h>
 
 static void ige(unsigned char *text, size_t bytes, uint64_t times, const unsigned char *key_bytes, int encrypt)
 {
@@ -60,22 +62,37 @@ static void fresh_keys(unsigned char *text, size_t bytes, uint64_t times, const 
     }
 }
 
+/* The check of the text so many times, one behind the other; its 4 bytes stand where the text stood. */
+static void check(unsigned char *text, size_t bytes, uint64_t times)
+{
+    uLong check = crc32(0, Z_NULL, 0);
+    for (uint64_t time = 0; time < times; time++)
+        check = crc32(check, text, bytes);
+    for (int i = 0; i < 4; i++)
+        text[i] = check >> (8 * i);
+}
+
 int main(int count, char **words)
 {
     if (count != 4) {
-        fprintf(stderr, "usage: openssl_aes ige-encrypt|ige-decrypt|ctr|key BYTES TIMES\n");
+        fprintf(stderr, "usage: openssl_aes ige-encrypt|ige-decrypt|ctr|key|crc32 BYTES TIMES\n");
         return 2;
     }
     size_t bytes = strtoull(words[2], NULL, 10);
     uint64_t times = strtoull(words[3], NULL, 10), sum = 0;
-    unsigned char key[32], *text = malloc(bytes + 1);
-    if (!text || bytes % 16)
+    size_t output = bytes;
+    unsigned char key[32], *text = malloc(bytes + 4);
+    int checks = !strcmp(words[1], "crc32");
+    if (!text || (bytes % 16 && !checks))
         return 2;
     for (int i = 0; i < 32; i++)
         key[i] = i;
     for (size_t i = 0; i < bytes; i++)
         text[i] = 7 * i + 3;
-    if (!strcmp(words[1], "ige-encrypt"))
+    if (checks) {
+        check(text, bytes, times);
+        output = 4;
+    } else if (!strcmp(words[1], "ige-encrypt"))
         ige(text, bytes, times, key, AES_ENCRYPT);
     else if (!strcmp(words[1], "ige-decrypt"))
         ige(text, bytes, times, key, AES_DECRYPT);
@@ -85,7 +102,7 @@ int main(int count, char **words)
         fresh_keys(text, bytes, times, key);
     else
         return 2;
-    for (size_t i = 0; i < bytes; i++)
+    for (size_t i = 0; i < output; i++)
         sum = sum * 31 + text[i];
     printf("%s %zu %" PRIu64 " %016" PRIx64 "\n", words[1], bytes, times, sum);
     free(text);

@@ -2,11 +2,16 @@
 //! prints the word, the two numbers and a checksum of the last output.
 #![tactic(auto)]
 
+ghost use Rattle.mtp_bench.specs.Sizes.{Fits};
+
 mod ciphers;
+mod frames;
+mod packets;
 mod request;
 #[cfg(test)]
 mod tests;
 mod text;
+mod work;
 
 use crate::request::{Asked, Request, read};
 use crate::text::{checksum, text_of};
@@ -14,8 +19,11 @@ use std::alloc::AllocError;
 use std::process::ExitCode;
 use std::{env, io};
 
-const USAGE: &str =
-    "usage: mtp_bench ige-encrypt|ige-decrypt|ctr|key BYTES TIMES (BYTES a multiple of 16)";
+const USAGE: &str = "usage: mtp_bench WORD BYTES TIMES
+  ige-encrypt|ige-decrypt|ctr|key          a cipher; BYTES a multiple of 16
+  seal|seal-parts|open|open-parts          packets of a body; BYTES a multiple of 4, at most 1044480
+  abridged|intermediate|padded|full        4 MiB of frames; BYTES of a packet, as the form takes them
+  crc32                                    a check of any BYTES";
 
 /// The statuses of a faulty command line, of a failed write, and of memory that ran out.
 const FAULTY: u8 = 2;
@@ -48,10 +56,10 @@ fn words(rt: &HostRuntime) -> Result<Vec<String>, AllocError> {
 // Does what is asked for, and answers the status.
 fn answer(rt: &HostRuntime, request: Option<Request>) -> io::Result<u8> {
     match request {
-        Some(Request::Work(asked)) => timed(rt, asked)?,
+        Some(Request::Work(asked)) if asked.work.fits(asked.bytes) => timed(rt, asked)?,
         Some(Request::Help) => println!(rt; "{USAGE}")?,
         Some(Request::Version) => println!(rt; "mtp_bench 1")?,
-        None => {
+        Some(Request::Work(_)) | None => {
             // The status says it too, where standard error takes no line.
             let _told = eprintln!(rt; "{USAGE}");
             return Ok(FAULTY);
@@ -60,9 +68,13 @@ fn answer(rt: &HostRuntime, request: Option<Request>) -> io::Result<u8> {
     Ok(0)
 }
 
-fn timed(rt: &HostRuntime, asked: Asked) -> io::Result<()> {
-    let mut text = text_of(rt.alloc(), asked.bytes)?;
-    asked.work.run(&mut text, asked.times);
+fn timed(rt: &HostRuntime, asked: Asked) -> io::Result<()>
+    requires { Fits asked.work asked.bytes }
+{
+    let text = text_of(rt.alloc(), asked.bytes)?;
     let Asked { work, bytes, times } = asked;
-    println!(rt; "{work} {bytes} {times} {:016x}", checksum(&text))
+    let Ok(output) = work.run(rt.alloc(), text, times) else {
+        return Err(AllocError.into());
+    };
+    println!(rt; "{work} {bytes} {times} {:016x}", checksum(&output))
 }
