@@ -1,6 +1,6 @@
 //! What is done over a text in memory.
 
-ghost use Rattle.std.specs.Prelude.{◌≡◌, ◌%◌, IsTrue, length, vec_len};
+ghost use Rattle.std.specs.Prelude.{◌≡◌, ◌%◌, ◌↔◌, IsTrue, length, vec_len};
 ghost use Rattle.mtp_bench.specs.Sizes.{Fits, IsBodySize, IsFrameSize};
 
 use crate::ciphers::{ctr, fresh_keys, ige_decrypting, ige_encrypting};
@@ -64,7 +64,7 @@ impl Work {
 
     /// Whether the work can be done over so many bytes.
     pub fn fits(self, bytes: usize) -> bool
-        ensures { IsTrue result → Fits self bytes }
+        ensures { IsTrue result ↔ Fits self bytes }
     {
         match self {
             Work::Cipher(_) => bytes % 16 == 0,
@@ -99,7 +99,7 @@ impl Work {
 }
 
 fn fits_frames(form: Form, bytes: usize) -> bool
-    ensures { IsTrue result → IsFrameSize form bytes }
+    ensures { IsTrue result ↔ IsFrameSize form bytes }
 {
     let is_payload = bytes >= 4 && bytes <= PAYLOAD_MAX && bytes % 4 == 0;
     match form {
