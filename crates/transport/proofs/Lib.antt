@@ -4,4 +4,5 @@ pub mod Starting
 pub mod Begun
 pub mod OneStart
 pub mod SentStarts
+pub mod Meeting
 pub mod InOrder

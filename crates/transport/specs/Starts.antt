@@ -90,3 +90,8 @@ abbrev pub IsSentStart : Bool → Form → List ℕ → List ℕ → Type 0
 IsSentStart false form drawn start = start ≡ start_of form
 IsSentStart true form drawn start =
     (tag : Tag) × (form_of_tag tag ≡ form) × (start ≡ ciphered None (obfus.start_of tag 2 drawn))
+
+-- the words that are drawn for it
+abbrev pub words_drawn : Bool → ℕ
+words_drawn false = 0
+words_drawn true = 8

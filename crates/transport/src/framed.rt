@@ -50,6 +50,7 @@ impl Framed {
         ensures put { OnOk result (self.new.held ≡ with_piece (through self.old.reading piece.now) self.old.held) }
         ensures passed { IfNone self.old.held.fault (OnOk result (self.new.reading ≡ behind self.old.reading (length piece.now))) }
         ensures same_out { (self.new.form ≡ self.old.form) × (self.new.writing ≡ self.old.writing) × (self.new.number ≡ self.old.number) }
+        ensures nothing_after_a_fault { IfSome self.old.held.fault (λ _. (result ≡ Ok tt) × (self.new ≡ self.old)) }
         ensures unchanged_on_memory { OnErr result (self.new ≡ self.old) }
     {
         self.stream.feed_through(alloc, piece, &mut self.reading)

@@ -1,6 +1,6 @@
 //! Laws of the definitions, each the contract of a function that does nothing.
 
-ghost use Rattle.std.specs.Prelude.{◌≡◌, ◌≢◌, ◌++◌, ◌∷◌, ℕ, List, Bool, Option, None, true};
+ghost use Rattle.std.specs.Prelude.{◌≡◌, ◌≢◌, ◌++◌, ◌∷◌, [], ℕ, List, Bool, Option, None, true};
 ghost use Rattle.cipher_modes.specs.CounterMode.{CtrState};
 ghost use Rattle.framing.specs.Payload.{IsPayload};
 ghost use Rattle.framing.specs.Holding.{Answers, IsMore, IsPacket};
@@ -9,7 +9,7 @@ ghost use Rattle.frame_full.specs.Full as full;
 ghost use Rattle.transport.specs.Directions.{through};
 ghost use Rattle.transport.specs.Forms.{IsSent, frame_of, framing_of};
 ghost use Rattle.transport.specs.Starts.{BeginsFull, IsAwaited, IsRefused, IsSentStart, Opening, Starts};
-ghost use Rattle.transport.specs.Wires.{HasBegun, Hears, Line, Tells};
+ghost use Rattle.transport.specs.Wires.{HasBegun, HasStarted, Hears, Line, Tells};
 ghost use Rattle.transport.specs.declared.form.Form.{Form as Framings};
 ghost use Rattle.transport.specs.declared.form.Form.TheVariants as forms;
 
@@ -56,4 +56,24 @@ pub fn what_is_told_is_heard()
     ctr_pieces_equal_the_whole();
     one_reading::<Form>();
     streams_go_on::<Form>();
+}
+
+/// A server's end that was given a client's first bytes, its first packet among them, knows the form, whatever follows. It
+/// hears what that client tells, and what it tells goes through the stream that the client hears: the law above goes on
+/// from there, in both directions.
+pub fn ends_meet()
+    ensures not_awaited { (client : Line) (form : Framings) (obfuscate : Bool) (drawn start packet more bytes : List ℕ)
+        → (obfuscate ≡ true → form ≢ forms.Full) → HasBegun client form start → IsSentStart obfuscate form drawn start → IsSent form packet
+        → bytes ≡ start ++ (through client.writing (frame_of form client.number packet) ++ more) → IsAwaited bytes → ⊥ }
+    ensures not_refused { (client : Line) (form : Framings) (obfuscate : Bool) (drawn start packet more bytes wire : List ℕ)
+        → (obfuscate ≡ true → form ≢ forms.Full) → HasBegun client form start → IsSentStart obfuscate form drawn start → IsSent form packet
+        → bytes ≡ start ++ (through client.writing (frame_of form client.number packet) ++ more) → IsRefused bytes wire → ⊥ }
+    ensures meets { (client server : Line) (form : Framings) (obfuscate : Bool) (drawn start packet more bytes : List ℕ)
+        → (obfuscate ≡ true → form ≢ forms.Full) → (begun : HasBegun client form start) → IsSentStart obfuscate form drawn start → IsSent form packet
+        → bytes ≡ start ++ (through client.writing (frame_of form client.number packet) ++ more) → HasStarted server bytes
+        → (server.form ≡ client.form)
+        × Hears server begun.opening.up [] (through client.writing (frame_of form client.number packet) ++ more)
+        × Tells server begun.opening.down [] [] }
+{
+    one_answer();
 }

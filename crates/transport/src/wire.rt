@@ -98,7 +98,7 @@ impl Wire<Raw> {
 }
 
 impl Wire<Framed> {
-    ghost use Rattle.std.specs.Prelude.{◌≡◌, ◌++◌, ◌∷◌, [], ℕ, List, length, Option, Some, OnOk, OnErr, IfOk};
+    ghost use Rattle.std.specs.Prelude.{◌≡◌, ◌++◌, ◌∷◌, [], ℕ, List, length, Ok, Option, Some, OnOk, OnErr, IfOk, IfSome};
     ghost use Rattle.std.specs.Borrow.{sem};
     ghost use Rattle.cipher_modes.specs.CounterMode.{CtrState};
     ghost use Rattle.tl_codec.specs.declared.fault.FrameFault.{FrameFault};
@@ -110,8 +110,8 @@ impl Wire<Framed> {
     ghost use Rattle.transport.specs.Forms.{framing_of, frame_of, IsSent};
     ghost use Rattle.transport.specs.Directions.{through};
     ghost use Rattle.std.specs.Prelude.{◌≢◌, true};
-    ghost use Rattle.draws.specs.Draws.{next_bytes};
-    ghost use Rattle.transport.specs.Starts.{IsSentStart};
+    ghost use Rattle.draws.specs.Draws.{draw_after, next_bytes};
+    ghost use Rattle.transport.specs.Starts.{IsSentStart, words_drawn};
     ghost use Rattle.transport.specs.declared.form.Form.TheVariants as forms;
     ghost use Rattle.transport.specs.Wires.{Line, Hears, Tells, HasBegun};
 
@@ -145,6 +145,7 @@ impl Wire<Framed> {
         requires full_is_plain { obfuscate ≡ true → form ≢ forms.Full }
         ensures begun { IfOk result (λ made. HasBegun made.0 form made.1) }
         ensures sent { IfOk result (λ made. IsSentStart obfuscate form (next_bytes D.step 64 draw.old) made.1) }
+        ensures drawn { OnOk result (draw.new ≡ draw_after D.step (words_drawn obfuscate) draw.old) }
         ensures unchanged_on_memory { OnErr result (draw.new ≡ draw.old) }
     {
         buffers_stand::<Form>();
@@ -170,6 +171,7 @@ impl Wire<Framed> {
         ensures hears { OnOk result ((from : Option CtrState) (packets : List (List ℕ)) (bytes : List ℕ)
             → Hears self.old from packets bytes → Hears self.new from packets (bytes ++ piece.now)) }
         ensures same_out { (self.new.form ≡ self.old.form) × (self.new.writing ≡ self.old.writing) × (self.new.number ≡ self.old.number) }
+        ensures nothing_after_a_fault { IfSome self.old.held.fault (λ _. (result ≡ Ok tt) × (self.new ≡ self.old)) }
         ensures unchanged_on_memory { OnErr result (self.new ≡ self.old) }
     {
         buffers_stand::<Form>();
@@ -177,8 +179,8 @@ impl Wire<Framed> {
         self.state.feed(alloc, piece)
     }
 
-    /// What comes next in the connection: the next packet, `More` where a proper prefix of a frame is left, and maybe none
-    /// of its bytes, or the fault that is met, which comes again at each later call. A packet is lent until the next call,
+    /// What comes next in the connection: the next packet, `More` where what is left is a proper prefix of a frame, the
+    /// empty one among them, or the fault that is met, which comes again at each later call. A packet is lent until the next call,
     /// and then the wire stands past it. Takes no memory.
     pub fn next(&mut self) -> Next<'_>
         ensures answers { (from : Option CtrState) (packets : List (List ℕ)) (bytes : List ℕ)
