@@ -1,0 +1,10 @@
+pub mod Setting
+pub mod World
+pub mod Ends
+pub mod Refusals
+pub mod Run
+pub mod Once
+pub mod Report
+pub mod Load
+pub mod Premises
+pub mod Witness
