@@ -2,3 +2,4 @@ pub mod Kept
 pub mod Standing
 pub mod Says
 pub mod Outlooks
+pub mod Fates
