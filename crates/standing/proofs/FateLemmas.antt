@@ -103,6 +103,10 @@ pub told-call : (call : ℕ) (reply : Option Reply) → call_of (option_map kept
 told-call call None is = absurd (none-some call is)
 told-call call (Some r) is = (r, refl, same_Some r.call call is)
 
+pub told-kept : (kept : Kept) (reply : Option Reply) → option_map kept_of reply ≡ Some kept → (r : Reply) × (reply ≡ Some r) × (kept_of r ≡ kept)
+told-kept kept None is = absurd (none-some kept is)
+told-kept kept (Some r) is = (r, refl, same_Some (kept_of r) kept is)
+
 pub told-none : (reply : Option Reply) → call_of (option_map kept_of reply) ≡ None → reply ≡ None
 told-none None is = refl
 told-none (Some r) is = absurd (none-some r.call (sym is))
