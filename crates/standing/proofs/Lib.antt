@@ -1,2 +1,4 @@
+pub mod FateLemmas
+pub mod MarkLemmas
 pub mod OldestLemmas
 pub mod Turning
