@@ -7,6 +7,7 @@
 mod dropping;
 mod laws;
 mod outlook;
+mod repeating;
 mod standing;
 mod telling;
 
