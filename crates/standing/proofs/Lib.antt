@@ -1,4 +1,5 @@
 pub mod FateLemmas
 pub mod MarkLemmas
 pub mod OldestLemmas
+pub mod RepeatLemmas
 pub mod Turning

@@ -4,3 +4,4 @@ pub mod Standing
 pub mod Says
 pub mod Outlooks
 pub mod Fates
+pub mod Repeats

@@ -10,6 +10,7 @@ mod laws;
 mod marking;
 mod naming;
 mod outlook;
+mod repeating;
 mod replying;
 mod standing;
 mod telling;
