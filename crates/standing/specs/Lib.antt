@@ -5,3 +5,4 @@ pub mod Says
 pub mod Outlooks
 pub mod Fates
 pub mod Repeats
+pub mod Unsaid

@@ -12,6 +12,7 @@ mod naming;
 mod outlook;
 mod repeating;
 mod replying;
+mod resending;
 mod standing;
 mod telling;
 

@@ -1,9 +1,11 @@
 //! A session.
 
-ghost use Rattle.std.specs.Prelude.{All, ◌≡◌, ◌^◌, ◌≤◌, ◌<◌, ◌+◌, ℕ, List, [], drop, length, min, not, IfOk, IsSome, OnErr, OnOk};
+ghost use Rattle.std.specs.Prelude.{All, ◌∷◌, ◌++◌, ◌≡◌, ◌^◌, ◌≤◌, ◌<◌, ◌+◌, ℕ, List, [], drop, length, min, not, true, false, IfOk, IsSome, OnErr, OnOk};
 ghost use Rattle.draws.specs.Draws.{draw_after, word_after};
 ghost use Rattle.salt_line.specs.Rows.{future_rows_max};
-ghost use Rattle.service_tl.specs.declared.item.Item.TheVariants.{Pong};
+ghost use Rattle.service_tl.specs.declared.item.Item.TheVariants.{Pong, RpcResult};
+ghost use Rattle.service_tl.specs.Items.{spelling_of};
+ghost use Rattle.owing.specs.Dues.{has_number};
 ghost use Rattle.inbox.specs.Inbox.{message_in};
 ghost use Rattle.inbox.specs.Judging.{judgements, session_after};
 ghost use Rattle.inbox.specs.Refusals.{InEnvelope};
@@ -147,10 +149,13 @@ impl Standing {
     /// Says a kept reply once more, unless it was said in this event.
     pub fn says_again<D: Draw>(&self, owing: &mut Owing, kept: &Kept)
         requires content { IsContent (drop head_bytes kept.now.body) }
-        requires place { 0 < owing.old.places }
-        requires bytes { length kept.now.body ≤ owing.old.room }
+        requires place { has_number kept.now.number owing.old.messages ≡ false → 0 < owing.old.places }
+        requires bytes { has_number kept.now.number owing.old.messages ≡ false → length kept.now.body ≤ owing.old.room }
         ensures says { (now : ℕ) (draw : D) (speaker : Speaker D) (reply : Reply) → kept_of reply ≡ kept.now
             → Says now self.now owing.old draw speaker → Says now self.now owing.new draw (says_again reply speaker) }
+        ensures said { has_number kept.now.number owing.old.messages ≡ false → owing.new.messages
+            ≡ owing.old.messages ++ record { number = kept.now.number; seq = kept.now.seq; body = spelling_of (RpcResult kept.now.call (drop head_bytes kept.now.body)) } ∷ [] }
+        ensures unchanged_where_said { has_number kept.now.number owing.old.messages ≡ true → owing.new ≡ owing.old }
         ensures places { owing.old.places ≤ owing.new.places + 1 }
         ensures left { owing.old.room ≤ owing.new.room + length kept.now.body }
         ensures taken { (owing.new.places_taken ≡ owing.old.places_taken) × (owing.new.bytes_taken ≡ owing.old.bytes_taken) }

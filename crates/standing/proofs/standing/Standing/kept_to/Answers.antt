@@ -9,18 +9,8 @@ use Rattle.outbox.specs.Replies.{Replies, by_call}
 use Rattle.owing.specs.Items.{IsContent}
 use Rattle.standing.specs.Kept.{IsResult}
 use Rattle.standing.proofs.FateLemmas.{found-kept}
+use Rattle.standing.proofs.ResultLemmas.{found-result}
 use Rattle.standing.proofs.standing.Standing.kept_to.Goals as goal
-
--- a kept reply that is found is a result
-found-result : (test : Kept → Bool) (replies : Replies) → All IsResult replies → IfSome (find test replies) IsResult
-found-result test [] all = tt
-found-result test (one ∷ replies) all =
-    elim (cases_Bool (test one)) [
-      | inl here ↦ subst (λ (found : Option Kept). IfSome found IsResult) (sym (cond-true (test one) (Some one) (find test replies) here)) (All-head IsResult one replies all)
-      | inr later ↦
-          subst (λ (found : Option Kept). IfSome found IsResult) (sym (cond-false (test one) (Some one) (find test replies) later))
-          (found-result test replies (All-tail IsResult one replies all))
-    ]
 
 lent-content : (lent : Option (Bor Kept)) → IfSome (option_copied lent) IsResult → IfSome lent (λ kept. IsContent (drop head_bytes kept.now.body))
 lent-content None is = tt
