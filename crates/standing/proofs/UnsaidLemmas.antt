@@ -39,8 +39,13 @@ pub unsaid-fewer : (weight : Kept → ℕ) (before after : List Message) (replie
     → unsaid_weight weight after replies ≤ unsaid_weight weight before replies
 unsaid-fewer weight before after [] stays = omega arith
 unsaid-fewer weight before after (kept ∷ replies) stays =
-    omega (arith, one-fewer weight before after kept stays, unsaid-fewer weight before after replies stays,
-      sum_by-cons (one_weight weight before) kept replies, sum_by-cons (one_weight weight after) kept replies)
+    omega (
+      arith,
+      one-fewer weight before after kept stays,
+      unsaid-fewer weight before after replies stays,
+      sum_by-cons (one_weight weight before) kept replies,
+      sum_by-cons (one_weight weight after) kept replies,
+    )
 
 pub more-said : (messages : List Message) (message : Message) → StaySaid messages (messages ++ message ∷ [])
 more-said messages message number said =

@@ -33,7 +33,9 @@ use service_tl::RPC_ANSWER_DROPPED;
 
 /// Where the number, the sequence number and the length stand in what tells of a dropped reply.
 const NUMBER_AT: usize = 4;
+
 const SEQ_AT: usize = 12;
+
 const LENGTH_AT: usize = 16;
 
 /// What is told of a reply that was dropped.

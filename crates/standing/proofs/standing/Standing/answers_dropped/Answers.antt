@@ -16,7 +16,7 @@ answers_by-requires-clause-result g c =
 
 is-content : (number seq length : ℕ) → IsContent (spelling_of (RpcAnswerDropped number seq length))
 unfolding tl.spelling
-is-content number seq length = record { words = refl; short = omega arith; }
+is-content number seq length = record { words = refl; short = omega arith }
 
 pub answers_by-requires-clause-content : goal.answers_by-requires-clause-content
 answers_by-requires-clause-content g c =

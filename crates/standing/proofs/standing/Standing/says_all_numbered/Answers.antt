@@ -6,7 +6,7 @@ use Rattle.standing.proofs.UnsaidLemmas.{numbered-more, said_numbered}
 use Rattle.standing.proofs.standing.Standing.says_all_numbered.Goals as goal
 
 pub loop-place-init : goal.loop-place-init
-loop-place-init g c = record { says = λ now draw speaker says. says; places = omega arith; left = omega arith; places_taken = refl; bytes_taken = refl; }
+loop-place-init g c = record { says = λ now draw speaker says. says; places = omega arith; left = omega arith; places_taken = refl; bytes_taken = refl }
 
 pub loop-place-preserved : goal.loop-place-preserved
 loop-place-preserved g c =
