@@ -1,3 +1,5 @@
 pub mod CallLemmas
 pub mod MarkLemmas
 pub mod TestLemmas
+pub mod SizeLemmas
+pub mod SoundLemmas

@@ -1,2 +1,5 @@
+pub mod Draft
+pub mod Flushed
 pub mod Kept
 pub mod Told
+pub mod Sound

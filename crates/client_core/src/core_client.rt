@@ -3,10 +3,11 @@
 ghost use Rattle.byteorder.specs.Endian.{little_number};
 ghost use Rattle.call_table.specs.Kept.{Stands as StandsFor, state_in};
 ghost use Rattle.call_table.specs.Table.{IsEarlier, IsGiven, Sent, Table, at, calls_max, state_at, with_call};
-ghost use Rattle.client_rules.specs.Asking.{alone, alone_if_asked, alone_if_sent, begins_service, is_call_sent, fault_at, has_call, has_earlier, is_refused};
+ghost use Rattle.client_rules.specs.Asking.{alone, alone_if_asked, alone_if_sent, begins_service, body_bytes_max, is_call_sent, fault_at, has_call, has_earlier, is_refused};
 ghost use Rattle.client_core.specs.Kept.{temporary_in};
+ghost use Rattle.client_core.specs.Sound.{AreSound, CanBind};
 ghost use Rattle.client_core.specs.Told.{TellsDrop, TellsFault};
-ghost use Rattle.std.specs.Prelude.{◌≡◌, if◌then◌else◌, ◌<◌, ◌&&◌, [], None, option_map, Option, Some, IfOk, IfSome, IsTrue, OnOk, OnErr, length, map};
+ghost use Rattle.std.specs.Prelude.{◌≡◌, if◌then◌else◌, ◌<◌, ◌≤◌, ◌%◌, ◌&&◌, ℕ, [], None, option_map, Option, Some, IfOk, IfSome, IsTrue, OnOk, OnErr, length, map};
 
 use crate::binding::{BindState, Temporary};
 use crate::fault::{NotSent, SubmitFault};
@@ -36,18 +37,18 @@ pub(crate) struct Clock {
 /// A client that hasn't ended.
 #[derive(Debug, Drop)]
 pub(crate) struct Core {
-    key: u64,
-    temporary: Option<Temporary>,
-    session: u64,
-    former: Vec<u64>,
-    salt: u64,
-    learnt: Vec<u64>,
-    moment: Moment,
-    clock: Clock,
-    numbers: Numbers,
-    waiting: Waiting,
-    asked: Option<Asked>,
-    calls: Calls,
+    pub(crate) key: u64,
+    pub(crate) temporary: Option<Temporary>,
+    pub(crate) session: u64,
+    pub(crate) former: Vec<u64>,
+    pub(crate) salt: u64,
+    pub(crate) learnt: Vec<u64>,
+    pub(crate) moment: Moment,
+    pub(crate) clock: Clock,
+    pub(crate) numbers: Numbers,
+    pub(crate) waiting: Waiting,
+    pub(crate) asked: Option<Asked>,
+    pub(crate) calls: Calls,
 }
 
 impl Model for Core {
@@ -56,6 +57,8 @@ impl Model for Core {
     ghost use Rattle.client_core.specs.Kept.{Contents, temporary_in, waiting_in, asked_in};
 
     ghost Value = { Contents };
+
+    ghost use Rattle.client_core.specs.Sound.{AreSound, CanBind, CanWait};
 
     ghost view = { λ core. record {
       rest = record {
@@ -75,6 +78,8 @@ impl Model for Core {
       };
       calls = core.calls;
     } };
+
+    ghost invariant = { λ core. AreSound core.numbers.last core.calls.rows × CanBind core.temporary × CanWait core.waiting };
 }
 
 impl Core {
@@ -93,6 +98,7 @@ impl Core {
         temporary: Option<Temporary>,
         draw: &mut D,
     ) -> Result<Core, Memory>
+        requires { CanBind temporary }
         ensures stands { IfOk result (λ core. Stands core (fresh_client key (option_map temporary_in temporary) (word_after D.step 0 draw.old))) }
         ensures after { OnOk result (draw.new ≡ draw_after D.step 1 draw.old) }
         ensures learnt { IfOk result (λ core. core.rest.learnt ≡ []) }
@@ -237,7 +243,8 @@ impl Core {
 
 /// A binding that was asked for is to be asked for again, alone.
 fn mark_asked(temporary: &mut Option<Temporary>)
-    ensures { option_map temporary_in temporary.new ≡ option_map alone_if_asked (option_map temporary_in temporary.old) }
+    ensures can_bind { CanBind temporary.old → CanBind temporary.new }
+    ensures marked { option_map temporary_in temporary.new ≡ option_map alone_if_asked (option_map temporary_in temporary.old) }
 {
     if let Some(temporary) = temporary {
         temporary.mark();
@@ -246,7 +253,8 @@ fn mark_asked(temporary: &mut Option<Temporary>)
 
 /// All calls that are sent are to be sent again, alone.
 fn mark_sent(calls: &mut Calls)
-    ensures { (table : Table) → StandsFor calls.old table → StandsFor calls.new (record table { calls = map alone_if_sent table.calls }) }
+    ensures sound { (last : ℕ) → AreSound last calls.old.rows → AreSound last calls.new.rows }
+    ensures stands { (table : Table) → StandsFor calls.old table → StandsFor calls.new (record table { calls = map alone_if_sent table.calls }) }
 {
     let count = calls.members(Group::Outstanding);
     for k in 0..count {
@@ -260,7 +268,8 @@ fn mark_sent(calls: &mut Calls)
 fn mark(calls: &mut Calls, call: CallNo)
     requires given { IsGiven call calls.old.rows }
     requires sent { state_in call calls.old.rows ≡ Some Sent }
-    ensures { (table : Table) → StandsFor calls.old table → StandsFor calls.new (with_call call alone table) }
+    ensures stands { (table : Table) → StandsFor calls.old table → StandsFor calls.new (with_call call alone table) }
+    ensures sound { (last : ℕ) → AreSound last calls.old.rows → AreSound last calls.new.rows }
 {
     let flags = calls.flags(call);
     calls.set_flags(
@@ -296,6 +305,8 @@ fn check(count: u32, body: &[u8], after: Option<CallNo>) -> Result<(), SubmitFau
     ensures told { TellsFault (fault_at count body.now after) result }
     ensures few { OnOk result (count < calls_max) }
     ensures earlier { OnOk result (IfSome after (λ one. IsEarlier count one)) }
+    ensures words { OnOk result (length body.now % 4 ≡ 0) }
+    ensures short { OnOk result (length body.now ≤ body_bytes_max) }
 {
     let len = body.len();
     if len > BODY_BYTES_MAX {
