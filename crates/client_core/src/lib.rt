@@ -5,6 +5,7 @@
 #![tactic(auto)]
 
 mod binding;
+mod calling;
 mod core_client;
 mod ended;
 mod fault;
