@@ -34,7 +34,7 @@ sound_flagged last call flags rows sound =
     all_changed (IsSound last) (flagged_row flags) (λ row is. record { words = is.words; short = is.short; given = is.given }) _ rows sound
 
 -- it isn't outstanding any more
-settled_given : (last : ℕ) (fate : Fate) (row : Row) → IsSound last row → IsSound last (settled_row fate row)
+pub settled_given : (last : ℕ) (fate : Fate) (row : Row) → IsSound last row → IsSound last (settled_row fate row)
 settled_given last fate.Queue row is = record { words = is.words; short = is.short; given = tt }
 settled_given last fate.Hold row is = record { words = is.words; short = is.short; given = tt }
 settled_given last (fate.Done bytes) row is = record { words = is.words; short = is.short; given = tt }

@@ -36,4 +36,4 @@ CanBind temporary = IfSome temporary (λ one. CanGoAgain one.binding)
 
 -- a list of numbers, and one of states, can be sent: each has as many members as a list may have
 abbrev pub CanWait : Waiting → Type 0
-CanWait waiting = (length waiting.resent ≤ longs_max) × IfSome waiting.told (λ states. length states.info ≤ longs_max)
+CanWait waiting = (length waiting.resent.numbers ≤ longs_max) × IfSome waiting.told (λ states. length states.info ≤ longs_max)

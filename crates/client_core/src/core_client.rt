@@ -11,12 +11,13 @@ ghost use Rattle.std.specs.Prelude.{◌≡◌, if◌then◌else◌, ◌<◌, ◌
 
 use crate::binding::{BindState, Temporary};
 use crate::fault::{NotSent, SubmitFault};
+use crate::number_list::NumberList;
 use crate::waiting::{Asked, Waiting};
 use byteorder::{ByteOrder, LittleEndian};
 use call_table::{CALLS_MAX, CallNo, CallState, Calls, Flags, Group};
 use draws::Draw;
 use msg_ids::{Moment, Numbers};
-use octets::{IdList, Memory};
+use octets::Memory;
 use service_tl::{GZIP_PACKED, is_service};
 use std::alloc::Global;
 use std::marker::Model;
@@ -40,9 +41,9 @@ pub(crate) struct Core {
     pub(crate) key: u64,
     pub(crate) temporary: Option<Temporary>,
     pub(crate) session: u64,
-    pub(crate) former: Vec<u64>,
+    pub(crate) former: NumberList,
     pub(crate) salt: u64,
-    pub(crate) learnt: Vec<u64>,
+    pub(crate) learnt: NumberList,
     pub(crate) moment: Moment,
     pub(crate) clock: Clock,
     pub(crate) numbers: Numbers,
@@ -54,7 +55,7 @@ pub(crate) struct Core {
 impl Model for Core {
     ghost use Rattle.std.specs.Prelude.{false, option_map};
     ghost use Rattle.call_table.specs.Table.{no_calls};
-    ghost use Rattle.client_core.specs.Kept.{Contents, temporary_in, waiting_in, asked_in};
+    ghost use Rattle.client_core.specs.Kept.{CanRenew, Contents, temporary_in, waiting_in, asked_in};
 
     ghost Value = { Contents };
 
@@ -65,9 +66,9 @@ impl Model for Core {
         key = core.key;
         temporary = option_map temporary_in core.temporary;
         session = core.session;
-        former = core.former.items;
+        former = core.former.numbers;
         salt = core.salt;
-        learnt = core.learnt.items;
+        learnt = core.learnt.numbers;
         now = core.moment;
         clock = record { there = core.clock.there; here = core.clock.here };
         counters = core.numbers;
@@ -77,9 +78,10 @@ impl Model for Core {
         has_ended = false;
       };
       calls = core.calls;
+      room = record { sessions = core.former.room; learnt = core.learnt.room; resent = core.waiting.resent.room };
     } };
 
-    ghost invariant = { λ core. AreSound core.numbers.last core.calls.rows × CanBind core.temporary × CanWait core.waiting };
+    ghost invariant = { λ core. AreSound core.numbers.last core.calls.rows × CanBind core.temporary × (CanWait core.waiting × CanRenew core.learnt.numbers core.former.room) };
 }
 
 impl Core {
@@ -104,27 +106,24 @@ impl Core {
         ensures learnt { IfOk result (λ core. core.rest.learnt ≡ []) }
     {
         let calls = Calls::new(alloc)?;
+        let mut former = NumberList::new(alloc);
+        former.reserve(1)?;
+        let learnt = NumberList::new(alloc);
+        let waiting = Waiting::new(alloc);
         Ok(Core {
             key,
             temporary,
             session: draw.word(),
-            former: Vec::new(alloc),
+            former,
             salt: 0,
-            learnt: Vec::new(alloc),
+            learnt,
             moment: Moment::new(0),
             clock: Clock {
                 there: 0,
                 here: Moment::new(0),
             },
             numbers: Numbers::new(),
-            waiting: Waiting {
-                told: None,
-                resent: IdList::new(alloc),
-                states: false,
-                ping: None,
-                salts: None,
-                destroyed: None,
-            },
+            waiting,
             asked: None,
             calls,
         })
@@ -139,7 +138,8 @@ impl Core {
 
     /// How many calls there are.
     pub(crate) fn count(&self) -> u32
-        ensures { (table : Table) → StandsFor self.now.calls table → result ≡ length table.calls }
+        ensures kept { result ≡ length self.now.calls.rows }
+        ensures count { (table : Table) → StandsFor self.now.calls table → result ≡ length table.calls }
     {
         self.calls.count()
     }
@@ -265,7 +265,7 @@ fn mark_sent(calls: &mut Calls)
 }
 
 /// A call that is sent is to be sent again, alone.
-fn mark(calls: &mut Calls, call: CallNo)
+pub(crate) fn mark(calls: &mut Calls, call: CallNo)
     requires given { IsGiven call calls.old.rows }
     requires sent { state_in call calls.old.rows ≡ Some Sent }
     ensures stands { (table : Table) → StandsFor calls.old table → StandsFor calls.new (with_call call alone table) }

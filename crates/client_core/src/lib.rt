@@ -5,6 +5,7 @@
 #![tactic(auto)]
 
 mod binding;
+mod brought;
 mod calling;
 mod core_client;
 mod ended;
@@ -12,11 +13,22 @@ mod fault;
 mod filling;
 mod flush;
 mod holder;
+mod learning;
 mod lone;
+mod marking;
+mod noticing;
+mod number_list;
+mod on_packet;
 mod open;
 mod opening;
+mod rebinding;
+mod receiving;
+mod renewing;
 mod saying;
 mod sealing;
+mod settling;
+mod step;
+mod taking;
 mod waiting;
 
 pub use binding::BindState;
@@ -27,6 +39,9 @@ pub use flush::Flush;
 pub use holder::Holder;
 pub use open::OpenClient;
 pub use opening::OpeningClient;
+pub use step::{OpenStep, OpeningStep};
 
+#[cfg(test)]
+mod packet_tests;
 #[cfg(test)]
 mod tests;
