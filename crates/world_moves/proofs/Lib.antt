@@ -1,0 +1,3 @@
+pub mod Basics
+pub mod Quiet
+pub mod Own
