@@ -10,6 +10,7 @@ use Rattle.session_moves.specs.Move.Move.{Own}
 use Rattle.session_moves.specs.Move.OwnAct.{NewClient, Renew, Submit, End}
 use Rattle.session_moves.specs.After.{after, state_renewed, state_ended}
 use Rattle.session_moves.specs.Lawful.{IsLawful, IsNewSession}
+use Rattle.session_moves.specs.Reached.{Reached}
 use Rattle.call_table.specs.declared.call.CallNo.{CallNo}
 use Rattle.call_table.specs.declared.call.Fate.{Fate}
 use Rattle.call_table.specs.Table.{Call, Name, State, living_name, living_name_in, new_call}
@@ -18,31 +19,31 @@ use Rattle.client_rules.specs.Client.{Client, Needed, Temporary, bound_so, calls
 use Rattle.client_rules.specs.Asking.{submitted}
 use Rattle.client_rules.specs.Learning.{ended, settled_if, fate_at_end}
 use Rattle.client_rules.specs.Events.{renewed, fate_renewed}
-use Rattle.world_moves.specs.Clients.{AreOwned, IsNobody, StandsAs, IsNameThere, AreNamesThere, IsCallThere, StandsThere, IsAskedThere, IsGivenBy, client_there, state_there}
-use Rattle.world_moves.proofs.Basics.{Alike, get_map, get_past, get_pushed, name_alike, names_keep, all_given_alike, none_given}
+use Rattle.world_moves.specs.Clients.{IsNobody, StandsAs, AreNamesThere, IsCallThere, StandsThere, IsAskedThere, state_there}
+use Rattle.world_moves.proofs.Basics.{Alike, Apart, get_map, get_past, get_pushed, all_given_alike, none_given}
 use Rattle.world_moves.proofs.Quiet.{asked_alike}
 
 -- ---- it joins
 
-pub joins : (w : World) (number key session : ℕ) → IsNobody w number → IsNewSession w session → AreOwned w
+pub joins : Apart → (w : World) (number key session : ℕ) → Reached w → IsNobody w number → IsNewSession w session
     → StandsAs (after w (Own (NewClient number session))) number (fresh_client key None session)
-joins w number key session nobody new owned = record {
+joins apart w number key session reached nobody new = record {
   made = new.0;
   parts = rw (eq-eqb number number refl) refl;
   submitted = nobody.submitted;
   calls = nobody.calls;
-  given = none_given w session 0 new w.ups owned;
+  given = none_given apart w session 0 reached new;
   asked = tt;
 }
 
-pub joins_so : (w : World) (number key session perm expires : ℕ) → IsNobody w number → IsNewSession w session → AreOwned w
+pub joins_so : Apart → (w : World) (number key session perm expires : ℕ) → Reached w → IsNobody w number → IsNewSession w session
     → StandsAs (after w (Own (NewClient number session))) number (fresh_client key (Some (temporary_of perm expires)) session)
-joins_so w number key session perm expires nobody new owned = record {
+joins_so apart w number key session perm expires reached nobody new = record {
   made = new.0;
   parts = rw (eq-eqb number number refl) refl;
   submitted = nobody.submitted;
   calls = nobody.calls;
-  given = none_given w session 0 new w.ups owned;
+  given = none_given apart w session 0 reached new;
   asked = tt;
 }
 
@@ -64,13 +65,13 @@ module _ (w : World) (number : ℕ) (client : Client) (body : List ℕ) (earlier
   w' = after w (Own (Submit number body))
 
   alike : Alike client later
-  alike = record { session = refl; former = refl; last = omega arith }
+  alike = record { session = refl; last = omega arith }
 
   old_call : (call : Call) (there : moves.Call) → IsCallThere client w.ups call there → IsCallThere later w.ups call there
   old_call call there h = record {
     body = h.body;
     state = h.state;
-    names = names_keep client later w.ups w.ups (name_alike client later alike w.ups) call.names there.names h.names;
+    names = h.names;
     living = h.living;
   }
 
@@ -144,7 +145,7 @@ settled_body : (fate : Option Fate) (call : Call) → (settled_if fate call).bod
 settled_body None call = refl
 settled_body (Some fate) call = refl
 
-module _ (w : World) (number session : ℕ) (client : Client) (s : StandsAs w number client) (new : IsNewSession w session) (owned : AreOwned w) where
+module _ (apart : Apart) (w : World) (number session : ℕ) (client : Client) (reached : Reached w) (s : StandsAs w number client) (new : IsNewSession w session) where
   abbrev behind : Client
   behind = renewed session client
 
@@ -154,35 +155,13 @@ module _ (w : World) (number session : ℕ) (client : Client) (s : StandsAs w nu
   former_there : reverse (client.former ++ client.session ∷ []) ≡ client.session ∷ reverse client.former
   former_there = reverse-append client.former (client.session ∷ [])
 
-  owns_there : (other : ℕ) → Owns (client_there client) other → Owns (w.clients number) other
-  owns_there other owns = subst (λ (c : moves.Client). Owns c other) (sym s.parts) owns
-
-  its_still : (other : ℕ) → Owns (client_there client) other → Owns (client_there behind) other
-  its_still other owns = (
-    owns.0,
-    inr (subst (λ (l : List ℕ). Contains l other) (sym former_there)
-        (elim owns.1 [
-            | inl present ↦ (0, omega arith, sym present)
-            | inr former ↦ let below : former.0 < length (reverse client.former) = former.1 in (suc former.0, omega arith, former.2)
-          ])),
-  )
-
-  name_renewed : (name : Name) (there : moves.Name) → IsNameThere client w.ups name there → IsNameThere behind w.ups name there
-  name_renewed name there h = record {
-    session = h.session;
-    number = h.number;
-    salts = h.salts;
-    its = its_still name.session h.its;
-    given = λ is. absurd (new.1 number (owns_there session (subst (λ (n : ℕ). Owns (client_there client) n) is h.its)));
-  }
-
   call_renewed : (call : Call) (there : moves.Call) → IsCallThere client w.ups call there
       → IsCallThere behind w.ups (settled_if (fate_renewed call.state) call) (record there { state = state_renewed there.state })
   call_renewed call there h = record {
     body = h.body ∙ sym (settled_body (fate_renewed call.state) call);
     state = ap state_renewed h.state ∙ sym (renewed_state call.state call refl);
-    names = subst (λ (names : List Name). AreNamesThere behind w.ups names there.names) (sym (settled_names (fate_renewed call.state) call))
-        (names_keep client behind w.ups w.ups name_renewed call.names there.names h.names);
+    names = subst (λ (names : List Name). AreNamesThere w.ups names there.names) (sym (settled_names (fate_renewed call.state) call))
+        h.names;
     living = unsent session (settled_if (fate_renewed call.state) call).state (settled_if (fate_renewed call.state) call).names
         (renewed_unsent call.state call refl);
   }
@@ -207,13 +186,13 @@ module _ (w : World) (number session : ℕ) (client : Client) (s : StandsAs w nu
     parts = rw (eq-eqb number number refl, former_there, s.parts) refl;
     submitted = s.submitted ∙ sym (length-map (calls_of client) (λ (call : Call). settled_if (fate_renewed call.state) call));
     calls = calls_renewed;
-    given = none_given w session 0 new w.ups owned;
+    given = none_given apart w session 0 reached new;
     asked = needed_now client.temporary;
   }
 
-pub renews : (w : World) (number session : ℕ) (client : Client) → StandsAs w number client → IsNewSession w session → AreOwned w
+pub renews : Apart → (w : World) (number session : ℕ) (client : Client) → Reached w → StandsAs w number client → IsNewSession w session
     → StandsAs (after w (Own (Renew number session))) number (renewed session client)
-renews w number session client s new owned = stands_renewed w number session client s new owned
+renews apart w number session client reached s new = stands_renewed apart w number session client reached s new
 
 -- ---- it ends
 
@@ -242,15 +221,15 @@ module _ (w : World) (number : ℕ) (client : Client) (s : StandsAs w number cli
   ended_w = after w (Own (End number))
 
   alike_over : Alike client over
-  alike_over = record { session = refl; former = refl; last = omega arith }
+  alike_over = record { session = refl; last = omega arith }
 
   call_ended : (call : Call) (there : moves.Call) → IsCallThere client w.ups call there
       → IsCallThere over w.ups (settled_if (fate_at_end call.state) call) (record there { state = state_ended there.state })
   call_ended call there h = record {
     body = h.body ∙ sym (settled_body (fate_at_end call.state) call);
     state = ap state_ended h.state ∙ sym (ended_state call.state call refl);
-    names = subst (λ (names : List Name). AreNamesThere over w.ups names there.names) (sym (settled_names (fate_at_end call.state) call))
-        (names_keep client over w.ups w.ups (name_alike client over alike_over w.ups) call.names there.names h.names);
+    names = subst (λ (names : List Name). AreNamesThere w.ups names there.names) (sym (settled_names (fate_at_end call.state) call))
+        h.names;
     living = unsent over.session (settled_if (fate_at_end call.state) call).state (settled_if (fate_at_end call.state) call).names
         (ended_unsent call.state call refl);
   }

@@ -11,24 +11,20 @@ use Rattle.call_table.specs.declared.call.Flags.{Flags}
 use Rattle.call_table.specs.Table.{Call, Name, State, flagged, is_sent, living_name, changed_at}
 use Rattle.client_rules.specs.Client.{Client, Binding, Asked, Needed, Held, Bound, Refused, Temporary, Waiting, calls_of, with_call}
 use Rattle.client_rules.specs.Asking.{alone, alone_if_sent, alone_if_asked, attached, can_drop, dropped, drops, is_asked, pinged, salts_asked, ticked}
-use Rattle.world_moves.specs.Clients.{StandsAs, AreNamesThere, IsNameThere, IsCallThere, StandsThere, IsAskedThere, IsGivenBy, state_there}
-use Rattle.world_moves.proofs.Basics.{Alike, get_map, name_alike, names_keep, all_given_alike}
+use Rattle.world_moves.specs.Clients.{StandsAs, IsCallThere, StandsThere, IsAskedThere}
+use Rattle.world_moves.proofs.Basics.{Alike, get_map, living_alike, all_given_alike}
 
 -- calls are changed in their flags alone
 abbrev pub OnlyFlags : (Call → Call) → Type 0
 OnlyFlags change = (call : Call) → (flags : Flags) × (change call ≡ flagged flags call)
 
 module _ (one other : Client) (alike : Alike one other) (ups : List moves.Message) where
-  living_alike : (name : Option Name) → IfSome name (λ name. name.session ≡ one.session) → IfSome name (λ name. name.session ≡ other.session)
-  living_alike None h = tt
-  living_alike (Some name) h = h ∙ sym alike.session
-
   flagged_there : (call : Call) (flags : Flags) (there : moves.Call) → IsCallThere one ups call there → IsCallThere other ups (flagged flags call) there
   flagged_there call flags there h = record {
     body = h.body;
     state = h.state;
-    names = names_keep one other ups ups (name_alike one other alike ups) call.names there.names h.names;
-    living = living_alike (living_name call) h.living;
+    names = h.names;
+    living = living_alike one other alike.session (living_name call) h.living;
   }
 
   pub changed_there : (change : Call → Call) → OnlyFlags change → (found : Option Call) (there : moves.Call)
@@ -83,7 +79,7 @@ module _ (w : World) (number : ℕ) (client : Client) (s : StandsAs w number cli
   waits_so : (waiting : Waiting) → StandsAs w number (record client { waiting = waiting })
   waits_so waiting =
       let other : Client = record client { waiting = waiting } in
-      let alike : Alike client other = record { session = refl; former = refl; last = omega arith } in
+      let alike : Alike client other = record { session = refl; last = omega arith } in
       record {
         made = s.made;
         parts = s.parts;
@@ -125,7 +121,7 @@ module _ (w : World) (number : ℕ) (client : Client) (s : StandsAs w number cli
   pub attaches : StandsAs w number (attached client)
   attaches =
       let other : Client = attached client in
-      let alike : Alike client other = record { session = refl; former = refl; last = omega arith } in
+      let alike : Alike client other = record { session = refl; last = omega arith } in
       record {
         made = s.made;
         parts = s.parts;
@@ -140,7 +136,7 @@ module _ (w : World) (number : ℕ) (client : Client) (s : StandsAs w number cli
   drops_so : (call : CallNo) → StandsAs w number (with_call call drops client)
   drops_so call =
       let other : Client = with_call call drops client in
-      let alike : Alike client other = record { session = refl; former = refl; last = omega arith } in
+      let alike : Alike client other = record { session = refl; last = omega arith } in
       record {
         made = s.made;
         parts = s.parts;

@@ -46,27 +46,24 @@ IsGivenBy client session number = session ≡ client.session → number ≤ clie
 
 -- ---- names and calls
 
--- The name is that one: it was sent under the same session number, which is the client's, under the same message number,
--- and under the same salts, the last one first.
-pub record IsNameThere (client : Client) (ups : List moves.Message) (name : Name) (there : moves.Name) : Type 0 where
+-- the name is that one: it was sent under the same session number and message number, and under the same salts, the last
+-- one first
+pub record IsNameThere (ups : List moves.Message) (name : Name) (there : moves.Name) : Type 0 where
   pub session : there.session ≡ name.session
   pub number : there.number ≡ name.message.number
   pub salts : salts_of ups there ≡ name.salts
-  pub its : Owns (client_there client) name.session
-  pub given : IsGivenBy client name.session name.message.number
 
-abbrev pub AreNamesThere : Client → List moves.Message → List Name → List moves.Name → Type 0
-AreNamesThere client ups [] [] = ⊤
-AreNamesThere client ups [] (there ∷ others) = ⊥
-AreNamesThere client ups (name ∷ names) [] = ⊥
-AreNamesThere client ups (name ∷ names) (there ∷ others) =
-    IsNameThere client ups name there × AreNamesThere client ups names others
+abbrev pub AreNamesThere : List moves.Message → List Name → List moves.Name → Type 0
+AreNamesThere ups [] [] = ⊤
+AreNamesThere ups [] (there ∷ others) = ⊥
+AreNamesThere ups (name ∷ names) [] = ⊥
+AreNamesThere ups (name ∷ names) (there ∷ others) = IsNameThere ups name there × AreNamesThere ups names others
 
 -- the call stands there, with its body, its state and its names; a living name is one of the present session
 pub record IsCallThere (client : Client) (ups : List moves.Message) (call : Call) (there : moves.Call) : Type 0 where
   pub body : there.body ≡ call.body
   pub state : there.state ≡ state_there call.state
-  pub names : AreNamesThere client ups call.names there.names
+  pub names : AreNamesThere ups call.names there.names
   pub living : IfSome (living_name call) (λ name. name.session ≡ client.session)
 
 -- what stands in the place of a call, where there is one
@@ -90,12 +87,8 @@ pub record StandsAs (w : World) (number : ℕ) (client : Client) : Type 0 where
   pub given : AllByRecursion (λ message. IsGivenBy client message.session message.number) w.ups
   pub asked : IfSome client.temporary (λ temporary. IsAskedThere w.ups client temporary.binding)
 
--- No client has this number yet. Under a session number that nobody has nothing was sent.
+-- no client has this number yet
 pub record IsNobody (w : World) (number : ℕ) : Type 0 where
   pub parts : w.clients number ≡ no_client
   pub submitted : w.submitted number ≡ 0
   pub calls : (place : ℕ) → w.calls (moves.call_at number place) ≡ no_call
-
--- each message was sent under a session number of some client
-abbrev pub AreOwned : World → Type 0
-AreOwned w = AllByRecursion (λ message. (client : ℕ) × Owns (w.clients client) message.session) w.ups

@@ -6,21 +6,26 @@ ghost use Rattle.session_moves.specs.Move.Move.{Own};
 ghost use Rattle.session_moves.specs.Move.OwnAct.{End, NewClient, Renew, Submit};
 ghost use Rattle.session_moves.specs.After.{after};
 ghost use Rattle.session_moves.specs.Lawful.{IsLawful, IsNewSession};
+ghost use Rattle.session_moves.specs.Reached.{Reached};
 ghost use Rattle.call_table.specs.declared.call.CallNo.{CallNo};
 ghost use Rattle.client_rules.specs.Client.{Client, fresh_client, temporary_of};
 ghost use Rattle.client_rules.specs.Asking.{attached, dropped, pinged, salts_asked, submit_fault, submitted, ticked};
 ghost use Rattle.client_rules.specs.Learning.{ended};
 ghost use Rattle.client_rules.specs.Events.{renewed};
-ghost use Rattle.world_moves.specs.Clients.{AreOwned, IsNobody, StandsAs};
+ghost use Rattle.world_moves.specs.Clients.{IsNobody, StandsAs};
+
+use session_moves::laws::names_are_apart;
 
 /// A client that is made joins by a lawful move, where nobody has its number and its session number is a new one.
 pub fn clients_join()
     ensures lawful { (w : World) (number key session : ℕ) → IsNobody w number → IsNewSession w session → IsLawful w (Own (NewClient number session)) }
-    ensures stands { (w : World) (number key session : ℕ) → IsNobody w number → IsNewSession w session → AreOwned w
+    ensures stands { (w : World) (number key session : ℕ) → Reached w → IsNobody w number → IsNewSession w session
         → StandsAs (after w (Own (NewClient number session))) number (fresh_client key None session) }
-    ensures temporary { (w : World) (number key session perm expires : ℕ) → IsNobody w number → IsNewSession w session → AreOwned w
+    ensures temporary { (w : World) (number key session perm expires : ℕ) → Reached w → IsNobody w number → IsNewSession w session
         → StandsAs (after w (Own (NewClient number session))) number (fresh_client key (Some (temporary_of perm expires)) session) }
-{}
+{
+    names_are_apart();
+}
 
 /// A call is submitted by a lawful move.
 pub fn clients_submit()
@@ -41,8 +46,10 @@ pub fn wishes_are_no_moves()
 /// A client renews its session by a lawful move, where the session number is a new one, and ends by one.
 pub fn clients_renew_and_end()
     ensures renews { (w : World) (number session : ℕ) (client : Client) → StandsAs w number client → IsNewSession w session → IsLawful w (Own (Renew number session)) }
-    ensures renewed { (w : World) (number session : ℕ) (client : Client) → StandsAs w number client → IsNewSession w session → AreOwned w
+    ensures renewed { (w : World) (number session : ℕ) (client : Client) → Reached w → StandsAs w number client → IsNewSession w session
         → StandsAs (after w (Own (Renew number session))) number (renewed session client) }
     ensures ends { (w : World) (number : ℕ) (client : Client) → StandsAs w number client → IsLawful w (Own (End number)) }
     ensures ended { (w : World) (number : ℕ) (client : Client) → StandsAs w number client → StandsAs (after w (Own (End number))) number (ended client) }
-{}
+{
+    names_are_apart();
+}
