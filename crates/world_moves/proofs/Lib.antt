@@ -1,3 +1,5 @@
 pub mod Basics
 pub mod Quiet
 pub mod Own
+pub mod Leading
+pub mod Sending
