@@ -3,7 +3,7 @@ use Rattle.std.proofs.Common.{◌≡◌, ◌≢◌, ℕ, zero, suc, ◌≤◌, �
 use Rattle.std.specs.Prelude.{◌⊎◌, ⊤, slice_get, option_map, IfSome}
 use Rattle.std.specs.List.{All, AllByRecursion, Contains, slice_index_or}
 use Rattle.session_moves.specs.Table as moves
-use Rattle.session_moves.specs.World.{World, Owns, IsUnder, no_call}
+use Rattle.session_moves.specs.World.{World, Owns, IsName, IsUnder, no_call}
 use Rattle.session_moves.specs.Lawful.{IsNewSession}
 use Rattle.session_moves.specs.Reached.{Reached}
 use Rattle.call_table.specs.Table.{Call, Name, State}
@@ -22,6 +22,8 @@ pub record Apart : Type 0 where
       → Owns (w.clients call.client) name.session
   pub of_message : (w : World) (message : moves.Message) → Reached w → Contains w.ups message
       → (client : ℕ) × Owns (w.clients client) message.session
+  pub no_name : (w : World) (message : moves.Message) → Reached w → Contains w.ups message → message.call ≡ None
+      → IsName w.calls message.session message.number → ⊥
   pub one_owner : (w : World) (one other session : ℕ) → Reached w → Owns (w.clients one) session → Owns (w.clients other) session
       → one ≡ other
 

@@ -3,3 +3,4 @@ pub mod Quiet
 pub mod Own
 pub mod Leading
 pub mod Sending
+pub mod Again

@@ -33,14 +33,14 @@ above last now = omega arith
 
 -- ---- a call that is changed
 
-get_changed : {X : Type 0} (place : ℕ) (change : X → X) (xs : List X) (q : ℕ) → q ≡ place → slice_get (changed_at place change xs) q ≡ option_map change (slice_get xs q)
+pub get_changed : {X : Type 0} (place : ℕ) (change : X → X) (xs : List X) (q : ℕ) → q ≡ place → slice_get (changed_at place change xs) q ≡ option_map change (slice_get xs q)
 get_changed place change [] q is = refl
 get_changed zero change (x ∷ xs) zero is = refl
 get_changed zero change (x ∷ xs) (suc q) is = absurd (omega (arith, is))
 get_changed (suc place) change (x ∷ xs) zero is = absurd (omega (arith, is))
 get_changed (suc place) change (x ∷ xs) (suc q) is = get_changed place change xs q (omega (arith, is))
 
-get_unchanged : {X : Type 0} (place : ℕ) (change : X → X) (xs : List X) (q : ℕ) → q ≢ place → slice_get (changed_at place change xs) q ≡ slice_get xs q
+pub get_unchanged : {X : Type 0} (place : ℕ) (change : X → X) (xs : List X) (q : ℕ) → q ≢ place → slice_get (changed_at place change xs) q ≡ slice_get xs q
 get_unchanged place change [] q differs = refl
 get_unchanged zero change (x ∷ xs) zero differs = absurd (differs refl)
 get_unchanged zero change (x ∷ xs) (suc q) differs = refl
@@ -49,7 +49,7 @@ get_unchanged (suc place) change (x ∷ xs) (suc q) differs = get_unchanged plac
 
 -- ---- salts
 
-unsalted : (m : moves.Message) (ups : List moves.Message) (there : moves.Name)
+pub unsalted : (m : moves.Message) (ups : List moves.Message) (there : moves.Name)
     → (m.session ≡ there.session → m.number ≡ there.number → ⊥) → salts_of (m ∷ ups) there ≡ salts_of ups there
 unsalted m ups there differs =
     elim (cases_eq m.session there.session) [
@@ -61,7 +61,7 @@ unsalted m ups there differs =
       | inr session ↦ rw (ne_eqb m.session there.session session) refl
     ]
 
-salted : (m : moves.Message) (ups : List moves.Message) (there : moves.Name) → m.session ≡ there.session → m.number ≡ there.number
+pub salted : (m : moves.Message) (ups : List moves.Message) (there : moves.Name) → m.session ≡ there.session → m.number ≡ there.number
     → salts_of (m ∷ ups) there ≡ m.salt ∷ salts_of ups there
 salted m ups there session number = rw (eq-eqb m.session there.session session, eq-eqb m.number there.number number) refl
 

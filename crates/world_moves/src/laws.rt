@@ -14,7 +14,7 @@ ghost use Rattle.client_rules.specs.Learning.{ended};
 ghost use Rattle.client_rules.specs.Events.{renewed};
 ghost use Rattle.world_moves.specs.Clients.{IsNobody, StandsAs};
 
-use session_moves::laws::names_are_apart;
+use session_moves::laws::{names_are_apart, numbers_are_given_once};
 
 /// A client that is made joins by a lawful move, where nobody has its number and its session number is a new one.
 pub fn clients_join()
@@ -25,6 +25,7 @@ pub fn clients_join()
         → StandsAs (after w (Own (NewClient number session))) number (fresh_client key (Some (temporary_of perm expires)) session) }
 {
     names_are_apart();
+    numbers_are_given_once();
 }
 
 /// A call is submitted by a lawful move.
@@ -52,4 +53,5 @@ pub fn clients_renew_and_end()
     ensures ended { (w : World) (number : ℕ) (client : Client) → StandsAs w number client → StandsAs (after w (Own (End number))) number (ended client) }
 {
     names_are_apart();
+    numbers_are_given_once();
 }
