@@ -4,3 +4,5 @@ pub mod Own
 pub mod Leading
 pub mod Sending
 pub mod Again
+pub mod Flushing
+pub mod Filling
