@@ -110,7 +110,7 @@ module _ (apart : Apart) (on : GoOn) (w : World) (number : ℕ) (reached : Reach
 
   -- ---- an item
 
-  said : (is_content : Bool) (body : List ℕ) (client : Client) → Ends client → Ends (after_message is_content client)
+  pub said : (is_content : Bool) (body : List ℕ) (client : Client) → Ends client → Ends (after_message is_content client)
   said is_content body client h =
       then_does client (after_message is_content client)
       (λ later reached s. leads_so number later
@@ -134,31 +134,31 @@ module _ (apart : Apart) (on : GoOn) (w : World) (number : ℕ) (reached : Reach
       → SameParts client other
   kept client other a b c d e f g h = record { session = a; former = b; salt = c; learnt = d; ended = e; counters = f; calls = g; temporary = h }
 
-  acks_so : {S : Type 0} (ks : List CallNo) (acks : List ℕ) (filling : Filling S) → Holds ks filling.client → Holds ks (says_acks acks filling).client
+  pub acks_so : {S : Type 0} (ks : List CallNo) (acks : List ℕ) (filling : Filling S) → Holds ks filling.client → Holds ks (says_acks acks filling).client
   acks_so ks [] filling h = h
   acks_so ks (ack ∷ acks) filling h = says_so ks false (MsgsAck (ack ∷ acks)) (λ client. record client { table = record client.table { acks = [] } }) filling (λ client. kept client (record client { table = record client.table { acks = [] } }) refl refl refl refl refl refl refl refl) h
 
-  told_so : {S : Type 0} (ks : List CallNo) (told : Option States) (filling : Filling S) → Holds ks filling.client → Holds ks (says_told told filling).client
+  pub told_so : {S : Type 0} (ks : List CallNo) (told : Option States) (filling : Filling S) → Holds ks filling.client → Holds ks (says_told told filling).client
   told_so ks None filling h = h
   told_so ks (Some states) filling h = says_so ks false (MsgsStateInfo states.request states.info) (λ client. record client { waiting = record client.waiting { told = None } }) filling (λ client. kept client (record client { waiting = record client.waiting { told = None } }) refl refl refl refl refl refl refl refl) h
 
-  resent_so : {S : Type 0} (ks : List CallNo) (numbers : List ℕ) (filling : Filling S) → Holds ks filling.client → Holds ks (says_resent numbers filling).client
+  pub resent_so : {S : Type 0} (ks : List CallNo) (numbers : List ℕ) (filling : Filling S) → Holds ks filling.client → Holds ks (says_resent numbers filling).client
   resent_so ks [] filling h = h
   resent_so ks (n ∷ numbers) filling h = says_so ks false (MsgResendReq (n ∷ numbers)) (λ client. record client { waiting = record client.waiting { resent = [] } }) filling (λ client. kept client (record client { waiting = record client.waiting { resent = [] } }) refl refl refl refl refl refl refl refl) h
 
-  states_so : {S : Type 0} (ks : List CallNo) (is : Bool) (filling : Filling S) → Holds ks filling.client → Holds ks (says_states is filling).client
+  pub states_so : {S : Type 0} (ks : List CallNo) (is : Bool) (filling : Filling S) → Holds ks filling.client → Holds ks (says_states is filling).client
   states_so ks false filling h = h
   states_so ks true filling h = says_so ks false (MsgsStateReq (outstanding filling.client)) (λ client. asks_states (outstanding filling.client) client) filling (λ client. kept client (asks_states (outstanding filling.client) client) refl refl refl refl refl refl refl refl) h
 
-  ping_so : {S : Type 0} (ks : List CallNo) (ping : Option ℕ) (filling : Filling S) → Holds ks filling.client → Holds ks (says_ping ping filling).client
+  pub ping_so : {S : Type 0} (ks : List CallNo) (ping : Option ℕ) (filling : Filling S) → Holds ks filling.client → Holds ks (says_ping ping filling).client
   ping_so ks None filling h = h
   ping_so ks (Some id) filling h = says_so ks false (Ping id) (λ client. record client { waiting = record client.waiting { ping = None } }) filling (λ client. kept client (record client { waiting = record client.waiting { ping = None } }) refl refl refl refl refl refl refl refl) h
 
-  salts_so : {S : Type 0} (ks : List CallNo) (salts : Option ℕ) (filling : Filling S) → Holds ks filling.client → Holds ks (says_salts salts filling).client
+  pub salts_so : {S : Type 0} (ks : List CallNo) (salts : Option ℕ) (filling : Filling S) → Holds ks filling.client → Holds ks (says_salts salts filling).client
   salts_so ks None filling h = h
   salts_so ks (Some count) filling h = says_so ks true (GetFutureSalts count) (λ client. record client { waiting = record client.waiting { salts = None } }) filling (λ client. kept client (record client { waiting = record client.waiting { salts = None } }) refl refl refl refl refl refl refl refl) h
 
-  destroyed_so : {S : Type 0} (ks : List CallNo) (destroyed : Option ℕ) (filling : Filling S) → Holds ks filling.client → Holds ks (says_destroyed destroyed filling).client
+  pub destroyed_so : {S : Type 0} (ks : List CallNo) (destroyed : Option ℕ) (filling : Filling S) → Holds ks filling.client → Holds ks (says_destroyed destroyed filling).client
   destroyed_so ks None filling h = h
   destroyed_so ks (Some session) filling h =
       elim (cases_Bool (is_open filling.client)) [
@@ -168,7 +168,7 @@ module _ (apart : Apart) (on : GoOn) (w : World) (number : ℕ) (reached : Reach
 
   -- ---- the binding
 
-  binding_so : {S : Type 0} (setting : Setting S) (ks : List CallNo) (temporary : Option Temporary) (filling : Filling S) → Holds ks filling.client
+  pub binding_so : {S : Type 0} (setting : Setting S) (ks : List CallNo) (temporary : Option Temporary) (filling : Filling S) → Holds ks filling.client
       → Holds ks (says_binding setting temporary filling).client
   binding_so setting ks None filling h = h
   binding_so setting ks (Some temporary) filling h =
@@ -207,7 +207,7 @@ module _ (apart : Apart) (on : GoOn) (w : World) (number : ℕ) (reached : Reach
             (flags_queued (calls_of filling.client) (k.n - 1) undropped undropped_only) h.queued;
       })
 
-  drops_so : {S : Type 0} (ks drops : List CallNo) (filling : Filling S) → Holds ks filling.client → Holds ks (fold says_drop filling drops).client
+  pub drops_so : {S : Type 0} (ks drops : List CallNo) (filling : Filling S) → Holds ks filling.client → Holds ks (fold says_drop filling drops).client
   drops_so ks [] filling h = h
   drops_so ks (k ∷ drops) filling h =
       drops_so ks drops (says_drop filling k) (drop_of_so ks k (number_of (at k (calls_of filling.client))) filling h)
@@ -244,7 +244,7 @@ module _ (apart : Apart) (on : GoOn) (w : World) (number : ℕ) (reached : Reach
       let same : other.state ≡ table.Queued = ap (λ (f : Option Call). state_or f call.state) is ∙ queued in
       turn_so k other ks (turn_of filling.client other) filling found same differs h
 
-  calls_so : {S : Type 0} (ks : List CallNo) (filling : Filling S) → AreApart ks → Holds ks filling.client → Ends (fold says_call filling ks).client
+  pub calls_so : {S : Type 0} (ks : List CallNo) (filling : Filling S) → AreApart ks → Holds ks filling.client → Ends (fold says_call filling ks).client
   calls_so [] filling distinct h = h.ends
   calls_so (k ∷ ks) filling distinct h =
       let rest : Holds ks filling.client = record { ends = h.ends; queued = h.queued.1 } in

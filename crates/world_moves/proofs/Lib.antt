@@ -6,3 +6,4 @@ pub mod Sending
 pub mod Again
 pub mod Flushing
 pub mod Filling
+pub mod Flushed

@@ -12,9 +12,13 @@ ghost use Rattle.client_rules.specs.Client.{Client, fresh_client, temporary_of};
 ghost use Rattle.client_rules.specs.Asking.{attached, dropped, pinged, salts_asked, submit_fault, submitted, ticked};
 ghost use Rattle.client_rules.specs.Learning.{ended};
 ghost use Rattle.client_rules.specs.Events.{renewed};
+ghost use Rattle.client_rules.specs.Flush.{flush};
+ghost use Rattle.client_rules.specs.Sending.{Setting};
 ghost use Rattle.world_moves.specs.Clients.{IsNobody, StandsAs};
+ghost use Rattle.world_moves.specs.Leading.{Leads};
 
-use session_moves::laws::{names_are_apart, numbers_are_given_once};
+use draws::Draw;
+use session_moves::laws::{moves_go_on, names_are_apart, numbers_are_given_once};
 
 /// A client that is made joins by a lawful move, where nobody has its number and its session number is a new one.
 pub fn clients_join()
@@ -54,4 +58,14 @@ pub fn clients_renew_and_end()
 {
     names_are_apart();
     numbers_are_given_once();
+}
+
+/// A flush is a list of lawful moves of the client, after which the client that flushed stands there.
+pub fn clients_flush<D: Draw>()
+    ensures { (w : World) (setting : Setting D) (number now : ℕ) (client : Client) (draw : D) → Reached w → StandsAs w number client
+        → Leads number w (λ later. StandsAs later number (flush setting now client draw).client) }
+{
+    names_are_apart();
+    numbers_are_given_once();
+    moves_go_on();
 }
