@@ -12,11 +12,11 @@ use Rattle.session_moves.specs.After.{after, salts_of, message_of}
 use Rattle.session_moves.specs.Lawful.{IsBelow, IsNewNumber, IsNewest, WasNoCall}
 use Rattle.session_moves.specs.Reached.{Reached}
 use Rattle.call_table.specs.declared.call.CallNo.{CallNo}
-use Rattle.call_table.specs.Table.{Call, Name, State, living_name, living_name_in, with_salt, changed_at}
+use Rattle.call_table.specs.Table.{Call, Name, State, with_salt, changed_at}
 use Rattle.call_table.specs.Table as table
 use Rattle.client_rules.specs.Client.{Client, Binding, Asked, Temporary, bound_so, calls_of, with_binding, with_call}
 use Rattle.client_rules.specs.Flush.{gone_again}
-use Rattle.world_moves.specs.Clients.{StandsAs, AreNamesThere, IsNameThere, IsCallThere, StandsThere, IsAskedThere, IsGivenBy, client_there, state_there}
+use Rattle.world_moves.specs.Clients.{LivesIn, StandsAs, AreNamesThere, IsNameThere, IsCallThere, StandsThere, IsAskedThere, IsGivenBy, client_there, state_there}
 use Rattle.world_moves.specs.Leading.{Leads}
 use Rattle.world_moves.proofs.Basics.{Alike, Apart, all_given_alike, each_of, here, later, living_alike, names_keep}
 use Rattle.world_moves.proofs.Leading.{moves_once}
@@ -41,8 +41,7 @@ salted_names m ups name older (there ∷ others) h first =
           }) h.1,
     )
 
-salted_living : (session salt : ℕ) (state : State) (names : List Name) → IfSome (living_name_in state names) (λ (name : Name). name.session ≡ session)
-    → IfSome (living_name_in state (with_salt salt names)) (λ (name : Name). name.session ≡ session)
+salted_living : (session salt : ℕ) (state : State) (names : List Name) → LivesIn session state names → LivesIn session state (with_salt salt names)
 salted_living session salt state [] h = h
 salted_living session salt table.Sent (name ∷ names) h = h
 salted_living session salt table.Queued (name ∷ names) h = tt
@@ -53,10 +52,9 @@ salted_living session salt (table.Unknown cause) (name ∷ names) h = tt
 
 -- the living name of a call that is sent
 living_session : (session : ℕ) (state : State) (names : List Name) (name : Name) (older : List Name) → state ≡ table.Sent → names ≡ name ∷ older
-    → IfSome (living_name_in state names) (λ (one : Name). one.session ≡ session) → name.session ≡ session
+    → LivesIn session state names → name.session ≡ session
 living_session session state names name older is_sent named h =
-    subst (λ (st : State). IfSome (living_name_in st (name ∷ older)) (λ (one : Name). one.session ≡ session)) is_sent
-    (subst (λ (l : List Name). IfSome (living_name_in state l) (λ (one : Name). one.session ≡ session)) named h)
+    subst (λ (st : State). LivesIn session st (name ∷ older)) is_sent (subst (λ (l : List Name). LivesIn session state l) named h)
 
 -- the session number and the number of the first of some names
 abbrev first_session : List moves.Name → ℕ → ℕ
@@ -162,7 +160,7 @@ module _ (apart : Apart) (w : World) (number : ℕ) (client : Client) (reached :
                 differs (ap (λ (c : moves.CallId). c.place)
                 (apart.of_one w (moves.call_at number q) id there first.0 reached among among_now (sym session ∙ same_session) (sym is ∙ same_number)))) ∙ h.salts;
           }) h.names;
-      living = living_alike client gone refl (living_name one) h.living;
+      living = living_alike client gone refl one h.living;
     }
 
     calls_gone : (q : ℕ) → StandsThere gone gone_w.ups (slice_get (calls_of gone) q) (gone_w.calls (moves.call_at number q))
@@ -220,7 +218,7 @@ module _ (apart : Apart) (w : World) (number : ℕ) (client : Client) (reached :
       body = h.body;
       state = h.state;
       names = names_keep w.ups (up ∷ w.ups) call.names (w.calls id).names (kept_salts id) h.names;
-      living = living_alike client bound refl (living_name call) h.living;
+      living = living_alike client bound refl call h.living;
     }
 
     asked_now : (temporary : Option Temporary)

@@ -8,7 +8,7 @@ use Rattle.session_moves.specs.Lawful.{IsNewSession}
 use Rattle.session_moves.specs.Reached.{Reached}
 use Rattle.call_table.specs.Table.{Call, Name, State}
 use Rattle.client_rules.specs.Client.{Client, calls_of}
-use Rattle.world_moves.specs.Clients.{IsNameThere, AreNamesThere, IsCallThere, StandsThere, IsGivenBy, client_there}
+use Rattle.world_moves.specs.Clients.{LivesIn, IsNameThere, AreNamesThere, IsCallThere, StandsThere, IsGivenBy, client_there}
 
 -- what the law on moves promises of names
 pub record Apart : Type 0 where
@@ -102,10 +102,9 @@ all_given_alike one other alike [] h = tt
 all_given_alike one other alike (message ∷ ups) h =
     (given_alike one other alike message.session message.number h.0, all_given_alike one other alike ups h.1)
 
-pub living_alike : (one other : Client) → other.session ≡ one.session → (name : Option Name)
-    → IfSome name (λ (name : Name). name.session ≡ one.session) → IfSome name (λ (name : Name). name.session ≡ other.session)
-living_alike one other session None h = tt
-living_alike one other session (Some name) h = h ∙ sym session
+pub living_alike : (one other : Client) → other.session ≡ one.session → (call : Call)
+    → LivesIn one.session call.state call.names → LivesIn other.session call.state call.names
+living_alike one other session call h = subst (λ (s : ℕ). LivesIn s call.state call.names) (sym session) h
 
 -- ---- a new session number
 

@@ -13,13 +13,13 @@ use Rattle.session_moves.specs.Lawful.{IsLawful, IsNewSession}
 use Rattle.session_moves.specs.Reached.{Reached}
 use Rattle.call_table.specs.declared.call.CallNo.{CallNo}
 use Rattle.call_table.specs.declared.call.Fate.{Fate}
-use Rattle.call_table.specs.Table.{Call, Name, State, living_name, living_name_in, new_call}
+use Rattle.call_table.specs.Table.{Call, Name, State, new_call}
 use Rattle.call_table.specs.Table as table
 use Rattle.client_rules.specs.Client.{Client, Needed, Temporary, bound_so, calls_of, fresh_client, temporary_of}
 use Rattle.client_rules.specs.Asking.{submitted}
 use Rattle.client_rules.specs.Learning.{ended, settled_if, fate_at_end}
 use Rattle.client_rules.specs.Events.{renewed, fate_renewed}
-use Rattle.world_moves.specs.Clients.{IsNobody, StandsAs, AreNamesThere, IsCallThere, StandsThere, IsAskedThere, state_there}
+use Rattle.world_moves.specs.Clients.{IsNobody, LivesIn, StandsAs, AreNamesThere, IsCallThere, StandsThere, IsAskedThere, state_there}
 use Rattle.world_moves.proofs.Basics.{Alike, Apart, get_map, get_past, get_pushed, all_given_alike, none_given}
 use Rattle.world_moves.proofs.Quiet.{asked_alike}
 
@@ -121,7 +121,7 @@ renewed_state (table.Refused code) call is = ap (λ (s : State). state_there s) 
 renewed_state (table.Unknown cause) call is = ap (λ (s : State). state_there s) is
 
 -- a call that isn't sent has no living name
-unsent : (session : ℕ) (state : State) (names : List Name) → (state ≡ table.Sent → ⊥) → IfSome (living_name_in state names) (λ (name : Name). name.session ≡ session)
+unsent : (session : ℕ) (state : State) (names : List Name) → (state ≡ table.Sent → ⊥) → LivesIn session state names
 unsent session table.Queued names not = tt
 unsent session table.Sent names not = absurd (not refl)
 unsent session table.Held names not = tt

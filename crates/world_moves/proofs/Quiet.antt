@@ -8,7 +8,7 @@ use Rattle.session_moves.specs.World.{World, no_call}
 use Rattle.session_moves.specs.Lawful.{WasNoCall}
 use Rattle.call_table.specs.declared.call.CallNo.{CallNo}
 use Rattle.call_table.specs.declared.call.Flags.{Flags}
-use Rattle.call_table.specs.Table.{Call, Name, State, flagged, is_sent, living_name, changed_at}
+use Rattle.call_table.specs.Table.{Call, Name, State, flagged, is_sent, changed_at}
 use Rattle.client_rules.specs.Client.{Client, Binding, Asked, Needed, Held, Bound, Refused, Temporary, Waiting, calls_of, with_call}
 use Rattle.client_rules.specs.Asking.{alone, alone_if_sent, alone_if_asked, attached, can_drop, dropped, drops, is_asked, pinged, salts_asked, ticked}
 use Rattle.world_moves.specs.Clients.{StandsAs, IsCallThere, StandsThere, IsAskedThere}
@@ -24,7 +24,7 @@ module _ (one other : Client) (alike : Alike one other) (ups : List moves.Messag
     body = h.body;
     state = h.state;
     names = h.names;
-    living = living_alike one other alike.session (living_name call) h.living;
+    living = living_alike one other alike.session call h.living;
   }
 
   pub changed_there : (change : Call → Call) → OnlyFlags change → (found : Option Call) (there : moves.Call)

@@ -125,7 +125,7 @@ module _ (apart : Apart) (w : World) (number : ℕ) (client : Client) (reached :
       body = h.body;
       state = h.state;
       names = names_keep w.ups (m ∷ w.ups) call.names (w.calls id).names (kept_salts m session is id) h.names;
-      living = living_alike client other same (living_name call) h.living;
+      living = living_alike client other same call h.living;
     }
 
     pub kept_place : (m : moves.Message) → m.session ≡ client.session → m.number ≡ new → (other : Client) → other.session ≡ client.session

@@ -8,7 +8,7 @@ use Rattle.session_moves.specs.After.{salts_of}
 use Rattle.session_moves.specs.Lawful.{WasNoCall}
 use Rattle.call_table.specs.declared.call.Cause.{Cause}
 use Rattle.call_table.specs.declared.call.Cause.TheVariants as cause
-use Rattle.call_table.specs.Table.{Call, Name, State, living_name}
+use Rattle.call_table.specs.Table.{Call, Name, State}
 use Rattle.call_table.specs.Table as table
 use Rattle.client_rules.specs.Client.{Client, Binding, Asked, Temporary, calls_of}
 
@@ -59,12 +59,18 @@ AreNamesThere ups [] (there ∷ others) = ⊥
 AreNamesThere ups (name ∷ names) [] = ⊥
 AreNamesThere ups (name ∷ names) (there ∷ others) = IsNameThere ups name there × AreNamesThere ups names others
 
--- the call stands there, with its body, its state and its names; a living name is one of the present session
+-- a call that is sent has a living name, which is one of this session
+abbrev pub LivesIn : ℕ → State → List Name → Type 0
+LivesIn session table.Sent [] = ⊥
+LivesIn session table.Sent (name ∷ names) = name.session ≡ session
+LivesIn session _ names = ⊤
+
+-- the call stands there, with its body, its state and its names
 pub record IsCallThere (client : Client) (ups : List moves.Message) (call : Call) (there : moves.Call) : Type 0 where
   pub body : there.body ≡ call.body
   pub state : there.state ≡ state_there call.state
   pub names : AreNamesThere ups call.names there.names
-  pub living : IfSome (living_name call) (λ name. name.session ≡ client.session)
+  pub living : LivesIn client.session call.state call.names
 
 -- what stands in the place of a call, where there is one
 abbrev pub StandsThere : Client → List moves.Message → Option Call → moves.Call → Type 0
