@@ -7,3 +7,4 @@ pub mod Again
 pub mod Flushing
 pub mod Filling
 pub mod Flushed
+pub mod Settling
