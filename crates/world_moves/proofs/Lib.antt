@@ -8,3 +8,4 @@ pub mod Flushing
 pub mod Filling
 pub mod Flushed
 pub mod Settling
+pub mod Learning
