@@ -1,3 +1,15 @@
+pub mod AloneLemmas
 pub mod CallLemmas
 pub mod MarkLemmas
 pub mod TestLemmas
+pub mod ErrorLemmas
+pub mod MarkingLemmas
+pub mod BroughtLemmas
+pub mod NoticeLemmas
+pub mod ResultLemmas
+pub mod SettledLemmas
+pub mod TakingLemmas
+pub mod WalkLemmas
+pub mod RuleLemmas
+pub mod SizeLemmas
+pub mod SoundLemmas

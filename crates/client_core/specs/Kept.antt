@@ -1,5 +1,6 @@
 -- What a client keeps, and the client that it stands for.
-use Rattle.std.specs.Prelude.{◌≡◌, true, option_map}
+use Rattle.std.specs.Prelude.{◌≡◌, ℕ, ◌<◌, true, List, option_map}
+use Rattle.std.specs.List.{list_any}
 use Rattle.call_table.specs.Table.{no_calls}
 use Rattle.call_table.specs.Kept.{Contents as Calls, Stands as StandsFor}
 use Rattle.client_rules.specs.Client.{Client, Temporary, Waiting, States, StateRequest, Binding, Needed, Asked, Held, Bound, Refused}
@@ -35,7 +36,7 @@ abbrev pub waiting_in : KeptWaiting → Waiting
 waiting_in waiting =
     record {
       told = option_map states_in waiting.told;
-      resent = waiting.resent;
+      resent = waiting.resent.numbers;
       states = waiting.states;
       ping = waiting.ping;
       salts = waiting.salts;
@@ -47,10 +48,21 @@ asked_in asked = record { number = asked.number; numbers = asked.numbers }
 
 -- ---- the whole
 
--- what contracts see: the client but for its table, and what is kept of the table
+-- for how many more numbers of each kind there is room: former sessions, unique numbers, answers to be sent again
+pub record Room : Type 0 where
+  pub sessions : ℕ
+  pub learnt : ℕ
+  pub resent : ℕ
+
+-- an open client has room for what a renewal puts with the former sessions
+abbrev pub CanRenew : List ℕ → ℕ → Type 0
+CanRenew learnt sessions = list_any (λ unique. true) learnt ≡ true → 0 < sessions
+
+-- what contracts see: the client but for its table, what is kept of the table, and the room beside it
 pub record Contents : Type 0 where
   pub rest : Client
   pub calls : Calls
+  pub room : Room
 
 -- what is seen at the end
 abbrev pub at_end : Contents → Contents

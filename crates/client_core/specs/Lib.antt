@@ -1,2 +1,12 @@
+pub mod Calling
+pub mod Draft
+pub mod Flushed
 pub mod Kept
 pub mod Told
+pub mod Rules
+pub mod Numbers
+pub mod Brought
+pub mod Marks
+pub mod Took
+pub mod Sound
+pub mod Results

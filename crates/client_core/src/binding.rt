@@ -53,7 +53,8 @@ impl Temporary {
 
     /// Where the binding was asked for, it is to be asked for again, alone.
     pub(crate) fn mark(&mut self)
-        ensures { temporary_in self.new ≡ alone_if_asked (temporary_in self.old) }
+        ensures kept { self.new.binding ≡ self.old.binding }
+        ensures marked { temporary_in self.new ≡ alone_if_asked (temporary_in self.old) }
     {
         if let Binding::Asked { .. } = &self.binding {
             self.is_alone = true;

@@ -3,19 +3,21 @@
 ghost use Rattle.byteorder.specs.Endian.{little_number};
 ghost use Rattle.call_table.specs.Kept.{Stands as StandsFor, state_in};
 ghost use Rattle.call_table.specs.Table.{IsEarlier, IsGiven, Sent, Table, at, calls_max, state_at, with_call};
-ghost use Rattle.client_rules.specs.Asking.{alone, alone_if_asked, alone_if_sent, begins_service, is_call_sent, fault_at, has_call, has_earlier, is_refused};
+ghost use Rattle.client_rules.specs.Asking.{alone, alone_if_asked, alone_if_sent, begins_service, body_bytes_max, is_call_sent, fault_at, has_call, has_earlier, is_refused};
 ghost use Rattle.client_core.specs.Kept.{temporary_in};
+ghost use Rattle.client_core.specs.Sound.{AreSound, CanBind};
 ghost use Rattle.client_core.specs.Told.{TellsDrop, TellsFault};
-ghost use Rattle.std.specs.Prelude.{◌≡◌, if◌then◌else◌, ◌<◌, ◌&&◌, [], None, option_map, Option, Some, IfOk, IfSome, IsTrue, OnOk, OnErr, length, map};
+ghost use Rattle.std.specs.Prelude.{◌≡◌, if◌then◌else◌, ◌<◌, ◌≤◌, ◌%◌, ◌&&◌, ℕ, [], None, option_map, Option, Some, IfOk, IfSome, IsTrue, OnOk, OnErr, length, map};
 
 use crate::binding::{BindState, Temporary};
 use crate::fault::{NotSent, SubmitFault};
+use crate::number_list::NumberList;
 use crate::waiting::{Asked, Waiting};
 use byteorder::{ByteOrder, LittleEndian};
 use call_table::{CALLS_MAX, CallNo, CallState, Calls, Flags, Group};
 use draws::Draw;
 use msg_ids::{Moment, Numbers};
-use octets::{IdList, Memory};
+use octets::Memory;
 use service_tl::{GZIP_PACKED, is_service};
 use std::alloc::Global;
 use std::marker::Model;
@@ -36,35 +38,37 @@ pub(crate) struct Clock {
 /// A client that hasn't ended.
 #[derive(Debug, Drop)]
 pub(crate) struct Core {
-    key: u64,
-    temporary: Option<Temporary>,
-    session: u64,
-    former: Vec<u64>,
-    salt: u64,
-    learnt: Vec<u64>,
-    moment: Moment,
-    clock: Clock,
-    numbers: Numbers,
-    waiting: Waiting,
-    asked: Option<Asked>,
-    calls: Calls,
+    pub(crate) key: u64,
+    pub(crate) temporary: Option<Temporary>,
+    pub(crate) session: u64,
+    pub(crate) former: NumberList,
+    pub(crate) salt: u64,
+    pub(crate) learnt: NumberList,
+    pub(crate) moment: Moment,
+    pub(crate) clock: Clock,
+    pub(crate) numbers: Numbers,
+    pub(crate) waiting: Waiting,
+    pub(crate) asked: Option<Asked>,
+    pub(crate) calls: Calls,
 }
 
 impl Model for Core {
     ghost use Rattle.std.specs.Prelude.{false, option_map};
     ghost use Rattle.call_table.specs.Table.{no_calls};
-    ghost use Rattle.client_core.specs.Kept.{Contents, temporary_in, waiting_in, asked_in};
+    ghost use Rattle.client_core.specs.Kept.{CanRenew, Contents, temporary_in, waiting_in, asked_in};
 
     ghost Value = { Contents };
+
+    ghost use Rattle.client_core.specs.Sound.{AreSound, CanBind, CanWait};
 
     ghost view = { λ core. record {
       rest = record {
         key = core.key;
         temporary = option_map temporary_in core.temporary;
         session = core.session;
-        former = core.former.items;
+        former = core.former.numbers;
         salt = core.salt;
-        learnt = core.learnt.items;
+        learnt = core.learnt.numbers;
         now = core.moment;
         clock = record { there = core.clock.there; here = core.clock.here };
         counters = core.numbers;
@@ -74,7 +78,10 @@ impl Model for Core {
         has_ended = false;
       };
       calls = core.calls;
+      room = record { sessions = core.former.room; learnt = core.learnt.room; resent = core.waiting.resent.room };
     } };
+
+    ghost invariant = { λ core. AreSound core.numbers.last core.calls.rows × CanBind core.temporary × (CanWait core.waiting × CanRenew core.learnt.numbers core.former.room) };
 }
 
 impl Core {
@@ -93,32 +100,30 @@ impl Core {
         temporary: Option<Temporary>,
         draw: &mut D,
     ) -> Result<Core, Memory>
+        requires { CanBind temporary }
         ensures stands { IfOk result (λ core. Stands core (fresh_client key (option_map temporary_in temporary) (word_after D.step 0 draw.old))) }
         ensures after { OnOk result (draw.new ≡ draw_after D.step 1 draw.old) }
         ensures learnt { IfOk result (λ core. core.rest.learnt ≡ []) }
     {
         let calls = Calls::new(alloc)?;
+        let mut former = NumberList::new(alloc);
+        former.reserve(1)?;
+        let learnt = NumberList::new(alloc);
+        let waiting = Waiting::new(alloc);
         Ok(Core {
             key,
             temporary,
             session: draw.word(),
-            former: Vec::new(alloc),
+            former,
             salt: 0,
-            learnt: Vec::new(alloc),
+            learnt,
             moment: Moment::new(0),
             clock: Clock {
                 there: 0,
                 here: Moment::new(0),
             },
             numbers: Numbers::new(),
-            waiting: Waiting {
-                told: None,
-                resent: IdList::new(alloc),
-                states: false,
-                ping: None,
-                salts: None,
-                destroyed: None,
-            },
+            waiting,
             asked: None,
             calls,
         })
@@ -133,7 +138,8 @@ impl Core {
 
     /// How many calls there are.
     pub(crate) fn count(&self) -> u32
-        ensures { (table : Table) → StandsFor self.now.calls table → result ≡ length table.calls }
+        ensures kept { result ≡ length self.now.calls.rows }
+        ensures count { (table : Table) → StandsFor self.now.calls table → result ≡ length table.calls }
     {
         self.calls.count()
     }
@@ -237,7 +243,8 @@ impl Core {
 
 /// A binding that was asked for is to be asked for again, alone.
 fn mark_asked(temporary: &mut Option<Temporary>)
-    ensures { option_map temporary_in temporary.new ≡ option_map alone_if_asked (option_map temporary_in temporary.old) }
+    ensures can_bind { CanBind temporary.old → CanBind temporary.new }
+    ensures marked { option_map temporary_in temporary.new ≡ option_map alone_if_asked (option_map temporary_in temporary.old) }
 {
     if let Some(temporary) = temporary {
         temporary.mark();
@@ -246,7 +253,8 @@ fn mark_asked(temporary: &mut Option<Temporary>)
 
 /// All calls that are sent are to be sent again, alone.
 fn mark_sent(calls: &mut Calls)
-    ensures { (table : Table) → StandsFor calls.old table → StandsFor calls.new (record table { calls = map alone_if_sent table.calls }) }
+    ensures sound { (last : ℕ) → AreSound last calls.old.rows → AreSound last calls.new.rows }
+    ensures stands { (table : Table) → StandsFor calls.old table → StandsFor calls.new (record table { calls = map alone_if_sent table.calls }) }
 {
     let count = calls.members(Group::Outstanding);
     for k in 0..count {
@@ -257,10 +265,11 @@ fn mark_sent(calls: &mut Calls)
 }
 
 /// A call that is sent is to be sent again, alone.
-fn mark(calls: &mut Calls, call: CallNo)
+pub(crate) fn mark(calls: &mut Calls, call: CallNo)
     requires given { IsGiven call calls.old.rows }
     requires sent { state_in call calls.old.rows ≡ Some Sent }
-    ensures { (table : Table) → StandsFor calls.old table → StandsFor calls.new (with_call call alone table) }
+    ensures stands { (table : Table) → StandsFor calls.old table → StandsFor calls.new (with_call call alone table) }
+    ensures sound { (last : ℕ) → AreSound last calls.old.rows → AreSound last calls.new.rows }
 {
     let flags = calls.flags(call);
     calls.set_flags(
@@ -296,6 +305,8 @@ fn check(count: u32, body: &[u8], after: Option<CallNo>) -> Result<(), SubmitFau
     ensures told { TellsFault (fault_at count body.now after) result }
     ensures few { OnOk result (count < calls_max) }
     ensures earlier { OnOk result (IfSome after (λ one. IsEarlier count one)) }
+    ensures words { OnOk result (length body.now % 4 ≡ 0) }
+    ensures short { OnOk result (length body.now ≤ body_bytes_max) }
 {
     let len = body.len();
     if len > BODY_BYTES_MAX {

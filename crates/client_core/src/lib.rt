@@ -5,21 +5,43 @@
 #![tactic(auto)]
 
 mod binding;
+mod brought;
+mod calling;
 mod core_client;
 mod ended;
 mod fault;
+mod filling;
+mod flush;
 mod holder;
+mod learning;
+mod lone;
+mod marking;
+mod noticing;
+mod number_list;
+mod on_packet;
 mod open;
 mod opening;
+mod rebinding;
+mod receiving;
+mod renewing;
+mod saying;
+mod sealing;
+mod settling;
+mod step;
+mod taking;
 mod waiting;
 
 pub use binding::BindState;
 pub use call_table::{CallNo, CallState, Cause};
 pub use ended::EndedClient;
 pub use fault::{NotSent, SubmitFault};
+pub use flush::Flush;
 pub use holder::Holder;
 pub use open::OpenClient;
 pub use opening::OpeningClient;
+pub use step::{OpenStep, OpeningStep};
 
+#[cfg(test)]
+mod packet_tests;
 #[cfg(test)]
 mod tests;

@@ -16,7 +16,7 @@ use std::marker::Model;
 /// stands for.
 #[derive(Debug, Drop)]
 pub struct OpeningClient {
-    core: Core,
+    pub(crate) core: Core,
 }
 
 impl Model for OpeningClient {
@@ -88,7 +88,8 @@ impl OpeningClient {
 
     /// How many calls there are.
     pub fn calls(&self) -> u32
-        ensures { (client : Client) → Stands self.now client → result ≡ length (calls_of client) }
+        ensures kept { result ≡ length self.now.calls.rows }
+        ensures count { (client : Client) → Stands self.now client → result ≡ length (calls_of client) }
     {
         self.core.count()
     }

@@ -1,6 +1,8 @@
 //! What waits to be sent beside acknowledgements and calls.
 
+use crate::number_list::NumberList;
 use octets::{IdList, Octets};
+use std::alloc::Global;
 
 /// How messages fared that a request asked about, a byte for each.
 #[derive(Debug, Drop)]
@@ -20,9 +22,31 @@ pub(crate) struct Asked {
 #[derive(Debug, Drop)]
 pub(crate) struct Waiting {
     pub(crate) told: Option<States>,
-    pub(crate) resent: IdList,
+    pub(crate) resent: NumberList,
     pub(crate) states: bool,
     pub(crate) ping: Option<u64>,
     pub(crate) salts: Option<u32>,
     pub(crate) destroyed: Option<u64>,
+}
+
+impl Waiting {
+    ghost use Rattle.std.specs.Prelude.{◌≡◌};
+    ghost use Rattle.client_rules.specs.Client.{nothing_waits};
+    ghost use Rattle.client_core.specs.Kept.{waiting_in};
+    ghost use Rattle.client_core.specs.Sound.{CanWait};
+
+    /// Nothing waits.
+    pub(crate) fn new(alloc: Global) -> Waiting
+        ensures waits { waiting_in result ≡ nothing_waits }
+        ensures can_wait { CanWait result }
+    {
+        Waiting {
+            told: None,
+            resent: NumberList::new(alloc),
+            states: false,
+            ping: None,
+            salts: None,
+            destroyed: None,
+        }
+    }
 }

@@ -36,3 +36,4 @@ mod Runs
 mod Stays
 mod Lasts
 mod OddRuns
+pub mod Apart

@@ -8,7 +8,7 @@ ghost use Rattle.session_moves.specs.Table.Cause.{ServerSessionLost, Ended, Forg
 ghost use Rattle.session_moves.specs.Table.Outcome.{AcceptedOther};
 ghost use Rattle.session_moves.specs.Table.Item.{NewSession, Result, Notice, WrongSalt};
 ghost use Rattle.session_moves.specs.Table.{CallId, Text, State, Name, Message, Outcome, Item, Packet, Entry, call_at};
-ghost use Rattle.session_moves.specs.World.{World, Owns, IsName, start};
+ghost use Rattle.session_moves.specs.World.{World, Owns, IsName, IsUnder, start};
 ghost use Rattle.session_moves.specs.Move.{Part, Move};
 ghost use Rattle.session_moves.specs.Move.OwnAct.{NewClient, Renew, Submit, GiveUp, End};
 ghost use Rattle.session_moves.specs.Move.Part.{First, Again, Other, OtherAgain};
@@ -269,6 +269,23 @@ pub fn numbers_are_given_once()
         → IsName w.calls message.session message.number → ⊥ }
     ensures any_result { (w : World) (unique : ℕ) (message : Message) (reply : Text) → Reached w → Contains w.ups message
         → message.session ≡ (w.servers unique).session → message.call ≡ None → MaySay w unique (Result message.number reply) }
+{}
+
+/// A name is of one call, stands once among the names of that call, and was sent. Each session number of a name or of a
+/// message is one client's alone.
+pub fn names_are_apart()
+    ensures of_one { (w : World) (one other : CallId) (name same : Name) → Reached w → Contains (w.calls one).names name
+        → Contains (w.calls other).names same → name.session ≡ same.session → name.number ≡ same.number → one ≡ other }
+    ensures newest { (w : World) (call : CallId) (name same : Name) (older : List Name) → Reached w → (w.calls call).names ≡ name ∷ older
+        → Contains older same → name.session ≡ same.session → name.number ≡ same.number → ⊥ }
+    ensures sent { (w : World) (call : CallId) (name : Name) → Reached w → Contains (w.calls call).names name
+        → (message : Message) × Contains w.ups message × IsUnder name message }
+    ensures of_name { (w : World) (call : CallId) (name : Name) → Reached w → Contains (w.calls call).names name
+        → Owns (w.clients call.client) name.session }
+    ensures of_message { (w : World) (message : Message) → Reached w → Contains w.ups message
+        → (client : ℕ) × Owns (w.clients client) message.session }
+    ensures one_owner { (w : World) (one other session : ℕ) → Reached w → Owns (w.clients one) session → Owns (w.clients other) session
+        → one ≡ other }
 {}
 
 /// Lawful moves may lead a call that was refused for its salt to its one execution, and its client to the result.

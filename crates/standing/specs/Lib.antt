@@ -1,3 +1,8 @@
+pub mod Kept
+pub mod Marking
 pub mod Standing
 pub mod Says
 pub mod Outlooks
+pub mod Fates
+pub mod Repeats
+pub mod Unsaid

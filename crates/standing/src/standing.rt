@@ -1,9 +1,11 @@
 //! A session.
 
-ghost use Rattle.std.specs.Prelude.{◌≡◌, ◌^◌, ◌≤◌, ◌<◌, ◌+◌, ℕ, List, [], drop, length, min, not, IfOk, IsSome, OnErr, OnOk};
+ghost use Rattle.std.specs.Prelude.{All, ◌∷◌, ◌++◌, ◌≡◌, ◌^◌, ◌≤◌, ◌<◌, ◌+◌, ℕ, List, [], drop, length, min, not, true, false, IfOk, IsSome, OnErr, OnOk};
 ghost use Rattle.draws.specs.Draws.{draw_after, word_after};
 ghost use Rattle.salt_line.specs.Rows.{future_rows_max};
-ghost use Rattle.service_tl.specs.declared.item.Item.TheVariants.{Pong};
+ghost use Rattle.service_tl.specs.declared.item.Item.TheVariants.{Pong, RpcResult};
+ghost use Rattle.service_tl.specs.Items.{spelling_of};
+ghost use Rattle.owing.specs.Dues.{has_number};
 ghost use Rattle.inbox.specs.Inbox.{message_in};
 ghost use Rattle.inbox.specs.Judging.{judgements, session_after};
 ghost use Rattle.inbox.specs.Refusals.{InEnvelope};
@@ -22,8 +24,7 @@ ghost use Rattle.owing.specs.Items.{IsContent, acks_bytes, bad_salt_bytes, destr
 ghost use Rattle.server_laws.specs.Order.{IsOrderly};
 ghost use Rattle.server_rules.specs.Waiting.{outlook, tells_of};
 ghost use Rattle.standing.specs.Outlooks.{outlook_told};
-ghost use Rattle.standing.specs.Standing.{IsAt, Stands, key_of, numbers_left};
-ghost use Rattle.standing.specs.Says.{Keys, Says, setting_of};
+ghost use Rattle.standing.specs.Kept.{IsResult};
 
 use crate::laws::{replies_are_results, said_by_number};
 use crate::outlook::Outlook;
@@ -57,17 +58,21 @@ const NO_SALT: SaltRow = SaltRow {
 /// numbers are.
 #[derive(Debug, Drop)]
 pub struct Standing {
-    key: u64,
-    number: u64,
-    first: u64,
-    unique: u64,
-    salts: SaltLine,
-    inbox: Inbox,
-    outbox: Outbox,
-    numbers: Numbers,
+    pub(crate) key: u64,
+    pub(crate) number: u64,
+    pub(crate) first: u64,
+    pub(crate) unique: u64,
+    pub(crate) salts: SaltLine,
+    pub(crate) inbox: Inbox,
+    pub(crate) outbox: Outbox,
+    pub(crate) numbers: Numbers,
+    ghost contents: { All IsResult outbox.replies },
 }
 
 impl Standing {
+    ghost use Rattle.standing.specs.Standing.{IsAt, Stands, key_of, numbers_left, outbox_of};
+    ghost use Rattle.standing.specs.Says.{Keys, Says, setting_of};
+
     /// The session of this key and this number that a message of the number `first` makes now. Its unique number is drawn,
     /// then its first salt.
     ///
@@ -87,6 +92,7 @@ impl Standing {
         ensures drawn { OnOk result (draw.new ≡ draw_after D.step 2 draw.old) }
         ensures key { IfOk result (λ standing. key_of standing ≡ key) }
         ensures numbers { IfOk result (λ standing. numbers_left standing ≡ 2 ^ 30) }
+        ensures no_replies { IfOk result (λ standing. outbox_of standing ≡ record { replies = []; room = 0 }) }
         ensures at { IfOk result (IsAt now) }
     {
         let unique = draw.word();
@@ -133,6 +139,7 @@ impl Standing {
         ensures unchanged_on_memory { OnErr result (self.new ≡ self.old) }
         ensures same_numbers { numbers_left self.new ≡ numbers_left self.old }
         ensures same_key { key_of self.new ≡ key_of self.old }
+        ensures same_replies { outbox_of self.new ≡ outbox_of self.old }
         ensures at { IsAt now self.new }
     {
         packets_are_judged();
@@ -142,10 +149,13 @@ impl Standing {
     /// Says a kept reply once more, unless it was said in this event.
     pub fn says_again<D: Draw>(&self, owing: &mut Owing, kept: &Kept)
         requires content { IsContent (drop head_bytes kept.now.body) }
-        requires place { 0 < owing.old.places }
-        requires bytes { length kept.now.body ≤ owing.old.room }
+        requires place { has_number kept.now.number owing.old.messages ≡ false → 0 < owing.old.places }
+        requires bytes { has_number kept.now.number owing.old.messages ≡ false → length kept.now.body ≤ owing.old.room }
         ensures says { (now : ℕ) (draw : D) (speaker : Speaker D) (reply : Reply) → kept_of reply ≡ kept.now
             → Says now self.now owing.old draw speaker → Says now self.now owing.new draw (says_again reply speaker) }
+        ensures said { has_number kept.now.number owing.old.messages ≡ false → owing.new.messages
+            ≡ owing.old.messages ++ record { number = kept.now.number; seq = kept.now.seq; body = spelling_of (RpcResult kept.now.call (drop head_bytes kept.now.body)) } ∷ [] }
+        ensures unchanged_where_said { has_number kept.now.number owing.old.messages ≡ true → owing.new ≡ owing.old }
         ensures places { owing.old.places ≤ owing.new.places + 1 }
         ensures left { owing.old.room ≤ owing.new.room + length kept.now.body }
         ensures taken { (owing.new.places_taken ≡ owing.old.places_taken) × (owing.new.bytes_taken ≡ owing.old.bytes_taken) }
@@ -199,6 +209,7 @@ impl Standing {
         ensures taken { (owing.new.places_taken ≡ owing.old.places_taken) × (owing.new.bytes_taken ≡ owing.old.bytes_taken) }
         ensures numbers_last { numbers_left self.old ≤ numbers_left self.new + 1 }
         ensures same_key { key_of self.new ≡ key_of self.old }
+        ensures same_replies { outbox_of self.new ≡ outbox_of self.old }
         ensures at { IsAt now self.old → IsAt now self.new }
     {
         let salt = self.salts.current(now, draw);
@@ -218,6 +229,7 @@ impl Standing {
         ensures taken { (owing.new.places_taken ≡ owing.old.places_taken) × (owing.new.bytes_taken ≡ owing.old.bytes_taken) }
         ensures numbers_last { numbers_left self.old ≤ numbers_left self.new + 1 }
         ensures same_key { key_of self.new ≡ key_of self.old }
+        ensures same_replies { outbox_of self.new ≡ outbox_of self.old }
         ensures at { IsAt now self.old → IsAt now self.new }
     {
         if !ids.is_empty() {
@@ -246,6 +258,7 @@ impl Standing {
         ensures taken { (owing.new.places_taken ≡ owing.old.places_taken) × (owing.new.bytes_taken ≡ owing.old.bytes_taken) }
         ensures numbers_last { numbers_left self.old ≤ numbers_left self.new + 1 }
         ensures same_key { key_of self.new ≡ key_of self.old }
+        ensures same_replies { outbox_of self.new ≡ outbox_of self.old }
         ensures at { IsAt now self.old → IsAt now self.new }
     {
         if code == WRONG_SALT {
@@ -268,6 +281,7 @@ impl Standing {
         ensures taken { (owing.new.places_taken ≡ owing.old.places_taken) × (owing.new.bytes_taken ≡ owing.old.bytes_taken) }
         ensures numbers_last { numbers_left self.old ≤ numbers_left self.new + 1 }
         ensures same_key { key_of self.new ≡ key_of self.old }
+        ensures same_replies { outbox_of self.new ≡ outbox_of self.old }
         ensures at { IsAt now self.old → IsAt now self.new }
     {
         owing.pong(now, &mut self.numbers, message, ping);
@@ -291,6 +305,7 @@ impl Standing {
         ensures taken { (owing.new.places_taken ≡ owing.old.places_taken) × (owing.new.bytes_taken ≡ owing.old.bytes_taken) }
         ensures numbers_last { numbers_left self.old ≤ numbers_left self.new + 1 }
         ensures same_key { key_of self.new ≡ key_of self.old }
+        ensures same_replies { outbox_of self.new ≡ outbox_of self.old }
         ensures at { IsAt now self.old → IsAt now self.new }
     {
         owing.destroyed(now, &mut self.numbers, session, ok);
@@ -316,6 +331,7 @@ impl Standing {
         ensures taken { (owing.new.places_taken ≡ owing.old.places_taken) × (owing.new.bytes_taken ≡ owing.old.bytes_taken) }
         ensures numbers_last { numbers_left self.old ≤ numbers_left self.new + 1 }
         ensures same_key { key_of self.new ≡ key_of self.old }
+        ensures same_replies { outbox_of self.new ≡ outbox_of self.old }
         ensures at { IsAt now self.old → IsAt now self.new }
     {
         let mut rows = [NO_SALT; SALT_ROWS_MAX];
@@ -350,6 +366,7 @@ impl Standing {
         ensures room_lasts { outs.old.room ≤ outs.new.room + packets_most packets.messages packets.bytes }
         ensures numbers_last { numbers_left self.old ≤ numbers_left self.new + packets_most packets.messages packets.bytes }
         ensures same_key { key_of self.new ≡ key_of self.old }
+        ensures same_replies { outbox_of self.new ≡ outbox_of self.old }
         ensures at { IsAt now self.new }
     {
         sent_as_the_rules_say::<D>();

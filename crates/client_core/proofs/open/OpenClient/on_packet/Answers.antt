@@ -1,0 +1,16 @@
+use Rattle.client_core.proofs.open.OpenClient.on_packet.Goals as goal
+
+pub returns-in-Ok-clause-opened : goal.returns-in-Ok-clause-opened
+returns-in-Ok-clause-opened g c client envelope stands opens =
+    c.open_or_ended.ensures.taken client _ (rw c.in-Ok.is at (c.receive.ensures.opened client envelope (rw c.self.view_is stands) opens))
+
+pub returns-in-Ok-clause-other : goal.returns-in-Ok-clause-other
+returns-in-Ok-clause-other g c client stands none =
+    c.open_or_ended.ensures.taken client _ (rw c.in-Ok.is at (c.receive.ensures.other client (rw c.self.view_is stands) none))
+
+pub returns-in-Ok-clause-results : goal.returns-in-Ok-clause-results
+returns-in-Ok-clause-results g c client envelope call answer stands opens brings =
+    c.open_or_ended.ensures.done call answer (rw c.in-Ok.is at (c.receive.ensures.results client envelope call answer (rw c.self.view_is stands) opens brings))
+
+pub returns-in-Err-clause-opened : goal.returns-in-Err-clause-opened
+returns-in-Err-clause-opened g c client envelope stands opens = rw c.in-Err.is at (c.receive.ensures.opened client envelope (rw c.self.view_is stands) opens)

@@ -1,0 +1,14 @@
+use Rattle.client_core.proofs.TakingLemmas.{took_opening}
+use Rattle.client_core.proofs.opening.OpeningClient.on_packet.Goals as goal
+
+pub returns-in-Ok-clause-opened : goal.returns-in-Ok-clause-opened
+returns-in-Ok-clause-opened g c client envelope stands opens =
+    c.opened_or_still.ensures.taken client _
+    (took_opening _ _ client _ (rw c.in-Ok.is at (c.receive.ensures.opening c.self.invariant)) (rw c.in-Ok.is at (c.receive.ensures.opened client envelope (rw c.self.view_is stands) opens)))
+
+pub returns-in-Err-clause-opened : goal.returns-in-Err-clause-opened
+returns-in-Err-clause-opened g c client envelope stands opens = rw c.in-Err.is at (c.receive.ensures.opened client envelope (rw c.self.view_is stands) opens)
+
+pub returns-in-Ok-clause-results : goal.returns-in-Ok-clause-results
+returns-in-Ok-clause-results g c client envelope call answer stands opens brings =
+    c.opened_or_still.ensures.done call answer (rw c.in-Ok.is at (c.receive.ensures.results client envelope call answer (rw c.self.view_is stands) opens brings))

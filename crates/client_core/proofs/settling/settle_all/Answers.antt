@@ -1,0 +1,23 @@
+use Rattle.std.proofs.Common.{◌∙◌, ap, refl, sym}
+use Rattle.client_core.proofs.RuleLemmas.{calls_ended, calls_learnt_by, calls_renewed, rows_ended, rows_learnt, rows_renewed}
+use Rattle.client_core.proofs.settling.settle_all.Goals as goal
+
+pub returns-in-Learnt-clause-kept : goal.returns-in-Learnt-clause-kept
+returns-in-Learnt-clause-kept c = rw (c.settle_group.ensures.kept, c.in-Learnt.is, rows_learnt) refl
+
+pub returns-in-Learnt-clause-stands : goal.returns-in-Learnt-clause-stands
+returns-in-Learnt-clause-stands c table stands = rw (sym (calls_learnt_by c.args.rule _ _ table.calls c.in-Learnt.is)) (c.settle_group.ensures.stands table stands)
+
+pub returns-in-Renewed-clause-kept : goal.returns-in-Renewed-clause-kept
+returns-in-Renewed-clause-kept c = rw (c.settle_group-in-Renewed.ensures.kept, c.settle_group.ensures.kept, c.in-Renewed.is, rows_renewed) refl
+
+pub returns-in-Renewed-clause-stands : goal.returns-in-Renewed-clause-stands
+returns-in-Renewed-clause-stands c table stands =
+    rw (c.in-Renewed.is, sym (calls_renewed table.calls)) (rw (c.in-Renewed.is) at (c.settle_group-in-Renewed.ensures.stands _ (c.settle_group.ensures.stands table stands)))
+
+pub returns-in-Ended-clause-kept : goal.returns-in-Ended-clause-kept
+returns-in-Ended-clause-kept c = rw (c.settle_group-in-Ended-2.ensures.kept, c.settle_group-in-Ended.ensures.kept, c.settle_group.ensures.kept, c.in-Ended.is, rows_ended) refl
+
+pub returns-in-Ended-clause-stands : goal.returns-in-Ended-clause-stands
+returns-in-Ended-clause-stands c table stands =
+    rw (c.in-Ended.is, sym (calls_ended table.calls)) (rw (c.in-Ended.is) at (c.settle_group-in-Ended-2.ensures.stands _ (c.settle_group-in-Ended.ensures.stands _ (c.settle_group.ensures.stands table stands))))

@@ -1,0 +1,92 @@
+-- A packet that is filled, as it is kept: scaffolding of private functions, and no promise.
+use Rattle.std.specs.Prelude.{◌≡◌, ℕ, ◌+◌, ◌*◌, ◌≤◌, ◌&&◌, not, nat_le, Bool, true, false, List, [], length, ⊤}
+use Rattle.std.specs.List.{flat_map}
+use Rattle.tl_codec.specs.Standard.{longs_max}
+use Rattle.tl_codec.specs.Spelling.{string_size}
+use Rattle.msg_ids.specs.Counters.{Counters, next_number, seq_of}
+use Rattle.service_tl.specs.Items.{spelling_of}
+use Rattle.service_tl.specs.declared.lists.Message.{Message}
+use Rattle.service_tl.specs.declared.item.Item.{Item}
+use Rattle.service_tl.specs.declared.item.Item.TheVariants.{RpcDropAnswer, GetFutureSalts, Ping, DestroySession, MsgsAck, MsgsStateReq, MsgsStateInfo, MsgResendReq}
+use Rattle.containers.specs.Container.{bytes_max, container_head, message_head, messages_max, row, size_of}
+use Rattle.client_rules.specs.Filling.{Filling}
+use Rattle.client_core.specs.Kept.{Contents, Stands}
+use Rattle.client_core.specs.declared.saying.Said.{Said}
+use Rattle.client_core.specs.declared.saying.Said.TheVariants.{Acks, Told, Resent, States, Pings, Salts, Destroys, Drops}
+
+-- what contracts see of it: the messages as they stand in a container, how many, the numbers of calls among them and of the
+-- binding, and whether an item didn't fit
+pub record Draft : Type 0 where
+  pub rows : List ℕ
+  pub count : ℕ
+  pub inner : List ℕ
+  pub is_full : Bool
+
+abbrev pub nothing_yet : Draft
+nothing_yet = record { rows = []; count = 0; inner = []; is_full = false }
+
+abbrev pub filled_up : Draft → Draft
+filled_up draft = record draft { is_full = true }
+
+-- it has these messages
+pub record Holds (draft : Draft) (messages : List Message) : Type 0 where
+  pub rows : draft.rows ≡ flat_map row messages
+  pub size : container_head + length draft.rows ≡ size_of messages
+  pub count : draft.count ≡ length messages
+
+-- a further message with a body of so many bytes fits
+abbrev pub enters : ℕ → Draft → Bool
+enters size draft =
+    not draft.is_full && (nat_le (draft.count + 1) messages_max && nat_le (container_head + length draft.rows + message_head + size) bytes_max)
+
+-- a client and the packet that it fills stand for a filling
+pub record Goes {S : Type 0} (core : Contents) (draft : Draft) (filling : Filling S) : Type 0 where
+  pub client : Stands core filling.client
+  pub messages : Holds draft filling.messages
+  pub inner : draft.inner ≡ filling.inner
+  pub is_full : draft.is_full ≡ filling.is_full
+
+-- ---- what a client says beside calls
+
+abbrev pub item_of : Said → Item
+item_of (Acks ids) = MsgsAck ids.now
+item_of (Told request info) = MsgsStateInfo request info.now
+item_of (Resent ids) = MsgResendReq ids.now
+item_of (States ids) = MsgsStateReq ids.now
+item_of (Pings id) = Ping id
+item_of (Salts count) = GetFutureSalts count
+item_of (Destroys session) = DestroySession session
+item_of (Drops number) = RpcDropAnswer number
+
+abbrev pub needs_answer : Said → Bool
+needs_answer (Salts count) = true
+needs_answer (Destroys session) = true
+needs_answer (Drops number) = true
+needs_answer _ = false
+
+-- how many bytes its body has: 4 for its constructor, 4 for an int, 8 for a long, 8 more in front of a vector's longs
+abbrev pub said_bytes : Said → ℕ
+said_bytes (Acks ids) = 12 + 8 * length ids.now
+said_bytes (Told request info) = 12 + string_size (length info.now)
+said_bytes (Resent ids) = 12 + 8 * length ids.now
+said_bytes (States ids) = 12 + 8 * length ids.now
+said_bytes (Pings id) = 12
+said_bytes (Salts count) = 8
+said_bytes (Destroys session) = 12
+said_bytes (Drops number) = 12
+
+abbrev pub CanBeSaid : Said → Type 0
+CanBeSaid (Acks ids) = length ids.now ≤ longs_max
+CanBeSaid (Told request info) = length info.now ≤ longs_max
+CanBeSaid (Resent ids) = length ids.now ≤ longs_max
+CanBeSaid (States ids) = length ids.now ≤ longs_max
+CanBeSaid _ = ⊤
+
+-- the message of it under a sender's next number
+abbrev pub said_message : ℕ → Counters → Said → Message
+said_message now counters said =
+    record {
+      number = next_number counters.last now;
+      seq = seq_of counters.content_messages (needs_answer said);
+      body = spelling_of (item_of said);
+    }

@@ -1,0 +1,140 @@
+//! What becomes of a client by a packet, at a renewal and at its end.
+
+ghost use Rattle.std.specs.Prelude.{◌≡◌, ℕ, List, Ok, Some, true};
+ghost use Rattle.call_table.specs.declared.call.CallNo.{CallNo};
+ghost use Rattle.call_table.specs.Kept.{state_in};
+ghost use Rattle.call_table.specs.Table.{Done};
+ghost use Rattle.client_rules.specs.Client.{Client, is_open};
+ghost use Rattle.client_core.specs.Kept.{Stands};
+ghost use Rattle.client_core.specs.Results.{HasDone, HasDoneOpening};
+ghost use Rattle.client_core.specs.Took.{TookBy, TookOpen, TookOpening};
+
+use crate::core_client::Core;
+use crate::ended::EndedClient;
+use crate::open::OpenClient;
+use crate::opening::OpeningClient;
+use crate::step::{OpenStep, OpeningStep};
+use draws::Draw;
+use envelope::Seal;
+use msg_ids::Moment;
+use octets::Memory;
+use std::alloc::Global;
+
+/// A client that has learnt a unique number is open.
+fn opened_or_still(core: Core) -> OpeningStep
+    ensures taken { (before after : Client) → Stands core after → TookOpening result before after }
+    ensures done { (call : CallNo) (answer : List ℕ) → state_in call core.calls.rows ≡ Some (Done answer) → HasDoneOpening call answer result }
+{
+    if core.is_open() {
+        OpeningStep::Opened(OpenClient { core })
+    } else {
+        OpeningStep::Still(OpeningClient { core })
+    }
+}
+
+/// An open client that received a packet, and may have ended by it.
+fn open_or_ended(core: Core, ended: bool) -> OpenStep
+    requires { is_open core.rest ≡ true }
+    ensures taken { (before after : Client) → TookBy (Ok ended) core before after → TookOpen result before after }
+    ensures done { (call : CallNo) (answer : List ℕ) → state_in call core.calls.rows ≡ Some (Done answer) → HasDone call answer result }
+{
+    if ended {
+        OpenStep::Ended(EndedClient { core })
+    } else {
+        OpenStep::Still(OpenClient { core })
+    }
+}
+
+impl OpeningClient {
+    ghost use Rattle.std.specs.Prelude.{◌≡◌, ℕ, List, max};
+    ghost use Rattle.call_table.specs.declared.call.CallNo.{CallNo};
+    ghost use Rattle.envelope.specs.Opening.{Opens};
+    ghost use Rattle.envelope.specs.declared.parts.Envelope.{Envelope};
+    ghost use Rattle.envelope.specs.declared.parts.Dir.TheVariants.{Down};
+    ghost use Rattle.client_rules.specs.Client.{Client, at_moment};
+    ghost use Rattle.client_rules.specs.Taking.{take};
+    ghost use Rattle.client_core.specs.Kept.{Stands};
+    ghost use Rattle.client_core.specs.Results.{BringsResult, HasDoneOpening};
+    ghost use Rattle.client_core.specs.Took.{TookOpening};
+
+    /// A packet from the server came at a moment. It is looked at where it opens under the client's key, came for its
+    /// session and is lawful; of any other only the moment counts. It costs what it brings, and a unique number the calls
+    /// that are outstanding. It opens exactly where the packet taught the first unique number. Where memory runs out, the
+    /// client is as it was.
+    pub fn on_packet<S: Seal>(
+        self,
+        alloc: Global,
+        now: Moment,
+        seal: &S,
+        packet: &[u8],
+    ) -> OpeningStep
+        ensures opened { (client : Client) (envelope : Envelope) → Stands self client → Opens S.lock (S.keys seal.now) (max client.now now) Down packet.now envelope
+            → TookOpening result client (take now envelope client) }
+        ensures other { (client : Client) → Stands self client → ((envelope : Envelope) → Opens S.lock (S.keys seal.now) (max client.now now) Down packet.now envelope → ⊥)
+            → TookOpening result client (at_moment now client) }
+        ensures results { (client : Client) (envelope : Envelope) (call : CallNo) (answer : List ℕ) → Stands self client → Opens S.lock (S.keys seal.now) (max client.now now) Down packet.now envelope
+            → BringsResult now envelope client call answer → HasDoneOpening call answer result }
+    {
+        let OpeningClient { mut core } = self;
+        match core.receive(alloc, now, seal, packet) {
+            Ok(_) => opened_or_still(core),
+            Err(Memory) => OpeningStep::Memory(OpeningClient { core }),
+        }
+    }
+}
+
+impl OpenClient {
+    ghost use Rattle.std.specs.Prelude.{◌≡◌, ℕ, List, max};
+    ghost use Rattle.call_table.specs.declared.call.CallNo.{CallNo};
+    ghost use Rattle.draws.specs.Draws.{draw_after, word_after};
+    ghost use Rattle.envelope.specs.Opening.{Opens};
+    ghost use Rattle.envelope.specs.declared.parts.Envelope.{Envelope};
+    ghost use Rattle.envelope.specs.declared.parts.Dir.TheVariants.{Down};
+    ghost use Rattle.client_rules.specs.Client.{Client, at_moment};
+    ghost use Rattle.client_rules.specs.Events.{renewed};
+    ghost use Rattle.client_rules.specs.Learning.{ended};
+    ghost use Rattle.client_rules.specs.Taking.{take};
+    ghost use Rattle.client_core.specs.Kept.{Stands};
+    ghost use Rattle.client_core.specs.Results.{BringsResult, HasDone};
+    ghost use Rattle.client_core.specs.Took.{TookOpen};
+
+    /// A packet from the server came at a moment. It is looked at where it opens under the client's key, came for its
+    /// session and is lawful; of any other only the moment counts. It costs what it brings, and a unique number the calls
+    /// that are outstanding. The client ends exactly where the packet taught the 1,025th unique number. Where memory runs
+    /// out, the client is as it was.
+    pub fn on_packet<S: Seal>(self, alloc: Global, now: Moment, seal: &S, packet: &[u8]) -> OpenStep
+        ensures opened { (client : Client) (envelope : Envelope) → Stands self client → Opens S.lock (S.keys seal.now) (max client.now now) Down packet.now envelope
+            → TookOpen result client (take now envelope client) }
+        ensures other { (client : Client) → Stands self client → ((envelope : Envelope) → Opens S.lock (S.keys seal.now) (max client.now now) Down packet.now envelope → ⊥)
+            → TookOpen result client (at_moment now client) }
+        ensures results { (client : Client) (envelope : Envelope) (call : CallNo) (answer : List ℕ) → Stands self client → Opens S.lock (S.keys seal.now) (max client.now now) Down packet.now envelope
+            → BringsResult now envelope client call answer → HasDone call answer result }
+    {
+        let OpenClient { mut core } = self;
+        match core.receive(alloc, now, seal, packet) {
+            Ok(ended) => open_or_ended(core, ended),
+            Err(Memory) => OpenStep::Memory(OpenClient { core }),
+        }
+    }
+
+    /// The client goes on in another session, whose number is drawn: of calls that are `Sent` it isn't known what became,
+    /// those that are `Held` are `Queued`, and the former session is to be destroyed. Takes no memory.
+    pub fn renew<D: Draw>(self, draw: &mut D) -> OpeningClient
+        ensures stands { (client : Client) → Stands self client → Stands result (renewed (word_after D.step 0 draw.old) client) }
+        ensures after { draw.new ≡ draw_after D.step 1 draw.old }
+    {
+        let OpenClient { mut core } = self;
+        core.renew(draw);
+        OpeningClient { core }
+    }
+
+    /// The client ends: of calls that are `Sent` it isn't known what became, and the others that weren't decided are
+    /// `Refused` with code 0. Takes no memory.
+    pub fn end(self) -> EndedClient
+        ensures { (client : Client) → Stands self client → Stands result (ended client) }
+    {
+        let OpenClient { mut core } = self;
+        core.finish();
+        EndedClient { core }
+    }
+}

@@ -1,0 +1,45 @@
+//! The packet of a client's message.
+
+ghost use Rattle.std.specs.Prelude.{◌≡◌, ◌≤◌, ◌%◌, [], IsSome, length};
+ghost use Rattle.auth_keys.specs.Rings.{entry_of};
+ghost use Rattle.envelope.specs.Packet.{body_max, sealed_size};
+ghost use Rattle.client_rules.specs.Client.{Client};
+ghost use Rattle.client_rules.specs.Sending.{draw_after_packet, packet_of};
+ghost use Rattle.client_core.specs.Flushed.{IsSealed, setting_of};
+ghost use Rattle.client_core.specs.Kept.{Stands};
+
+use crate::core_client::Core;
+use draws::Draw;
+use envelope::{Dir, Envelope, Seal};
+use octets::{Buffer, Octets};
+use service_tl::Message;
+
+impl Core {
+    /// Seals a message under the client's session number and salt, in room that was taken before.
+    pub(crate) fn sealed<S: Seal, D: Draw>(
+        &self,
+        seal: &S,
+        room: Buffer,
+        message: Message,
+        draw: &mut D,
+    ) -> Octets
+        requires key { IsSome (entry_of self.now.rest.key (S.keys seal.now)) }
+        requires words { length message.body % 4 ≡ 0 }
+        requires short { length message.body ≤ body_max }
+        requires empty { room.bytes ≡ [] }
+        requires room { sealed_size (length message.body) ≤ room.room }
+        ensures sealed { (client : Client) → Stands self.now client
+            → IsSealed S.lock (S.keys seal.now) (packet_of (setting_of D.step (S.keys seal.now)) client draw.old message) result }
+        ensures drawn { draw.new ≡ draw_after_packet (setting_of D.step (S.keys seal.now)) draw.old message }
+    {
+        let envelope = Envelope {
+            key: self.key,
+            salt: self.salt,
+            session: self.session,
+            number: message.number,
+            seq: message.seq,
+            body: message.body,
+        };
+        seal.seal_in(room, Dir::Up, &envelope, draw)
+    }
+}

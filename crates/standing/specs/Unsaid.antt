@@ -1,0 +1,22 @@
+-- The kept replies that a session hasn't said in an event so far: what it may need room for, since each is said once.
+use Rattle.std.specs.Prelude.{◌≡◌, ℕ, true, if◌then◌else◌, List, length, sum_by}
+use Rattle.service_tl.specs.declared.lists.Message.{Message}
+use Rattle.outbox.specs.declared.kept.Kept.{Kept}
+use Rattle.outbox.specs.Replies.{Replies}
+use Rattle.owing.specs.Dues.{Dues, has_number}
+use Rattle.standing.specs.declared.standing.Standing.{Standing}
+
+-- the weights of those whose numbers no message has
+abbrev pub unsaid_weight : (Kept → ℕ) → List Message → Replies → ℕ
+unsaid_weight weight messages replies = sum_by (λ kept. if has_number kept.number messages then 0 else weight kept) replies
+
+-- how many these are, and how many bytes their bodies have together
+abbrev pub unsaid_count : Standing → Dues → ℕ
+unsaid_count standing owing = unsaid_weight (λ kept. 1) owing.messages standing.outbox.replies
+
+abbrev pub unsaid_bytes : Standing → Dues → ℕ
+unsaid_bytes standing owing = unsaid_weight (λ kept. length kept.body) owing.messages standing.outbox.replies
+
+-- each number that was said stays said
+abbrev pub StaySaid : List Message → List Message → Type 0
+StaySaid before after = (number : ℕ) → has_number number before ≡ true → has_number number after ≡ true

@@ -1,0 +1,253 @@
+-- A client's packet as it is filled, and its flush.
+use Rattle.std.proofs.Common.{◌≡◌, ◌≢◌, ℕ, zero, suc, ◌+◌, ◌-◌, ◌≤◌, ◌<◌, ◌==◌, Bool, true, false, not, ◌&&◌, List, [], ◌∷◌, ◌++◌, length, map, fold, Option, None, Some, if◌then◌else◌, inl, inr, refl, sym, ap, subst, ◌∙◌, arith}
+use Rattle.std.specs.Prelude.{◌⊎◌, ⊤, slice_get, option_map, is_some, IfSome, nat_lt}
+use Rattle.std.specs.List.{All, AllByRecursion, Contains}
+use Rattle.std.proofs.lemmas.Bool.{cases_Bool, cases_eq}
+use Rattle.msg_ids.specs.Counters.{room}
+use Rattle.service_tl.specs.declared.lists.Message.{Message}
+use Rattle.service_tl.specs.declared.item.Item.{Item}
+use Rattle.service_tl.specs.declared.item.Item.TheVariants.{DestroySession, GetFutureSalts, MsgResendReq, MsgsAck, MsgsStateInfo, MsgsStateReq, Ping, RpcDropAnswer}
+use Rattle.service_tl.specs.Items.{spelling_of}
+use Rattle.packing.specs.Packing.{is_within}
+use Rattle.session_moves.specs.Table as moves
+use Rattle.session_moves.specs.World.{World}
+use Rattle.session_moves.specs.Lawful.{WasNoCall}
+use Rattle.session_moves.specs.Reached.{Reached}
+use Rattle.call_table.specs.declared.call.CallNo.{CallNo}
+use Rattle.call_table.specs.declared.call.Living.{Living}
+use Rattle.call_table.specs.declared.call.Group.TheVariants as group
+use Rattle.call_table.specs.declared.call.Fate.TheVariants as fate
+use Rattle.call_table.specs.Table.{Call, Name, State, at, changed_at, flagged, group_of, is_in, living_name, living_name_in, owner, sent, settled}
+use Rattle.call_table.specs.Table as table
+use Rattle.client_rules.specs.Client.{Client, Binding, Needed, Asked, Held, Bound, Refused, Temporary, States, Waiting, bound_so, calls_of, numbered, after_message, at_moment, with_binding, with_call}
+use Rattle.client_rules.specs.Sending.{Setting, binding_body}
+use Rattle.client_rules.specs.Filling.{Filling, Turn, Goes, Waits, Never, asks_binding, asks_states, body_behind, changes, empty, fills, goes, is_needed, outstanding, says, says_acks, says_binding, says_call, says_call_at, says_destroyed, says_drop, says_drop_of, says_ping, says_resent, says_salts, says_states, says_told, sends_call, takes_turn, turn_of, undropped, number_of}
+use Rattle.client_rules.specs.Client.{is_open}
+use Rattle.world_moves.specs.Clients.{StandsAs, IsAskedThere, StandsThere}
+use Rattle.world_moves.specs.Leading.{Leads}
+use Rattle.world_moves.proofs.Basics.{Alike, Apart, all_given_alike}
+use Rattle.world_moves.proofs.Leading.{GoOn, goes_on}
+use Rattle.world_moves.proofs.Quiet.{OnlyFlags, asked_alike, length_changed, one_changed_there, same_there}
+use Rattle.world_moves.proofs.Sending.{gives_up, sends_first, sends_other}
+use Rattle.world_moves.proofs.Flushing.{AreApart, AreQueued, QueuedAt, SameParts, calm, flags_queued, map_queued, other_queued}
+
+pub leads_so : (number : ℕ) (w : World) (P Q : World → Type 0) → ((later : World) → P later → Q later) → Leads number w P → Leads number w Q
+leads_so number w P Q so h = record { moves = h.moves; lawful = h.lawful; own = h.own; gives = so _ h.gives }
+
+goes_by : {S : Type 0} (P : Client → Type 0) (full within : Bool) (fits : Filling S) (filling : Filling S) → P filling.client → P fits.client
+    → P (if full then filling else if within then fits else record filling { is_full = true }).client
+goes_by P true within fits filling before after = before
+goes_by P false true fits filling before after = after
+goes_by P false false fits filling before after = before
+
+goes_so : {S : Type 0} (P : Client → Type 0) (message : Message) (leaves : Filling S → Filling S) (filling : Filling S) → P filling.client
+    → P (leaves (record filling { messages = filling.messages ++ message ∷ [] })).client → P (goes message leaves filling).client
+goes_so P message leaves filling before after =
+    goes_by P filling.is_full (is_within (filling.messages ++ message ∷ [])) (leaves (record filling { messages = filling.messages ++ message ∷ [] })) filling before after
+
+unless_full : {S : Type 0} (P : Client → Type 0) (full : Bool) (filling other : Filling S) → P filling.client → P other.client
+    → P (if full then filling else other).client
+unless_full P true filling other before after = before
+unless_full P false filling other before after = after
+
+abbrev state_or : Option Call → State → State
+state_or None other = other
+state_or (Some call) other = call.state
+
+-- a call that is changed in its flags stands where it stood
+flags_stand : (w : World) (number : ℕ) (client : Client) (k : CallNo) (change : Call → Call) → OnlyFlags change → StandsAs w number client
+    → StandsAs w number (with_call k change client)
+flags_stand w number client k change only s =
+    let other : Client = with_call k change client in
+    let alike : Alike client other = record { session = refl; last = omega arith } in
+    record {
+      made = s.made;
+      parts = s.parts;
+      submitted = s.submitted ∙ sym (length_changed (k.n - 1) change (calls_of client));
+      calls = one_changed_there client other alike w.ups change only (calls_of client) (k.n - 1)
+          (λ place. w.calls (moves.call_at number place)) s.calls;
+      given = all_given_alike client other alike w.ups s.given;
+      asked = asked_alike client other refl w.ups client.temporary s.asked;
+    }
+
+asked_now : (w : World) (other : Client) (message : Message) → WasNoCall w.ups other.session message.number → (temporary : Option Temporary)
+    → IfSome (option_map (bound_so (Asked message)) temporary) (λ (t : Temporary). IsAskedThere w.ups other t.binding)
+asked_now w other message was None = tt
+asked_now w other message was (Some temporary) = was
+
+-- a binding that was asked for by a message that was sent
+asked_stands : (w : World) (number : ℕ) (client : Client) (message : Message) → StandsAs w number client
+    → WasNoCall w.ups client.session message.number → StandsAs w number (with_binding (Asked message) client)
+asked_stands w number client message s was =
+    let other : Client = with_binding (Asked message) client in
+    let alike : Alike client other = record { session = refl; last = omega arith } in
+    record {
+      made = s.made;
+      parts = s.parts;
+      submitted = s.submitted;
+      calls = λ place. same_there client other alike w.ups (slice_get (calls_of client) place)
+          (w.calls (moves.call_at number place)) (s.calls place);
+      given = all_given_alike client other alike w.ups s.given;
+      asked = asked_now w other message was client.temporary;
+    }
+
+module _ (apart : Apart) (on : GoOn) (w : World) (number : ℕ) (reached : Reached w) where
+  -- moves lead to where this client stands
+  abbrev pub Ends : Client → Type 0
+  Ends client = Leads number w (λ later. StandsAs later number client)
+
+  pub then_so : (one other : Client) → ((later : World) → StandsAs later number one → StandsAs later number other) → Ends one → Ends other
+  then_so one other so h = leads_so number w (λ later. StandsAs later number one) (λ later. StandsAs later number other) so h
+
+  pub then_does : (one other : Client)
+      → ((later : World) → Reached later → StandsAs later number one → Leads number later (λ last. StandsAs last number other)) → Ends one → Ends other
+  then_does one other next h = goes_on on number w (λ later. StandsAs later number one) (λ later. StandsAs later number other) reached h next
+
+  -- and these calls are still queued
+  pub record Holds (ks : List CallNo) (client : Client) : Type 0 where
+    pub ends : Ends client
+    pub queued : AreQueued (calls_of client) ks
+
+  -- ---- an item
+
+  pub said : (is_content : Bool) (body : List ℕ) (client : Client) → Ends client → Ends (after_message is_content client)
+  said is_content body client h =
+      then_does client (after_message is_content client)
+      (λ later reached s. leads_so number later
+      (λ last. StandsAs last number (after_message is_content client) × WasNoCall last.ups client.session (numbered is_content body client).number)
+      (λ last. StandsAs last number (after_message is_content client)) (λ last both. both.0)
+      (sends_other apart later number client reached s is_content body)) h
+
+  says_so : {S : Type 0} (ks : List CallNo) (is_content : Bool) (item : Item) (change : Client → Client) (filling : Filling S)
+      → ((client : Client) → SameParts client (change client)) → Holds ks filling.client → Holds ks (says is_content item change filling).client
+  says_so ks is_content item change filling same h =
+      let next : Client = after_message is_content filling.client in
+      goes_so (Holds ks) (numbered is_content (spelling_of item) filling.client) (changes (λ client. change (after_message is_content client))) filling h
+      (record {
+        ends = then_so next (change next) (λ later s. calm later number next (change next) (same next) s)
+            (said is_content (spelling_of item) filling.client h.ends);
+        queued = subst (λ (calls : List Call). AreQueued calls ks) (sym (same next).calls) h.queued;
+      })
+
+  kept : (client other : Client) → other.session ≡ client.session → other.former ≡ client.former → other.salt ≡ client.salt → other.learnt ≡ client.learnt
+      → other.has_ended ≡ client.has_ended → other.counters ≡ client.counters → calls_of other ≡ calls_of client → other.temporary ≡ client.temporary
+      → SameParts client other
+  kept client other a b c d e f g h = record { session = a; former = b; salt = c; learnt = d; ended = e; counters = f; calls = g; temporary = h }
+
+  pub acks_so : {S : Type 0} (ks : List CallNo) (acks : List ℕ) (filling : Filling S) → Holds ks filling.client → Holds ks (says_acks acks filling).client
+  acks_so ks [] filling h = h
+  acks_so ks (ack ∷ acks) filling h = says_so ks false (MsgsAck (ack ∷ acks)) (λ client. record client { table = record client.table { acks = [] } }) filling (λ client. kept client (record client { table = record client.table { acks = [] } }) refl refl refl refl refl refl refl refl) h
+
+  pub told_so : {S : Type 0} (ks : List CallNo) (told : Option States) (filling : Filling S) → Holds ks filling.client → Holds ks (says_told told filling).client
+  told_so ks None filling h = h
+  told_so ks (Some states) filling h = says_so ks false (MsgsStateInfo states.request states.info) (λ client. record client { waiting = record client.waiting { told = None } }) filling (λ client. kept client (record client { waiting = record client.waiting { told = None } }) refl refl refl refl refl refl refl refl) h
+
+  pub resent_so : {S : Type 0} (ks : List CallNo) (numbers : List ℕ) (filling : Filling S) → Holds ks filling.client → Holds ks (says_resent numbers filling).client
+  resent_so ks [] filling h = h
+  resent_so ks (n ∷ numbers) filling h = says_so ks false (MsgResendReq (n ∷ numbers)) (λ client. record client { waiting = record client.waiting { resent = [] } }) filling (λ client. kept client (record client { waiting = record client.waiting { resent = [] } }) refl refl refl refl refl refl refl refl) h
+
+  pub states_so : {S : Type 0} (ks : List CallNo) (is : Bool) (filling : Filling S) → Holds ks filling.client → Holds ks (says_states is filling).client
+  states_so ks false filling h = h
+  states_so ks true filling h = says_so ks false (MsgsStateReq (outstanding filling.client)) (λ client. asks_states (outstanding filling.client) client) filling (λ client. kept client (asks_states (outstanding filling.client) client) refl refl refl refl refl refl refl refl) h
+
+  pub ping_so : {S : Type 0} (ks : List CallNo) (ping : Option ℕ) (filling : Filling S) → Holds ks filling.client → Holds ks (says_ping ping filling).client
+  ping_so ks None filling h = h
+  ping_so ks (Some id) filling h = says_so ks false (Ping id) (λ client. record client { waiting = record client.waiting { ping = None } }) filling (λ client. kept client (record client { waiting = record client.waiting { ping = None } }) refl refl refl refl refl refl refl refl) h
+
+  pub salts_so : {S : Type 0} (ks : List CallNo) (salts : Option ℕ) (filling : Filling S) → Holds ks filling.client → Holds ks (says_salts salts filling).client
+  salts_so ks None filling h = h
+  salts_so ks (Some count) filling h = says_so ks true (GetFutureSalts count) (λ client. record client { waiting = record client.waiting { salts = None } }) filling (λ client. kept client (record client { waiting = record client.waiting { salts = None } }) refl refl refl refl refl refl refl refl) h
+
+  pub destroyed_so : {S : Type 0} (ks : List CallNo) (destroyed : Option ℕ) (filling : Filling S) → Holds ks filling.client → Holds ks (says_destroyed destroyed filling).client
+  destroyed_so ks None filling h = h
+  destroyed_so ks (Some session) filling h =
+      elim (cases_Bool (is_open filling.client)) [
+        | inl is ↦ rw is (says_so ks true (DestroySession session) (λ client. record client { waiting = record client.waiting { destroyed = None } }) filling (λ client. kept client (record client { waiting = record client.waiting { destroyed = None } }) refl refl refl refl refl refl refl refl) h)
+        | inr not ↦ rw not h
+      ]
+
+  -- ---- the binding
+
+  pub binding_so : {S : Type 0} (setting : Setting S) (ks : List CallNo) (temporary : Option Temporary) (filling : Filling S) → Holds ks filling.client
+      → Holds ks (says_binding setting temporary filling).client
+  binding_so setting ks None filling h = h
+  binding_so setting ks (Some temporary) filling h =
+      let unsaid : Message = numbered true [] filling.client in
+      let message : Message = record unsaid { body = binding_body setting filling.client temporary unsaid.number filling.draw } in
+      let next : Client = after_message true filling.client in
+      let other : Client = with_binding (Asked message) next in
+      elim (cases_Bool (is_needed temporary.binding && is_open filling.client)) [
+        | inl is ↦
+            rw is
+            (goes_so (Holds ks) message (asks_binding setting message) filling h
+            (record {
+              ends = then_does filling.client other
+                  (λ later reached s. leads_so number later (λ last. StandsAs last number next × WasNoCall last.ups filling.client.session unsaid.number)
+                  (λ last. StandsAs last number other) (λ last both. asked_stands last number next message both.0 both.1)
+                  (sends_other apart later number filling.client reached s true [])) h.ends;
+              queued = h.queued;
+            }))
+        | inr not ↦ rw not h
+      ]
+
+  -- ---- answers to drop
+
+  undropped_only : OnlyFlags undropped
+  undropped_only call = (record call.flags { dropping = false }, refl)
+
+  drop_of_so : {S : Type 0} (ks : List CallNo) (k : CallNo) (found : Option ℕ) (filling : Filling S) → Holds ks filling.client → Holds ks (says_drop_of k found filling).client
+  drop_of_so ks k None filling h = h
+  drop_of_so ks k (Some named) filling h =
+      let next : Client = after_message true filling.client in
+      goes_so (Holds ks) (numbered true (spelling_of (RpcDropAnswer named)) filling.client) (changes (λ client. with_call k undropped (after_message true client))) filling h
+      (record {
+        ends = then_so next (with_call k undropped next) (λ later s. flags_stand later number next k undropped undropped_only s)
+            (said true [] filling.client h.ends);
+        queued = map_queued (calls_of filling.client) (changed_at (k.n - 1) undropped (calls_of filling.client)) ks
+            (flags_queued (calls_of filling.client) (k.n - 1) undropped undropped_only) h.queued;
+      })
+
+  pub drops_so : {S : Type 0} (ks drops : List CallNo) (filling : Filling S) → Holds ks filling.client → Holds ks (fold says_drop filling drops).client
+  drops_so ks [] filling h = h
+  drops_so ks (k ∷ drops) filling h =
+      drops_so ks drops (says_drop filling k) (drop_of_so ks k (number_of (at k (calls_of filling.client))) filling h)
+
+  -- ---- calls
+
+  turn_so : {S : Type 0} (k : CallNo) (call : Call) (ks : List CallNo) (turn : Turn) (filling : Filling S)
+      → at k (calls_of filling.client) ≡ Some call → call.state ≡ table.Queued → AllByRecursion (λ (j : CallNo). j.n - 1 ≢ k.n - 1) ks
+      → Holds ks filling.client → Holds ks (takes_turn k call.body turn filling).client
+  turn_so k call ks Waits filling found queued differs h = h
+  turn_so k call ks Never filling found queued differs h =
+      let stop : Call → Call = settled (fate.Refused 0) in
+      record {
+        ends = then_does filling.client (with_call k stop filling.client)
+            (λ later reached s. gives_up apart later number filling.client reached s k call None 0 found queued) h.ends;
+        queued = other_queued (calls_of filling.client) k stop ks differs h.queued;
+      }
+  turn_so k call ks (Goes wrap) filling found queued differs h =
+      let message : Message = numbered true (body_behind wrap call.body) filling.client in
+      let living : Living = record { number = message.number; seq = message.seq; wrap = wrap } in
+      let change : Call → Call = sent filling.client.session living filling.client.salt in
+      goes_so (Holds ks) message (sends_call k wrap message) filling h
+      (record {
+        ends = then_does filling.client (with_call k change (after_message true filling.client))
+            (λ later reached s. sends_first apart later number filling.client reached s k call wrap message.seq found queued) h.ends;
+        queued = other_queued (calls_of filling.client) k change ks differs h.queued;
+      })
+
+  call_so : {S : Type 0} (k : CallNo) (ks : List CallNo) (found : Option Call) (filling : Filling S) → at k (calls_of filling.client) ≡ found
+      → (call : Call) → found ≡ Some call → call.state ≡ table.Queued
+      → AllByRecursion (λ (j : CallNo). j.n - 1 ≢ k.n - 1) ks → Holds ks filling.client → Holds ks (says_call_at k found filling).client
+  call_so k ks None filling found call is queued differs h = h
+  call_so k ks (Some other) filling found call is queued differs h =
+      let same : other.state ≡ table.Queued = ap (λ (f : Option Call). state_or f call.state) is ∙ queued in
+      turn_so k other ks (turn_of filling.client other) filling found same differs h
+
+  pub calls_so : {S : Type 0} (ks : List CallNo) (filling : Filling S) → AreApart ks → Holds ks filling.client → Ends (fold says_call filling ks).client
+  calls_so [] filling distinct h = h.ends
+  calls_so (k ∷ ks) filling distinct h =
+      let rest : Holds ks filling.client = record { ends = h.ends; queued = h.queued.1 } in
+      calls_so ks (says_call filling k) distinct.1
+      (unless_full (Holds ks) filling.is_full filling (says_call_at k (at k (calls_of filling.client)) filling) rest
+      (call_so k ks (at k (calls_of filling.client)) filling refl h.queued.0.call h.queued.0.found h.queued.0.queued distinct.0 rest))

@@ -1,0 +1,14 @@
+-- What a client's moves lead to.
+use Rattle.std.specs.Prelude.{ℕ, List}
+use Rattle.std.specs.List.{All}
+use Rattle.session_moves.specs.World.{World}
+use Rattle.session_moves.specs.Move.{Move}
+use Rattle.session_moves.specs.Extends.{IsOfClient}
+use Rattle.session_moves.specs.Reached.{AreLawful, after_all}
+
+-- some list of moves of this client, lawful from this world on, leads to such a one
+pub record Leads (number : ℕ) (w : World) (P : World → Type 0) : Type 0 where
+  pub moves : List Move
+  pub lawful : AreLawful w moves
+  pub own : All (IsOfClient number) moves
+  pub gives : P (after_all w moves)

@@ -1,0 +1,3 @@
+pub mod Clients
+pub mod Leading
+pub mod Packets
