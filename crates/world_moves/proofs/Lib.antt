@@ -10,3 +10,4 @@ pub mod Flushed
 pub mod Settling
 pub mod Learning
 pub mod Hearing
+pub mod Heard
