@@ -357,8 +357,11 @@ module _ (v : World) (number outer from : ℕ) (client : Client) (s : StandsSo v
   row_so (MsgsAllInfo numbers info) = inl (record { is = refl; so = states_stand v number numbers info client s.stands })
   row_so (MsgResendReq numbers) = inl (record { is = refl; so = all_alone v number numbers client s.stands })
   row_so (MsgsStateReq numbers) =
-      inl (record { is = refl; so = wait_so (asked_states from numbers client)
-          (record { session = refl; former = refl; salt = refl; learnt = refl; ended = refl; counters = refl; calls = refl; temporary = refl }) })
+      inl (record {
+        is = refl;
+        so = wait_so (asked_states from numbers client)
+            (record { session = refl; former = refl; salt = refl; learnt = refl; ended = refl; counters = refl; calls = refl; temporary = refl });
+      })
   row_so (MsgDetailedInfo about answer bytes status) = inl (record { is = refl; so = asks_so answer })
   row_so (MsgNewDetailedInfo answer bytes status) = inl (record { is = refl; so = asks_so answer })
   row_so (RpcError code text) = inl (record { is = refl; so = s.stands })
