@@ -35,10 +35,10 @@ salted_names m ups name older (there ∷ others) h first =
     let at = first there others refl in (
       record { session = h.0.session; number = h.0.number; salts = salted m ups there at.0 at.1 ∙ ap (λ (l : List ℕ). m.salt ∷ l) h.0.salts },
       names_keep ups (m ∷ ups) older others (λ n t among k. record {
-            session = k.session;
-            number = k.number;
-            salts = unsalted m ups t (λ session number. at.2 t among (sym at.0 ∙ session) (sym at.1 ∙ number)) ∙ k.salts;
-          }) h.1,
+        session = k.session;
+        number = k.number;
+        salts = unsalted m ups t (λ session number. at.2 t among (sym at.0 ∙ session) (sym at.1 ∙ number)) ∙ k.salts;
+      }) h.1,
     )
 
 salted_living : (session salt : ℕ) (state : State) (names : List Name) → LivesIn session state names → LivesIn session state (with_salt salt names)
@@ -134,10 +134,10 @@ module _ (apart : Apart) (w : World) (number : ℕ) (client : Client) (reached :
         subst (λ (l : List Name). AreNamesThere (m ∷ w.ups) (with_salt client.salt l) (w.calls id).names) (sym named)
         (subst (λ (salt : ℕ). AreNamesThere (m ∷ w.ups) (with_salt salt (name ∷ older)) (w.calls id).names) salt_there
         (salted_names m w.ups name older (w.calls id).names names_now (λ there others is. (
-            same_session ∙ ap (λ (l : List moves.Name). first_session l first.0.session) (sym first.2 ∙ is),
-            same_number ∙ ap (λ (l : List moves.Name). first_number l first.0.number) (sym first.2 ∙ is),
-            λ same also session also_number. apart.newest w id there same others reached is also session also_number,
-          ))))
+          same_session ∙ ap (λ (l : List moves.Name). first_session l first.0.session) (sym first.2 ∙ is),
+          same_number ∙ ap (λ (l : List moves.Name). first_number l first.0.number) (sym first.2 ∙ is),
+          λ same also session also_number. apart.newest w id there same others reached is also session also_number,
+        ))))
 
     call_gone : StandsThere gone gone_w.ups (Some (change call)) (w.calls id)
     call_gone = record {
@@ -154,12 +154,12 @@ module _ (apart : Apart) (w : World) (number : ℕ) (client : Client) (reached :
       body = h.body;
       state = h.state;
       names = names_keep w.ups (m ∷ w.ups) one.names (w.calls (moves.call_at number q)).names (λ n there among h. record {
-            session = h.session;
-            number = h.number;
-            salts = unsalted m w.ups there (λ session is.
-                differs (ap (λ (c : moves.CallId). c.place)
-                (apart.of_one w (moves.call_at number q) id there first.0 reached among among_now (sym session ∙ same_session) (sym is ∙ same_number)))) ∙ h.salts;
-          }) h.names;
+        session = h.session;
+        number = h.number;
+        salts = unsalted m w.ups there (λ session is.
+            differs (ap (λ (c : moves.CallId). c.place)
+            (apart.of_one w (moves.call_at number q) id there first.0 reached among among_now (sym session ∙ same_session) (sym is ∙ same_number)))) ∙ h.salts;
+      }) h.names;
       living = living_alike client gone refl one h.living;
     }
 

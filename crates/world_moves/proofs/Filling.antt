@@ -55,7 +55,7 @@ state_or None other = other
 state_or (Some call) other = call.state
 
 -- a call that is changed in its flags stands where it stood
-flags_stand : (w : World) (number : ℕ) (client : Client) (k : CallNo) (change : Call → Call) → OnlyFlags change → StandsAs w number client
+pub flags_stand : (w : World) (number : ℕ) (client : Client) (k : CallNo) (change : Call → Call) → OnlyFlags change → StandsAs w number client
     → StandsAs w number (with_call k change client)
 flags_stand w number client k change only s =
     let other : Client = with_call k change client in

@@ -76,10 +76,10 @@ pub flags_queued : (calls : List Call) (place : ℕ) (change : Call → Call) �
 flags_queued calls place change only k h =
     elim (cases_eq (k.n - 1) place) [
       | inl is ↦ record {
-          call = change h.call;
-          found = get_changed place change calls (k.n - 1) is ∙ ap (λ (f : Option Call). option_map change f) h.found;
-          queued = ap (λ (c : Call). c.state) (only h.call).1 ∙ h.queued;
-        }
+        call = change h.call;
+        found = get_changed place change calls (k.n - 1) is ∙ ap (λ (f : Option Call). option_map change f) h.found;
+        queued = ap (λ (c : Call). c.state) (only h.call).1 ∙ h.queued;
+      }
       | inr differs ↦ record { call = h.call; found = get_unchanged place change calls (k.n - 1) differs ∙ h.found; queued = h.queued }
     ]
 
@@ -112,8 +112,8 @@ group_apart test place (x ∷ xs) =
     elim (cases_Bool (test x)) [
       | inl is ↦
           rw is (
-          differs_from place ((call_no place).n - 1) (omega arith) (map call_no (places_from test (place + 1) xs)) (above_all place test (place + 1) xs (omega arith)),
-          group_apart test (place + 1) xs,
+            differs_from place ((call_no place).n - 1) (omega arith) (map call_no (places_from test (place + 1) xs)) (above_all place test (place + 1) xs (omega arith)),
+            group_apart test (place + 1) xs,
           )
       | inr not ↦ rw not (group_apart test (place + 1) xs)
     ]
@@ -135,12 +135,12 @@ group_queued all place (x ∷ xs) at_all =
     elim (cases_Bool (is_in group.Queued x)) [
       | inl is ↦
           rw is (
-          record {
-            call = x;
-            found = ap (λ (n : ℕ). slice_get all n) (omega arith) ∙ sym (at_all 0);
-            queued = is_queued_so x.state is;
-          },
-          group_queued all (place + 1) xs rest,
+            record {
+              call = x;
+              found = ap (λ (n : ℕ). slice_get all n) (omega arith) ∙ sym (at_all 0);
+              queued = is_queued_so x.state is;
+            },
+            group_queued all (place + 1) xs rest,
           )
       | inr not ↦ rw not (group_queued all (place + 1) xs rest)
     ]

@@ -104,7 +104,7 @@ nil_pushed : (xs : List ℕ) (x : ℕ) → is_nil (xs ++ x ∷ []) ≡ false
 nil_pushed [] x = refl
 nil_pushed (y ∷ xs) x = refl
 
-any_reverse : (test : ℕ → Bool) (xs : List ℕ) → list_any test (reverse xs) ≡ list_any test xs
+pub any_reverse : (test : ℕ → Bool) (xs : List ℕ) → list_any test (reverse xs) ≡ list_any test xs
 any_reverse test [] = refl
 any_reverse test (x ∷ xs) =
     ap (λ (l : List ℕ). list_any test l) (reverse-append (x ∷ []) xs) ∙ list_any-append test (reverse xs) (x ∷ []) ∙ rw (any_reverse test xs) (turned (list_any test xs) (test x))

@@ -9,3 +9,5 @@ pub mod Filling
 pub mod Flushed
 pub mod Settling
 pub mod Learning
+pub mod Hearing
+pub mod Heard

@@ -58,7 +58,7 @@ same_binding : (temporary : Temporary) → temporary.binding ≡ (alone_if_asked
 same_binding temporary =
     elim (cases_Bool (is_asked temporary.binding)) [ inl is ↦ rw is refl | inr not ↦ rw not refl ]
 
-binding_alike : (one other : Client) → other.session ≡ one.session → (ups : List moves.Message) (binding : Binding)
+pub binding_alike : (one other : Client) → other.session ≡ one.session → (ups : List moves.Message) (binding : Binding)
     → IsAskedThere ups one binding → IsAskedThere ups other binding
 binding_alike one other session ups Needed h = tt
 binding_alike one other session ups (Asked message) h =

@@ -144,8 +144,7 @@ module _ (apart : Apart) (w : World) (number : ℕ) (client : Client) (reached :
       let m : moves.Message = message_of (w.clients number) new None in
       let other : Client = after_message is_content client in
       moves_once number w (λ later. StandsAs later number other × WasNoCall later.ups client.session new) (Send number (Other new ∷ []))
-      (is_made w number client s, (is_new new more, tt)) refl
-      (
+      (is_made w number client s, (is_new new more, tt)) refl (
         record {
           made = s.made;
           parts = s.parts;

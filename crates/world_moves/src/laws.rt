@@ -1,6 +1,9 @@
 //! Laws of events and moves, each the contract of a function that does nothing.
 
-ghost use Rattle.std.specs.Prelude.{ℕ, List, Option, None, Some};
+ghost use Rattle.std.specs.Prelude.{◌≡◌, ℕ, List, Option, None, Some};
+ghost use Rattle.std.specs.List.{Contains};
+ghost use Rattle.envelope.specs.declared.parts.Envelope.{Envelope};
+ghost use Rattle.session_moves.specs.Table.{Packet};
 ghost use Rattle.session_moves.specs.World.{World};
 ghost use Rattle.session_moves.specs.Move.Move.{Own};
 ghost use Rattle.session_moves.specs.Move.OwnAct.{End, NewClient, Renew, Submit};
@@ -14,8 +17,10 @@ ghost use Rattle.client_rules.specs.Learning.{ended};
 ghost use Rattle.client_rules.specs.Events.{renewed};
 ghost use Rattle.client_rules.specs.Flush.{flush};
 ghost use Rattle.client_rules.specs.Sending.{Setting};
+ghost use Rattle.client_rules.specs.Taking.{take};
 ghost use Rattle.world_moves.specs.Clients.{IsNobody, StandsAs};
 ghost use Rattle.world_moves.specs.Leading.{Leads};
+ghost use Rattle.world_moves.specs.Packets.{packet_items};
 
 use draws::Draw;
 use session_moves::laws::{moves_go_on, names_are_apart, numbers_are_given_once};
@@ -68,4 +73,15 @@ pub fn clients_flush<D: Draw>()
     names_are_apart();
     numbers_are_given_once();
     moves_go_on();
+}
+
+/// A packet that a client takes, and that is a packet of the law's world with the same items, made by a server session of the
+/// client's present session number, is heard by one lawful move. A packet that isn't looked at is none.
+pub fn clients_hear()
+    ensures { (w : World) (number now : ℕ) (client : Client) (envelope : Envelope) (packet : Packet) → Reached w → StandsAs w number client
+        → Contains w.downs packet → (w.servers packet.server).session ≡ client.session → packet.items ≡ packet_items envelope
+        → Leads number w (λ later. StandsAs later number (take now envelope client)) }
+{
+    names_are_apart();
+    numbers_are_given_once();
 }

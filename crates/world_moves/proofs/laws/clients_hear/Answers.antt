@@ -1,0 +1,5 @@
+use Rattle.world_moves.proofs.Heard.{hears}
+use Rattle.world_moves.proofs.laws.clients_hear.Goals as goal
+
+pub returns : goal.returns
+returns c = hears (record { of_one = c.names_are_apart.ensures.of_one; newest = c.names_are_apart.ensures.newest; sent = c.names_are_apart.ensures.sent; of_name = c.names_are_apart.ensures.of_name; of_message = c.names_are_apart.ensures.of_message; one_owner = c.names_are_apart.ensures.one_owner; no_name = c.numbers_are_given_once.ensures.no_name })
