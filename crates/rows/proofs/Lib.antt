@@ -1,2 +1,4 @@
 pub mod Steps
 pub mod Bound
+pub mod Once
+pub mod Queries

@@ -5,10 +5,12 @@
 #![tactic(auto)]
 
 mod bindings;
+mod calls;
 mod entries;
 mod saying;
 mod turn;
 
 pub use bindings::Bindings;
+pub use calls::CallDue;
 pub use entries::{Entries, Entry};
 pub use turn::Turn;
