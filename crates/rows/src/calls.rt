@@ -1,22 +1,27 @@
 //! What is asked of a call before it becomes a job.
 
-ghost use Rattle.std.specs.Prelude.{◌≡◌, ◌==◌, not, ℕ, List, option_map, IfOk};
+ghost use Rattle.std.specs.Prelude.{◌≡◌, ◌+◌, ◌==◌, ◌&&◌, ◌||◌, nat_le, nat_lt, not, ℕ, List, option_map, IfOk};
 ghost use Rattle.std.specs.List.{filter, list_any};
 ghost use Rattle.inbox.specs.Kinds.{constructor_of};
-ghost use Rattle.waits.specs.declared.job.Job.{Job};
+ghost use Rattle.waits.specs.Jobs.{job_bytes, job_count};
+ghost use Rattle.waits.specs.Limits.{most_job_bytes, most_jobs};
+ghost use Rattle.temp_keys.specs.Checking.{is_temporary};
 ghost use Rattle.server_rules.specs.Server.{Session};
 ghost use Rattle.server_rules.specs.Waiting.{outlook};
-ghost use Rattle.server_rules.specs.Calls.{each_once, is_in_vain, is_over, query_refusal};
+ghost use Rattle.server_rules.specs.Calls.{each_once, is_bound, is_in_vain, is_over, query_refusal};
 ghost use Rattle.answers.specs.Contents.{content_of};
 ghost use Rattle.standing.specs.Standing.{Stands};
 
+use crate::bindings::Bindings;
 use answers::{Bytes, Short};
+use auth_keys::{KeyKind, Ring};
 use byteorder::{ByteOrder, LittleEndian};
+use msg_ids::Moment;
 use octets::Memory;
 use service_tl::{GZIP_PACKED, is_service};
 use standing::{Outlook, Standing};
 use std::alloc::Global;
-use waits::Jobs;
+use waits::{JOBS_MAX, JOB_BYTES_MAX, Jobs};
 
 /// The bytes of a constructor.
 const CONSTRUCTOR_BYTES: usize = 4;
@@ -94,6 +99,28 @@ fn constructor_of(body: &[u8]) -> Option<u32>
         return None;
     }
     Some(LittleEndian::read_u32(body))
+}
+
+/// Whether a key is a temporary one that is bound to none now.
+pub(crate) fn is_unbound(ring: &Ring, bindings: &Bindings, now: Moment, key: u64) -> bool
+    ensures { result ≡ (is_temporary ring.now key && not (is_bound now key bindings.now.bindings)) }
+{
+    is_temporary(ring, key) && !bindings.is_bound(now, key)
+}
+
+// Whether a key is a temporary one of the ring.
+fn is_temporary(ring: &Ring, key: u64) -> bool
+    ensures { result ≡ is_temporary ring.now key }
+{
+    matches!(ring.kind(key), Some(KeyKind::Temp { expires: _ }))
+}
+
+/// Whether the session of this key and number has as many jobs as it may, or too many bytes with a further load.
+pub(crate) fn is_full(jobs: &Jobs, key: u64, session: u64, load: usize) -> bool
+    ensures { result ≡ (nat_le most_jobs (job_count key session jobs.now.jobs) || nat_lt most_job_bytes (job_bytes key session jobs.now.jobs + load)) }
+{
+    let (count, bytes) = jobs.load(key, session);
+    count >= JOBS_MAX || load > JOB_BYTES_MAX - bytes
 }
 
 /// Of the numbers, those that weren't answered well already.
