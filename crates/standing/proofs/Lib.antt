@@ -1,0 +1,2 @@
+pub mod OldestLemmas
+pub mod Turning

@@ -27,6 +27,10 @@ pub record Stands (now : ℕ) (standing : Standing) (session : Session) : Type 0
 abbrev pub numbers_left : Standing → ℕ
 numbers_left standing = room standing.numbers
 
+-- how many further replies it can keep without memory
+abbrev pub replies_left : Standing → ℕ
+replies_left standing = standing.outbox.room
+
 -- its salts were needed at no later moment than this
 abbrev pub IsAt : ℕ → Standing → Type 0
 IsAt now standing = standing.salts.latest ≤ now

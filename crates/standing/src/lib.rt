@@ -4,10 +4,14 @@
 //! memory.
 #![tactic(auto)]
 
+mod contents;
 mod laws;
+mod marking;
 mod outlook;
+mod replying;
 mod standing;
 
+pub use contents::is_good;
 pub use outlook::Outlook;
 pub use standing::Standing;
 
