@@ -4,6 +4,7 @@
 //! (`Speaks`), and each method is one row of their table.
 #![tactic(auto)]
 
+mod answering;
 mod bindings;
 mod calls;
 mod entries;
