@@ -1,5 +1,5 @@
 -- Marks of which that of one number becomes another.
-use Rattle.std.proofs.Common.{◌≡◌, ◌∙◌, ℕ, eqb, cond, Bool, true, false, Option, Some, None, List, [], ◌∷◌, ◌++◌, fold, ap, sym, refl, inl, inr}
+use Rattle.std.proofs.Common.{◌≡◌, ◌∙◌, ℕ, eqb, cond, Bool, true, false, Option, Some, None, [], ◌∷◌, ◌++◌, fold, ap, sym, refl, inl, inr}
 use Rattle.std.specs.Prelude.{option_map}
 use Rattle.std.proofs.lemmas.Bool.{cases_Bool, cond-true, cond-false, eqb-true, eq-eqb, false≢true}
 use Rattle.std.proofs.lemmas.Option.{none-some}

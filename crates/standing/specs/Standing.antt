@@ -3,6 +3,7 @@ use Rattle.std.specs.Prelude.{◌≡◌, ◌≤◌, ℕ}
 use Rattle.msg_ids.specs.Counters.{room}
 use Rattle.salt_line.specs.Line.{Stands as LineStands}
 use Rattle.inbox.specs.Inbox.{Stands as InboxStands}
+use Rattle.outbox.specs.Replies.{Contents}
 use Rattle.server_rules.specs.Server.{Session, kept_replies, marks_of}
 use Rattle.standing.specs.declared.standing.Standing.{Standing}
 
@@ -27,7 +28,10 @@ pub record Stands (now : ℕ) (standing : Standing) (session : Session) : Type 0
 abbrev pub numbers_left : Standing → ℕ
 numbers_left standing = room standing.numbers
 
--- how many further replies it can keep without memory
+-- the replies that it keeps, and how many further ones it can keep without memory
+abbrev pub outbox_of : Standing → Contents
+outbox_of standing = standing.outbox
+
 abbrev pub replies_left : Standing → ℕ
 replies_left standing = standing.outbox.room
 
@@ -35,6 +39,9 @@ replies_left standing = standing.outbox.room
 abbrev pub IsAt : ℕ → Standing → Type 0
 IsAt now standing = standing.salts.latest ≤ now
 
--- the key that it is a session of
+-- the key that it is a session of, and its number there
 abbrev pub key_of : Standing → ℕ
 key_of standing = standing.key
+
+abbrev pub number_of : Standing → ℕ
+number_of standing = standing.number

@@ -7,6 +7,7 @@
 mod contents;
 mod laws;
 mod marking;
+mod naming;
 mod outlook;
 mod replying;
 mod standing;

@@ -68,7 +68,7 @@ pub struct Standing {
 }
 
 impl Standing {
-    ghost use Rattle.standing.specs.Standing.{IsAt, Stands, key_of, numbers_left};
+    ghost use Rattle.standing.specs.Standing.{IsAt, Stands, key_of, numbers_left, outbox_of};
     ghost use Rattle.standing.specs.Says.{Keys, Says, setting_of};
 
     /// The session of this key and this number that a message of the number `first` makes now. Its unique number is drawn,
@@ -90,6 +90,7 @@ impl Standing {
         ensures drawn { OnOk result (draw.new ≡ draw_after D.step 2 draw.old) }
         ensures key { IfOk result (λ standing. key_of standing ≡ key) }
         ensures numbers { IfOk result (λ standing. numbers_left standing ≡ 2 ^ 30) }
+        ensures no_replies { IfOk result (λ standing. outbox_of standing ≡ record { replies = []; room = 0 }) }
         ensures at { IfOk result (IsAt now) }
     {
         let unique = draw.word();
@@ -136,6 +137,7 @@ impl Standing {
         ensures unchanged_on_memory { OnErr result (self.new ≡ self.old) }
         ensures same_numbers { numbers_left self.new ≡ numbers_left self.old }
         ensures same_key { key_of self.new ≡ key_of self.old }
+        ensures same_replies { outbox_of self.new ≡ outbox_of self.old }
         ensures at { IsAt now self.new }
     {
         packets_are_judged();
@@ -202,6 +204,7 @@ impl Standing {
         ensures taken { (owing.new.places_taken ≡ owing.old.places_taken) × (owing.new.bytes_taken ≡ owing.old.bytes_taken) }
         ensures numbers_last { numbers_left self.old ≤ numbers_left self.new + 1 }
         ensures same_key { key_of self.new ≡ key_of self.old }
+        ensures same_replies { outbox_of self.new ≡ outbox_of self.old }
         ensures at { IsAt now self.old → IsAt now self.new }
     {
         let salt = self.salts.current(now, draw);
@@ -221,6 +224,7 @@ impl Standing {
         ensures taken { (owing.new.places_taken ≡ owing.old.places_taken) × (owing.new.bytes_taken ≡ owing.old.bytes_taken) }
         ensures numbers_last { numbers_left self.old ≤ numbers_left self.new + 1 }
         ensures same_key { key_of self.new ≡ key_of self.old }
+        ensures same_replies { outbox_of self.new ≡ outbox_of self.old }
         ensures at { IsAt now self.old → IsAt now self.new }
     {
         if !ids.is_empty() {
@@ -249,6 +253,7 @@ impl Standing {
         ensures taken { (owing.new.places_taken ≡ owing.old.places_taken) × (owing.new.bytes_taken ≡ owing.old.bytes_taken) }
         ensures numbers_last { numbers_left self.old ≤ numbers_left self.new + 1 }
         ensures same_key { key_of self.new ≡ key_of self.old }
+        ensures same_replies { outbox_of self.new ≡ outbox_of self.old }
         ensures at { IsAt now self.old → IsAt now self.new }
     {
         if code == WRONG_SALT {
@@ -271,6 +276,7 @@ impl Standing {
         ensures taken { (owing.new.places_taken ≡ owing.old.places_taken) × (owing.new.bytes_taken ≡ owing.old.bytes_taken) }
         ensures numbers_last { numbers_left self.old ≤ numbers_left self.new + 1 }
         ensures same_key { key_of self.new ≡ key_of self.old }
+        ensures same_replies { outbox_of self.new ≡ outbox_of self.old }
         ensures at { IsAt now self.old → IsAt now self.new }
     {
         owing.pong(now, &mut self.numbers, message, ping);
@@ -294,6 +300,7 @@ impl Standing {
         ensures taken { (owing.new.places_taken ≡ owing.old.places_taken) × (owing.new.bytes_taken ≡ owing.old.bytes_taken) }
         ensures numbers_last { numbers_left self.old ≤ numbers_left self.new + 1 }
         ensures same_key { key_of self.new ≡ key_of self.old }
+        ensures same_replies { outbox_of self.new ≡ outbox_of self.old }
         ensures at { IsAt now self.old → IsAt now self.new }
     {
         owing.destroyed(now, &mut self.numbers, session, ok);
@@ -319,6 +326,7 @@ impl Standing {
         ensures taken { (owing.new.places_taken ≡ owing.old.places_taken) × (owing.new.bytes_taken ≡ owing.old.bytes_taken) }
         ensures numbers_last { numbers_left self.old ≤ numbers_left self.new + 1 }
         ensures same_key { key_of self.new ≡ key_of self.old }
+        ensures same_replies { outbox_of self.new ≡ outbox_of self.old }
         ensures at { IsAt now self.old → IsAt now self.new }
     {
         let mut rows = [NO_SALT; SALT_ROWS_MAX];
@@ -353,6 +361,7 @@ impl Standing {
         ensures room_lasts { outs.old.room ≤ outs.new.room + packets_most packets.messages packets.bytes }
         ensures numbers_last { numbers_left self.old ≤ numbers_left self.new + packets_most packets.messages packets.bytes }
         ensures same_key { key_of self.new ≡ key_of self.old }
+        ensures same_replies { outbox_of self.new ≡ outbox_of self.old }
         ensures at { IsAt now self.new }
     {
         sent_as_the_rules_say::<D>();

@@ -1,12 +1,10 @@
-use Rattle.std.proofs.Common.{◌≡◌, ◌∙◌, ℕ, List, None, drop, length, ap, subst, sym, refl}
+use Rattle.std.proofs.Common.{◌≡◌, ◌∙◌, ℕ, List, None, drop, length, ap, subst, refl}
 use Rattle.msg_ids.specs.Counters.{Counters}
 use Rattle.service_tl.specs.declared.item.Item.TheVariants.{RpcResult}
 use Rattle.service_tl.specs.Items.{spelling_of}
 use Rattle.packing.specs.Numbering.{numbered}
-use Rattle.outbox.specs.declared.kept.Kept.{Kept}
 use Rattle.outbox.specs.Bodies.{head_bytes}
-use Rattle.server_rules.specs.Event.{Speaker}
-use Rattle.server_rules.specs.Server.{Reply, Session, kept_of, reply_to}
+use Rattle.server_rules.specs.Server.{kept_of, reply_to}
 use Rattle.server_rules.specs.Speaking.{made_room, says}
 use Rattle.server_laws.specs.Order.{reply_made}
 use Rattle.standing.specs.Standing.{Stands}

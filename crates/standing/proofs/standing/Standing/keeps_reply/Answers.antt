@@ -4,7 +4,7 @@ use Rattle.inbox.specs.Inbox.{Stands as InboxStands}
 use Rattle.outbox.specs.declared.kept.Kept.{Kept}
 use Rattle.outbox.specs.Bodies.{head_bytes}
 use Rattle.outbox.specs.Replies.{Replies}
-use Rattle.server_rules.specs.Server.{is_good, kept_of, kept_replies, marks_of}
+use Rattle.server_rules.specs.Server.{is_good, kept_replies, marks_of}
 use Rattle.standing.specs.Marking.{replied_mark, turned}
 use Rattle.standing.proofs.OldestLemmas.{kept-further, marks-kept}
 use Rattle.standing.proofs.standing.Standing.keeps_reply.Goals as goal

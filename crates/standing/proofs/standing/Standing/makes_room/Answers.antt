@@ -1,6 +1,6 @@
 use Rattle.std.proofs.Common.{◌≡◌, ◌∙◌, List, true, false, ap, subst, sym}
 use Rattle.outbox.specs.Replies.{fits}
-use Rattle.server_rules.specs.Server.{Reply, Session, kept_replies}
+use Rattle.server_rules.specs.Server.{Reply, kept_replies}
 use Rattle.server_rules.specs.Speaking.{made_room, without_oldest}
 use Rattle.standing.specs.declared.standing.Standing.{Standing}
 use Rattle.standing.specs.Standing.{Stands}
