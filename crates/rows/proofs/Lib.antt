@@ -2,3 +2,4 @@ pub mod Steps
 pub mod Bound
 pub mod Once
 pub mod Queries
+pub mod Accepting

@@ -1,5 +1,5 @@
 -- Steps of a session that leave the jobs, the bindings and the entries.
-use Rattle.std.proofs.Common.{◌≡◌, ◌∙◌, ℕ, Bool, List, [], ◌∷◌, ◌++◌, ap, refl, sym, inl, inr}
+use Rattle.std.proofs.Common.{◌≡◌, ◌∙◌, ℕ, Bool, List, [], ◌∷◌, ◌++◌, ap, refl, subst, sym, inl, inr}
 use Rattle.std.specs.Prelude.{◌==◌}
 use Rattle.std.proofs.lemmas.Bool.{cases_Bool}
 use Rattle.waits.specs.Jobs.{Queue}
@@ -7,6 +7,7 @@ use Rattle.server_rules.specs.Server.{Binding}
 use Rattle.server_rules.specs.Event.{Entry, Setting, Speaker}
 use Rattle.server_rules.specs.Speaking.{records}
 use Rattle.server_rules.specs.Calls.{with_binding}
+use Rattle.server_rules.specs.Waiting.{tells_of}
 use Rattle.server_rules.specs.Rows.{acknowledges, notices}
 use Rattle.owing.specs.Dues.{Dues}
 use Rattle.standing.specs.declared.standing.Standing.{Standing}
@@ -62,9 +63,9 @@ recorded now standing turn entries queue bound draw speaker ran call request con
       jobs = speaks.jobs;
       bindings = speaks.bindings;
       entries = is ∙ (ap (λ (es : List Entry). es ++ one key number reply ∷ []) speaks.entries
-      ∙ (ap (λ (k : ℕ). speaker.entries ++ one k number reply ∷ []) own
-      ∙ (ap (λ (n : ℕ). speaker.entries ++ one speaker.session.key n reply ∷ []) named
-      ∙ ap (λ (r : List ℕ). speaker.entries ++ one speaker.session.key speaker.session.number r ∷ []) said)));
+          ∙ (ap (λ (k : ℕ). speaker.entries ++ one k number reply ∷ []) own
+          ∙ (ap (λ (n : ℕ). speaker.entries ++ one speaker.session.key n reply ∷ []) named
+          ∙ ap (λ (r : List ℕ). speaker.entries ++ one speaker.session.key speaker.session.number r ∷ []) said)));
     }
 
 -- a binding is put
@@ -77,5 +78,34 @@ put-bound now standing turn queue bound after draw speaker binding speaks is =
       says = record { stands = speaks.says.stands; owed = speaks.says.owed; draws = speaks.says.draws };
       jobs = speaks.jobs;
       bindings = is ∙ ap (with_binding binding) speaks.bindings;
+      entries = speaks.entries;
+    }
+
+-- the jobs that wait for a number are told
+pub told-of : {S : Type 0} (now : ℕ) (standing : Standing) (turn : Turn) (queue after : Queue) (bound : List Binding) (draw : S) (speaker : Speaker S) (number : ℕ)
+    → Speaks now standing turn queue bound draw speaker
+    → after ≡ (tells_of number speaker).jobs
+    → Speaks now standing turn after bound draw (tells_of number speaker)
+told-of now standing turn queue after bound draw speaker number speaks is =
+    record {
+      says = record { stands = speaks.says.stands; owed = speaks.says.owed; draws = speaks.says.draws };
+      jobs = is;
+      bindings = speaks.bindings;
+      entries = speaks.entries;
+    }
+
+-- the same by another name
+pub spoken-as : {S : Type 0} (now : ℕ) (standing : Standing) (turn : Turn) (queue : Queue) (bound : List Binding) (draw : S) (other next : Speaker S)
+    → other ≡ next → Speaks now standing turn queue bound draw next → Speaks now standing turn queue bound draw other
+spoken-as now standing turn queue bound draw other next is speaks = subst (λ speaker. Speaks now standing turn queue bound draw speaker) (sym is) speaks
+
+-- the jobs are others
+pub with-jobs : {S : Type 0} (now : ℕ) (standing : Standing) (turn : Turn) (queue after told : Queue) (bound : List Binding) (draw : S) (speaker : Speaker S)
+    → Speaks now standing turn queue bound draw speaker → after ≡ told → Speaks now standing turn after bound draw (record speaker { jobs = told })
+with-jobs now standing turn queue after told bound draw speaker speaks is =
+    record {
+      says = record { stands = speaks.says.stands; owed = speaks.says.owed; draws = speaks.says.draws };
+      jobs = is;
+      bindings = speaks.bindings;
       entries = speaks.entries;
     }

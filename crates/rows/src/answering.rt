@@ -115,12 +115,19 @@ impl Turn {
         ensures speaks { (keys : Keys) (jobs : Queue) (draw : D) (speaker : Speaker D) → AreOf ring.now keys → IsUnanswered speaker.session.replies number
             → Speaks now standing.old self.old jobs bindings.old.bindings draw speaker
             → Speaks now standing.new self.new jobs bindings.new.bindings draw (binds (setting_of now D.step keys)
-                (record { number = number; perm = binding.now.perm; nonce = binding.now.nonce; expires = binding.now.expires; message = binding.now.message }) speaker) }
+            (record { number = number; perm = binding.now.perm; nonce = binding.now.nonce; expires = binding.now.expires; message = binding.now.message }) speaker) }
         ensures spends { Spends now 1 (result_bytes short_bytes_max) 0 standing.old self.old standing.new self.new }
         ensures replies_last { replies_left standing.new + 1 ≡ replies_left standing.old }
         ensures binding_room_lasts { bindings.old.room ≤ bindings.new.room + 1 }
     {
-        match check(ring, now, standing.key(), standing.number(), number, binding) {
+        match check(
+            ring,
+            now,
+            standing.key(),
+            standing.number(),
+            number,
+            binding,
+        ) {
             Ok(bound) => {
                 bindings.put(bound);
                 self.answers_shortly::<D>(now, standing, number, Short::BoolTrue);

@@ -21,7 +21,7 @@ use octets::Memory;
 use service_tl::{GZIP_PACKED, is_service};
 use standing::{Outlook, Standing};
 use std::alloc::Global;
-use waits::{JOBS_MAX, JOB_BYTES_MAX, Jobs};
+use waits::{JOB_BYTES_MAX, JOBS_MAX, Jobs};
 
 /// The bytes of a constructor.
 const CONSTRUCTOR_BYTES: usize = 4;

@@ -10,8 +10,10 @@ mod calls;
 mod entries;
 mod saying;
 mod turn;
+mod waiting;
 
 pub use bindings::Bindings;
 pub use calls::CallDue;
 pub use entries::{Entries, Entry};
 pub use turn::Turn;
+pub use waiting::Run;

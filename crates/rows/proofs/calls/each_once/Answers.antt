@@ -12,16 +12,18 @@ loop-place-preserved c =
     let held = c.loop-place.invariant in
     let test = ap (among (get_or numbers place 0)) (sym c.as_slice.ensures.value) ∙ sym c.has.ensures in
     elim c.if-not-has.branch [
-      | then-not-has w ↦
-          (ap (λ (v : Vec ℕ Global). v.items) w.once-is ∙ (w.push_reserved.ensures.items
-          ∙ passed-absent numbers c.loop-place.once.items place c.loop-place-test.true held.0 (test ∙ w.if-not-has.true)),
-          omega (arith, ap (λ (v : Vec ℕ Global). vec_len v) w.once-is, w.push_reserved.ensures.len, held.1),
-          ap (λ (v : Vec ℕ Global). vec_capacity v) w.once-is ∙ (w.push_reserved.ensures.capacity ∙ held.2))
-      | else-not-has w ↦
-          (ap (λ (v : Vec ℕ Global). v.items) w.once-is
-          ∙ passed-there numbers c.loop-place.once.items place c.loop-place-test.true held.0 (test ∙ w.if-not-has.false),
-          omega (arith, ap (λ (v : Vec ℕ Global). vec_len v) w.once-is, held.1),
-          ap (λ (v : Vec ℕ Global). vec_capacity v) w.once-is ∙ held.2)
+      | then-not-has w ↦ (
+        ap (λ (v : Vec ℕ Global). v.items) w.once-is ∙ (w.push_reserved.ensures.items
+            ∙ passed-absent numbers c.loop-place.once.items place c.loop-place-test.true held.0 (test ∙ w.if-not-has.true)),
+        omega (arith, ap (λ (v : Vec ℕ Global). vec_len v) w.once-is, w.push_reserved.ensures.len, held.1),
+        ap (λ (v : Vec ℕ Global). vec_capacity v) w.once-is ∙ (w.push_reserved.ensures.capacity ∙ held.2),
+      )
+      | else-not-has w ↦ (
+        ap (λ (v : Vec ℕ Global). v.items) w.once-is
+            ∙ passed-there numbers c.loop-place.once.items place c.loop-place-test.true held.0 (test ∙ w.if-not-has.false),
+        omega (arith, ap (λ (v : Vec ℕ Global). vec_len v) w.once-is, held.1),
+        ap (λ (v : Vec ℕ Global). vec_capacity v) w.once-is ∙ held.2,
+      )
     ]
 
 pub push_reserved-requires : goal.push_reserved-requires
