@@ -1,2 +1,4 @@
+pub mod FateLemmas
+pub mod RepeatLemmas
 pub mod OldestLemmas
 pub mod Turning

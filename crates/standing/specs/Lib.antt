@@ -3,3 +3,5 @@ pub mod Marking
 pub mod Standing
 pub mod Says
 pub mod Outlooks
+pub mod Fates
+pub mod Repeats

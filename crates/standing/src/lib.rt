@@ -5,14 +5,18 @@
 #![tactic(auto)]
 
 mod contents;
+mod dropping;
 mod laws;
 mod marking;
 mod naming;
 mod outlook;
+mod repeating;
 mod replying;
 mod standing;
+mod telling;
 
 pub use contents::is_good;
+pub use dropping::DroppedReply;
 pub use outlook::Outlook;
 pub use standing::Standing;
 
