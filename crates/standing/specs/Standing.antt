@@ -1,9 +1,10 @@
 -- One session of a server, as it is kept: what it stands for.
-use Rattle.std.specs.Prelude.{◌≡◌, ◌≤◌, ℕ}
+use Rattle.std.specs.Prelude.{◌≡◌, ◌≤◌, ℕ, Option, Some, None, length}
 use Rattle.msg_ids.specs.Counters.{room}
 use Rattle.salt_line.specs.Line.{Stands as LineStands}
 use Rattle.inbox.specs.Inbox.{Stands as InboxStands}
-use Rattle.outbox.specs.Replies.{Contents}
+use Rattle.outbox.specs.declared.kept.Kept.{Kept}
+use Rattle.outbox.specs.Replies.{Contents, by_call}
 use Rattle.server_rules.specs.Server.{Session, kept_replies, marks_of}
 use Rattle.standing.specs.declared.standing.Standing.{Standing}
 
@@ -34,6 +35,14 @@ outbox_of standing = standing.outbox
 
 abbrev pub replies_left : Standing → ℕ
 replies_left standing = standing.outbox.room
+
+-- how many bytes the body of the kept reply to a call has; none where none is kept
+abbrev pub body_bytes : Option Kept → ℕ
+body_bytes None = 0
+body_bytes (Some kept) = length kept.body
+
+abbrev pub reply_bytes : ℕ → Standing → ℕ
+reply_bytes call standing = body_bytes (by_call call standing.outbox.replies)
 
 -- its salts were needed at no later moment than this
 abbrev pub IsAt : ℕ → Standing → Type 0

@@ -1,7 +1,7 @@
 //! One session of a server as it is kept, and what it says within an event, in room that was taken before
 //! (core.telegram.org/mtproto/description, "Session"; core.telegram.org/mtproto/service_messages). A `Standing` stands for a
-//! session of the definitions (`Stands`); what it judges, tells and says, that one does (`Says`). Only `new` and `judges` take
-//! memory.
+//! session of the definitions (`Stands`); what it judges, tells and says, that one does (`Says`). Only `new`, `judges` and
+//! `reserve` take memory.
 #![tactic(auto)]
 
 mod contents;

@@ -1,17 +1,21 @@
 //! Answers to calls: a session says each once, and keeps it as a reply (core.telegram.org/mtproto/service_messages,
 //! "Response to an RPC query").
 
-ghost use Rattle.std.specs.Prelude.{◌≡◌, ◌≤◌, ◌<◌, ◌+◌, ◌++◌, ◌∷◌, [], ℕ, None, true, false, drop, length};
+ghost use Rattle.std.specs.Prelude.{◌≡◌, ◌≤◌, ◌<◌, ◌+◌, ◌++◌, ◌∷◌, [], ℕ, Bool, IfSome, Some, None, true, false, drop, length, option_map};
+ghost use Rattle.std.specs.Option.{option_copied};
+ghost use Rattle.id_window.specs.declared.mark.Mark.TheVariants.{Replied};
 ghost use Rattle.service_tl.specs.declared.item.Item.TheVariants.{RpcResult};
 ghost use Rattle.service_tl.specs.Items.{spelling_of};
 ghost use Rattle.packing.specs.Numbering.{numbered};
 ghost use Rattle.outbox.specs.Bodies.{head_bytes};
 ghost use Rattle.outbox.specs.Replies.{fits, kept_bytes_max};
 ghost use Rattle.server_rules.specs.Event.{Speaker};
-ghost use Rattle.server_rules.specs.Server.{IsKept, Reply, Session, kept_of, reply_to};
+ghost use Rattle.server_rules.specs.Server.{IsKept, Reply, Session, kept_of, mark_in, reply_to};
+ghost use Rattle.server_rules.specs.Rows.{says_reply};
 ghost use Rattle.server_rules.specs.Speaking.{answers, made_room, says, without_oldest};
 ghost use Rattle.server_laws.specs.Order.{IsUnanswered};
 ghost use Rattle.owing.specs.Items.{IsContent, result_bytes};
+ghost use Rattle.standing.specs.Fates.{kept_to};
 ghost use Rattle.standing.specs.Kept.{IsResult};
 
 use crate::contents::{is_good, result_head};
@@ -25,7 +29,7 @@ use owing::Owing;
 use server_rules::laws::oldest_replies_are_dropped;
 
 impl Standing {
-    ghost use Rattle.standing.specs.Standing.{IsAt, Stands, key_of, numbers_left, replies_left};
+    ghost use Rattle.standing.specs.Standing.{IsAt, Stands, key_of, numbers_left, replies_left, reply_bytes};
     ghost use Rattle.standing.specs.Says.{Keys, Says, setting_of};
 
     // Says the result of a call. Its number and its seq.
@@ -112,7 +116,13 @@ impl Standing {
     }
 
     // Answers a call with this result, and keeps that.
-    fn answers_by<D: Draw>(&mut self, now: Moment, owing: &mut Owing, call: u64, body: Body)
+    pub(crate) fn answers_by<D: Draw>(
+        &mut self,
+        now: Moment,
+        owing: &mut Owing,
+        call: u64,
+        body: Body,
+    )
         requires result { body ≡ spelling_of (RpcResult call (drop head_bytes body)) }
         requires content { IsContent (drop head_bytes body) }
         requires place { 0 < owing.old.places }
@@ -159,5 +169,30 @@ impl Standing {
     {
         replies_are_results();
         self.answers_by::<D>(now, owing, call, Body::shared(result_head(call), content));
+    }
+
+    /// The kept reply to a call; none where none is kept.
+    pub fn kept_to(&self, call: u64) -> Option<&Kept>
+        ensures kept { (now : ℕ) (session : Session) → Stands now self.now session → option_copied result ≡ option_map kept_of (kept_to call session.replies) }
+        ensures content { IfSome result (λ kept. IsContent (drop head_bytes kept.now.body)) }
+        ensures bytes { IfSome result (λ kept. length kept.now.body ≡ reply_bytes call self.now) }
+        ensures none { result ≡ None → reply_bytes call self.now ≡ 0 }
+    {
+        self.outbox.by_call(call)
+    }
+
+    /// Says the kept reply to a call once more, unless it was said in this event, or none is kept.
+    pub fn says_kept<D: Draw>(&self, owing: &mut Owing, call: u64)
+        requires place { 0 < owing.old.places }
+        requires bytes { reply_bytes call self.now ≤ owing.old.room }
+        ensures says { (now : ℕ) (draw : D) (good : Bool) (speaker : Speaker D) → mark_in speaker.session call ≡ Some (Replied good)
+            → Says now self.now owing.old draw speaker → Says now self.now owing.new draw (says_reply (reply_to call speaker.session.replies) speaker) }
+        ensures places { owing.old.places ≤ owing.new.places + 1 }
+        ensures left { owing.old.room ≤ owing.new.room + reply_bytes call self.now }
+        ensures taken { (owing.new.places_taken ≡ owing.old.places_taken) × (owing.new.bytes_taken ≡ owing.old.bytes_taken) }
+    {
+        if let Some(kept) = self.kept_to(call) {
+            self.says_again::<D>(owing, kept);
+        }
     }
 }

@@ -9,6 +9,6 @@ use Rattle.standing.proofs.standing.Standing.takes_acks.Given as goal
 abbrev pub invariant-loop-place : goal.invariant-loop-place
 invariant-loop-place g l =
     ((now : ℕ) (session : Session) → Stands now l.initial.self session → AreApart session.replies
-      → Stands now l.self (record session { replies = map (acked_by (take l.place l.ids)) session.replies }))
+    → Stands now l.self (record session { replies = map (acked_by (take l.place l.ids)) session.replies }))
     × (numbers_left l.self ≡ numbers_left l.initial.self) × (key_of l.self ≡ key_of l.initial.self)
     × ((now : ℕ) → IsAt now l.initial.self → IsAt now l.self)
