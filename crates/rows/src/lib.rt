@@ -8,6 +8,7 @@ mod answering;
 mod bindings;
 mod calls;
 mod entries;
+mod repeating;
 mod saying;
 mod turn;
 mod waiting;
