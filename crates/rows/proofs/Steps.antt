@@ -1,14 +1,14 @@
 -- Steps of a session that leave the jobs, the bindings and the entries.
-use Rattle.std.proofs.Common.{◌≡◌, ◌∙◌, ℕ, Bool, List, [], ◌∷◌, ◌++◌, ap, refl, subst, sym, inl, inr}
+use Rattle.std.proofs.Common.{◌≡◌, ◌∙◌, ℕ, Bool, Option, Some, None, List, [], ◌∷◌, ◌++◌, ap, refl, subst, sym, inl, inr}
 use Rattle.std.specs.Prelude.{◌==◌}
 use Rattle.std.proofs.lemmas.Bool.{cases_Bool}
 use Rattle.waits.specs.Jobs.{Queue}
-use Rattle.server_rules.specs.Server.{Binding}
+use Rattle.server_rules.specs.Server.{Binding, Reply}
 use Rattle.server_rules.specs.Event.{Entry, Setting, Speaker}
-use Rattle.server_rules.specs.Speaking.{records}
+use Rattle.server_rules.specs.Speaking.{has_said, records}
 use Rattle.server_rules.specs.Calls.{with_binding}
 use Rattle.server_rules.specs.Waiting.{tells_of}
-use Rattle.server_rules.specs.Rows.{acknowledges, notices}
+use Rattle.server_rules.specs.Rows.{acknowledges, notices, says_reply}
 use Rattle.owing.specs.Dues.{Dues}
 use Rattle.standing.specs.declared.standing.Standing.{Standing}
 use Rattle.standing.specs.Says.{Says}
@@ -109,3 +109,11 @@ with-jobs now standing turn queue after told bound draw speaker speaks is =
       bindings = speaks.bindings;
       entries = speaks.entries;
     }
+
+pub again-rest : {S : Type 0} (reply : Option Reply) (speaker : Speaker S) → LeavesRest speaker (says_reply reply speaker)
+again-rest None speaker = record { jobs = refl; bindings = refl; entries = refl }
+again-rest (Some reply) speaker =
+    elim (cases_Bool (has_said reply.number speaker)) [
+      | inl said ↦ rw said (record { jobs = refl; bindings = refl; entries = refl })
+      | inr unsaid ↦ rw unsaid (record { jobs = refl; bindings = refl; entries = refl })
+    ]
