@@ -366,3 +366,12 @@ all-left P number (kept ∷ others) all =
       | inl is ↦ rw is (All-tail P kept others all)
       | inr not ↦ rw not (All-cons P kept (without_number number others) (All-head P kept others all) (all-left P number others (All-tail P kept others all)))
     ]
+
+-- one that is found is as all are
+pub found-holds : (P : Kept → Type 0) (test : Kept → Bool) (replies : List Kept) (kept : Kept) → find test replies ≡ Some kept → All P replies → P kept
+found-holds P test [] kept found all = absurd (none-some kept found)
+found-holds P test (first ∷ others) kept found all =
+    elim (cases_Bool (test first)) [
+      | inl is ↦ subst P (same_Some first kept (sym (cond-true (test first) (Some first) (find test others) is) ∙ found)) (All-head P first others all)
+      | inr not ↦ found-holds P test others kept (sym (cond-false (test first) (Some first) (find test others) not) ∙ found) (All-tail P first others all)
+    ]

@@ -2,22 +2,39 @@
 //! (core.telegram.org/mtproto/service_messages_about_messages, "Acknowledgment of Receipt";
 //! core.telegram.org/mtproto/service_messages, "Cancellation of an RPC Query").
 
-ghost use Rattle.std.specs.Prelude.{◌≡◌, ℕ, map, option_map};
+ghost use Rattle.std.specs.Prelude.{◌≡◌, ◌<◌, ◌≤◌, ◌+◌, ℕ, length, map, option_map};
+ghost use Rattle.service_tl.specs.declared.item.Item.TheVariants.{RpcAnswerDropped};
+ghost use Rattle.service_tl.specs.Items.{spelling_of};
+ghost use Rattle.outbox.specs.Bodies.{short_bytes};
+ghost use Rattle.owing.specs.Items.{result_bytes};
 ghost use Rattle.id_window.specs.History.{History, found};
 ghost use Rattle.id_window.specs.Marks.{Marks};
 ghost use Rattle.inbox.specs.Inbox.{Stands as InboxStands};
 ghost use Rattle.owing.specs.Dues.{Dues};
-ghost use Rattle.server_laws.specs.Order.{AreReplies};
+ghost use Rattle.server_laws.specs.Order.{AreReplies, IsUnanswered};
 ghost use Rattle.server_rules.specs.Event.{Speaker};
 ghost use Rattle.server_rules.specs.Rows.{takes_acks};
+ghost use Rattle.server_rules.specs.Speaking.{answers};
 ghost use Rattle.server_rules.specs.Server.{Session, answered_mark};
 ghost use Rattle.standing.specs.Fates.{AreApart, fate_of, kept_to, refated, told_of, with_dropped, with_ended};
 
+use crate::contents::result_head;
+use crate::laws::replies_are_results;
 use crate::standing::Standing;
+use byteorder::{ByteOrder, LittleEndian};
 use draws::Draw;
 use id_window::laws::other_marks_count_nothing;
 use inbox::{Inbox, Mark};
+use msg_ids::Moment;
+use outbox::{Body, SHORT_BYTES};
+use owing::Owing;
 use server_rules::laws::marks_follow_history;
+use service_tl::RPC_ANSWER_DROPPED;
+
+/// Where the number, the sequence number and the length stand in what tells of a dropped reply.
+const NUMBER_AT: usize = 4;
+const SEQ_AT: usize = 12;
+const LENGTH_AT: usize = 16;
 
 /// What is told of a reply that was dropped.
 #[derive(Clone, Copy, Debug, PartialEq, Eq)]
@@ -27,7 +44,21 @@ pub struct DroppedReply {
     /// Its own sequence number.
     pub seq: u32,
     /// How many bytes its body has.
-    pub length: usize,
+    pub length: u32,
+}
+
+impl DroppedReply {
+    /// What tells of it, an `rpc_answer_dropped`.
+    pub fn content(&self) -> [u8; SHORT_BYTES]
+        ensures { result ≡ spelling_of (RpcAnswerDropped self.now.number self.now.seq self.now.length) }
+    {
+        let mut content = [0; SHORT_BYTES];
+        LittleEndian::write_u32(&mut content, RPC_ANSWER_DROPPED);
+        LittleEndian::write_u64(&mut content[NUMBER_AT..], self.number);
+        LittleEndian::write_u32(&mut content[SEQ_AT..], self.seq);
+        LittleEndian::write_u32(&mut content[LENGTH_AT..], self.length);
+        content
+    }
 }
 
 /// What becomes of a reply that is kept no more.
@@ -63,8 +94,8 @@ fn ends_call(inbox: &mut Inbox, call: u64, ending: Ending)
 }
 
 impl Standing {
-    ghost use Rattle.standing.specs.Says.{Says};
-    ghost use Rattle.standing.specs.Standing.{IsAt, Stands, key_of, numbers_left};
+    ghost use Rattle.standing.specs.Says.{Keys, Says, setting_of};
+    ghost use Rattle.standing.specs.Standing.{IsAt, Stands, key_of, numbers_left, replies_left};
 
     /// Drops the kept reply to a call, and tells of it; none, and nothing changes, where none is kept. Takes no memory.
     pub fn drops_reply(&mut self, call: u64) -> Option<DroppedReply>
@@ -74,6 +105,7 @@ impl Standing {
             → AreReplies session.history session.replies session.counters.last
             → Stands now self.new (record session { replies = with_dropped (kept_to call session.replies) session.replies }) }
         ensures same_numbers { numbers_left self.new ≡ numbers_left self.old }
+        ensures same_room { replies_left self.new ≡ replies_left self.old }
         ensures same_key { key_of self.new ≡ key_of self.old }
         ensures at { (now : ℕ) → IsAt now self.old → IsAt now self.new }
     {
@@ -81,10 +113,44 @@ impl Standing {
         let dropped = DroppedReply {
             number: kept.number,
             seq: kept.seq,
-            length: kept.body.len(),
+            length: kept.body.len() as u32,
         };
         self.ends_reply(dropped.number, Ending::Dropped);
         Some(dropped)
+    }
+
+    /// Answers the request in this message by what was dropped, and keeps that answer, for which room is reserved. Takes no
+    /// memory.
+    pub fn answers_dropped<D: Draw>(
+        &mut self,
+        now: Moment,
+        owing: &mut Owing,
+        request: u64,
+        dropped: &DroppedReply,
+    )
+        requires place { 0 < owing.old.places }
+        requires bytes { result_bytes short_bytes ≤ owing.old.room }
+        requires numbers { 0 < numbers_left self.old }
+        requires replies { 0 < replies_left self.old }
+        ensures says { (keys : Keys) (draw : D) (speaker : Speaker D) → IsUnanswered speaker.session.replies request
+            → Says now self.old owing.old draw speaker
+            → Says now self.new owing.new draw (answers (setting_of now D.step keys) request
+            (spelling_of (RpcAnswerDropped dropped.now.number dropped.now.seq dropped.now.length)) speaker) }
+        ensures places { owing.new.places + 1 ≡ owing.old.places }
+        ensures left { owing.new.room + result_bytes short_bytes ≡ owing.old.room }
+        ensures taken { (owing.new.places_taken ≡ owing.old.places_taken) × (owing.new.bytes_taken ≡ owing.old.bytes_taken) }
+        ensures numbers_last { numbers_left self.old ≤ numbers_left self.new + 1 }
+        ensures replies_last { replies_left self.new + 1 ≡ replies_left self.old }
+        ensures same_key { key_of self.new ≡ key_of self.old }
+        ensures at { IsAt now self.old → IsAt now self.new }
+    {
+        replies_are_results();
+        self.answers_by::<D>(
+            now,
+            owing,
+            request,
+            Body::short(result_head(request), dropped.content()),
+        );
     }
 
     /// Keeps the replies of these numbers no more: their receipt was acknowledged. Takes no memory.
@@ -93,6 +159,7 @@ impl Standing {
             → AreReplies speaker.session.history speaker.session.replies speaker.session.counters.last
             → Says now self.old owing draw speaker → Says now self.new owing draw (takes_acks ids.now speaker) }
         ensures same_numbers { numbers_left self.new ≡ numbers_left self.old }
+        ensures same_room { replies_left self.new ≡ replies_left self.old }
         ensures same_key { key_of self.new ≡ key_of self.old }
         ensures at { (now : ℕ) → IsAt now self.old → IsAt now self.new }
     {
@@ -106,6 +173,7 @@ impl Standing {
         ensures stands { (now : ℕ) (session : Session) → Stands now self.old session → AreApart session.replies
             → Stands now self.new (record session { replies = refated (fate_of ending) number session.replies }) }
         ensures same_numbers { numbers_left self.new ≡ numbers_left self.old }
+        ensures same_room { replies_left self.new ≡ replies_left self.old }
         ensures same_key { key_of self.new ≡ key_of self.old }
         ensures at { (now : ℕ) → IsAt now self.old → IsAt now self.new }
     {

@@ -21,4 +21,6 @@ pub use outlook::Outlook;
 pub use standing::Standing;
 
 #[cfg(test)]
+mod dropping_tests;
+#[cfg(test)]
 mod tests;

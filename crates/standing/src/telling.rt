@@ -17,7 +17,7 @@ const STATES_MAX: usize = 8_192;
 
 impl Standing {
     ghost use Rattle.standing.specs.Says.{Keys, Says, setting_of};
-    ghost use Rattle.standing.specs.Standing.{IsAt, Stands, key_of, numbers_left};
+    ghost use Rattle.standing.specs.Standing.{IsAt, Stands, key_of, numbers_left, outbox_of};
 
     /// Tells how far each of these messages is, a byte for each, to the request in this message.
     pub fn tells_states<D: Draw>(
@@ -37,6 +37,7 @@ impl Standing {
         ensures left { owing.new.room + states_bytes (length ids.now) ≡ owing.old.room }
         ensures taken { (owing.new.places_taken ≡ owing.old.places_taken) × (owing.new.bytes_taken ≡ owing.old.bytes_taken) }
         ensures numbers_last { numbers_left self.old ≤ numbers_left self.new + 1 }
+        ensures same_replies { outbox_of self.new ≡ outbox_of self.old }
         ensures same_key { key_of self.new ≡ key_of self.old }
         ensures at { IsAt now self.old → IsAt now self.new }
     {

@@ -104,7 +104,7 @@ fn a_reply_is_kept_until_4096_others_are(rt: HostRuntime) -> Result<(), Fail> {
         body: Octets::copy(alloc, &[1, 2, 3, 4])?,
     };
     let judged = standing.judges(alloc, now, &call)?;
-    assert_eq!(rt; judged.judgements.len(), 1);
+    assert_eq!(rt; judged.as_slice().len(), 1);
     assert_eq!(rt; standing.mark(4), Some(Mark::Waiting));
     assert_eq!(rt; answers(alloc, &mut standing, 4)?, 16);
     assert_eq!(rt; standing.mark(4), Some(Mark::Replied(true)));

@@ -1,12 +1,15 @@
-use Rattle.std.proofs.Common.{◌≡◌, ◌∙◌, ℕ, eqb, Option, Some, None, List, ap, sym, subst, refl, length}
+use Rattle.std.proofs.Common.{◌≡◌, ◌∙◌, ℕ, eqb, Option, Some, None, List, ap, sym, subst, refl, length, arith}
 use Rattle.std.specs.Prelude.{option_map}
+use Rattle.std.proofs.lemmas.List.{length-drop}
+use Rattle.outbox.specs.Bodies.{head_bytes}
 use Rattle.outbox.specs.declared.kept.Kept.{Kept}
 use Rattle.outbox.specs.Replies.{Replies, by_call, call_of}
 use Rattle.server_rules.specs.Server.{Reply, Session, WasDropped, kept_of, kept_replies}
 use Rattle.standing.specs.declared.dropping.DroppedReply.{DroppedReply}
 use Rattle.standing.specs.Fates.{kept_to, refated, told_of, with_dropped}
+use Rattle.standing.specs.Kept.{IsResult}
 use Rattle.standing.specs.Standing.{Stands}
-use Rattle.standing.proofs.FateLemmas.{are-apart, drops-refates, found-kept, told-kept, told-none}
+use Rattle.standing.proofs.FateLemmas.{are-apart, drops-refates, found-holds, found-kept, told-kept, told-none}
 use Rattle.standing.proofs.standing.Standing.drops_reply.Goals as goal
 
 -- what an outbox tells of the reply to a call
@@ -41,3 +44,12 @@ returns-clause-stands c = λ now session stands are.
     ∙ sym (ap (λ (found : Option Reply). with_dropped found replies) it.1) in
     subst (λ (all : List Reply). Stands now c.ends_reply.new.self (record session { replies = all })) same
     (c.ends_reply.ensures.stands now session stands (are-apart session.history replies session.counters.last are))
+
+pub overflow_cast-dropped : goal.overflow_cast-dropped
+overflow_cast-dropped c =
+    let kept = c.in_ok-kept.kept.now in
+    let result = found-holds IsResult (λ (one : Kept). eqb one.call c.args.call) c.args.self.now.outbox.replies kept (sym c.in_ok-kept.ensures) c.args.self.now.contents in
+    let short = result.content.short in
+    let left = length-drop head_bytes kept.body in
+    let value = c.len.ensures.value in
+    omega arith

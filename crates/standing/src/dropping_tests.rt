@@ -1,0 +1,99 @@
+//! What a session lets go of, says once more, and tells of numbers.
+
+use crate::{DroppedReply, Standing};
+use draws::StepDraw;
+use inbox::{Mark, Outer};
+use msg_ids::Moment;
+use octets::{Memory, Octets};
+use outbox::Bytes;
+use owing::Owing;
+use std::alloc::Global;
+use std::test::*;
+
+// The session's first salt: the second word of the draw, 2 times its step.
+const SALT: u64 = 12_728_272_447_693_586_010;
+
+// A call of the service.
+fn call(alloc: Global, number: u64, seq: u32) -> Result<Outer, Memory> {
+    Ok(Outer {
+        number,
+        seq,
+        salt: SALT,
+        body: Octets::copy(alloc, &[1, 2, 3, 4])?,
+    })
+}
+
+// A session that has answered two calls, 4 and 8.
+fn answered(alloc: Global) -> Result<Standing, Memory> {
+    let now = Moment::new(0);
+    let mut standing = Standing::new(alloc, now, 7, 9, 4, &mut StepDraw::new())?;
+    standing.judges(alloc, now, &call(alloc, 4, 1)?)?;
+    standing.judges(alloc, now, &call(alloc, 8, 3)?)?;
+    standing.reserve(alloc, 2)?;
+    let mut owing = Owing::new(alloc, 2, 32)?;
+    standing.answers::<StepDraw>(now, &mut owing, 4, Bytes::from_static(b"done"));
+    standing.answers::<StepDraw>(now, &mut owing, 8, Bytes::from_static(b"good"));
+    Ok(standing)
+}
+
+// What it says once more: all that it keeps.
+fn said_again(alloc: Global, standing: &Standing) -> Result<Owing, Memory> {
+    let mut owing = Owing::new(alloc, standing.kept_count(), standing.kept_bytes())?;
+    standing.says_all_again::<StepDraw>(&mut owing);
+    Ok(owing)
+}
+
+// What it tells of four numbers, to the request 12.
+fn states(alloc: Global, standing: &mut Standing) -> Result<Owing, Memory> {
+    let mut owing = Owing::new(alloc, 1, 20)?;
+    if standing.numbers_left() > 0 {
+        standing.tells_states::<StepDraw>(Moment::new(0), &mut owing, 12, &[0, 4, 6, 12]);
+    }
+    Ok(owing)
+}
+
+// What it answers to the request 12, which asked to drop a reply.
+fn told(alloc: Global, standing: &mut Standing, dropped: &DroppedReply) -> Result<Owing, Memory> {
+    let mut owing = Owing::new(alloc, 1, 32)?;
+    standing.reserve(alloc, 1)?;
+    if standing.numbers_left() > 0 {
+        standing.answers_dropped::<StepDraw>(Moment::new(0), &mut owing, 12, dropped);
+    }
+    Ok(owing)
+}
+
+#[test]
+fn kept_replies_are_acknowledged_and_dropped(rt: HostRuntime) -> Result<(), Fail> {
+    let alloc = rt.alloc();
+    let mut standing = answered(alloc)?;
+    let again = said_again(alloc, &standing)?;
+    assert_eq!(rt; again.len(), 2);
+    assert_eq!(rt; (again.at(0).number, again.at(1).number), (5, 9));
+    standing.takes_acks::<StepDraw>(&[5, 7]);
+    assert_eq!(rt; standing.kept_count(), 1);
+    assert_eq!(rt; standing.mark(4), Some(Mark::Acked(true)));
+    assert_eq!(rt; standing.mark(8), Some(Mark::Replied(true)));
+    assert_eq!(rt; standing.drops_reply(4), None);
+    let dropped = DroppedReply {
+        number: 9,
+        seq: 3,
+        length: 16,
+    };
+    assert_eq!(rt; standing.drops_reply(8), Some(dropped));
+    assert_eq!(rt; standing.kept_count(), 0);
+    assert_eq!(rt; standing.mark(8), Some(Mark::Dropped(true)));
+    assert!(rt; standing.kept(0).is_none());
+    let told = told(alloc, &mut standing, &dropped)?;
+    assert_eq!(rt; told.len(), 1);
+    assert_eq!(rt;
+        told.at(0).body,
+        b"\x01\x6d\x5c\xf3\x0c\0\0\0\0\0\0\0\xb7\xd8\x3a\xa4\x09\0\0\0\0\0\0\0\x03\0\0\0\x10\0\0\0".as_slice()
+    );
+    let states = states(alloc, &mut standing)?;
+    assert_eq!(rt; states.len(), 1);
+    assert_eq!(rt;
+        states.at(0).body,
+        b"\x7d\xb5\xde\x04\x0c\0\0\0\0\0\0\0\x04\x01\x64\x02\x03\0\0\0".as_slice()
+    );
+    Ok(())
+}
