@@ -3,3 +3,4 @@ pub mod Bound
 pub mod Once
 pub mod Queries
 pub mod Accepting
+pub mod DropLemmas

@@ -7,6 +7,7 @@
 mod answering;
 mod bindings;
 mod calls;
+mod dropping;
 mod entries;
 mod repeating;
 mod saying;
