@@ -103,9 +103,9 @@ dropped-call : (reply other : Reply) → (if other.number == reply.number then d
 dropped-call reply other =
     elim (cases_Bool (other.number == reply.number)) [
       | inl same ↦ elim (cases_Bool (is_kept other)) [
-          | inl kept ↦ rw (same, kept) refl
-          | inr gone ↦ rw (same, gone) refl
-        ]
+        | inl kept ↦ rw (same, kept) refl
+        | inr gone ↦ rw (same, gone) refl
+      ]
       | inr apart ↦ rw apart refl
     ]
 

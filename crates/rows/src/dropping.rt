@@ -56,13 +56,7 @@ impl Turn {
     }
 
     // The session answers a request to drop the answer to a call that isn't unfinished.
-    fn drops_kept<D: Draw>(
-        &mut self,
-        now: Moment,
-        standing: &mut Standing,
-        number: u64,
-        call: u64,
-    )
+    fn drops_kept<D: Draw>(&mut self, now: Moment, standing: &mut Standing, number: u64, call: u64)
         requires room { HasRoom 1 (result_bytes short_bytes_max) 0 standing.old self.old }
         requires replies { 0 < replies_left standing.old }
         ensures speaks { (keys : Keys) (jobs : Queue) (bindings : List Binding) (draw : D) (speaker : Speaker D)

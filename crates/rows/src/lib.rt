@@ -19,3 +19,6 @@ pub use calls::CallDue;
 pub use entries::{Entries, Entry};
 pub use turn::Turn;
 pub use waiting::Run;
+
+#[cfg(test)]
+mod tests;
