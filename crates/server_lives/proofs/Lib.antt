@@ -1,0 +1,4 @@
+pub mod Names
+pub mod Counting
+pub mod Accounts
+pub mod Course
