@@ -2,7 +2,7 @@
 use Rattle.std.proofs.Common.{◌≡◌, ◌≢◌, ◌∙◌, ℕ, ◌+◌, eqb, Bool, true, false, cond, Option, Some, None, List, [], ◌∷◌, ◌++◌, length, ap, sym, subst, refl, arith, inl, inr}
 use Rattle.std.specs.Prelude.{map, fold, min, is_some, ◌&&◌, ◌==◌}
 use Rattle.std.specs.List.{find, list_all, All}
-use Rattle.std.proofs.lemmas.Bool.{cases_Bool, cond_both, cond-true, cond-false}
+use Rattle.std.proofs.lemmas.Bool.{cases_Bool, cond_both, cond-true, cond-false, and_parts, eqb-true}
 use Rattle.service_tl.specs.declared.item.Item.{Item}
 use Rattle.service_tl.specs.declared.item.Item.TheVariants.{RpcDropAnswer, GetFutureSalts, Ping, PingDelayDisconnect, MsgsAck, MsgsStateReq, MsgResendReq, InvokeAfterMsg, InvokeAfterMsgs, AuthBindTempAuthKey, Packed, Call, Broken}
 use Rattle.service_tl.specs.Schema.{rpc_drop_answer}
@@ -15,12 +15,13 @@ use Rattle.waits.specs.declared.job.Unfinished.{Unfinished}
 use Rattle.waits.specs.Jobs.{Queue, accepted, is_call, first_job, without_first, one_if}
 use Rattle.server_rules.specs.Server.{Name, Reply, Binding, is_kept, name_of, mark_in, reply_to}
 use Rattle.server_rules.specs.Event.{Setting, Speaker, BindingCall, Entry}
-use Rattle.server_rules.specs.Speaking.{says_again, has_said, answers, answers_in_place, packed_body_refused, bad_body}
+use Rattle.server_rules.specs.Speaking.{says_again, has_said, answers, records, answers_in_place, packed_body_refused, bad_body}
 use Rattle.server_rules.specs.Waiting.{gives_up, tells_of, outlook}
-use Rattle.server_rules.specs.Calls.{accepts_call, becomes_job, refusal, job_of, drops_by, drops_answer, dropped_running, binds, binds_by}
+use Rattle.server_rules.specs.Calls.{accepts_call, becomes_job, refusal, job_of, drops_running, drops_by, drops_answer, dropped_running, binds, binds_by}
 use Rattle.server_rules.specs.Rows.{notices, came_again, says_reply, tells_states, sends_again, kept_numbered, answers_broken, accepts, owes}
 use Rattle.server_rules.specs.Answer.{finishes}
 use Rattle.server_lives.specs.Lives.{request_of}
+use Rattle.server_lives.proofs.Names.{named, some-same, none-some}
 use Rattle.server_lives.proofs.Counting.{Test, count, count-append, jobs_at, entries_at, is_by, job_passes, entry_passes, asks, by-own, by-other, told-at, first-at, found_at}
 
 -- how much an account rises for each test
@@ -104,15 +105,45 @@ entered-at key session test entries entry of_key of_session =
     let same : one_if (entry_passes name test entry) ≡ one_if (test entry.number entry.request) = ap (λ (is : Bool). one_if (is && test entry.number entry.request)) own in
     let all = count-append (entry_passes name test) entries (entry ∷ []) in omega arith
 
-pub in_place-account : {S : Type 0} (setting : Setting S) (number : ℕ) (request content : List ℕ) (speaker : Speaker S)
-    → Account S (asking number (Some request)) speaker (answers_in_place setting number request content speaker)
-in_place-account setting number request content speaker = record {
+records-account : {S : Type 0} (setting : Setting S) (ran : Bool) (number : ℕ) (request content : List ℕ) (speaker : Speaker S)
+    → Account S (asking number (Some request)) speaker (records ran number request content (answers setting number content speaker))
+records-account setting ran number request content speaker = record {
   own = λ test.
       let entry : Entry =
-      record { key = speaker.session.key; session = speaker.session.number; number = number; request = request; reply = content; ran = false } in
+      record { key = speaker.session.key; session = speaker.session.number; number = number; request = request; reply = content; ran = ran } in
       let more = entered-at speaker.session.key speaker.session.number test speaker.entries entry refl refl in omega arith;
   others = λ other apart test. refl;
 }
+
+in_place-account : {S : Type 0} (setting : Setting S) (number : ℕ) (request content : List ℕ) (speaker : Speaker S)
+    → Account S (asking number (Some request)) speaker (answers_in_place setting number request content speaker)
+in_place-account setting number request content speaker = records-account setting false number request content speaker
+
+-- what jobs are told changes no account
+tells-account : {S : Type 0} (rise : Rise) (number : ℕ) (before after : Speaker S) → Account S rise before after → Account S rise before (tells_of number after)
+tells-account rise number before after account =
+    let look = outlook after.session after.jobs number in
+    record {
+      own = λ test.
+          let told = told-at (name_of before.session) test look after.session number after.jobs in
+          let was = account.own test in omega arith;
+      others = λ other apart test. told-at other test look after.session number after.jobs ∙ account.others other apart test;
+    }
+
+pub gives_up-account : {S : Type 0} (setting : Setting S) (content : List ℕ) (job : Job) (speaker : Speaker S)
+    → Account S (asking job.number (Some job.request)) speaker (gives_up setting content job speaker)
+gives_up-account setting content job speaker =
+    tells-account (asking job.number (Some job.request)) job.number speaker (answers_in_place setting job.number job.request content speaker)
+    (in_place-account setting job.number job.request content speaker)
+
+pub finishes-account : {S : Type 0} (setting : Setting S) (job : Job) (reply : List ℕ) (speaker : Speaker S)
+    → Account S (asking job.number (Some job.request)) speaker (finishes setting job reply speaker)
+finishes-account setting job reply speaker =
+    tells-account (asking job.number (Some job.request)) job.number speaker (records true job.number job.request reply (answers setting job.number reply speaker))
+    (records-account setting true job.number job.request reply speaker)
+
+pub told-account : {S : Type 0} (number : ℕ) (speaker : Speaker S) → Account S none speaker (tells_of number speaker)
+told-account number speaker = tells-account none number speaker speaker (still-account speaker speaker (refl, refl))
 
 pub job-account : {S : Type 0} (job : Job) (speaker : Speaker S) → job.key ≡ speaker.session.key → job.session ≡ speaker.session.number
     → Account S (asking job.number (Some job.request)) speaker (record speaker { jobs = accepted job speaker.jobs })
@@ -128,7 +159,7 @@ job-account job speaker of_key of_session =
       others = λ other apart test.
           let off : is_by other job.key job.session ≡ false =
           by-other other job.key job.session
-          (λ same. apart (same ∙ (ap (λ (k : ℕ). record { key = k; session = job.session }) of_key ∙ ap (λ (s : ℕ). record { key = speaker.session.key; session = s }) of_session))) in
+          (λ same. apart (same ∙ (ap (λ (k : ℕ). named k job.session) of_key ∙ ap (named speaker.session.key) of_session))) in
           let same : one_if (job_passes other test job) ≡ 0 = ap (λ (is : Bool). one_if (is && test job.number job.request)) off in
           let all = count-append (λ (one : Unfinished). job_passes other test one.job) speaker.jobs (one ∷ []) in omega arith;
     }
@@ -161,3 +192,109 @@ broken-account {S} setting number constructor body speaker =
           let P : Bool → Type 0 = λ drop. Account S (asking number (cond drop None (Some body))) speaker (cond drop quiet entered) in
           subst P (sym fails) (in_place-account setting number body bad_body speaker)
     ]
+
+-- ---- rpc_drop_answer
+
+first-is : (key session number : ℕ) (jobs : Queue) (job : Job) → first_job (is_call key session number) jobs ≡ Some job
+    → (job.key ≡ key) × (job.session ≡ session) × (job.number ≡ number)
+first-is key session number [] job is = absurd (none-some job is)
+first-is key session number (one ∷ jobs) job is =
+    elim (cases_Bool (is_call key session number one)) [
+      | inl holds ↦
+          let same : one.job ≡ job = some-same one.job job (sym (cond-true (is_call key session number one) (Some one.job) (first_job (is_call key session number) jobs) holds) ∙ is) in
+          let parts = and_parts _ _ holds in
+          let names = and_parts _ _ parts.0 in (
+            ap (λ (job : Job). job.key) (sym same) ∙ eqb-true one.job.key key names.0,
+            ap (λ (job : Job). job.session) (sym same) ∙ eqb-true one.job.session session names.1,
+            ap (λ (job : Job). job.number) (sym same) ∙ eqb-true one.job.number number parts.1,
+          )
+      | inr fails ↦
+          first-is key session number jobs job (sym (cond-false (is_call key session number one) (Some one.job) (first_job (is_call key session number) jobs) fails) ∙ is)
+    ]
+
+-- the first job by its own name and number is the one that was found
+first-again : (key session number : ℕ) (jobs : Queue) (job : Job) → first_job (is_call key session number) jobs ≡ Some job
+    → first_job (is_call job.key job.session job.number) jobs ≡ Some job
+first-again key session number jobs job is =
+    let are = first-is key session number jobs job is in
+    ap (λ (k : ℕ). first_job (is_call k job.session job.number) jobs) are.0
+    ∙ (ap (λ (s : ℕ). first_job (is_call key s job.number) jobs) are.1
+    ∙ (ap (λ (n : ℕ). first_job (is_call key session n) jobs) are.2 ∙ is))
+
+running-account : {S : Type 0} (setting : Setting S) (number : ℕ) (job : Job) (speaker : Speaker S)
+    → first_job (is_call job.key job.session job.number) speaker.jobs ≡ Some job → job.key ≡ speaker.session.key → job.session ≡ speaker.session.number
+    → Account S none speaker (drops_running setting number job speaker)
+running-account {S} setting number job speaker first of_key of_session =
+    let name = name_of speaker.session in
+    let own = answers setting number dropped_running speaker in
+    let rest : Speaker S = record own { jobs = without_first (is_call job.key job.session job.number) own.jobs } in
+    let entered = in_place-account setting job.number job.request dropped_running rest in
+    let same : is_by name job.key job.session ≡ true =
+    ap (λ (k : ℕ). is_by name k job.session) of_key ∙ (ap (is_by name speaker.session.key) of_session ∙ by-own speaker.session.key speaker.session.number) in
+    tells-account none job.number speaker (answers_in_place setting job.number job.request dropped_running rest) (record {
+      own = λ test.
+          let taken = first-at name test (is_call job.key job.session job.number) speaker.jobs in
+          let found : found_at name test (first_job (is_call job.key job.session job.number) speaker.jobs) ≡ one_if (test job.number job.request) =
+          ap (found_at name test) first ∙ ap (λ (is : Bool). one_if (is && test job.number job.request)) same in
+          let more = entered.own test in omega arith;
+      others = λ other apart test.
+          let off : is_by other job.key job.session ≡ false =
+          by-other other job.key job.session
+          (λ same. apart (same ∙ (ap (λ (k : ℕ). named k job.session) of_key ∙ ap (named speaker.session.key) of_session))) in
+          let taken = first-at other test (is_call job.key job.session job.number) speaker.jobs in
+          let found : found_at other test (first_job (is_call job.key job.session job.number) speaker.jobs) ≡ 0 =
+          ap (found_at other test) first ∙ ap (λ (is : Bool). one_if (is && test job.number job.request)) off in
+          omega arith;
+    })
+
+drops_by-account : {S : Type 0} (setting : Setting S) (number call : ℕ) (job : Option Job) (reply : Option Reply) (speaker : Speaker S)
+    → first_job (is_call speaker.session.key speaker.session.number call) speaker.jobs ≡ job
+    → Account S none speaker (drops_by setting number job reply speaker)
+drops_by-account setting number call (Some job) reply speaker is =
+    let are = first-is speaker.session.key speaker.session.number call speaker.jobs job is in
+    running-account setting number job speaker (first-again speaker.session.key speaker.session.number call speaker.jobs job is) are.0 are.1
+drops_by-account setting number call None (Some reply) speaker is = still-account speaker (drops_by setting number None (Some reply) speaker) (refl, refl)
+drops_by-account setting number call None None speaker is = still-account speaker (drops_by setting number None None speaker) (refl, refl)
+
+drops-account : {S : Type 0} (setting : Setting S) (number call : ℕ) (speaker : Speaker S) → Account S none speaker (drops_answer setting number call speaker)
+drops-account setting number call speaker =
+    drops_by-account setting number call (first_job (is_call speaker.session.key speaker.session.number call) speaker.jobs)
+    (find (λ reply. is_kept reply && (reply.call == call)) speaker.session.replies) speaker refl
+
+-- ---- all rows
+
+binds-account : {S : Type 0} (setting : Setting S) (call : BindingCall) (speaker : Speaker S) → Account S none speaker (binds setting call speaker)
+binds-account setting call speaker =
+    still-account speaker (binds setting call speaker) (binds_by-still setting call.number (setting.bound_by setting.now (name_of speaker.session) call) speaker)
+
+accepts-account : {S : Type 0} (setting : Setting S) (number : ℕ) (item : Item) (body : List ℕ) (speaker : Speaker S)
+    → Account S (asking number (request_of item body)) speaker (accepts setting number item body speaker)
+accepts-account setting number Packed body speaker = in_place-account setting number body packed_body_refused speaker
+accepts-account setting number (Broken constructor) body speaker = broken-account setting number constructor body speaker
+accepts-account setting number (AuthBindTempAuthKey perm nonce expires message) body speaker =
+    binds-account setting (record { number = number; perm = perm; nonce = nonce; expires = expires; message = message }) speaker
+accepts-account setting number Call body speaker = call-account setting number [] body speaker
+accepts-account setting number (InvokeAfterMsg other query) body speaker = call-account setting number (other ∷ []) query speaker
+accepts-account setting number (InvokeAfterMsgs numbers query) body speaker = call-account setting number numbers query speaker
+accepts-account setting number (RpcDropAnswer call) body speaker = drops-account setting number call speaker
+accepts-account setting number (Ping ping) body speaker = still-account speaker (accepts setting number (Ping ping) body speaker) (refl, refl)
+accepts-account setting number (PingDelayDisconnect ping delay) body speaker =
+    still-account speaker (accepts setting number (PingDelayDisconnect ping delay) body speaker) (refl, refl)
+accepts-account setting number (GetFutureSalts count) body speaker = still-account speaker (accepts setting number (GetFutureSalts count) body speaker) (refl, refl)
+accepts-account setting number (MsgsAck numbers) body speaker = still-account speaker (accepts setting number (MsgsAck numbers) body speaker) (refl, refl)
+accepts-account setting number (MsgsStateReq numbers) body speaker = still-account speaker (accepts setting number (MsgsStateReq numbers) body speaker) (refl, refl)
+accepts-account setting number (MsgResendReq numbers) body speaker = still-account speaker (sends_again setting number numbers speaker) (sends_again-still setting number numbers speaker)
+accepts-account setting number _ body speaker = still-account speaker speaker (refl, refl)
+
+-- what an accepted message asks, and a message that isn't accepted asks nothing
+abbrev pub asked_by : Verdict → List ℕ → Option (List ℕ)
+asked_by (Accepted item) body = request_of item body
+asked_by _ body = None
+
+pub owes-account : {S : Type 0} (setting : Setting S) (number seq : ℕ) (verdict : Verdict) (body : List ℕ) (speaker : Speaker S)
+    → Account S (asking number (asked_by verdict body)) speaker (owes setting number seq verdict body speaker)
+owes-account setting number seq (Noticed code) body speaker = still-account speaker (notices setting number seq code speaker) (notices-still setting number seq code speaker)
+owes-account setting number seq (Again mark) body speaker =
+    let now = mark_in speaker.session number in
+    still-account speaker (came_again setting number seq now speaker) (came-still setting number seq now speaker)
+owes-account setting number seq (Accepted item) body speaker = accepts-account setting number item body speaker

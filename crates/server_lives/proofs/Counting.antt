@@ -58,7 +58,7 @@ count-none {X} test (x ∷ xs) all =
 abbrev pub Test : Type 0
 Test = ℕ → List ℕ → Bool
 
-pub any : Test
+abbrev pub any : Test
 any number request = true
 
 abbrev pub is_by : Name → ℕ → ℕ → Bool

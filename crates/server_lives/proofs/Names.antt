@@ -5,6 +5,9 @@ use Rattle.std.specs.List.{find}
 use Rattle.std.proofs.lemmas.Bool.{cases_Bool, cond-true, cond-false, and_parts, and_from, eqb-true, eq-eqb, false≢true}
 use Rattle.server_rules.specs.Server.{Name, Session, name_of, is_same, is_named, session_named, without_session}
 
+abbrev pub named : ℕ → ℕ → Name
+named key session = record { key = key; session = session }
+
 pub name-by : (one other : Name) → one.key ≡ other.key → one.session ≡ other.session → one ≡ other
 name-by one other key session =
     let P : ℕ → Name = λ k. record { key = k; session = one.session } in
