@@ -2,3 +2,5 @@ pub mod Names
 pub mod Counting
 pub mod Accounts
 pub mod Course
+pub mod Going
+pub mod Packets
