@@ -15,7 +15,7 @@ use Rattle.server_rules.specs.Event.{Setting, State, Speaker, Entry, Owed, speak
 use Rattle.server_rules.specs.Speaking.{msg_wait_failed, msg_wait_timeout}
 use Rattle.server_rules.specs.Waiting.{gives_up, given_up, first_given_up, all_given_up, after_failures, after_timeouts, tells_of}
 use Rattle.server_rules.specs.Rows.{owes}
-use Rattle.server_rules.specs.Answer.{finishes}
+use Rattle.server_rules.specs.Answer.{attaches, finishes}
 use Rattle.server_laws.specs.Speech.{SaidFor}
 use Rattle.server_lives.proofs.Names.{named, cases_name, names-same, apart-names, found-named, lost-name, lost-other}
 use Rattle.server_lives.proofs.Counting.{Test, any, jobs_at, entries_at, is_by, job_passes, entry_passes, asks, count-append, by-own, by-other, first-at, ready-at, found_at, lost-own, lost-others, own-entries}
@@ -85,6 +85,7 @@ pub record Known (S : Type 0) : Type 0 where
       → name_of (speak (speaker_in state session)).session ≡ name → other ≢ name
       → session_named other (speaks name speak state).sessions ≡ session_named other state.sessions
   pub owes : (setting : Setting S) (speaker : Speaker S) (number seq : ℕ) (verdict : Verdict) (body : List ℕ) → SaidFor S speaker (owes setting number seq verdict body speaker)
+  pub attaches : (setting : Setting S) (speaker : Speaker S) → SaidFor S speaker (attaches setting speaker)
   pub gives_up : (setting : Setting S) (speaker : Speaker S) (content : List ℕ) (job : Job) → SaidFor S speaker (gives_up setting content job speaker)
   pub finishes : (setting : Setting S) (speaker : Speaker S) (job : Job) (reply : List ℕ) → SaidFor S speaker (finishes setting job reply speaker)
 

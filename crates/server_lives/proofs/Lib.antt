@@ -4,3 +4,5 @@ pub mod Accounts
 pub mod Course
 pub mod Going
 pub mod Packets
+pub mod Ends
+pub mod Events

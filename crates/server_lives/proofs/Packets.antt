@@ -20,14 +20,14 @@ use Rattle.server_rules.specs.Waiting.{tells_of, after_failures}
 use Rattle.server_rules.specs.Rows.{owes, row, destroys, settles, acknowledges, acks_of}
 use Rattle.server_rules.specs.Answer.{name_in, message_in, without_first as without_first_session, with_place, session_for, makes, hears_by, hears, opens, messages_judged, takes_by, takes, begun}
 use Rattle.server_lives.specs.Lives.{Acceptance, acceptance_of, acceptance_by, judged_by, history_by}
-use Rattle.server_lives.proofs.Names.{named, cases_name, names-same, apart-names, found-named, lost-name, lost-other}
+use Rattle.server_lives.proofs.Names.{none-some, cases_name, names-same, apart-names, found-named, lost-name, lost-other}
 use Rattle.server_lives.proofs.Counting.{Test, any, jobs_at, entries_at, asks, asked_at, lost-own, lost-others}
 use Rattle.server_lives.proofs.Accounts.{Rise, none, asking, asked_by, Account, Still, still-account, owes-account, told-account}
 use Rattle.server_lives.proofs.Going.{Who, IsWho, Holds, HoldsIn, holds-same, Spoke, spoke-said, Known, with_history, speaks-hold, speaks-same, opens-own, opens-other, lost-holds, failures-hold}
 
 -- ---- what speeches are
 
-quiet : {S : Type 0} (judged : History) (before after : Speaker S) → name_of after.session ≡ name_of before.session → after.session.first ≡ before.session.first
+pub quiet : {S : Type 0} (judged : History) (before after : Speaker S) → name_of after.session ≡ name_of before.session → after.session.first ≡ before.session.first
     → after.session.unique ≡ before.session.unique → after.session.history ≡ judged → Still S before after → Spoke S judged none before after
 quiet judged before after name first unique history still = record {
   name = name;
@@ -275,3 +275,73 @@ module _ {S : Type 0} (known : Known S) (setting : Setting S) (envelope : Envelo
       → HoldsIn who test total state → HoldsIn who test total (hears setting envelope state)
   hears-hold who total state apart holds =
       hears-by who total state (session_named (name_in envelope) state.sessions) refl apart holds
+
+-- ---- a session is made
+
+-- what a session begins with
+abbrev pub IsBegun : {S : Type 0} → Name → Session → State S → Type 0
+IsBegun name session state =
+    (session_named name state.sessions ≡ Some session)
+    × (name_of session ≡ name)
+    × ((test : Test)
+    → HoldsIn (record { name = name; first = session.first; unique = session.unique; history = [] }) test 0 state)
+
+made-begun : {S : Type 0} (setting : Setting S) (envelope : Envelope) (placed : State S) → session_named (name_in envelope) placed.sessions ≡ None
+    → ((test : Test) → jobs_at (name_in envelope) test placed.jobs ≡ 0) → placed.entries ≡ []
+    → IsBegun (name_in envelope) (session_for setting envelope placed.draw) (makes setting envelope placed)
+made-begun setting envelope placed none jobs entries =
+    let name = name_in envelope in
+    let session = session_for setting envelope placed.draw in
+    let found : session_named name (placed.sessions ++ session ∷ []) ≡ Some session = last-own placed.sessions session none in (
+      found,
+      refl,
+      λ test.
+          let who : Who = record { name = name; first = session.first; unique = session.unique; history = [] } in
+          let P : Option Session → Type 0 = λ found. Holds who test 0 found placed.jobs placed.entries in
+          let no_jobs = jobs test in
+          let no_entries : entries_at name test placed.entries ≡ 0 = ap (entries_at name test) entries in
+          subst P (sym found) ((refl, refl, refl), omega arith),
+    )
+
+hears-new : {S : Type 0} (setting : Setting S) (envelope : Envelope) (state : State S) (found : Option Session) → session_named (name_in envelope) state.sessions ≡ found → found ≡ None
+    → ((test : Test) → jobs_at (name_in envelope) test state.jobs ≡ 0) → state.entries ≡ []
+    → (session : Session) × IsBegun (name_in envelope) session (hears_by setting envelope found state)
+hears-new setting envelope state (Some session) is none jobs entries = absurd (none-some session (sym none))
+hears-new {S} setting envelope state None is none jobs entries =
+    let name = name_in envelope in
+    let other = without_first_session state.sessions state in
+    cond_both (ltb (length state.sessions) sessions_max) state other
+    (λ (placed : State S). (session : Session) × IsBegun name session (makes setting envelope placed))
+    (λ room. (session_for setting envelope state.draw, made-begun setting envelope state is jobs entries))
+    (λ full. (
+      session_for setting envelope other.draw,
+      made-begun setting envelope other (placed-none name state.sessions state is) (λ test. placed-jobs name test state.sessions state (jobs test))
+          (placed-entries state.sessions state ∙ entries),
+    ))
+
+pub begins : {S : Type 0} (setting : Setting S) (envelope : Envelope) (state : State S) → session_named (name_in envelope) state.sessions ≡ None
+    → ((test : Test) → jobs_at (name_in envelope) test state.jobs ≡ 0) → state.entries ≡ []
+    → (session : Session) × IsBegun (name_in envelope) session (hears setting envelope state)
+begins setting envelope state none jobs entries = hears-new setting envelope state (session_named (name_in envelope) state.sessions) refl none jobs entries
+
+-- ---- the packet of a session, and of another
+
+module _ {S : Type 0} (known : Known S) (setting : Setting S) (envelope : Envelope) where
+  pub packet-own : (who : Who) (test : Test) (total : ℕ) (session : Session) (state : State S) → who.name ≡ name_in envelope
+      → session_named (name_in envelope) (hears setting envelope state).sessions ≡ Some session
+      → HoldsIn who test total (hears setting envelope state)
+      → HoldsIn (with_history who (history_by setting envelope session)) test (total + rises test (judged_by setting envelope session)) (takes setting envelope state)
+  packet-own who test total session state own found holds =
+      let heard = hears setting envelope state in
+      let P : Option Session → Type 0 = λ found.
+          HoldsIn (with_history who (history_by setting envelope session)) test (total + rises test (judged_by setting envelope session)) (takes_by setting envelope found heard) in
+      let named_so : name_of session ≡ name_in envelope = found-named (name_in envelope) heard.sessions session found in
+      subst P (sym found) (takes-own known setting envelope test who total session heard (own ∙ sym named_so) holds)
+
+  pub packet-other : (who : Who) (test : Test) (total : ℕ) (state : State S) → who.name ≢ name_in envelope
+      → HoldsIn who test total state → HoldsIn who test total (takes setting envelope state)
+  packet-other who test total state apart holds =
+      let heard = hears setting envelope state in
+      takes-other known setting envelope test who total (session_named (name_in envelope) heard.sessions) heard
+      (λ session is same. apart (same ∙ found-named (name_in envelope) heard.sessions session is))
+      (hears-hold known setting envelope test who total state (λ none. apart) holds)
