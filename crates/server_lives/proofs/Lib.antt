@@ -6,3 +6,7 @@ pub mod Going
 pub mod Packets
 pub mod Ends
 pub mod Events
+pub mod Lists
+pub mod Judged
+pub mod Living
+pub mod Final

@@ -279,22 +279,22 @@ module _ {S : Type 0} (known : Known S) (setting : Setting S) (envelope : Envelo
 -- ---- a session is made
 
 -- what a session begins with
-abbrev pub IsBegun : {S : Type 0} → Name → Session → State S → Type 0
-IsBegun name session state =
-    (session_named name state.sessions ≡ Some session)
-    × (name_of session ≡ name)
+abbrev pub IsBegun : {S : Type 0} → Setting S → Envelope → Session → State S → Type 0
+IsBegun {S} setting envelope session state =
+    (session_named (name_in envelope) state.sessions ≡ Some session)
+    × ((draw : S) × (session ≡ session_for setting envelope draw))
     × ((test : Test)
-    → HoldsIn (record { name = name; first = session.first; unique = session.unique; history = [] }) test 0 state)
+    → HoldsIn (record { name = name_in envelope; first = session.first; unique = session.unique; history = [] }) test 0 state)
 
 made-begun : {S : Type 0} (setting : Setting S) (envelope : Envelope) (placed : State S) → session_named (name_in envelope) placed.sessions ≡ None
     → ((test : Test) → jobs_at (name_in envelope) test placed.jobs ≡ 0) → placed.entries ≡ []
-    → IsBegun (name_in envelope) (session_for setting envelope placed.draw) (makes setting envelope placed)
+    → IsBegun setting envelope (session_for setting envelope placed.draw) (makes setting envelope placed)
 made-begun setting envelope placed none jobs entries =
     let name = name_in envelope in
     let session = session_for setting envelope placed.draw in
     let found : session_named name (placed.sessions ++ session ∷ []) ≡ Some session = last-own placed.sessions session none in (
       found,
-      refl,
+      (placed.draw, refl),
       λ test.
           let who : Who = record { name = name; first = session.first; unique = session.unique; history = [] } in
           let P : Option Session → Type 0 = λ found. Holds who test 0 found placed.jobs placed.entries in
@@ -305,13 +305,13 @@ made-begun setting envelope placed none jobs entries =
 
 hears-new : {S : Type 0} (setting : Setting S) (envelope : Envelope) (state : State S) (found : Option Session) → session_named (name_in envelope) state.sessions ≡ found → found ≡ None
     → ((test : Test) → jobs_at (name_in envelope) test state.jobs ≡ 0) → state.entries ≡ []
-    → (session : Session) × IsBegun (name_in envelope) session (hears_by setting envelope found state)
-hears-new setting envelope state (Some session) is none jobs entries = absurd (none-some session (sym none))
-hears-new {S} setting envelope state None is none jobs entries =
+    → (session : Session) × IsBegun setting envelope session (hears_by setting envelope found state)
+hears-new setting envelope state (Some session) is no_one jobs entries = absurd (none-some session (sym no_one))
+hears-new {S} setting envelope state None is no_one jobs entries =
     let name = name_in envelope in
     let other = without_first_session state.sessions state in
     cond_both (ltb (length state.sessions) sessions_max) state other
-    (λ (placed : State S). (session : Session) × IsBegun name session (makes setting envelope placed))
+    (λ (placed : State S). (session : Session) × IsBegun setting envelope session (makes setting envelope placed))
     (λ room. (session_for setting envelope state.draw, made-begun setting envelope state is jobs entries))
     (λ full. (
       session_for setting envelope other.draw,
@@ -321,7 +321,7 @@ hears-new {S} setting envelope state None is none jobs entries =
 
 pub begins : {S : Type 0} (setting : Setting S) (envelope : Envelope) (state : State S) → session_named (name_in envelope) state.sessions ≡ None
     → ((test : Test) → jobs_at (name_in envelope) test state.jobs ≡ 0) → state.entries ≡ []
-    → (session : Session) × IsBegun (name_in envelope) session (hears setting envelope state)
+    → (session : Session) × IsBegun setting envelope session (hears setting envelope state)
 begins setting envelope state none jobs entries = hears-new setting envelope state (session_named (name_in envelope) state.sessions) refl none jobs entries
 
 -- ---- the packet of a session, and of another

@@ -1,0 +1,2 @@
+-- What an even account says of each number.
+use Rattle.std.proofs.Common.{◌≡◌}

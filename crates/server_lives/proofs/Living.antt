@@ -1,0 +1,2 @@
+-- All lives and their accounts, from event to event.
+use Rattle.std.proofs.Common.{◌≡◌}
