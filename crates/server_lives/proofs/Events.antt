@@ -87,7 +87,7 @@ event-even before after life start (Some session) is even holds = record {
   lost = λ gone. absurd (false≢true (sym gone ∙ ap is_some is));
 }
 
-given-even : {S V : Type 0} (before after : Course S V) (life later : Life) → IsGiven S V before after life later
+pub given-even : {S V : Type 0} (before after : Course S V) (life later : Life) → IsGiven S V before after life later
     → ((test : Test) → jobs_at life.name test before.server.jobs + entries_at life.name test life.entries ≡ asked_at test life.accepted)
     → IsEven after.server (with_event before after later)
 given-even before after life later given even =
@@ -162,7 +162,7 @@ module _ {S V : Type 0} (known : Known S) (setting : Setting S) (serve : Step V)
       (runs-hold known at (who_of life) test total place job reply (begun before.server before.draw) is (begun-holds before.server before.draw life test stands)))
 
   -- a packet comes to the session
-  packet-given : (moment : ℕ) (envelope : Envelope) (life : Life) (session : Session) → life.name ≡ name_in envelope
+  pub packet-given : (moment : ℕ) (envelope : Envelope) (life : Life) (session : Session) → life.name ≡ name_in envelope
       → heard_by (setting_at setting moment before.server) envelope before ≡ Some session
       → ((test : Test)
       → HoldsIn (who_of life) test (jobs_at life.name test before.server.jobs + 0)

@@ -16,6 +16,21 @@ pairs-tail R x xs all = λ i j d lt within. all (suc i) (suc j) d (omega arith) 
 pub pairs-nil : {X : Type 0} (R : X → X → Type 0) → AllPairs R []
 pairs-nil R = λ i j d lt within. absurd (omega arith)
 
+pairs-at : {X : Type 0} (R : X → X → Type 0) (x : X) (xs : List X) → All (R x) xs → AllPairs R xs
+    → (i j : ℕ) (d : X) → i < j → j < length (x ∷ xs) → R (get_or (x ∷ xs) i d) (get_or (x ∷ xs) j d)
+pairs-at R x xs first rest zero zero d lt within = absurd (omega arith)
+pairs-at R x xs first rest (suc i) zero d lt within = absurd (omega arith)
+pairs-at R x xs first rest zero (suc j) d lt within = first j d (omega arith)
+pairs-at R x xs first rest (suc i) (suc j) d lt within = rest i j d (omega arith) (omega arith)
+
+pub pairs-cons : {X : Type 0} (R : X → X → Type 0) (x : X) (xs : List X) → All (R x) xs → AllPairs R xs → AllPairs R (x ∷ xs)
+pairs-cons R x xs first rest = pairs-at R x xs first rest
+
+pub all-unmap : {X Y : Type 0} (P : Y → Type 0) (f : X → Y) (xs : List X) → All P (map f xs) → All (λ x. P (f x)) xs
+all-unmap P f [] all = All-nil (λ x. P (f x))
+all-unmap P f (x ∷ xs) all =
+    All-cons (λ x. P (f x)) x xs (All-head P (f x) (map f xs) all) (all-unmap P f xs (All-tail P (f x) (map f xs) all))
+
 -- ---- counts
 
 -- what is counted has one that passes

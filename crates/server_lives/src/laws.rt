@@ -1,10 +1,11 @@
 //! Laws of the lives of a server's sessions, each the contract of a function that does nothing.
 
-ghost use Rattle.std.specs.Prelude.{◌≡◌, List};
+ghost use Rattle.std.specs.Prelude.{◌≡◌, List, All};
 ghost use Rattle.regs_service.specs.Served.{Step};
 ghost use Rattle.server_rules.specs.Event.{Setting};
 ghost use Rattle.server_rules.specs.Events.{Event, course_of};
 ghost use Rattle.server_lives.specs.Lives.{told_of};
+ghost use Rattle.server_lives.specs.Finality.{IsFinal, IsStanding};
 
 use draws::Draw;
 
@@ -13,3 +14,19 @@ pub fn lives_are_of_courses<D: Draw, V>()
     ensures { (setting : Setting D) (serve : Step V) (service : V) (draw : D) (events : List Event)
         → (told_of setting serve service draw events).course ≡ course_of setting serve service draw events }
 {}
+
+/// After every list of events a session that stands is the last of its lives, and what becomes of a life's calls is final:
+/// no number was judged twice; while the session stands an accepted call has either its job or exactly one entry, and
+/// once it is lost one entry at most, with what the call asks; a number that was noticed has neither, nor has an accepted
+/// message that is no call of the service, as a binding call that is spelt right.
+pub fn calls_are_entered_once<D: Draw, V>()
+    ensures standing { (setting : Setting D) (serve : Step V) (service : V) (draw : D) (events : List Event)
+        → All (IsStanding (told_of setting serve service draw events).course.server.sessions) (told_of setting serve service draw events).lives }
+    ensures final_ { (setting : Setting D) (serve : Step V) (service : V) (draw : D) (events : List Event)
+        → All (IsFinal (told_of setting serve service draw events).course.server.jobs) (told_of setting serve service draw events).lives }
+{
+    server_laws::laws::servers_stay_in_order::<D, V>();
+    server_laws::laws::packets_are_judged();
+    server_laws::laws::sessions_speak::<D>();
+    server_laws::laws::sessions_speak_for_themselves::<D>();
+}
