@@ -10,3 +10,4 @@ pub mod Lists
 pub mod Judged
 pub mod Living
 pub mod Final
+pub mod Onward

@@ -1,2 +1,3 @@
 pub mod Lives
 pub mod Finality
+pub mod Courses

@@ -1,10 +1,11 @@
 //! Laws of the lives of a server's sessions, each the contract of a function that does nothing.
 
-ghost use Rattle.std.specs.Prelude.{◌≡◌, List, All};
+ghost use Rattle.std.specs.Prelude.{◌≡◌, List, ◌++◌, All};
 ghost use Rattle.regs_service.specs.Served.{Step};
 ghost use Rattle.server_rules.specs.Event.{Setting};
 ghost use Rattle.server_rules.specs.Events.{Event, course_of};
 ghost use Rattle.server_lives.specs.Lives.{told_of};
+ghost use Rattle.server_lives.specs.Courses.{GoOn};
 ghost use Rattle.server_lives.specs.Finality.{IsFinal, IsStanding};
 
 use draws::Draw;
@@ -29,4 +30,17 @@ pub fn calls_are_entered_once<D: Draw, V>()
     server_laws::laws::packets_are_judged();
     server_laws::laws::sessions_speak::<D>();
     server_laws::laws::sessions_speak_for_themselves::<D>();
+}
+
+/// Over every list of events each life goes on in its place: what it judged, accepted, entered and sent is only added to,
+/// a number that its window dropped is at most its floor from then on, and once it has ended it stays as it was.
+pub fn lives_go_on<D: Draw, V>()
+    ensures { (setting : Setting D) (serve : Step V) (service : V) (draw : D) (events : List Event) (more : List Event)
+        → GoOn (told_of setting serve service draw events).lives (told_of setting serve service draw (events ++ more)).lives }
+{
+    server_laws::laws::servers_stay_in_order::<D, V>();
+    server_laws::laws::packets_are_judged();
+    server_laws::laws::sessions_speak::<D>();
+    server_laws::laws::sessions_speak_for_themselves::<D>();
+    server_laws::laws::floors_never_fall();
 }
