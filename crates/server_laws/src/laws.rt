@@ -212,7 +212,8 @@ pub fn new_sessions_say_so<D: Draw>()
 {}
 
 /// A session that speaks does so for itself: it stays the same one with the same history, and what it owes further and
-/// what is entered further is its own. This is so of each row, of a job that is given up or has run, and of an attach.
+/// what is entered further is its own, and it makes no packet yet. This is so of each row, of a job that is given up or
+/// has run, and of an attach.
 pub fn sessions_speak_for_themselves<D: Draw>()
     ensures owes { (setting : Setting D) (speaker : Speaker D) (number seq : ℕ) (verdict : Verdict) (body : List ℕ)
         → SaidFor D speaker (owes setting number seq verdict body speaker) }

@@ -11,3 +11,4 @@ pub mod Judged
 pub mod Living
 pub mod Final
 pub mod Onward
+pub mod Small

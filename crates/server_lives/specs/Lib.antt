@@ -1,3 +1,4 @@
 pub mod Lives
 pub mod Finality
 pub mod Courses
+pub mod Announced
