@@ -52,7 +52,7 @@ attached-still {S} (reply ∷ replies) before after still =
     attached-still replies before (says_again reply after)
     (cond_both (has_said reply.number after) after _ (Still S before) (λ is. still) (λ is. still))
 
-attaches-still : {S : Type 0} (setting : Setting S) (speaker : Speaker S) → Still S speaker (attaches setting speaker)
+pub attaches-still : {S : Type 0} (setting : Setting S) (speaker : Speaker S) → Still S speaker (attaches setting speaker)
 attaches-still {S} setting speaker =
     attached-still (filter is_kept speaker.session.replies) speaker (cond (has_accepted speaker.session) speaker (says_it_is_new setting speaker))
     (cond_both (has_accepted speaker.session) speaker (says_it_is_new setting speaker) (Still S speaker) (λ is. (refl, refl)) (λ is. (refl, refl)))

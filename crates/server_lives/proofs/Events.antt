@@ -112,7 +112,7 @@ begun-holds {S} server draw life test stands =
     let P : Option Session → Type 0 = λ found. Holds (who_of life) test (jobs_at life.name test server.jobs + 0) found server.jobs [] in
     subst P (sym stands.1) (stands.2, omega arith)
 
-nothing-new : {X : Type 0} (xs : List X) → drop (length xs) xs ≡ []
+pub nothing-new : {X : Type 0} (xs : List X) → drop (length xs) xs ≡ []
 nothing-new {X} xs = ap (drop (length xs)) (sym (append-nil xs)) ∙ drop-append_seam xs []
 
 -- an event that gives it nothing to judge

@@ -12,3 +12,7 @@ pub mod Living
 pub mod Final
 pub mod Onward
 pub mod Small
+pub mod Mute
+pub mod Opening
+pub mod Packed
+pub mod Announced

@@ -78,13 +78,13 @@ event-recorded before after life recorded =
 
 -- ---- where no session has a name, none has jobs
 
-no-jobs : (name : Name) (jobs : Queue) → jobs_of name jobs ≡ [] → (test : Test) → jobs_at name test jobs ≡ 0
+pub no-jobs : (name : Name) (jobs : Queue) → jobs_of name jobs ≡ [] → (test : Test) → jobs_at name test jobs ≡ 0
 no-jobs name jobs none test =
     let less = count-more (λ one. job_passes name test one.job) (is_of name.key name.session) jobs (λ one is. (and_parts _ _ is).0) in
     let all = count-length (is_of name.key name.session) jobs in
     let nothing : length (jobs_of name jobs) ≡ 0 = ap length none in omega arith
 
-unnamed-jobs : (name : Name) (sessions : List Session) (jobs : Queue) → AreOrdered sessions jobs → session_named name sessions ≡ None → (test : Test) → jobs_at name test jobs ≡ 0
+pub unnamed-jobs : (name : Name) (sessions : List Session) (jobs : Queue) → AreOrdered sessions jobs → session_named name sessions ≡ None → (test : Test) → jobs_at name test jobs ≡ 0
 unnamed-jobs name sessions jobs ordered none =
     let P : Option Session → Type 0 = λ found. IsOrderlyAt found (jobs_of name jobs) in
     no-jobs name jobs (subst P none (ordered.each name))

@@ -203,7 +203,7 @@ last-own sessions session none =
     ∙ (ap (λ (found : Option Session). option_or found (session_named name (session ∷ []))) none
     ∙ cond-true (is_named name session) (Some session) None (names-same name name refl))
 
-last-other : (sessions : List Session) (session : Session) (name : Name) → name ≢ name_of session
+pub last-other : (sessions : List Session) (session : Session) (name : Name) → name ≢ name_of session
     → session_named name (sessions ++ session ∷ []) ≡ session_named name sessions
 last-other sessions session name apart =
     find-append (is_named name) sessions (session ∷ [])

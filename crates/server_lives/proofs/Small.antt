@@ -9,6 +9,7 @@ use Rattle.tl_codec.specs.Spelling.{spelling}
 use Rattle.service_tl.specs.declared.item.Item.TheVariants.{NewSessionCreated, BadServerSalt, BadMsgNotification, MsgsAck}
 use Rattle.service_tl.specs.declared.lists.Message.{Message}
 use Rattle.service_tl.specs.Items.{spelling_of}
+use Rattle.containers.specs.Container.{container_head, message_head, messages_max, bytes_max, size_of}
 use Rattle.packing.specs.Packing.{is_within, grouped, groups, outer_of, outers_of, packed, packets_of}
 use Rattle.server_laws.specs.Start.{BeginsWith}
 
@@ -36,10 +37,20 @@ abbrev pub IsShort : Message → Type 0
 IsShort message = length message.body ≤ 28
 
 two-within : (one other : Message) → IsShort one → IsShort other → is_within (one ∷ (other ∷ [])) ≡ true
-two-within one other short_one short_other = and_from _ _ (le-leb _ _ (omega arith)) (le-leb _ _ (omega arith))
+two-within one other short_one short_other =
+    let group : List Message = one ∷ (other ∷ []) in
+    let size : size_of group ≡ container_head + (0 + (message_head + length one.body) + (message_head + length other.body)) = refl in
+    let few : length group ≤ messages_max = omega arith in
+    let small : size_of group ≤ bytes_max = omega arith in
+    and_from _ _ (le-leb (length group) messages_max few) (le-leb (size_of group) bytes_max small)
 
 three-within : (one other third : Message) → IsShort one → IsShort other → IsShort third → is_within (one ∷ (other ∷ (third ∷ []))) ≡ true
-three-within one other third short_one short_other short_third = and_from _ _ (le-leb _ _ (omega arith)) (le-leb _ _ (omega arith))
+three-within one other third short_one short_other short_third =
+    let group : List Message = one ∷ (other ∷ (third ∷ [])) in
+    let size : size_of group ≡ container_head + (0 + (message_head + length one.body) + (message_head + length other.body) + (message_head + length third.body)) = refl in
+    let few : length group ≤ messages_max = omega arith in
+    let small : size_of group ≤ bytes_max = omega arith in
+    and_from _ _ (le-leb (length group) messages_max few) (le-leb (size_of group) bytes_max small)
 
 -- one of at most three short messages and those behind it
 one-group : (first : Message) (rest : List Message) → IsShort first → length rest ≤ 2 → All IsShort rest → groups (first ∷ rest) ≡ (first ∷ rest) ∷ []

@@ -5,6 +5,7 @@ ghost use Rattle.regs_service.specs.Served.{Step};
 ghost use Rattle.server_rules.specs.Event.{Setting};
 ghost use Rattle.server_rules.specs.Events.{Event, course_of};
 ghost use Rattle.server_lives.specs.Lives.{told_of};
+ghost use Rattle.server_lives.specs.Announced.{IsAnnounced};
 ghost use Rattle.server_lives.specs.Courses.{GoOn};
 ghost use Rattle.server_lives.specs.Finality.{IsFinal, IsStanding};
 
@@ -43,4 +44,18 @@ pub fn lives_go_on<D: Draw, V>()
     server_laws::laws::sessions_speak::<D>();
     server_laws::laws::sessions_speak_for_themselves::<D>();
     server_laws::laws::floors_never_fall();
+}
+
+/// After every list of events, as long as a session has accepted nothing each packet that it made begins with its
+/// `new_session_created`: that is the packet's message, or the first one in its container.
+pub fn new_sessions_always_begin<D: Draw, V>()
+    ensures { (setting : Setting D) (serve : Step V) (service : V) (draw : D) (events : List Event)
+        → All IsAnnounced (told_of setting serve service draw events).lives }
+{
+    server_laws::laws::servers_stay_in_order::<D, V>();
+    server_laws::laws::packets_are_judged();
+    server_laws::laws::sessions_speak::<D>();
+    server_laws::laws::sessions_speak_for_themselves::<D>();
+    server_laws::laws::floors_never_fall();
+    server_laws::laws::new_sessions_say_so::<D>();
 }
