@@ -2,3 +2,4 @@ pub mod Lives
 pub mod Finality
 pub mod Courses
 pub mod Announced
+pub mod Witness

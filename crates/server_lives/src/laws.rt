@@ -1,12 +1,14 @@
 //! Laws of the lives of a server's sessions, each the contract of a function that does nothing.
 
-ghost use Rattle.std.specs.Prelude.{◌≡◌, List, ◌++◌, All};
+ghost use Rattle.std.specs.Prelude.{◌≡◌, true, false, [], ◌∷◌, List, ◌++◌, All};
 ghost use Rattle.regs_service.specs.Served.{Step};
 ghost use Rattle.server_rules.specs.Event.{Setting};
 ghost use Rattle.server_rules.specs.Events.{Event, course_of};
 ghost use Rattle.server_lives.specs.Lives.{told_of};
 ghost use Rattle.server_lives.specs.Announced.{IsAnnounced};
 ghost use Rattle.server_lives.specs.Courses.{GoOn};
+ghost use Rattle.server_laws.specs.Witness as shown;
+ghost use Rattle.server_lives.specs.Witness as lived;
 ghost use Rattle.server_lives.specs.Finality.{IsFinal, IsStanding};
 
 use draws::Draw;
@@ -59,3 +61,20 @@ pub fn new_sessions_always_begin<D: Draw, V>()
     server_laws::laws::floors_never_fall();
     server_laws::laws::new_sessions_say_so::<D>();
 }
+
+/// A session speaks before it has accepted anything. Two calls are accepted, of which one waits for the other, and are
+/// entered once each when both have run. A session is lost with an unfinished call, and made again: it lives twice, and
+/// accepts the same number again.
+pub fn lives_that_happen()
+    ensures unheard { lived.standing (shown.wrong_salt ∷ []) ≡ (true, false) ∷ [] }
+    ensures speaks { lived.packets (shown.wrong_salt ∷ []) ≡ 1 ∷ [] }
+    ensures asked { lived.accepted (shown.call ∷ shown.waiting_call ∷ []) ≡ ((4, true) ∷ (8, true) ∷ []) ∷ [] }
+    ensures waits { lived.unfinished (shown.call ∷ shown.waiting_call ∷ []) ≡ 4 ∷ 8 ∷ [] }
+    ensures none_yet { lived.entered (shown.call ∷ shown.waiting_call ∷ []) ≡ [] ∷ [] }
+    ensures one_ran { lived.entered (shown.call ∷ shown.waiting_call ∷ shown.run ∷ []) ≡ ((4, true) ∷ []) ∷ [] }
+    ensures one_left { lived.unfinished (shown.call ∷ shown.waiting_call ∷ shown.run ∷ []) ≡ 8 ∷ [] }
+    ensures both_ran { lived.entered (shown.call ∷ shown.waiting_call ∷ shown.run ∷ shown.run ∷ []) ≡ ((4, true) ∷ (8, true) ∷ []) ∷ [] }
+    ensures lost { lived.standing (shown.call ∷ lived.loss ∷ shown.wrong_salt ∷ []) ≡ (false, true) ∷ (true, false) ∷ [] }
+    ensures lost_calls { lived.accepted (shown.call ∷ lived.loss ∷ shown.wrong_salt ∷ []) ≡ ((4, true) ∷ []) ∷ [] ∷ [] }
+    ensures lost_jobs { lived.unfinished (shown.call ∷ lived.loss ∷ shown.wrong_salt ∷ []) ≡ [] }
+{}
