@@ -63,18 +63,21 @@ pub fn new_sessions_always_begin<D: Draw, V>()
 }
 
 /// A session speaks before it has accepted anything. Two calls are accepted, of which one waits for the other, and are
-/// entered once each when both have run. A session is lost with an unfinished call, and made again: it lives twice, and
-/// accepts the same number again.
+/// entered once each when both have run. A session is lost with an unfinished call, and made again: it lives twice. A
+/// binding call that is spelt right is accepted, and becomes neither a job nor an entry.
 pub fn lives_that_happen()
-    ensures unheard { lived.standing (shown.wrong_salt ∷ []) ≡ (true, false) ∷ [] }
-    ensures speaks { lived.packets (shown.wrong_salt ∷ []) ≡ 1 ∷ [] }
-    ensures asked { lived.accepted (shown.call ∷ shown.waiting_call ∷ []) ≡ ((4, true) ∷ (8, true) ∷ []) ∷ [] }
-    ensures waits { lived.unfinished (shown.call ∷ shown.waiting_call ∷ []) ≡ 4 ∷ 8 ∷ [] }
-    ensures none_yet { lived.entered (shown.call ∷ shown.waiting_call ∷ []) ≡ [] ∷ [] }
-    ensures one_ran { lived.entered (shown.call ∷ shown.waiting_call ∷ shown.run ∷ []) ≡ ((4, true) ∷ []) ∷ [] }
-    ensures one_left { lived.unfinished (shown.call ∷ shown.waiting_call ∷ shown.run ∷ []) ≡ 8 ∷ [] }
-    ensures both_ran { lived.entered (shown.call ∷ shown.waiting_call ∷ shown.run ∷ shown.run ∷ []) ≡ ((4, true) ∷ (8, true) ∷ []) ∷ [] }
-    ensures lost { lived.standing (shown.call ∷ lived.loss ∷ shown.wrong_salt ∷ []) ≡ (false, true) ∷ (true, false) ∷ [] }
-    ensures lost_calls { lived.accepted (shown.call ∷ lived.loss ∷ shown.wrong_salt ∷ []) ≡ ((4, true) ∷ []) ∷ [] ∷ [] }
-    ensures lost_jobs { lived.unfinished (shown.call ∷ lived.loss ∷ shown.wrong_salt ∷ []) ≡ [] }
+    ensures unheard { lived.standing (lived.told (shown.wrong_salt ∷ [])) ≡ (true, false) ∷ [] }
+    ensures speaks { lived.packets (lived.told (shown.wrong_salt ∷ [])) ≡ 1 ∷ [] }
+    ensures asked { lived.accepted (lived.told (shown.call ∷ shown.waiting_call ∷ [])) ≡ ((4, true) ∷ (8, true) ∷ []) ∷ [] }
+    ensures waits { lived.unfinished (lived.told (shown.call ∷ shown.waiting_call ∷ [])) ≡ 4 ∷ 8 ∷ [] }
+    ensures none_yet { lived.entered (lived.told (shown.call ∷ shown.waiting_call ∷ [])) ≡ [] ∷ [] }
+    ensures one_ran { lived.entered (lived.told (shown.call ∷ shown.waiting_call ∷ shown.run ∷ [])) ≡ ((4, true) ∷ []) ∷ [] }
+    ensures one_left { lived.unfinished (lived.told (shown.call ∷ shown.waiting_call ∷ shown.run ∷ [])) ≡ 8 ∷ [] }
+    ensures both_ran { lived.entered (lived.told (shown.call ∷ shown.waiting_call ∷ shown.run ∷ shown.run ∷ [])) ≡ ((4, true) ∷ (8, true) ∷ []) ∷ [] }
+    ensures lost { lived.standing (lived.told (shown.call ∷ lived.loss ∷ shown.wrong_salt ∷ [])) ≡ (false, true) ∷ (true, false) ∷ [] }
+    ensures lost_calls { lived.accepted (lived.told (shown.call ∷ lived.loss ∷ shown.wrong_salt ∷ [])) ≡ ((4, true) ∷ []) ∷ [] ∷ [] }
+    ensures lost_jobs { lived.unfinished (lived.told (shown.call ∷ lived.loss ∷ shown.wrong_salt ∷ [])) ≡ [] }
+    ensures bound { lived.accepted lived.bound ≡ ((4, false) ∷ []) ∷ [] }
+    ensures bound_entered { lived.entered lived.bound ≡ [] ∷ [] }
+    ensures bound_unfinished { lived.unfinished lived.bound ≡ [] }
 {}

@@ -52,3 +52,15 @@ returns-clause-lost_calls c = refl
 pub returns-clause-lost_jobs : goal.returns-clause-lost_jobs
 unfolding kept forgotten begins_container service_numbers schema spelling container_of row head_of message_in after cause_in parts_of number_at tag_at truth_at head_at bytes_at longs_at salt_at message_at items_at vector_at room
 returns-clause-lost_jobs c = refl
+
+pub returns-clause-bound : goal.returns-clause-bound
+unfolding kept forgotten begins_container service_numbers schema spelling container_of row head_of message_in after cause_in parts_of number_at tag_at truth_at head_at bytes_at longs_at salt_at message_at items_at vector_at room
+returns-clause-bound c = refl
+
+pub returns-clause-bound_entered : goal.returns-clause-bound_entered
+unfolding kept forgotten begins_container service_numbers schema spelling container_of row head_of message_in after cause_in parts_of number_at tag_at truth_at head_at bytes_at longs_at salt_at message_at items_at vector_at room
+returns-clause-bound_entered c = refl
+
+pub returns-clause-bound_unfinished : goal.returns-clause-bound_unfinished
+unfolding kept forgotten begins_container service_numbers schema spelling container_of row head_of message_in after cause_in parts_of number_at tag_at truth_at head_at bytes_at longs_at salt_at message_at items_at vector_at room
+returns-clause-bound_unfinished c = refl
