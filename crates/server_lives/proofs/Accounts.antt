@@ -1,7 +1,7 @@
 -- What a session does to jobs and entries, row by row.
-use Rattle.std.proofs.Common.{◌≡◌, ◌≢◌, ◌∙◌, ℕ, ◌+◌, eqb, Bool, true, false, cond, Option, Some, None, List, [], ◌∷◌, ◌++◌, length, ap, sym, subst, refl, arith, inl, inr}
-use Rattle.std.specs.Prelude.{map, fold, min, is_some, ◌&&◌, ◌==◌}
-use Rattle.std.specs.List.{find, list_all, All}
+use Rattle.std.proofs.Common.{◌≡◌, ◌≢◌, ◌∙◌, ℕ, ◌+◌, eqb, Bool, true, false, cond, Option, Some, None, List, [], ◌∷◌, ◌++◌, ap, sym, subst, refl, arith, inl, inr}
+use Rattle.std.specs.Prelude.{fold, is_some, ◌&&◌, ◌==◌}
+use Rattle.std.specs.List.{find, list_all}
 use Rattle.std.proofs.lemmas.Bool.{cases_Bool, cond_both, cond-true, cond-false, and_parts, eqb-true}
 use Rattle.service_tl.specs.declared.item.Item.{Item}
 use Rattle.service_tl.specs.declared.item.Item.TheVariants.{RpcDropAnswer, GetFutureSalts, Ping, PingDelayDisconnect, MsgsAck, MsgsStateReq, MsgResendReq, InvokeAfterMsg, InvokeAfterMsgs, AuthBindTempAuthKey, Packed, Call, Broken}
@@ -18,7 +18,7 @@ use Rattle.server_rules.specs.Event.{Setting, Speaker, BindingCall, Entry}
 use Rattle.server_rules.specs.Speaking.{says_again, has_said, answers, records, answers_in_place, packed_body_refused, bad_body}
 use Rattle.server_rules.specs.Waiting.{gives_up, tells_of, outlook}
 use Rattle.server_rules.specs.Calls.{accepts_call, becomes_job, refusal, job_of, drops_running, drops_by, drops_answer, dropped_running, binds, binds_by}
-use Rattle.server_rules.specs.Rows.{notices, came_again, says_reply, tells_states, sends_again, kept_numbered, answers_broken, accepts, owes}
+use Rattle.server_rules.specs.Rows.{notices, came_again, says_reply, sends_again, kept_numbered, answers_broken, accepts, owes}
 use Rattle.server_rules.specs.Answer.{finishes}
 use Rattle.server_lives.specs.Lives.{request_of}
 use Rattle.server_lives.proofs.Names.{named, some-same, none-some}

@@ -1,9 +1,9 @@
 -- Each life announces itself as long as it has accepted nothing.
-use Rattle.std.proofs.Common.{◌≡◌, ◌≢◌, ◌∙◌, ℕ, ◌+◌, ltb, Bool, true, false, cond, Option, Some, None, List, [], ◌∷◌, ◌++◌, length, get_or, ap, sym, subst, refl, arith, inl, inr}
-use Rattle.std.specs.Prelude.{fold, map, drop, filter_map}
+use Rattle.std.proofs.Common.{◌≡◌, ◌≢◌, ◌∙◌, ℕ, ◌+◌, ltb, false, cond, Option, Some, None, List, [], ◌∷◌, ◌++◌, length, get_or, ap, sym, subst, refl, arith, inl, inr}
+use Rattle.std.specs.Prelude.{fold, drop}
 use Rattle.std.specs.List.{filter, All}
 use Rattle.std.proofs.Math.Seq.{drop-append_seam}
-use Rattle.std.proofs.lemmas.Bool.{cases_Bool, cond_both, cond-true, cond-false, false≢true}
+use Rattle.std.proofs.lemmas.Bool.{cond_both, cond-true, cond-false}
 use Rattle.std.proofs.lemmas.List.Elements.{All-nil, All-cons, All-head, All-tail, All-map, All-append}
 use Rattle.service_tl.specs.declared.lists.Message.{Message}
 use Rattle.id_window.specs.History.{History}
@@ -22,14 +22,14 @@ use Rattle.server_rules.specs.Sending.{messages_by}
 use Rattle.server_laws.specs.Order.{AreOrdered, IsOrderly, IsOrderlyAt, jobs_of}
 use Rattle.server_lives.specs.Lives.{Life, Told, judged_by, history_by, heard_by, with_packet, hearing, with_event, gone_on, is_packet_of, life_of, newborn, made_by, lives_after, told_after, told_from}
 use Rattle.server_lives.specs.Announced.{SaysNew, IsAnnounced}
-use Rattle.server_lives.proofs.Names.{cases_name, names-same, apart-names, found-named, some-same, none-some}
-use Rattle.server_lives.proofs.Counting.{Test, any, jobs_at, entries_at}
-use Rattle.server_lives.proofs.Going.{Who, Holds, HoldsIn, Known}
+use Rattle.server_lives.proofs.Names.{cases_name, names-same, found-named, some-same, none-some}
+use Rattle.server_lives.proofs.Counting.{any}
+use Rattle.server_lives.proofs.Going.{Holds, Known}
 use Rattle.server_lives.proofs.Packets.{IsBegun, begins, hears-stands, last-other}
 use Rattle.server_lives.proofs.Events.{IsEven, Stands, nothing-new}
 use Rattle.server_lives.proofs.Living.{Laws, AreLives, IsRecorded, no-jobs, unnamed-jobs, event-lives}
-use Rattle.server_lives.proofs.Onward.{Floors, IsHearing, hearing-adds}
-use Rattle.server_lives.proofs.Mute.{Mute, IsMute, IsUnheard, Opening, Few, mute-weaker, lost-mute, opens-mute, settles-mute, ticks-mute, runs-mute, attach-mute}
+use Rattle.server_lives.proofs.Onward.{Floors, hearing-adds}
+use Rattle.server_lives.proofs.Mute.{Mute, IsMute, IsUnheard, Few, mute-weaker, lost-mute, opens-mute, settles-mute, ticks-mute, runs-mute, attach-mute}
 use Rattle.server_lives.proofs.Opening.{Nothing, New, Kept, Stood, own-mute, says-new, takes-mute, unheard-before}
 use Rattle.server_lives.proofs.Packed.{IsNew, ended-new}
 

@@ -1,8 +1,8 @@
 -- How many jobs, entries and accepted messages of a session pass a test on number and request.
-use Rattle.std.proofs.Common.{◌≡◌, ◌≢◌, ◌∙◌, ℕ, zero, suc, ◌+◌, ◌≤◌, Bool, true, false, cond, Option, Some, None, List, [], ◌∷◌, ◌++◌, length, ap, sym, subst, refl, arith, inl, inr}
-use Rattle.std.specs.Prelude.{map, not, ◌&&◌, ◌==◌}
+use Rattle.std.proofs.Common.{◌≡◌, ◌≢◌, ◌∙◌, ℕ, zero, suc, ◌+◌, ◌≤◌, Bool, true, false, cond, Option, Some, None, List, [], ◌∷◌, ◌++◌, length, ap, sym, refl, arith, inl, inr}
+use Rattle.std.specs.Prelude.{map, ◌&&◌, ◌==◌}
 use Rattle.std.specs.List.{filter, All}
-use Rattle.std.proofs.lemmas.Bool.{cases_Bool, cond_both, and_parts, and_from, eqb-true, eq-eqb, false≢true}
+use Rattle.std.proofs.lemmas.Bool.{cases_Bool, cond_both, and_parts, and_from, eqb-true, eq-eqb}
 use Rattle.std.proofs.lemmas.List.Elements.{All-head, All-tail}
 use Rattle.waits.specs.declared.job.Job.{Job}
 use Rattle.waits.specs.declared.job.Unfinished.{Unfinished}
@@ -10,7 +10,7 @@ use Rattle.waits.specs.Jobs.{Queue, is_of, is_ready, one_if, waits_for, told, af
 use Rattle.server_rules.specs.Server.{Name, Session}
 use Rattle.server_rules.specs.Event.{Entry}
 use Rattle.server_rules.specs.Waiting.{Outlook, Over, InVain, GoesOn, told as told_so}
-use Rattle.server_lives.specs.Lives.{Acceptance, request_of, is_entry_of}
+use Rattle.server_lives.specs.Lives.{Acceptance, request_of}
 use Rattle.server_lives.proofs.Names.{name-by}
 
 -- ---- counts

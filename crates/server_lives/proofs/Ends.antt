@@ -1,5 +1,5 @@
 -- One session and its account at the end of an event.
-use Rattle.std.proofs.Common.{◌≡◌, ℕ, Bool, true, false, cond, Option, Some, None, List, [], ◌∷◌, ◌++◌, length, ap, sym, subst, refl, arith}
+use Rattle.std.proofs.Common.{◌≡◌, ℕ, cond, Some, List, [], ◌∷◌, refl}
 use Rattle.std.specs.Prelude.{fold}
 use Rattle.std.specs.List.{filter}
 use Rattle.std.proofs.lemmas.Bool.{cond_both}
@@ -12,11 +12,11 @@ use Rattle.waits.specs.Jobs.{ready_job, without_ready}
 use Rattle.server_rules.specs.Server.{Name, Session, Reply, name_of, session_named, is_kept, has_accepted}
 use Rattle.server_rules.specs.Event.{Setting, State, Speaker, Owed, speaks, lost}
 use Rattle.server_rules.specs.Speaking.{says_again, says_it_is_new, needs_salts, has_said}
-use Rattle.server_rules.specs.Waiting.{after_failures, after_timeouts}
+use Rattle.server_rules.specs.Waiting.{after_timeouts}
 use Rattle.server_rules.specs.Sending.{names_in, messages_by, seals, sends, all_sent}
-use Rattle.server_rules.specs.Answer.{attaches, finishes, runs, ticks, is_spent, without_spent, ended}
-use Rattle.server_lives.proofs.Counting.{Test, jobs_at, entries_at}
-use Rattle.server_lives.proofs.Accounts.{none, Account, Still, still-account}
+use Rattle.server_rules.specs.Answer.{attaches, finishes, runs, ticks, is_spent, ended}
+use Rattle.server_lives.proofs.Counting.{Test}
+use Rattle.server_lives.proofs.Accounts.{none, Still, still-account}
 use Rattle.server_lives.proofs.Going.{Who, Holds, HoldsIn, Spoke, spoke-said, Known, speaks-same, lost-holds, failures-hold, timeouts-hold, run-holds}
 use Rattle.server_lives.proofs.Packets.{quiet}
 

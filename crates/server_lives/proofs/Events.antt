@@ -1,24 +1,22 @@
 -- A life and its account, from event to event.
-use Rattle.std.proofs.Common.{◌≡◌, ◌≢◌, ◌∙◌, ℕ, ◌+◌, ◌≤◌, Bool, true, false, cond, Option, Some, None, List, [], ◌∷◌, ◌++◌, length, ap, sym, subst, refl, arith, inl, inr}
-use Rattle.std.specs.Prelude.{fold, map, drop, is_some, filter_map, ◌&&◌}
-use Rattle.std.specs.List.{filter, All}
+use Rattle.std.proofs.Common.{◌≡◌, ◌≢◌, ◌∙◌, ℕ, ◌+◌, ◌≤◌, Bool, true, false, Option, Some, None, List, [], ◌∷◌, ◌++◌, length, ap, sym, subst, refl, arith, inl, inr}
+use Rattle.std.specs.Prelude.{drop, is_some, filter_map, ◌&&◌}
+use Rattle.std.specs.List.{filter}
 use Rattle.std.proofs.Math.Seq.{drop-append_seam}
 use Rattle.std.proofs.lemmas.List.{append-nil}
 use Rattle.std.proofs.lemmas.Bool.{cases_Bool, cond_both, cond-true, cond-false, false≢true}
-use Rattle.std.proofs.lemmas.List.Elements.{All-nil, All-cons, All-head, All-tail, All-map, All-append}
-use Rattle.id_window.specs.History.{History}
 use Rattle.regs_service.specs.Served.{Step}
 use Rattle.waits.specs.declared.job.Job.{Job}
-use Rattle.waits.specs.Jobs.{Queue, ready_job, one_if}
-use Rattle.server_rules.specs.Server.{Name, Session, Server, name_of, is_same, session_named}
-use Rattle.server_rules.specs.Event.{Setting, State, Envelope, Entry, speaks}
+use Rattle.waits.specs.Jobs.{ready_job, one_if}
+use Rattle.server_rules.specs.Server.{Name, Session, Server, is_same, session_named}
+use Rattle.server_rules.specs.Event.{Setting, Envelope, Entry, speaks}
 use Rattle.server_rules.specs.Events.{Event, Packet, Work, Tick, Attach, Loss, Restart, Course, setting_at, worked, after_event}
 use Rattle.server_rules.specs.Answer.{Answer, name_in, hears_by, hears, takes, runs, ticks, attaches, begun, ended, after_run}
-use Rattle.server_lives.specs.Lives.{Acceptance, Life, request_of, acceptance_of, judged_by, history_by, heard_by, with_packet, hearing, with_event, gone_on as life_gone_on, is_entry_of}
+use Rattle.server_lives.specs.Lives.{Acceptance, Life, request_of, acceptance_of, judged_by, heard_by, with_packet, hearing, with_event, gone_on as life_gone_on, is_entry_of}
 use Rattle.server_lives.specs.Finality.{IsLifeOf}
-use Rattle.server_lives.proofs.Names.{named, cases_name, names-same, apart-names, found-named, none-some}
-use Rattle.server_lives.proofs.Counting.{Test, any, count, count-append, jobs_at, entries_at, entry_passes, asked_at, asks}
-use Rattle.server_lives.proofs.Going.{Who, IsWho, Holds, HoldsIn, Known, with_history, lost-holds}
+use Rattle.server_lives.proofs.Names.{cases_name, names-same, apart-names, none-some}
+use Rattle.server_lives.proofs.Counting.{Test, any, count-append, jobs_at, entries_at, entry_passes, asked_at, asks}
+use Rattle.server_lives.proofs.Going.{Who, Holds, HoldsIn, Known, lost-holds}
 use Rattle.server_lives.proofs.Packets.{rises, rises-asked, hears-stands, hears-hold, packet-own, packet-other}
 use Rattle.server_lives.proofs.Ends.{attach-holds, ended-holds, ticks-hold, runs-hold}
 

@@ -1,17 +1,17 @@
 -- What an even account says of each number.
-use Rattle.std.proofs.Common.{◌≡◌, ◌≢◌, ◌∙◌, ℕ, zero, suc, ◌+◌, ◌≤◌, Bool, true, false, cond, Option, Some, None, List, [], ◌∷◌, ◌++◌, length, get_or, ap, sym, subst, refl, arith, inl, inr}
+use Rattle.std.proofs.Common.{◌≡◌, ◌≢◌, ◌∙◌, ℕ, ◌≤◌, Bool, true, false, Option, Some, None, List, [], ◌∷◌, get_or, ap, sym, subst, refl, arith, inl, inr}
 use Rattle.std.specs.Prelude.{map, is_some, ◌==◌, ◌&&◌}
-use Rattle.std.specs.List.{filter, All, AllPairs, Contains}
-use Rattle.std.proofs.lemmas.Bool.{cases_Bool, cond_both, cond-true, cond-false, and_parts, and_from, eqb-true, eq-eqb, ne_eqb, false≢true}
-use Rattle.std.proofs.lemmas.List.Elements.{All-nil, All-cons, All-head, All-tail, All-map, All-filter, All-weaker}
+use Rattle.std.specs.List.{filter, All}
+use Rattle.std.proofs.lemmas.Bool.{cases_Bool, cond_both, cond-false, and_parts, and_from, eqb-true, eq-eqb, ne_eqb, false≢true}
+use Rattle.std.proofs.lemmas.List.Elements.{All-nil, All-cons, All-head, All-tail, All-map, All-filter}
 use Rattle.id_window.specs.History.{History, FirstJudgement, EachOnce, was_accepted}
 use Rattle.waits.specs.declared.job.Unfinished.{Unfinished}
-use Rattle.waits.specs.Jobs.{Queue, is_of, is_call, one_if}
-use Rattle.server_rules.specs.Server.{Name, Session, Server, session_named}
+use Rattle.waits.specs.Jobs.{Queue, is_call, one_if}
+use Rattle.server_rules.specs.Server.{Name, Server}
 use Rattle.server_rules.specs.Event.{Entry}
 use Rattle.server_lives.specs.Lives.{Acceptance, Life, request_of, is_entry_of}
-use Rattle.server_lives.specs.Finality.{unfinished_at, entered_at, is_asking, WasAsked, accepted_numbers, IsFinal, IsLifeOf, IsStanding}
-use Rattle.server_lives.proofs.Counting.{Test, count, count-length, jobs_at, entries_at, is_by, job_passes, entry_passes, asks, asked_at}
+use Rattle.server_lives.specs.Finality.{unfinished_at, entered_at, is_asking, WasAsked, accepted_numbers, IsFinal, IsStanding}
+use Rattle.server_lives.proofs.Counting.{Test, count, count-length, jobs_at, entries_at, job_passes, entry_passes, asks, asked_at}
 use Rattle.server_lives.proofs.Lists.{pairs-head, pairs-tail, pairs-nil, pairs-cons, all-unmap, count-some, count-at, counted-none, Differ}
 use Rattle.server_lives.proofs.Events.{IsEven}
 use Rattle.server_lives.proofs.Living.{IsRecorded}
@@ -53,9 +53,6 @@ asked-less number [] = omega arith
 asked-less number (one ∷ accepted) =
     let first = asks-less number one.number (request_of one.item one.body) in
     let rest = asked-less number accepted in omega arith
-
-number_of : Acceptance → ℕ
-number_of one = one.number
 
 asked-one : (accepted : List Acceptance) → Differ (map (λ one. one.number) accepted)
     → All (λ one. asked_at (of_number one.number) accepted ≡ one_if (is_asking one)) accepted

@@ -1,25 +1,22 @@
 -- One session and its account within an event, whichever session speaks or is lost.
-use Rattle.std.proofs.Common.{◌≡◌, ◌≢◌, ◌∙◌, ℕ, zero, suc, ◌+◌, ◌≤◌, Bool, true, false, cond, Option, Some, None, List, [], ◌∷◌, ◌++◌, ap, sym, subst, refl, arith, inl, inr}
+use Rattle.std.proofs.Common.{◌≡◌, ◌≢◌, ◌∙◌, ℕ, zero, suc, ◌+◌, ◌≤◌, Bool, true, false, cond, Option, Some, None, List, [], ap, sym, subst, refl, arith, inl, inr}
 use Rattle.std.specs.Prelude.{length, ◌&&◌}
-use Rattle.std.specs.List.{All}
-use Rattle.std.proofs.lemmas.Bool.{cases_Bool, cond_both, cond-true, cond-false}
-use Rattle.std.proofs.lemmas.List.{append-nil}
-use Rattle.std.proofs.lemmas.List.Elements.{All-nil}
+use Rattle.std.proofs.lemmas.Bool.{cond_both, cond-true, cond-false}
 use Rattle.id_window.specs.History.{History}
 use Rattle.inbox.specs.declared.judged.Verdict.{Verdict}
 use Rattle.waits.specs.declared.job.Job.{Job}
 use Rattle.waits.specs.declared.job.Unfinished.{Unfinished}
 use Rattle.waits.specs.Jobs.{Queue, has_failed, is_overdue, first_job, without_first, ready_job, without_ready, one_if}
 use Rattle.server_rules.specs.Server.{Name, Session, name_of, is_same, session_named}
-use Rattle.server_rules.specs.Event.{Setting, State, Speaker, Entry, Owed, speaker_in, spoken_by, speaks, lost}
+use Rattle.server_rules.specs.Event.{Setting, State, Speaker, Entry, speaker_in, spoken_by, speaks, lost}
 use Rattle.server_rules.specs.Speaking.{msg_wait_failed, msg_wait_timeout}
-use Rattle.server_rules.specs.Waiting.{gives_up, given_up, first_given_up, all_given_up, after_failures, after_timeouts, tells_of}
+use Rattle.server_rules.specs.Waiting.{gives_up, given_up, first_given_up, all_given_up, after_failures, after_timeouts}
 use Rattle.server_rules.specs.Rows.{owes}
 use Rattle.server_rules.specs.Answer.{attaches, finishes}
 use Rattle.server_laws.specs.Speech.{SaidFor}
 use Rattle.server_lives.proofs.Names.{named, cases_name, names-same, apart-names, found-named, lost-name, lost-other}
-use Rattle.server_lives.proofs.Counting.{Test, any, jobs_at, entries_at, is_by, job_passes, entry_passes, asks, count-append, by-own, by-other, first-at, ready-at, found_at, lost-own, lost-others, own-entries}
-use Rattle.server_lives.proofs.Accounts.{Rise, none, asking, Account, Still, still-account, gives_up-account, finishes-account, told-account}
+use Rattle.server_lives.proofs.Counting.{Test, any, jobs_at, entries_at, is_by, job_passes, entry_passes, count-append, by-own, by-other, first-at, ready-at, found_at, lost-own, lost-others, own-entries}
+use Rattle.server_lives.proofs.Accounts.{Rise, none, asking, Account, gives_up-account, finishes-account}
 
 -- which session it is, and what it has judged
 pub record Who : Type 0 where

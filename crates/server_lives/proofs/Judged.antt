@@ -1,11 +1,10 @@
 -- The numbers that a history accepted grow by those that its judgements accept.
-use Rattle.std.proofs.Common.{◌≡◌, ◌∙◌, ℕ, eqb, Bool, true, false, cond, Option, Some, None, Result, Ok, Err, List, [], ◌∷◌, ◌++◌, ap, sym, subst, refl, inl, inr, append_assoc}
-use Rattle.std.specs.Prelude.{map, filter_map, ◌==◌, ◌||◌, ◌&&◌}
+use Rattle.std.proofs.Common.{◌≡◌, ◌∙◌, ℕ, Bool, true, cond, Option, Some, None, Result, Ok, Err, List, [], ◌∷◌, ◌++◌, ap, sym, refl, inl, inr, append_assoc}
+use Rattle.std.specs.Prelude.{map, filter_map}
 use Rattle.std.specs.List.{filter, zip, cons_option}
 use Rattle.std.proofs.lemmas.Bool.{cases_Bool, cond_both, cond-true, cond-false}
 use Rattle.std.proofs.lemmas.List.{append-nil, map-append}
 use Rattle.std.proofs.lemmas.List.Elements.{filter-append}
-use Rattle.service_tl.specs.declared.item.Item.{Item}
 use Rattle.service_tl.specs.declared.lists.Message.{Message}
 use Rattle.containers.specs.declared.fault.ContainerFault.{ContainerFault}
 use Rattle.id_window.specs.History.{History, FirstJudgement, Outcome, Refused, noted, was_accepted}
@@ -14,7 +13,7 @@ use Rattle.inbox.specs.declared.judged.Verdict.TheVariants.{Accepted, Again, Not
 use Rattle.inbox.specs.declared.judged.Judgement.{Judgement}
 use Rattle.inbox.specs.Kinds.{kind_of, kind_among, container_in, constructor_of, begins_acknowledgement, begins_call}
 use Rattle.inbox.specs.Refusals.{Way, InContainer}
-use Rattle.inbox.specs.Judging.{Session as Remembered, judge, outcome_of, recorded, is_recorded, remembered, judged_session, judgement_on, inner_judgements, inner_session, unfolded, judgements, session_after}
+use Rattle.inbox.specs.Judging.{Session as Remembered, judge, outcome_of, recorded, is_recorded, remembered, judged_session, inner_judgements, inner_session, unfolded, judgements, session_after}
 use Rattle.server_lives.specs.Lives.{Acceptance, acceptance_of, acceptance_by}
 use Rattle.server_lives.specs.Finality.{accepted_numbers}
 
@@ -46,9 +45,6 @@ noted-numbers number seq outcome history =
 -- the number of an acceptance, where there is one
 abbrev numbers_of : List Acceptance → List ℕ
 numbers_of accepted = map (λ one. one.number) accepted
-
-option_numbers : ℕ → Verdict → List ℕ → List ℕ
-option_numbers number verdict body = numbers_of (cons_option (acceptance_by number verdict body) [])
 
 one-numbers : (message : Message) (verdict : Verdict) (session : Remembered)
     → accepted_numbers (remembered message.number message.seq (recorded (kind_of message) verdict) session).history

@@ -16,3 +16,4 @@ pub mod Mute
 pub mod Opening
 pub mod Packed
 pub mod Announced
+pub mod Lived

@@ -1,8 +1,8 @@
 -- Pairs of a list, and counts over numbers that are all different.
-use Rattle.std.proofs.Common.{◌≡◌, ◌≢◌, ◌∙◌, ℕ, zero, suc, ◌+◌, ◌≤◌, ◌<◌, Bool, true, false, cond, Option, Some, None, List, [], ◌∷◌, ◌++◌, length, get_or, ap, sym, subst, refl, arith, inl, inr}
-use Rattle.std.specs.Prelude.{map, ◌==◌, ◌&&◌}
-use Rattle.std.specs.List.{filter, All, AllPairs, Contains}
-use Rattle.std.proofs.lemmas.Bool.{cases_Bool, cond-true, cond-false, eqb-true, eq-eqb, ne_eqb, and_parts, and_from, false≢true}
+use Rattle.std.proofs.Common.{◌≡◌, ◌≢◌, ℕ, zero, suc, ◌≤◌, ◌<◌, Bool, true, false, List, [], ◌∷◌, length, get_or, ap, sym, refl, arith, inl, inr}
+use Rattle.std.specs.Prelude.{map, ◌==◌}
+use Rattle.std.specs.List.{All, AllPairs, Contains}
+use Rattle.std.proofs.lemmas.Bool.{cases_Bool, ne_eqb}
 use Rattle.std.proofs.lemmas.List.Elements.{All-nil, All-cons, All-head, All-tail}
 use Rattle.waits.specs.Jobs.{one_if}
 use Rattle.server_lives.proofs.Counting.{count}
@@ -53,9 +53,6 @@ count-at test (x ∷ xs) zero d within is = let first : one_if (test x) ≡ 1 = 
 count-at test (x ∷ xs) (suc k) d within is = let rest = count-at test xs k d (omega arith) is in omega arith
 
 -- ---- numbers that are all different
-
-pub number_is : ℕ → ℕ → Bool
-number_is number other = other == number
 
 abbrev pub Differ : List ℕ → Type 0
 Differ numbers = AllPairs (λ one other. one ≢ other) numbers

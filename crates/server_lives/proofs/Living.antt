@@ -1,30 +1,29 @@
 -- All lives and their accounts, from event to event.
-use Rattle.std.proofs.Common.{◌≡◌, ◌≢◌, ◌∙◌, ℕ, ◌+◌, ◌≤◌, Bool, true, false, cond, Option, Some, None, List, [], ◌∷◌, ◌++◌, length, ap, sym, subst, refl, arith, inl, inr}
-use Rattle.std.specs.Prelude.{fold, map, drop, filter_map}
-use Rattle.std.specs.List.{filter, All, AllPairs}
-use Rattle.std.proofs.lemmas.Bool.{cases_Bool, cond_both, and_parts}
+use Rattle.std.proofs.Common.{◌≡◌, ◌∙◌, ℕ, ◌+◌, Bool, true, Option, Some, None, List, [], ◌∷◌, ◌++◌, length, ap, sym, subst, refl, arith}
+use Rattle.std.specs.Prelude.{map, drop, filter_map}
+use Rattle.std.specs.List.{filter, All}
+use Rattle.std.proofs.lemmas.Bool.{cond_both, and_parts}
 use Rattle.std.proofs.lemmas.List.{map-append}
 use Rattle.std.proofs.lemmas.List.Elements.{All-nil, All-cons, All-map, All-append, All-weaker}
 use Rattle.service_tl.specs.declared.lists.Message.{Message}
-use Rattle.id_window.specs.History.{History, EachOnce}
+use Rattle.id_window.specs.History.{EachOnce}
 use Rattle.inbox.specs.Refusals.{Way, InEnvelope}
 use Rattle.inbox.specs.Judging.{session_after}
 use Rattle.regs_service.specs.Served.{Step}
 use Rattle.waits.specs.Jobs.{Queue, is_of}
-use Rattle.server_rules.specs.Server.{Name, Session, Server, name_of, is_same, session_named, remembered}
+use Rattle.server_rules.specs.Server.{Name, Session, name_of, is_same, session_named, remembered}
 use Rattle.server_rules.specs.Event.{Setting, State, Envelope, Entry}
 use Rattle.server_rules.specs.Events.{Event, Packet, Work, Tick, Attach, Loss, Restart, Course, setting_at, after_event}
-use Rattle.server_rules.specs.Answer.{name_in, message_in, hears_by, hears, session_for, begun}
+use Rattle.server_rules.specs.Answer.{name_in, message_in, hears_by, hears, begun}
 use Rattle.server_laws.specs.Order.{AreOrdered, IsOrderly, IsOrderlyAt, jobs_of}
-use Rattle.server_lives.specs.Lives.{Acceptance, Life, Told, acceptance_of, judged_by, history_by, heard_by, with_packet, hearing, with_event, gone_on, is_entry_of, life_of, newborn, made_by, lives_after, told_after, told_from}
-use Rattle.server_lives.specs.Finality.{IsLifeOf, accepted_numbers}
-use Rattle.server_lives.proofs.Names.{named, cases_name, same-names, names-same, found-named, none-some, some-same}
-use Rattle.server_lives.proofs.Counting.{Test, any, count, count-length, count-more, jobs_at, entries_at, job_passes, asked_at}
-use Rattle.server_lives.proofs.Lists.{pairs-nil}
+use Rattle.server_lives.specs.Lives.{Acceptance, Life, Told, acceptance_of, judged_by, heard_by, with_packet, hearing, with_event, gone_on, is_entry_of, life_of, newborn, made_by, lives_after, told_after, told_from}
+use Rattle.server_lives.specs.Finality.{accepted_numbers}
+use Rattle.server_lives.proofs.Names.{same-names, some-same}
+use Rattle.server_lives.proofs.Counting.{Test, count-length, count-more, jobs_at, job_passes}
 use Rattle.server_lives.proofs.Judged.{all-numbers}
-use Rattle.server_lives.proofs.Going.{Who, Holds, HoldsIn, Known}
+use Rattle.server_lives.proofs.Going.{HoldsIn, Known}
 use Rattle.server_lives.proofs.Packets.{IsBegun, begins, hears-stands}
-use Rattle.server_lives.proofs.Events.{IsEven, IsGiven, Stands, who_of, given-even, life-even, packet-given}
+use Rattle.server_lives.proofs.Events.{IsEven, IsGiven, Stands, given-even, life-even, packet-given}
 
 -- ---- what a life has recorded
 

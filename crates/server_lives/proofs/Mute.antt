@@ -1,8 +1,8 @@
 -- A session that has accepted nothing, within an event: what it owes begins with its `new_session_created`.
-use Rattle.std.proofs.Common.{◌≡◌, ◌≢◌, ◌∙◌, ℕ, zero, suc, ◌+◌, ◌≤◌, ltb, eqb, Bool, true, false, cond, Option, Some, None, List, [], ◌∷◌, ◌++◌, length, ap, sym, subst, refl, arith, inl, inr, append_assoc}
-use Rattle.std.specs.Prelude.{fold, map, not, is_some, filter_map, ◌⊎◌, ◌&&◌, ◌==◌}
-use Rattle.std.specs.List.{filter, zip, All, list_all}
-use Rattle.std.proofs.lemmas.Bool.{cases_Bool, cond_both, cond-true, cond-false, false≢true}
+use Rattle.std.proofs.Common.{◌≡◌, ◌≢◌, ◌∙◌, ℕ, zero, suc, ◌+◌, ◌≤◌, Bool, true, false, Option, Some, None, List, [], ◌∷◌, ◌++◌, length, ap, sym, subst, refl, arith, inl, inr, append_assoc}
+use Rattle.std.specs.Prelude.{fold, map, not, is_some, ◌⊎◌, ◌&&◌, ◌==◌}
+use Rattle.std.specs.List.{filter, All}
+use Rattle.std.proofs.lemmas.Bool.{cond_both, cond-false}
 use Rattle.std.proofs.lemmas.List.{append-nil, map-append}
 use Rattle.std.proofs.lemmas.List.Elements.{All-nil, All-cons, All-head, All-tail, All-push, filter-append}
 use Rattle.service_tl.specs.declared.item.Item.{Item}
@@ -17,8 +17,8 @@ use Rattle.inbox.specs.declared.judged.Judgement.{Judgement}
 use Rattle.waits.specs.declared.job.Job.{Job}
 use Rattle.waits.specs.declared.job.Unfinished.{Unfinished}
 use Rattle.waits.specs.Jobs.{Queue, has_failed, is_overdue, first_job, without_first, ready_job, without_ready, one_if}
-use Rattle.server_rules.specs.Server.{Name, Session, Reply, name_of, is_same, is_kept, session_named, has_accepted, sessions_max}
-use Rattle.server_rules.specs.Event.{Setting, State, Speaker, Envelope, Owed, speaker_in, spoken_by, speaks, lost}
+use Rattle.server_rules.specs.Server.{Name, Session, name_of, is_same, session_named, has_accepted}
+use Rattle.server_rules.specs.Event.{Setting, State, Speaker, Owed, speaker_in, spoken_by, speaks, lost}
 use Rattle.server_rules.specs.Speaking.{says, says_it_is_new, msg_wait_failed, msg_wait_timeout}
 use Rattle.server_rules.specs.Waiting.{gives_up, given_up, first_given_up, all_given_up, after_failures, after_timeouts, tells_of}
 use Rattle.server_rules.specs.Rows.{owes, row, destroys, settles, acknowledges, acks_of}
@@ -26,8 +26,8 @@ use Rattle.server_rules.specs.Sending.{messages_by}
 use Rattle.server_rules.specs.Answer.{attaches, finishes, opens, runs, ticks}
 use Rattle.server_laws.specs.Speech.{SaidFor}
 use Rattle.server_lives.specs.Announced.{NamesSession}
-use Rattle.server_lives.proofs.Names.{named, cases_name, names-same, apart-names, found-named, lost-name, lost-other, none-some}
-use Rattle.server_lives.proofs.Counting.{Test, any, jobs_at, is_by, job_passes, by-own, by-other, first-at, ready-at, found_at, lost-own, lost-others}
+use Rattle.server_lives.proofs.Names.{named, cases_name, apart-names, found-named, lost-name, lost-other}
+use Rattle.server_lives.proofs.Counting.{Test, any, jobs_at, is_by, job_passes, by-own, first-at, ready-at, found_at, lost-own, lost-others}
 use Rattle.server_lives.proofs.Accounts.{asking, asked_by, still-account, Account, told-account, owes-account, gives_up-account, finishes-account}
 use Rattle.server_lives.proofs.Going.{Known}
 use Rattle.server_lives.proofs.Ends.{attaches-still}

@@ -1,6 +1,6 @@
 -- Lives go on.
-use Rattle.std.proofs.Common.{◌≡◌, ◌∙◌, ℕ, ◌≤◌, Bool, true, false, cond, Option, Some, None, List, [], ◌∷◌, ◌++◌, length, get_or, ap, sym, subst, refl, append_assoc}
-use Rattle.std.specs.Prelude.{fold, map, drop, filter_map}
+use Rattle.std.proofs.Common.{◌≡◌, ◌∙◌, ◌≤◌, false, Option, Some, None, List, [], ◌∷◌, ◌++◌, length, get_or, ap, sym, subst, refl, append_assoc}
+use Rattle.std.specs.Prelude.{map, drop, filter_map}
 use Rattle.std.specs.List.{filter, All, Contains}
 use Rattle.std.proofs.lemmas.Bool.{cond_both, false≢true}
 use Rattle.std.proofs.lemmas.List.{append-nil}
@@ -10,7 +10,7 @@ use Rattle.id_window.specs.History.{History, FirstJudgement, is_kept, floor}
 use Rattle.inbox.specs.Refusals.{Way}
 use Rattle.inbox.specs.Judging.{session_after, Session as Remembered}
 use Rattle.regs_service.specs.Served.{Step}
-use Rattle.server_rules.specs.Server.{Name, Session, Server, is_same, session_named, remembered}
+use Rattle.server_rules.specs.Server.{Name, Session, is_same, session_named, remembered}
 use Rattle.server_rules.specs.Event.{Setting, State, Envelope, Entry, Sent}
 use Rattle.server_rules.specs.Events.{Event, Packet, Work, Tick, Attach, Loss, Restart, Course, setting_at, after_event}
 use Rattle.server_rules.specs.Answer.{name_in, message_in, hears_by, begun}

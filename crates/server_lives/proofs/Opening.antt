@@ -1,11 +1,10 @@
 -- A packet of a session that has accepted nothing after it.
-use Rattle.std.proofs.Common.{◌≡◌, ◌≢◌, ◌∙◌, ℕ, zero, suc, ◌+◌, ◌≤◌, ltb, eqb, Bool, true, false, cond, Option, Some, None, List, [], ◌∷◌, ◌++◌, length, ap, sym, subst, refl, arith, inl, inr, append_assoc}
-use Rattle.std.specs.Prelude.{fold, map, not, is_some, filter_map, ◌⊎◌, ◌&&◌, ◌==◌, ◌||◌}
-use Rattle.std.specs.List.{filter, zip, find, All, list_any}
+use Rattle.std.proofs.Common.{◌≡◌, ◌≢◌, ◌∙◌, ℕ, ◌+◌, ◌≤◌, eqb, Bool, false, Option, Some, None, List, [], ◌∷◌, ◌++◌, length, ap, sym, subst, refl, arith, inl, inr}
+use Rattle.std.specs.Prelude.{fold, map, filter_map, ◌&&◌, ◌||◌}
+use Rattle.std.specs.List.{filter, zip, list_any}
 use Rattle.std.proofs.lemmas.Bool.{cases_Bool, cond_both, cond-true, cond-false, false≢true}
-use Rattle.std.proofs.lemmas.List.{append-nil, length-append}
-use Rattle.std.proofs.lemmas.List.Elements.{All-nil, All-cons, All-push}
-use Rattle.service_tl.specs.declared.item.Item.{Item}
+use Rattle.std.proofs.lemmas.List.{length-append}
+use Rattle.std.proofs.lemmas.List.Elements.{All-nil, All-push}
 use Rattle.service_tl.specs.declared.item.Item.TheVariants.{NewSessionCreated, MsgsAck, BadServerSalt, BadMsgNotification}
 use Rattle.service_tl.specs.declared.lists.Message.{Message}
 use Rattle.service_tl.specs.Items.{spelling_of}
@@ -20,24 +19,22 @@ use Rattle.inbox.specs.declared.judged.Verdict.{Verdict}
 use Rattle.inbox.specs.declared.judged.Verdict.TheVariants.{Accepted, Again, Noticed}
 use Rattle.inbox.specs.declared.judged.Judgement.{Judgement}
 use Rattle.inbox.specs.Judging.{Session as Remembered, judge, inner_judgements, judged_session, unfolded}
-use Rattle.waits.specs.Jobs.{Queue}
 use Rattle.server_rules.specs.Server.{Name, Session, Reply, name_of, is_same, session_named, has_accepted, mark_in, reply_to, remembered}
 use Rattle.server_rules.specs.Event.{Setting, State, Speaker, Envelope, Owed, speaker_in, spoken_by, speaks}
-use Rattle.server_rules.specs.Speaking.{says, says_it_is_new, needs_salts}
+use Rattle.server_rules.specs.Speaking.{says_it_is_new, needs_salts}
 use Rattle.server_rules.specs.Waiting.{tells_of, outlook, after_failures}
-use Rattle.server_rules.specs.Rows.{notices, came_again, says_reply, owes, row, settles, acknowledges, acks_of, is_verdict_acked}
+use Rattle.server_rules.specs.Rows.{notices, came_again, says_reply, owes, settles, acknowledges, acks_of, is_verdict_acked}
 use Rattle.server_rules.specs.Calls.{each_once}
 use Rattle.server_rules.specs.Sending.{messages_by}
 use Rattle.server_rules.specs.Answer.{message_in, opens, takes_by}
 use Rattle.server_lives.specs.Lives.{Acceptance, acceptance_of, acceptance_by, judged_by, history_by, way_of}
 use Rattle.server_lives.specs.Finality.{accepted_numbers}
-use Rattle.server_lives.specs.Announced.{NamesSession}
-use Rattle.server_lives.proofs.Names.{named, names-same, found-named, none-some}
+use Rattle.server_lives.proofs.Names.{names-same, found-named, none-some}
 use Rattle.server_lives.proofs.Counting.{any, jobs_at, told-at}
 use Rattle.server_lives.proofs.Judged.{all-numbers}
 use Rattle.server_lives.proofs.Going.{Known}
 use Rattle.server_lives.proofs.Small.{IsShort, salt-length, notice-length, ack-length}
-use Rattle.server_lives.proofs.Mute.{Mute, IsMute, IsUnheard, Opening, Few, mute-weaker, messages-append, failures-mute}
+use Rattle.server_lives.proofs.Mute.{Mute, IsMute, IsUnheard, Opening, mute-weaker, messages-append, failures-mute}
 
 -- ---- nothing accepted
 

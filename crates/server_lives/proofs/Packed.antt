@@ -1,24 +1,23 @@
 -- What is sent of a session that has accepted nothing: one packet, which begins with its `new_session_created`.
-use Rattle.std.proofs.Common.{◌≡◌, ◌≢◌, ◌∙◌, ℕ, ◌≤◌, Bool, true, false, cond, Option, Some, None, List, [], ◌∷◌, ◌++◌, length, ap, sym, subst, refl, arith, inl, inr}
-use Rattle.std.specs.Prelude.{fold, ◌⊎◌, ◌&&◌, ◌==◌}
+use Rattle.std.proofs.Common.{◌≡◌, ◌≢◌, ◌∙◌, ℕ, true, false, Option, Some, None, List, [], ◌∷◌, length, ap, sym, subst, refl, arith, inl, inr}
+use Rattle.std.specs.Prelude.{fold}
 use Rattle.std.specs.List.{filter, All}
-use Rattle.std.proofs.lemmas.Bool.{cases_Bool, false≢true}
+use Rattle.std.proofs.lemmas.Bool.{false≢true}
 use Rattle.std.proofs.lemmas.List.Elements.{All-nil, All-push}
-use Rattle.msg_ids.specs.Counters.{Counters}
 use Rattle.salt_line.specs.Line.{current_salt}
 use Rattle.service_tl.specs.declared.lists.Message.{Message}
 use Rattle.packing.specs.Packing.{packets_of, after_packets}
 use Rattle.server_rules.specs.Server.{Name, Session, name_of, session_named}
 use Rattle.server_rules.specs.Event.{Setting, State, Speaker, Owed, Sent, speaker_in, spoken_by, speaks, lost}
 use Rattle.server_rules.specs.Speaking.{needs_salts}
-use Rattle.server_rules.specs.Sending.{names_in, messages_by, seals, sends, all_sent, envelope_of, padding_bytes}
+use Rattle.server_rules.specs.Sending.{names_in, messages_by, seals, sends, all_sent}
 use Rattle.server_rules.specs.Answer.{is_spent, ended}
 use Rattle.server_lives.specs.Lives.{is_packet_of}
 use Rattle.server_lives.specs.Announced.{NamesSession, SaysNew}
 use Rattle.server_lives.proofs.Names.{cases_name, found-named}
 use Rattle.server_lives.proofs.Counting.{is_by, by-other}
 use Rattle.server_lives.proofs.Small.{IsShort, new-length, one-packet}
-use Rattle.server_lives.proofs.Mute.{Mute, IsMute, IsUnheard, Opening, Few}
+use Rattle.server_lives.proofs.Mute.{Mute, IsMute, Few}
 
 -- a packet of the session says that it is new
 abbrev pub IsNew : Mute → Sent → Type 0

@@ -1,9 +1,9 @@
 -- One session and its account while a packet is taken.
-use Rattle.std.proofs.Common.{◌≡◌, ◌≢◌, ◌∙◌, ℕ, ◌+◌, ◌≤◌, ltb, Bool, true, false, cond, Option, Some, None, List, [], ◌∷◌, ◌++◌, length, ap, sym, subst, refl, arith, inl, inr}
-use Rattle.std.specs.Prelude.{fold, map, not, is_some, filter_map, ◌&&◌, ◌==◌}
-use Rattle.std.specs.List.{zip, find, cons_option}
+use Rattle.std.proofs.Common.{◌≡◌, ◌≢◌, ◌∙◌, ℕ, ◌+◌, ltb, Bool, true, false, cond, Option, Some, None, List, [], ◌∷◌, ◌++◌, length, ap, sym, subst, refl, arith, inl, inr}
+use Rattle.std.specs.Prelude.{fold, not, is_some, filter_map, ◌&&◌, ◌==◌}
+use Rattle.std.specs.List.{cons_option}
 use Rattle.std.specs.Option.{option_or}
-use Rattle.std.proofs.lemmas.Bool.{cases_Bool, cond_both, cond-true, cond-false}
+use Rattle.std.proofs.lemmas.Bool.{cond_both, cond-true, cond-false}
 use Rattle.std.proofs.lemmas.List.Folds.{find-append}
 use Rattle.service_tl.specs.declared.item.Item.{Item}
 use Rattle.service_tl.specs.declared.item.Item.TheVariants.{DestroySession, DestroySessionOk, DestroySessionNone}
@@ -12,18 +12,18 @@ use Rattle.inbox.specs.declared.judged.Verdict.{Verdict}
 use Rattle.inbox.specs.declared.judged.Verdict.TheVariants.{Accepted, Again, Noticed}
 use Rattle.inbox.specs.declared.judged.Judgement.{Judgement}
 use Rattle.inbox.specs.Refusals.{InEnvelope}
-use Rattle.inbox.specs.Judging.{judgements, session_after}
-use Rattle.server_rules.specs.Server.{Name, Session, Server, name_of, is_same, is_named, session_named, without_session, remembered, has_accepted, sessions_max}
-use Rattle.server_rules.specs.Event.{Setting, State, Speaker, Envelope, speaker_in, speaks, lost}
+use Rattle.inbox.specs.Judging.{judgements}
+use Rattle.server_rules.specs.Server.{Name, Session, name_of, is_same, is_named, session_named, without_session, remembered, has_accepted, sessions_max}
+use Rattle.server_rules.specs.Event.{Setting, State, Speaker, Envelope, speaks, lost}
 use Rattle.server_rules.specs.Speaking.{says, says_it_is_new}
-use Rattle.server_rules.specs.Waiting.{tells_of, after_failures}
+use Rattle.server_rules.specs.Waiting.{tells_of}
 use Rattle.server_rules.specs.Rows.{owes, row, destroys, settles, acknowledges, acks_of}
-use Rattle.server_rules.specs.Answer.{name_in, message_in, without_first as without_first_session, with_place, session_for, makes, hears_by, hears, opens, messages_judged, takes_by, takes, begun}
+use Rattle.server_rules.specs.Answer.{name_in, message_in, without_first as without_first_session, session_for, makes, hears_by, hears, opens, takes_by, takes}
 use Rattle.server_lives.specs.Lives.{Acceptance, acceptance_of, acceptance_by, judged_by, history_by}
 use Rattle.server_lives.proofs.Names.{none-some, cases_name, names-same, apart-names, found-named, lost-name, lost-other}
-use Rattle.server_lives.proofs.Counting.{Test, any, jobs_at, entries_at, asks, asked_at, lost-own, lost-others}
-use Rattle.server_lives.proofs.Accounts.{Rise, none, asking, asked_by, Account, Still, still-account, owes-account, told-account}
-use Rattle.server_lives.proofs.Going.{Who, IsWho, Holds, HoldsIn, holds-same, Spoke, spoke-said, Known, with_history, speaks-hold, speaks-same, opens-own, opens-other, lost-holds, failures-hold}
+use Rattle.server_lives.proofs.Counting.{Test, jobs_at, entries_at, asked_at, lost-own, lost-others}
+use Rattle.server_lives.proofs.Accounts.{none, asking, asked_by, Still, still-account, owes-account, told-account}
+use Rattle.server_lives.proofs.Going.{Who, Holds, HoldsIn, holds-same, Spoke, spoke-said, Known, with_history, speaks-hold, speaks-same, opens-own, opens-other, lost-holds, failures-hold}
 
 -- ---- what speeches are
 

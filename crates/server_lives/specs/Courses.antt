@@ -1,5 +1,5 @@
 -- How lives go on over a course.
-use Rattle.std.specs.Prelude.{◌≡◌, ℕ, ◌≤◌, false, List, [], ◌∷◌, ◌++◌}
+use Rattle.std.specs.Prelude.{◌≡◌, ◌≤◌, false, List, [], ◌∷◌, ◌++◌}
 use Rattle.std.specs.List.{All}
 use Rattle.id_window.specs.History.{History, is_kept, floor}
 use Rattle.server_rules.specs.Event.{Entry, Sent}

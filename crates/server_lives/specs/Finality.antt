@@ -1,9 +1,10 @@
 -- What becomes of the calls of a life: each is unfinished, or was entered once.
-use Rattle.std.specs.Prelude.{◌≡◌, ℕ, ◌+◌, ◌≤◌, ◌==◌, Bool, true, false, is_some, Option, Some, List, [], ◌∷◌, map, length}
-use Rattle.std.specs.List.{filter, All, Contains}
+use Rattle.std.specs.Prelude.{◌≡◌, ◌≢◌, ℕ, ◌+◌, ◌≤◌, ◌==◌, Bool, true, false, is_some, Some, List, map, length}
+use Rattle.std.specs.List.{filter, All, AllPairs, Contains}
 use Rattle.id_window.specs.History.{History, EachOnce, was_accepted}
+use Rattle.waits.specs.declared.job.Unfinished.{Unfinished}
 use Rattle.waits.specs.Jobs.{Queue, is_of, is_call, one_if}
-use Rattle.server_rules.specs.Server.{Session, Server, Name, session_named}
+use Rattle.server_rules.specs.Server.{Session, Name, session_named}
 use Rattle.server_rules.specs.Event.{Entry}
 use Rattle.server_lives.specs.Lives.{Acceptance, Life, request_of}
 
@@ -54,3 +55,22 @@ IsLifeOf life session = (session.first ≡ life.first) × (session.unique ≡ li
 abbrev pub IsStanding : List Session → Life → Type 0
 IsStanding sessions life =
     life.stands ≡ true → (session : Session) × (session_named life.name sessions ≡ Some session) × IsLifeOf life session
+
+-- each session that stands has a life that stands
+abbrev pub AreLived : List Session → List Life → Type 0
+AreLived sessions lives =
+    (name : Name) (session : Session) → session_named name sessions ≡ Some session
+    → (life : Life) × Contains lives life × (life.stands ≡ true) × (life.name ≡ name)
+
+-- no two lives that stand have one name
+abbrev pub AreApart : List Life → Type 0
+AreApart lives = AllPairs (λ one other. one.stands ≡ true → other.stands ≡ true → one.name ≢ other.name) lives
+
+-- an unfinished job is of a life that stands, which accepted its call: so a lost session has none
+abbrev pub IsOfLife : List Life → Unfinished → Type 0
+IsOfLife lives one =
+    (life : Life)
+    × Contains lives life
+    × (life.stands ≡ true)
+    × (life.name ≡ record { key = one.job.key; session = one.job.session })
+    × WasAsked life.accepted one.job.number one.job.request

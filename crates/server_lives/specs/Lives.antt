@@ -1,6 +1,6 @@
 -- The lives of a server's sessions over a list of events. A session that is lost and then made again under its name lives
 -- twice: each making is a life of its own.
-use Rattle.std.specs.Prelude.{ℕ, zero, ◌+◌, ◌==◌, ◌&&◌, Bool, true, false, if◌then◌else◌, is_some, Option, Some, None, List, [], ◌∷◌, ◌++◌, fold, map, drop, length, filter_map}
+use Rattle.std.specs.Prelude.{ℕ, ◌+◌, ◌==◌, ◌&&◌, Bool, true, if◌then◌else◌, is_some, Option, Some, None, List, [], ◌∷◌, ◌++◌, fold, map, drop, length, filter_map}
 use Rattle.std.specs.List.{filter, zip}
 use Rattle.service_tl.specs.declared.item.Item.{Item}
 use Rattle.service_tl.specs.declared.item.Item.TheVariants.{InvokeAfterMsg, InvokeAfterMsgs, Packed, Call, Broken}
@@ -12,7 +12,7 @@ use Rattle.inbox.specs.declared.judged.Judgement.{Judgement}
 use Rattle.inbox.specs.Refusals.{Way, InEnvelope}
 use Rattle.inbox.specs.Judging.{judgements, session_after}
 use Rattle.regs_service.specs.Served.{Step}
-use Rattle.server_rules.specs.Server.{Session, Server, Name, is_same, name_of, session_named, remembered}
+use Rattle.server_rules.specs.Server.{Session, Name, is_same, name_of, session_named, remembered}
 use Rattle.server_rules.specs.Event.{Setting, Envelope, Entry, Sent}
 use Rattle.server_rules.specs.Events.{Event, Packet, Course, setting_at, after_event, begun_course}
 use Rattle.server_rules.specs.Answer.{name_in, message_in, messages_judged, hears, begun}

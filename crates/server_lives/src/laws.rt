@@ -9,7 +9,7 @@ ghost use Rattle.server_lives.specs.Announced.{IsAnnounced};
 ghost use Rattle.server_lives.specs.Courses.{GoOn};
 ghost use Rattle.server_laws.specs.Witness as shown;
 ghost use Rattle.server_lives.specs.Witness as lived;
-ghost use Rattle.server_lives.specs.Finality.{IsFinal, IsStanding};
+ghost use Rattle.server_lives.specs.Finality.{AreApart, AreLived, IsFinal, IsOfLife, IsStanding};
 
 use draws::Draw;
 
@@ -19,7 +19,7 @@ pub fn lives_are_of_courses<D: Draw, V>()
         → (told_of setting serve service draw events).course ≡ course_of setting serve service draw events }
 {}
 
-/// After every list of events a session that stands is the last of its lives, and what becomes of a life's calls is final:
+/// After every list of events a life that stands is that of its session, and what becomes of a life's calls is final:
 /// no number was judged twice; while the session stands an accepted call has either its job or exactly one entry, and
 /// once it is lost one entry at most, with what the call asks; a number that was noticed has neither, nor has an accepted
 /// message that is no call of the service, as a binding call that is spelt right.
@@ -28,6 +28,22 @@ pub fn calls_are_entered_once<D: Draw, V>()
         → All (IsStanding (told_of setting serve service draw events).course.server.sessions) (told_of setting serve service draw events).lives }
     ensures final_ { (setting : Setting D) (serve : Step V) (service : V) (draw : D) (events : List Event)
         → All (IsFinal (told_of setting serve service draw events).course.server.jobs) (told_of setting serve service draw events).lives }
+{
+    server_laws::laws::servers_stay_in_order::<D, V>();
+    server_laws::laws::packets_are_judged();
+    server_laws::laws::sessions_speak::<D>();
+    server_laws::laws::sessions_speak_for_themselves::<D>();
+}
+
+/// After every list of events each session that stands has one life that stands, and each unfinished job is a call that
+/// such a life accepted: a lost session has none.
+pub fn sessions_live_once<D: Draw, V>()
+    ensures lived { (setting : Setting D) (serve : Step V) (service : V) (draw : D) (events : List Event)
+        → AreLived (told_of setting serve service draw events).course.server.sessions (told_of setting serve service draw events).lives }
+    ensures apart { (setting : Setting D) (serve : Step V) (service : V) (draw : D) (events : List Event)
+        → AreApart (told_of setting serve service draw events).lives }
+    ensures jobs { (setting : Setting D) (serve : Step V) (service : V) (draw : D) (events : List Event)
+        → All (IsOfLife (told_of setting serve service draw events).lives) (told_of setting serve service draw events).course.server.jobs }
 {
     server_laws::laws::servers_stay_in_order::<D, V>();
     server_laws::laws::packets_are_judged();

@@ -1,5 +1,4 @@
 use Rattle.std.proofs.Common.{List, []}
-use Rattle.std.specs.List.{All}
 use Rattle.std.proofs.lemmas.List.Elements.{All-nil, All-weaker}
 use Rattle.regs_service.specs.Served.{Step}
 use Rattle.server_rules.specs.Event.{Setting}

@@ -1,10 +1,9 @@
-use Rattle.std.proofs.Common.{List, [], ◌++◌, ap, sym, subst}
-use Rattle.std.specs.List.{All}
-use Rattle.std.proofs.lemmas.List.Elements.{All-nil, All-weaker}
+use Rattle.std.proofs.Common.{List, [], sym, subst}
+use Rattle.std.proofs.lemmas.List.Elements.{All-nil}
 use Rattle.regs_service.specs.Served.{Step}
 use Rattle.server_rules.specs.Event.{Setting}
 use Rattle.server_rules.specs.Events.{Event, begun_course}
-use Rattle.server_lives.specs.Lives.{Life, Told, told_of, told_from}
+use Rattle.server_lives.specs.Lives.{Life, Told, told_of}
 use Rattle.server_lives.specs.Courses.{GoOn}
 use Rattle.server_lives.proofs.Events.{IsEven}
 use Rattle.server_lives.proofs.Living.{Laws, AreLives, IsRecorded, told-lives}
