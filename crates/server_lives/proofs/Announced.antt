@@ -1,5 +1,5 @@
 -- Each life announces itself as long as it has accepted nothing.
-use Rattle.std.proofs.Common.{◌≡◌, ◌≢◌, ◌∙◌, ℕ, ◌+◌, ltb, false, cond, Option, Some, None, List, [], ◌∷◌, ◌++◌, length, get_or, ap, sym, subst, refl, arith, inl, inr}
+use Rattle.std.proofs.Common.{◌≡◌, ◌≢◌, ◌∙◌, ℕ, ltb, false, cond, Option, Some, None, List, [], ◌∷◌, ◌++◌, length, get_or, ap, sym, subst, refl, arith, inl, inr}
 use Rattle.std.specs.Prelude.{fold, drop}
 use Rattle.std.specs.List.{filter, All}
 use Rattle.std.proofs.Math.Seq.{drop-append_seam}
@@ -281,7 +281,7 @@ module _ {S V : Type 0} (setting : Setting S) (serve : Step V) (fresh : V) (know
       let h = hearing-adds floors setting before event life stands in
       let H : History → Type 0 = λ history. was_heard history ≡ false in
       let unheard_before : was_heard later.history ≡ false → was_heard life.history ≡ false = λ unheard.
-          unheard-before life.history h.history.0 (subst H h.history.1 unheard) in
+      unheard-before life.history h.history.0 (subst H h.history.1 unheard) in
       let same : mute_of life ≡ mute_of later = mute-same life later h.name h.first h.unique in
       let M : Mute → Type 0 = λ mute. All (λ packet. SaysNew mute.first mute.unique packet.envelope.body) life.packets in
       let P : List Sent → Type 0 = λ packets. All (λ packet. SaysNew later.first later.unique packet.envelope.body) packets in
@@ -318,7 +318,7 @@ module _ {S V : Type 0} (setting : Setting S) (serve : Step V) (fresh : V) (know
       let W : Session → Type 0 = λ session. was_heard session.history ≡ false in
       let U : Option Session → Type 0 = IsUnheard mute in
       let C : Option Session → Type 0 = λ found.
-          Holds (record { name = name_in envelope; first = session.first; unique = session.unique; history = [] }) any 0 found (hears at envelope state).jobs (hears at envelope state).entries in
+      Holds (record { name = name_in envelope; first = session.first; unique = session.unique; history = [] }) any 0 found (hears at envelope state).jobs (hears at envelope state).entries in
       let said = hears-said at envelope state (session_named (name_in envelope) state.sessions) in
       let m : IsMute S mute Nothing (hears at envelope state) = record {
         unheard = subst U (sym heard) (refl, refl, subst R (sym is.1.1) refl, subst W (sym is.1.1) refl);

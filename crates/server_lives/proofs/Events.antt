@@ -1,5 +1,5 @@
 -- A life and its account, from event to event.
-use Rattle.std.proofs.Common.{◌≡◌, ◌≢◌, ◌∙◌, ℕ, ◌+◌, ◌≤◌, Bool, true, false, Option, Some, None, List, [], ◌∷◌, ◌++◌, length, ap, sym, subst, refl, arith, inl, inr}
+use Rattle.std.proofs.Common.{◌≡◌, ◌∙◌, ℕ, ◌+◌, ◌≤◌, Bool, true, false, Option, Some, None, List, [], ◌∷◌, ◌++◌, length, ap, sym, subst, refl, arith, inl, inr}
 use Rattle.std.specs.Prelude.{drop, is_some, filter_map, ◌&&◌}
 use Rattle.std.specs.List.{filter}
 use Rattle.std.proofs.Math.Seq.{drop-append_seam}
@@ -125,7 +125,7 @@ unheard-given before after entries life new holds = record {
   entries = refl;
   holds = λ test.
       let P : List Entry → Type 0 = λ entries.
-          Holds (who_of life) test (jobs_at life.name test before.server.jobs + 0) (session_named life.name after.server.sessions) after.server.jobs entries in
+      Holds (who_of life) test (jobs_at life.name test before.server.jobs + 0) (session_named life.name after.server.sessions) after.server.jobs entries in
       subst P (sym new) (holds test);
 }
 
@@ -139,7 +139,7 @@ module _ {S V : Type 0} (known : Known S) (setting : Setting S) (serve : Step V)
       unheard-given before after answer.entries life (ap (drop (length before.entries)) entries ∙ drop-append_seam before.entries answer.entries)
       (λ test.
       let P : Server → Type 0 = λ server.
-          Holds (who_of life) test (jobs_at life.name test before.server.jobs + 0) (session_named life.name server.sessions) server.jobs answer.entries in
+      Holds (who_of life) test (jobs_at life.name test before.server.jobs + 0) (session_named life.name server.sessions) server.jobs answer.entries in
       subst P (sym servers) (holds test))
 
   work-given : (at : Setting S) (place : ℕ) (job : Option Job) (life : Life) → ready_job place before.server.jobs ≡ job → Stands before.server life

@@ -104,7 +104,7 @@ refused-none (first ∷ history) once =
     (All-filter test (λ (judgement : FirstJudgement). N judgement.number) history heads) in
     let rest = refused-none history (pairs-tail R first history once) in
     let P : FirstJudgement → Type 0 = λ judgement.
-        was_accepted judgement.outcome ≡ false → count (λ other. other == judgement.number) (accepted_numbers (first ∷ history)) ≡ 0 in
+    was_accepted judgement.outcome ≡ false → count (λ other. other == judgement.number) (accepted_numbers (first ∷ history)) ≡ 0 in
     let all_numbers : FirstJudgement → List ℕ → Type 0 = λ judgement numbers. count (λ other. other == judgement.number) numbers ≡ 0 in
     All-cons P first history
     (λ refused.

@@ -1,5 +1,5 @@
 -- One session and its account within an event, whichever session speaks or is lost.
-use Rattle.std.proofs.Common.{◌≡◌, ◌≢◌, ◌∙◌, ℕ, zero, suc, ◌+◌, ◌≤◌, Bool, true, false, cond, Option, Some, None, List, [], ap, sym, subst, refl, arith, inl, inr}
+use Rattle.std.proofs.Common.{◌≡◌, ◌≢◌, ◌∙◌, ℕ, zero, suc, ◌+◌, ◌≤◌, Bool, true, false, cond, Option, Some, None, List, ap, sym, subst, refl, arith, inl, inr}
 use Rattle.std.specs.Prelude.{length, ◌&&◌}
 use Rattle.std.proofs.lemmas.Bool.{cond_both, cond-true, cond-false}
 use Rattle.id_window.specs.History.{History}
@@ -238,8 +238,8 @@ module _ {S : Type 0} (known : Known S) where
         | inr apart ↦
             let off : is_by who.name job.key job.session ≡ false = by-other who.name job.key job.session apart in
             let stays : (test : Test) → jobs_at who.name test rest ≡ jobs_at who.name test state.jobs = λ test.
-                let all = taken who.name test in
-                let none_out : one_if (job_passes who.name test job) ≡ 0 = ap (λ (is : Bool). one_if (is && test job.number job.request)) off in omega arith in
+            let all = taken who.name test in
+            let none_out : one_if (job_passes who.name test job) ≡ 0 = ap (λ (is : Bool). one_if (is && test job.number job.request)) off in omega arith in
             let more : cond (is_same who.name name) (rise test) 0 ≡ 0 = cond-false (is_same who.name name) (rise test) 0 (apart-names who.name name apart) in
             let sum : total + cond (is_same who.name name) (rise test) 0 ≡ total = omega arith in
             subst Z sum

@@ -1,5 +1,5 @@
 -- Each session that stands has one life.
-use Rattle.std.proofs.Common.{◌≡◌, ◌≢◌, ◌∙◌, ℕ, ◌+◌, ◌<◌, true, Option, Some, None, List, [], ◌∷◌, ◌++◌, length, get_or, ap, sym, subst, refl, arith, inl, inr}
+use Rattle.std.proofs.Common.{◌≡◌, ◌≢◌, ◌∙◌, ℕ, ◌<◌, true, Option, Some, None, List, [], ◌∷◌, ◌++◌, length, get_or, ap, sym, subst, refl, arith, inl, inr}
 use Rattle.std.specs.Prelude.{map, is_some}
 use Rattle.std.specs.List.{All, AllPairs, Contains}
 use Rattle.std.proofs.Math.ListN.{get_or-map}
@@ -151,8 +151,7 @@ module _ {S V : Type 0} (setting : Setting S) (serve : Step V) (fresh : V) (know
   born moment envelope none =
       let at = setting_at setting moment before.server in
       let state : State S = begun before.server before.draw in
-      let start = begins at envelope state none (unnamed-jobs (name_in envelope) before.server.sessions before.server.jobs ordered none) refl in
-      (
+      let start = begins at envelope state none (unnamed-jobs (name_in envelope) before.server.sessions before.server.jobs ordered none) refl in (
         start.0,
         ap name_of start.1.1.1,
         ap (λ (found : Option Session). newborn found (heard_by at envelope before)) none ∙ ap (newborn None) start.1.0,
@@ -168,8 +167,7 @@ module _ {S V : Type 0} (setting : Setting S) (serve : Step V) (fresh : V) (know
       let life = life_of made.0 in
       let N : Name → Type 0 = λ name. session_named name (after event).server.sessions ≡ Some session in
       let found : session_named life.name (after event).server.sessions ≡ Some session = subst N (sym made.1) is in
-      let P : List Life → Type 0 = λ made. Contains (map (next event) (lives ++ made)) (next event life) in
-      (
+      let P : List Life → Type 0 = λ made. Contains (map (next event) (lives ++ made)) (next event life) in (
         next event life,
         subst P (sym made.2) (contains-map (next event) (lives ++ life ∷ []) life (Contains-push lives life)),
         next-stands event life session refl found,
@@ -179,13 +177,12 @@ module _ {S V : Type 0} (setting : Setting S) (serve : Step V) (fresh : V) (know
   stood-lived : (event : Event) (lives : List Life) (life : Life) (session : Session) → Contains lives life → life.stands ≡ true
       → session_named life.name (after event).server.sessions ≡ Some session
       → (later : Life) × Contains (lives_after setting before (after event) event lives) later × (later.stands ≡ true) × (later.name ≡ life.name)
-  stood-lived event lives life session has stands is =
-      (
-        next event life,
-        contains-map (next event) (lives ++ made_by setting before event) life (Contains-append_left lives (made_by setting before event) life has),
-        next-stands event life session stands is,
-        next-name event life,
-      )
+  stood-lived event lives life session has stands is = (
+    next event life,
+    contains-map (next event) (lives ++ made_by setting before event) life (Contains-append_left lives (made_by setting before event) life has),
+    next-stands event life session stands is,
+    next-name event life,
+  )
 
   -- an event that makes a session of this name, or doesn't
   made-lived : (event : Event) (lives : List Life) (name : Name) (session : Session) → session_named name before.server.sessions ≡ None

@@ -174,9 +174,9 @@ module _ {S V : Type 0} (setting : Setting S) (serve : Step V) (fresh : V) (laws
       (λ test.
       let no_jobs = jobs test in
       let N : Name → Type 0 = λ name.
-          HoldsIn (record { name = name; first = session.first; unique = session.unique; history = [] }) test (jobs_at name test before.server.jobs + 0) (hears at envelope state) in
+      HoldsIn (record { name = name; first = session.first; unique = session.unique; history = [] }) test (jobs_at name test before.server.jobs + 0) (hears at envelope state) in
       let Z : ℕ → Type 0 = λ total.
-          HoldsIn (record { name = name_in envelope; first = session.first; unique = session.unique; history = [] }) test total (hears at envelope state) in
+      HoldsIn (record { name = name_in envelope; first = session.first; unique = session.unique; history = [] }) test total (hears at envelope state) in
       let total : 0 ≡ jobs_at (name_in envelope) test before.server.jobs + 0 = omega arith in
       subst N (sym own) (subst Z total (is.2 test))) in
       let O : Session → Type 0 = λ session. IsOrderly session.history session.replies session.counters.last [] in
@@ -192,10 +192,11 @@ module _ {S V : Type 0} (setting : Setting S) (serve : Step V) (fresh : V) (laws
       let recorded : IsRecorded later =
       cond_both (is_same life.name (name_in envelope)) (with_packet at envelope (heard_by at envelope before) life) life IsRecorded
       (λ same. subst R (sym heard) (packet-recorded laws.once at envelope session [] life unjudged orderly recorded_first)) (λ fails. recorded_first) in
-      All-cons P life []
-      (given-even before after life later given
-      (λ test. let no_jobs = jobs test in let names = ap (λ (name : Name). jobs_at name test before.server.jobs) own in omega arith),
-      event-recorded before after later recorded)
+      All-cons P life [] (
+        given-even before after life later given
+            (λ test. let no_jobs = jobs test in let names = ap (λ (name : Name). jobs_at name test before.server.jobs) own in omega arith),
+        event-recorded before after later recorded,
+      )
       (All-nil P)
   born-lives moment envelope None None none heard =
       All-nil (λ (life : Life). Lives (Packet moment (Some envelope))

@@ -1,5 +1,5 @@
 -- A packet of a session that has accepted nothing after it.
-use Rattle.std.proofs.Common.{◌≡◌, ◌≢◌, ◌∙◌, ℕ, ◌+◌, ◌≤◌, eqb, Bool, false, Option, Some, None, List, [], ◌∷◌, ◌++◌, length, ap, sym, subst, refl, arith, inl, inr}
+use Rattle.std.proofs.Common.{◌≡◌, ◌∙◌, ℕ, ◌+◌, ◌≤◌, eqb, Bool, false, Option, Some, None, List, [], ◌∷◌, ◌++◌, length, ap, sym, subst, refl, arith, inl, inr}
 use Rattle.std.specs.Prelude.{fold, map, filter_map, ◌&&◌, ◌||◌}
 use Rattle.std.specs.List.{filter, zip, list_any}
 use Rattle.std.proofs.lemmas.Bool.{cases_Bool, cond_both, cond-true, cond-false, false≢true}
@@ -148,8 +148,7 @@ module _ {S : Type 0} (setting : Setting S) (mute : Mute) where
   -- one short message more
   more-said : (most : ℕ) (said : List Message) (message : Message) → IsShort message → New most said → New (most + 1) (said ++ message ∷ [])
   more-said most said message short opening =
-      let few = opening.4 in
-      (
+      let few = opening.4 in (
         opening.0,
         opening.1 ++ message ∷ [],
         ap (λ (list : List Message). list ++ message ∷ []) opening.2,
@@ -325,6 +324,6 @@ module _ {S : Type 0} (known : Known S) (setting : Setting S) (mute : Mute) wher
       let next = judged_session way (remembered session) message in
       let later = history_by setting envelope session in
       let P : Name → Type 0 = λ name.
-          IsMute S mute (New setting mute 2) (fold (settles setting name) (speaks name (opens setting later (listed message next verdict)) state) (paired message next verdict)) in
+      IsMute S mute (New setting mute 2) (fold (settles setting name) (speaks name (opens setting later (listed message next verdict)) state) (paired message next verdict)) in
       subst P (sym (found-named mute.name state.sessions session found))
       (by-verdict message next verdict later state session found unheard (none-accepted setting envelope session unheard) m)

@@ -334,7 +334,7 @@ module _ {S : Type 0} (known : Known S) (setting : Setting S) (envelope : Envelo
   packet-own who test total session state own found holds =
       let heard = hears setting envelope state in
       let P : Option Session → Type 0 = λ found.
-          HoldsIn (with_history who (history_by setting envelope session)) test (total + rises test (judged_by setting envelope session)) (takes_by setting envelope found heard) in
+      HoldsIn (with_history who (history_by setting envelope session)) test (total + rises test (judged_by setting envelope session)) (takes_by setting envelope found heard) in
       let named_so : name_of session ≡ name_in envelope = found-named (name_in envelope) heard.sessions session found in
       subst P (sym found) (takes-own known setting envelope test who total session heard (own ∙ sym named_so) holds)
 

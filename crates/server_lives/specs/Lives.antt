@@ -1,6 +1,6 @@
 -- The lives of a server's sessions over a list of events. A session that is lost and then made again under its name lives
 -- twice: each making is a life of its own.
-use Rattle.std.specs.Prelude.{ℕ, ◌+◌, ◌==◌, ◌&&◌, Bool, true, if◌then◌else◌, is_some, Option, Some, None, List, [], ◌∷◌, ◌++◌, fold, map, drop, length, filter_map}
+use Rattle.std.specs.Prelude.{ℕ, ◌==◌, ◌&&◌, Bool, true, if◌then◌else◌, is_some, Option, Some, None, List, [], ◌∷◌, ◌++◌, fold, map, drop, length, filter_map}
 use Rattle.std.specs.List.{filter, zip}
 use Rattle.service_tl.specs.declared.item.Item.{Item}
 use Rattle.service_tl.specs.declared.item.Item.TheVariants.{InvokeAfterMsg, InvokeAfterMsgs, Packed, Call, Broken}
