@@ -42,6 +42,4 @@ pub use opening::OpeningClient;
 pub use step::{OpenStep, OpeningStep};
 
 #[cfg(test)]
-mod packet_tests;
-#[cfg(test)]
 mod tests;

@@ -207,6 +207,7 @@ nothing-said speaker = record {
   history = refl;
   owed = ([], sym (append-nil speaker.owed), All-nil (λ (one : Owed). one.name ≡ name_of speaker.session));
   entries = ([], sym (append-nil speaker.entries), All-nil (own_entry speaker.session.key speaker.session.number));
+  sent = refl;
 }
 
 module _ {S : Type 0} (setting : Setting S) (before : Speaker S) where
@@ -238,6 +239,7 @@ module _ {S : Type 0} (setting : Setting S) (before : Speaker S) where
     history = s.history;
     owed = one-more message speaker s;
     entries = s.entries;
+    sent = s.sent;
   }
 
   says-said : (item : Item) (speaker : Speaker S) → Said speaker → Said (says setting item speaker)
@@ -249,6 +251,7 @@ module _ {S : Type 0} (setting : Setting S) (before : Speaker S) where
     history = s.history;
     owed = one-more (numbered setting.now speaker.session.counters item) speaker s;
     entries = s.entries;
+    sent = s.sent;
   }
 
   enters-said : (ran : Bool) (call : ℕ) (request content : List ℕ) (speaker : Speaker S) → Said speaker → Said (records ran call request content speaker)
@@ -274,6 +277,7 @@ module _ {S : Type 0} (setting : Setting S) (before : Speaker S) where
           ap (λ (all : List Entry). all ++ one ∷ []) entries.1 ∙ append_assoc before.entries entries.0 (one ∷ []),
           All-push (own_entry before.session.key before.session.number) entries.0 one entries.2 (s.key, s.number),
         );
+        sent = s.sent;
       }
 
   words-said : IsKeptByWords S setting Said
@@ -281,10 +285,10 @@ module _ {S : Type 0} (setting : Setting S) (before : Speaker S) where
     says = says-said;
     again = λ reply speaker s.
         cond_both (has_said reply.number speaker) speaker (owes_message (message_of reply) speaker) Said (λ is. s) (λ is. owes-said (message_of reply) speaker s);
-    salts = λ count speaker s. record { key = s.key; number = s.number; first = s.first; unique = s.unique; history = s.history; owed = s.owed; entries = s.entries };
-    jobs = λ jobs speaker s. record { key = s.key; number = s.number; first = s.first; unique = s.unique; history = s.history; owed = s.owed; entries = s.entries };
-    bindings = λ bindings speaker s. record { key = s.key; number = s.number; first = s.first; unique = s.unique; history = s.history; owed = s.owed; entries = s.entries };
-    replies = λ replies speaker s. record { key = s.key; number = s.number; first = s.first; unique = s.unique; history = s.history; owed = s.owed; entries = s.entries };
+    salts = λ count speaker s. record { key = s.key; number = s.number; first = s.first; unique = s.unique; history = s.history; owed = s.owed; entries = s.entries; sent = s.sent };
+    jobs = λ jobs speaker s. record { key = s.key; number = s.number; first = s.first; unique = s.unique; history = s.history; owed = s.owed; entries = s.entries; sent = s.sent };
+    bindings = λ bindings speaker s. record { key = s.key; number = s.number; first = s.first; unique = s.unique; history = s.history; owed = s.owed; entries = s.entries; sent = s.sent };
+    replies = λ replies speaker s. record { key = s.key; number = s.number; first = s.first; unique = s.unique; history = s.history; owed = s.owed; entries = s.entries; sent = s.sent };
     entries = enters-said;
   }
 

@@ -1,6 +1,6 @@
 //! Laws of a server, each the contract of a function that does nothing.
 
-ghost use Rattle.std.specs.Prelude.{map, ◌≡◌, ◌≢◌, ◌≤◌, ℕ, [], ◌∷◌, ◌++◌, true, false, All, Contains, List, Option, Some, length};
+ghost use Rattle.std.specs.Prelude.{map, Bool, ◌≡◌, ◌≢◌, ◌≤◌, ℕ, [], ◌∷◌, ◌++◌, true, false, All, Contains, List, Option, Some, length};
 ghost use Rattle.service_tl.specs.declared.item.Item.{Item};
 ghost use Rattle.service_tl.specs.declared.item.Item.TheVariants.{RpcResult};
 ghost use Rattle.service_tl.specs.Items.{spelling_of};
@@ -12,7 +12,8 @@ ghost use Rattle.inbox.specs.Refusals.{Way};
 ghost use Rattle.inbox.specs.Judging.{judgements, session_after, Session as Remembered};
 ghost use Rattle.regs_service.specs.Served.{Step};
 ghost use Rattle.waits.specs.declared.job.Job.{Job};
-ghost use Rattle.waits.specs.Jobs.{Queue};
+ghost use Rattle.waits.specs.declared.job.Unfinished.{Unfinished};
+ghost use Rattle.waits.specs.Jobs.{Queue, first_job, without_first, ready_job, without_ready};
 ghost use Rattle.server_rules.specs.Server.{Name, Server, Session, Reply, has_accepted, kept_of, kept_replies, mark_after, marks_of, name_of, remembered, reply_to, session_named};
 ghost use Rattle.server_rules.specs.Event.{Owed, Sent, Setting, Speaker, State, BindingCall, speaker_in, speaks};
 ghost use Rattle.server_rules.specs.Events.{Event, Course, course_of, after_event};
@@ -128,6 +129,18 @@ pub fn rows_keep_order<D: Draw>()
         → IsSpeaking name others past (job.number ∷ opened) speaker → IsSpeaking name others past opened (gives_up setting content job speaker) }
 {}
 
+/// Where a job of a session that speaks is taken out, its number is open, and all else stays as it was.
+pub fn taken_jobs_are_open<D: Draw>()
+    ensures first { (test : Unfinished → Bool) (job : Job) (name : Name) (others : Name → Queue) (past : History) (opened : List ℕ) (speaker : Speaker D)
+        → first_job test speaker.jobs ≡ Some job → job.key ≡ name.key → job.session ≡ name.session
+        → IsSpeaking name others past opened speaker
+        → IsSpeaking name others past (job.number ∷ opened) (record speaker { jobs = without_first test speaker.jobs }) }
+    ensures ready { (place : ℕ) (job : Job) (name : Name) (others : Name → Queue) (past : History) (opened : List ℕ) (speaker : Speaker D)
+        → ready_job place speaker.jobs ≡ Some job → job.key ≡ name.key → job.session ≡ name.session
+        → IsSpeaking name others past opened speaker
+        → IsSpeaking name others past (job.number ∷ opened) (record speaker { jobs = without_ready place speaker.jobs }) }
+{}
+
 /// The mark of a number that was judged is that of its outcome, and of the reply to it where there is one.
 pub fn marks_are_of_replies()
     ensures { (history : History) (replies : List Reply) (judgement : FirstJudgement) → EachOnce history → Contains history judgement
@@ -212,7 +225,8 @@ pub fn new_sessions_say_so<D: Draw>()
 {}
 
 /// A session that speaks does so for itself: it stays the same one with the same history, and what it owes further and
-/// what is entered further is its own. This is so of each row, of a job that is given up or has run, and of an attach.
+/// what is entered further is its own, and it makes no packet yet. This is so of each row, of a job that is given up or
+/// has run, and of an attach.
 pub fn sessions_speak_for_themselves<D: Draw>()
     ensures owes { (setting : Setting D) (speaker : Speaker D) (number seq : ℕ) (verdict : Verdict) (body : List ℕ)
         → SaidFor D speaker (owes setting number seq verdict body speaker) }

@@ -1,0 +1,6 @@
+pub mod Steps
+pub mod Bound
+pub mod Once
+pub mod Queries
+pub mod Accepting
+pub mod DropLemmas

@@ -1,0 +1,24 @@
+//! What a server owes for each judgement, over one session within an event, in room that was taken before
+//! (core.telegram.org/mtproto/service_messages, core.telegram.org/mtproto/service_messages_about_messages). A `Turn` is what
+//! a session has so far of an event; with the session, the jobs and the bindings it stands for a speaker of the definitions
+//! (`Speaks`), and each method is one row of their table.
+#![tactic(auto)]
+
+mod answering;
+mod bindings;
+mod calls;
+mod dropping;
+mod entries;
+mod repeating;
+mod saying;
+mod turn;
+mod waiting;
+
+pub use bindings::Bindings;
+pub use calls::CallDue;
+pub use entries::{Entries, Entry};
+pub use turn::Turn;
+pub use waiting::Run;
+
+#[cfg(test)]
+mod tests;

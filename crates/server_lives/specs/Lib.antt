@@ -1,0 +1,5 @@
+pub mod Lives
+pub mod Finality
+pub mod Courses
+pub mod Announced
+pub mod Witness
