@@ -1,3 +1,4 @@
 pub mod Standing
 pub mod Says
 pub mod Outlooks
+pub mod Names

@@ -34,3 +34,7 @@ IsAt now standing = standing.salts.latest ≤ now
 -- the key that it is a session of
 abbrev pub key_of : Standing → ℕ
 key_of standing = standing.key
+
+-- its number
+abbrev pub number_of : Standing → ℕ
+number_of standing = standing.number

@@ -4,7 +4,7 @@
 //! memory.
 #![tactic(auto)]
 
-mod laws;
+pub mod laws;
 mod outlook;
 mod standing;
 

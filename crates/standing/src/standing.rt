@@ -10,7 +10,7 @@ ghost use Rattle.inbox.specs.Refusals.{InEnvelope};
 ghost use Rattle.outbox.specs.Bodies.{head_bytes};
 ghost use Rattle.waits.specs.Jobs.{Queue};
 ghost use Rattle.server_rules.specs.Event.{Speaker};
-ghost use Rattle.server_rules.specs.Server.{Reply, Session, has_accepted, kept_of, mark_in, remembered};
+ghost use Rattle.server_rules.specs.Server.{Reply, Session, has_accepted, is_same, kept_of, mark_in, remembered};
 ghost use Rattle.server_rules.specs.Answer.{session_for};
 ghost use Rattle.server_rules.specs.Speaking.{says, says_again, says_it_is_new};
 ghost use Rattle.server_rules.specs.Rows.{acknowledges, notices, tells_salts};
@@ -22,7 +22,8 @@ ghost use Rattle.owing.specs.Items.{IsContent, acks_bytes, bad_salt_bytes, destr
 ghost use Rattle.server_laws.specs.Order.{IsOrderly};
 ghost use Rattle.server_rules.specs.Waiting.{outlook, tells_of};
 ghost use Rattle.standing.specs.Outlooks.{outlook_told};
-ghost use Rattle.standing.specs.Standing.{IsAt, Stands, key_of, numbers_left};
+ghost use Rattle.standing.specs.Standing.{IsAt, Stands, key_of, number_of, numbers_left};
+ghost use Rattle.standing.specs.Names.{name_kept};
 ghost use Rattle.standing.specs.Says.{Keys, Says, setting_of};
 
 use crate::laws::{replies_are_results, said_by_number};
@@ -86,6 +87,7 @@ impl Standing {
             (record { key = key; salt = salt; session = number; number = first; seq = seq; body = body }) draw.old)) }
         ensures drawn { OnOk result (draw.new ≡ draw_after D.step 2 draw.old) }
         ensures key { IfOk result (λ standing. key_of standing ≡ key) }
+        ensures number { IfOk result (λ standing. number_of standing ≡ number) }
         ensures numbers { IfOk result (λ standing. numbers_left standing ≡ 2 ^ 30) }
         ensures at { IfOk result (IsAt now) }
     {
@@ -101,6 +103,34 @@ impl Standing {
             outbox: Outbox::new(alloc)?,
             numbers: Numbers::new(),
         })
+    }
+
+    /// The identifier of its key.
+    pub fn key(&self) -> u64
+        ensures { result ≡ key_of self.now }
+    {
+        self.key
+    }
+
+    /// Its number.
+    pub fn number(&self) -> u64
+        ensures { result ≡ number_of self.now }
+    {
+        self.number
+    }
+
+    /// Whether it is the session of this key and this number.
+    pub fn is_named(&self, key: u64, number: u64) -> bool
+        ensures { result ≡ is_same (record { key = key; session = number }) (name_kept self.now) }
+    {
+        key == self.key && number == self.number
+    }
+
+    /// For how many further messages it has numbers.
+    pub fn numbers_left(&self) -> u64
+        ensures { result ≡ numbers_left self.now }
+    {
+        self.numbers.room()
     }
 
     /// Whether it has accepted no message so far.
@@ -133,6 +163,7 @@ impl Standing {
         ensures unchanged_on_memory { OnErr result (self.new ≡ self.old) }
         ensures same_numbers { numbers_left self.new ≡ numbers_left self.old }
         ensures same_key { key_of self.new ≡ key_of self.old }
+        ensures same_number { number_of self.new ≡ number_of self.old }
         ensures at { IsAt now self.new }
     {
         packets_are_judged();
@@ -199,6 +230,7 @@ impl Standing {
         ensures taken { (owing.new.places_taken ≡ owing.old.places_taken) × (owing.new.bytes_taken ≡ owing.old.bytes_taken) }
         ensures numbers_last { numbers_left self.old ≤ numbers_left self.new + 1 }
         ensures same_key { key_of self.new ≡ key_of self.old }
+        ensures same_number { number_of self.new ≡ number_of self.old }
         ensures at { IsAt now self.old → IsAt now self.new }
     {
         let salt = self.salts.current(now, draw);
@@ -218,6 +250,7 @@ impl Standing {
         ensures taken { (owing.new.places_taken ≡ owing.old.places_taken) × (owing.new.bytes_taken ≡ owing.old.bytes_taken) }
         ensures numbers_last { numbers_left self.old ≤ numbers_left self.new + 1 }
         ensures same_key { key_of self.new ≡ key_of self.old }
+        ensures same_number { number_of self.new ≡ number_of self.old }
         ensures at { IsAt now self.old → IsAt now self.new }
     {
         if !ids.is_empty() {
@@ -246,6 +279,7 @@ impl Standing {
         ensures taken { (owing.new.places_taken ≡ owing.old.places_taken) × (owing.new.bytes_taken ≡ owing.old.bytes_taken) }
         ensures numbers_last { numbers_left self.old ≤ numbers_left self.new + 1 }
         ensures same_key { key_of self.new ≡ key_of self.old }
+        ensures same_number { number_of self.new ≡ number_of self.old }
         ensures at { IsAt now self.old → IsAt now self.new }
     {
         if code == WRONG_SALT {
@@ -268,6 +302,7 @@ impl Standing {
         ensures taken { (owing.new.places_taken ≡ owing.old.places_taken) × (owing.new.bytes_taken ≡ owing.old.bytes_taken) }
         ensures numbers_last { numbers_left self.old ≤ numbers_left self.new + 1 }
         ensures same_key { key_of self.new ≡ key_of self.old }
+        ensures same_number { number_of self.new ≡ number_of self.old }
         ensures at { IsAt now self.old → IsAt now self.new }
     {
         owing.pong(now, &mut self.numbers, message, ping);
@@ -291,6 +326,7 @@ impl Standing {
         ensures taken { (owing.new.places_taken ≡ owing.old.places_taken) × (owing.new.bytes_taken ≡ owing.old.bytes_taken) }
         ensures numbers_last { numbers_left self.old ≤ numbers_left self.new + 1 }
         ensures same_key { key_of self.new ≡ key_of self.old }
+        ensures same_number { number_of self.new ≡ number_of self.old }
         ensures at { IsAt now self.old → IsAt now self.new }
     {
         owing.destroyed(now, &mut self.numbers, session, ok);
@@ -316,6 +352,7 @@ impl Standing {
         ensures taken { (owing.new.places_taken ≡ owing.old.places_taken) × (owing.new.bytes_taken ≡ owing.old.bytes_taken) }
         ensures numbers_last { numbers_left self.old ≤ numbers_left self.new + 1 }
         ensures same_key { key_of self.new ≡ key_of self.old }
+        ensures same_number { number_of self.new ≡ number_of self.old }
         ensures at { IsAt now self.old → IsAt now self.new }
     {
         let mut rows = [NO_SALT; SALT_ROWS_MAX];
@@ -350,6 +387,7 @@ impl Standing {
         ensures room_lasts { outs.old.room ≤ outs.new.room + packets_most packets.messages packets.bytes }
         ensures numbers_last { numbers_left self.old ≤ numbers_left self.new + packets_most packets.messages packets.bytes }
         ensures same_key { key_of self.new ≡ key_of self.old }
+        ensures same_number { number_of self.new ≡ number_of self.old }
         ensures at { IsAt now self.new }
     {
         sent_as_the_rules_say::<D>();
