@@ -1,6 +1,6 @@
 //! A session.
 
-ghost use Rattle.std.specs.Prelude.{◌≡◌, ◌^◌, ◌≤◌, ◌<◌, ◌+◌, ℕ, List, [], drop, length, min, not, IfOk, IsSome, OnErr, OnOk};
+ghost use Rattle.std.specs.Prelude.{All, ◌≡◌, ◌^◌, ◌≤◌, ◌<◌, ◌+◌, ℕ, List, [], drop, length, min, not, IfOk, IsSome, OnErr, OnOk};
 ghost use Rattle.draws.specs.Draws.{draw_after, word_after};
 ghost use Rattle.salt_line.specs.Rows.{future_rows_max};
 ghost use Rattle.service_tl.specs.declared.item.Item.TheVariants.{Pong};
@@ -22,9 +22,7 @@ ghost use Rattle.owing.specs.Items.{IsContent, acks_bytes, bad_salt_bytes, destr
 ghost use Rattle.server_laws.specs.Order.{IsOrderly};
 ghost use Rattle.server_rules.specs.Waiting.{outlook, tells_of};
 ghost use Rattle.standing.specs.Outlooks.{outlook_told};
-ghost use Rattle.standing.specs.Standing.{IsAt, Stands, key_of, number_of, numbers_left};
-ghost use Rattle.standing.specs.Names.{name_kept};
-ghost use Rattle.standing.specs.Says.{Keys, Says, setting_of};
+ghost use Rattle.standing.specs.Kept.{IsResult};
 
 use crate::laws::{replies_are_results, said_by_number};
 use crate::outlook::Outlook;
@@ -58,17 +56,22 @@ const NO_SALT: SaltRow = SaltRow {
 /// numbers are.
 #[derive(Debug, Drop)]
 pub struct Standing {
-    key: u64,
-    number: u64,
-    first: u64,
-    unique: u64,
-    salts: SaltLine,
-    inbox: Inbox,
-    outbox: Outbox,
-    numbers: Numbers,
+    pub(crate) key: u64,
+    pub(crate) number: u64,
+    pub(crate) first: u64,
+    pub(crate) unique: u64,
+    pub(crate) salts: SaltLine,
+    pub(crate) inbox: Inbox,
+    pub(crate) outbox: Outbox,
+    pub(crate) numbers: Numbers,
+    ghost contents: { All IsResult outbox.replies },
 }
 
 impl Standing {
+    ghost use Rattle.standing.specs.Standing.{IsAt, Stands, key_of, number_of, numbers_left};
+    ghost use Rattle.standing.specs.Names.{name_kept};
+    ghost use Rattle.standing.specs.Says.{Keys, Says, setting_of};
+
     /// The session of this key and this number that a message of the number `first` makes now. Its unique number is drawn,
     /// then its first salt.
     ///
