@@ -3,10 +3,8 @@
 //! the definitions (`Stands`), and each event makes it stand for what the definitions say of that event.
 #![tactic(auto)]
 
-mod bindings;
 mod server;
 mod sessions;
 
-pub use bindings::Bindings;
 pub use server::Server;
 pub use sessions::Sessions;

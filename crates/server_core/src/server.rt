@@ -6,10 +6,10 @@ ghost use Rattle.server_rules.specs.Server.{Server as Rules, fresh_server, sessi
 ghost use Rattle.server_rules.specs.Answer.{after_loss, after_restart};
 ghost use Rattle.server_core.specs.Server.{Stands};
 
-use crate::bindings::Bindings;
 use crate::sessions::Sessions;
 use envelope::Seal;
 use msg_ids::Moment;
+use rows::Bindings;
 use standing::laws::sessions_stand_later;
 use std::alloc::Global;
 use std::marker::Model;
@@ -36,7 +36,7 @@ impl<S: Seal> Model for Server<S> {
       moment = server.moment;
       sessions = server.sessions;
       jobs = server.jobs.jobs;
-      bindings = server.bindings;
+      bindings = server.bindings.bindings;
     } };
 
     ghost invariant = { λ server. IsSound (S.keys server.seal) server.moment server.sessions };

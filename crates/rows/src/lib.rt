@@ -1,0 +1,14 @@
+//! What a server owes for each judgement, over one session within an event, in room that was taken before
+//! (core.telegram.org/mtproto/service_messages, core.telegram.org/mtproto/service_messages_about_messages). A `Turn` is what
+//! a session has so far of an event; with the session, the jobs and the bindings it stands for a speaker of the definitions
+//! (`Speaks`), and each method is one row of their table.
+#![tactic(auto)]
+
+mod bindings;
+mod entries;
+mod saying;
+mod turn;
+
+pub use bindings::Bindings;
+pub use entries::{Entries, Entry};
+pub use turn::Turn;
