@@ -1,3 +1,7 @@
 pub mod Lists
-pub mod Taking
+pub mod Names
+pub mod One
+pub mod Spent
 pub mod Standing
+pub mod Speaking
+pub mod Taking

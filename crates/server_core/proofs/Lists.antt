@@ -73,3 +73,16 @@ no-place test xs is =
       | inl within ↦ absurd (none-some at (is ∙ cond-true (nat_lt at (length xs)) (Some at) None within))
       | inr outside ↦ ltb-false at (length xs) outside
     ]
+
+pairs-at : {X : Type 0} (R : X → X → Type 0) (x : X) (xs : List X) → All (R x) xs → AllPairs R xs
+    → (i j : ℕ) (d : X) → i < j → j < length (x ∷ xs) → R (get_or (x ∷ xs) i d) (get_or (x ∷ xs) j d)
+pairs-at R x xs first rest zero zero d lt within = absurd (omega arith)
+pairs-at R x xs first rest (suc i) zero d lt within = absurd (omega arith)
+pairs-at R x xs first rest zero (suc j) d lt within = first j d (omega arith)
+pairs-at R x xs first rest (suc i) (suc j) d lt within = rest i j d (omega arith) (omega arith)
+
+pub pairs-cons : {X : Type 0} (R : X → X → Type 0) (x : X) (xs : List X) → All (R x) xs → AllPairs R xs → AllPairs R (x ∷ xs)
+pairs-cons R x xs first rest = pairs-at R x xs first rest
+
+pub pairs-nil : {X : Type 0} (R : X → X → Type 0) → AllPairs R []
+pairs-nil R = λ i j d lt within. absurd (omega arith)

@@ -9,22 +9,7 @@ use Rattle.standing.specs.declared.standing.Standing.{Standing}
 use Rattle.standing.specs.Names.{name_kept}
 use Rattle.server_core.specs.Sessions.{AreApart, HaveOtherNames, is_kept_as, without_kept}
 use Rattle.server_core.proofs.Lists.{pairs-head, pairs-tail}
-
-abbrev pub named : ℕ → ℕ → Name
-named key session = record { key = key; session = session }
-
-pub name-by : (one other : Name) → one.key ≡ other.key → one.session ≡ other.session → one ≡ other
-name-by one other key session =
-    ap (λ (k : ℕ). named k one.session) key ∙ ap (λ (s : ℕ). named other.key s) session
-
-pub same-names : (one other : Name) → is_same one other ≡ true → one ≡ other
-same-names one other is =
-    let parts = and_parts _ _ is in
-    name-by one other (eqb-true one.key other.key parts.0) (eqb-true one.session other.session parts.1)
-
-pub names-same : (one other : Name) → one ≡ other → is_same one other ≡ true
-names-same one other is =
-    and_from _ _ (eq-eqb one.key other.key (ap (λ (name : Name). name.key) is)) (eq-eqb one.session other.session (ap (λ (name : Name). name.session) is))
+use Rattle.server_core.proofs.Names.{same-names}
 
 -- the others of one that has the name have others
 others-stay : (name : Name) (one : Standing) (standings : List Standing) → is_kept_as name one ≡ true → All (HaveOtherNames one) standings
