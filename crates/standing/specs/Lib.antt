@@ -3,3 +3,4 @@ pub mod Standing
 pub mod Says
 pub mod Outlooks
 pub mod Names
+pub mod Fates

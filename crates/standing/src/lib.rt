@@ -4,10 +4,13 @@
 //! memory.
 #![tactic(auto)]
 
+mod dropping;
 pub mod laws;
 mod outlook;
 mod standing;
+mod telling;
 
+pub use dropping::DroppedReply;
 pub use outlook::Outlook;
 pub use standing::Standing;
 

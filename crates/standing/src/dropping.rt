@@ -1,0 +1,118 @@
+//! A session lets go of replies: of those that were acknowledged, and of one that is to be dropped
+//! (core.telegram.org/mtproto/service_messages_about_messages, "Acknowledgment of Receipt";
+//! core.telegram.org/mtproto/service_messages, "Cancellation of an RPC Query").
+
+ghost use Rattle.std.specs.Prelude.{◌≡◌, ℕ, map, option_map};
+ghost use Rattle.id_window.specs.History.{History, found};
+ghost use Rattle.id_window.specs.Marks.{Marks};
+ghost use Rattle.inbox.specs.Inbox.{Stands as InboxStands};
+ghost use Rattle.owing.specs.Dues.{Dues};
+ghost use Rattle.server_laws.specs.Order.{AreReplies};
+ghost use Rattle.server_rules.specs.Event.{Speaker};
+ghost use Rattle.server_rules.specs.Rows.{takes_acks};
+ghost use Rattle.server_rules.specs.Server.{Session, answered_mark};
+ghost use Rattle.standing.specs.Fates.{AreApart, fate_of, kept_to, refated, told_of, with_dropped, with_ended};
+
+use crate::standing::Standing;
+use draws::Draw;
+use id_window::laws::other_marks_count_nothing;
+use inbox::{Inbox, Mark};
+use server_rules::laws::marks_follow_history;
+
+/// What is told of a reply that was dropped.
+#[derive(Clone, Copy, Debug, PartialEq, Eq)]
+pub struct DroppedReply {
+    /// Its own message identifier.
+    pub number: u64,
+    /// Its own sequence number.
+    pub seq: u32,
+    /// How many bytes its body has.
+    pub length: usize,
+}
+
+/// What becomes of a reply that is kept no more.
+#[derive(Clone, Copy, Debug, PartialEq, Eq)]
+pub(crate) enum Ending {
+    /// Its receipt was acknowledged.
+    Acked,
+    /// It was dropped without that.
+    Dropped,
+}
+
+impl Ending {
+    // The mark of its call.
+    fn mark(self, good: bool) -> Mark
+        ensures { result ≡ answered_mark good (fate_of self) }
+    {
+        match self {
+            Ending::Acked => Mark::Acked(good),
+            Ending::Dropped => Mark::Dropped(good),
+        }
+    }
+}
+
+// The reply to a call, where it was kept, is kept no more.
+fn ends_call(inbox: &mut Inbox, call: u64, ending: Ending)
+    ensures { (history : History) (marks : Marks) → InboxStands inbox.old history marks
+        → InboxStands inbox.new history (with_ended call (fate_of ending) (found call history marks) marks) }
+{
+    match inbox.mark(call) {
+        Some(Mark::Replied(good)) => inbox.set_mark(call, ending.mark(good)),
+        _ => {}
+    }
+}
+
+impl Standing {
+    ghost use Rattle.standing.specs.Says.{Says};
+    ghost use Rattle.standing.specs.Standing.{IsAt, Stands, key_of, numbers_left};
+
+    /// Drops the kept reply to a call, and tells of it; none, and nothing changes, where none is kept. Takes no memory.
+    pub fn drops_reply(&mut self, call: u64) -> Option<DroppedReply>
+        ensures told { (now : ℕ) (session : Session) → Stands now self.old session
+            → result ≡ option_map told_of (kept_to call session.replies) }
+        ensures stands { (now : ℕ) (session : Session) → Stands now self.old session
+            → AreReplies session.history session.replies session.counters.last
+            → Stands now self.new (record session { replies = with_dropped (kept_to call session.replies) session.replies }) }
+        ensures same_numbers { numbers_left self.new ≡ numbers_left self.old }
+        ensures same_key { key_of self.new ≡ key_of self.old }
+        ensures at { (now : ℕ) → IsAt now self.old → IsAt now self.new }
+    {
+        let kept = self.outbox.by_call(call)?;
+        let dropped = DroppedReply {
+            number: kept.number,
+            seq: kept.seq,
+            length: kept.body.len(),
+        };
+        self.ends_reply(dropped.number, Ending::Dropped);
+        Some(dropped)
+    }
+
+    /// Keeps the replies of these numbers no more: their receipt was acknowledged. Takes no memory.
+    pub fn takes_acks<D: Draw>(&mut self, ids: &[u64])
+        ensures says { (now : ℕ) (owing : Dues) (draw : D) (speaker : Speaker D)
+            → AreReplies speaker.session.history speaker.session.replies speaker.session.counters.last
+            → Says now self.old owing draw speaker → Says now self.new owing draw (takes_acks ids.now speaker) }
+        ensures same_numbers { numbers_left self.new ≡ numbers_left self.old }
+        ensures same_key { key_of self.new ≡ key_of self.old }
+        ensures at { (now : ℕ) → IsAt now self.old → IsAt now self.new }
+    {
+        for place in 0..ids.len() {
+            self.ends_reply(ids[place], Ending::Acked);
+        }
+    }
+
+    // The kept reply of this number, if there is one, is kept no more.
+    fn ends_reply(&mut self, number: u64, ending: Ending)
+        ensures stands { (now : ℕ) (session : Session) → Stands now self.old session → AreApart session.replies
+            → Stands now self.new (record session { replies = refated (fate_of ending) number session.replies }) }
+        ensures same_numbers { numbers_left self.new ≡ numbers_left self.old }
+        ensures same_key { key_of self.new ≡ key_of self.old }
+        ensures at { (now : ℕ) → IsAt now self.old → IsAt now self.new }
+    {
+        other_marks_count_nothing();
+        marks_follow_history();
+        if let Some(call) = self.outbox.ack(number) {
+            ends_call(&mut self.inbox, call, ending);
+        }
+    }
+}
