@@ -1,3 +1,4 @@
 pub mod One
 pub mod Sessions
 pub mod Server
+pub mod Speech

@@ -1,13 +1,13 @@
 -- A server, as it is kept.
-use Rattle.std.specs.Prelude.{◌≡◌, ◌≤◌, ℕ, List, length, All, IsSome}
+use Rattle.std.specs.Prelude.{◌≡◌, ◌≤◌, ℕ, Bool, if◌then◌else◌, List, length, All, IsSome}
 use Rattle.auth_keys.specs.declared.ring.RingKey.{RingKey}
 use Rattle.auth_keys.specs.Rings.{entry_of}
-use Rattle.waits.specs.Jobs.{Queue}
-use Rattle.server_rules.specs.Server.{Binding, Server, sessions_max}
+use Rattle.waits.specs.Jobs.{Queue, without_session}
+use Rattle.server_rules.specs.Server.{Binding, Name, Server, sessions_max}
 use Rattle.server_rules.specs.Answer.{room_min}
 use Rattle.standing.specs.declared.standing.Standing.{Standing}
 use Rattle.standing.specs.Standing.{IsAt, key_of, numbers_left}
-use Rattle.server_core.specs.Sessions.{AreKept}
+use Rattle.server_core.specs.Sessions.{AreKept, without_kept}
 
 -- What contracts see of a server: what seals its packets, the greatest moment that it was given, its sessions, the one heard
 -- least recently first, the unfinished jobs in order of acceptance, and the bindings.
@@ -37,3 +37,11 @@ pub record Stands {S : Type 0} (kept : Kept S) (server : Server) : Type 0 where
   pub sessions : AreKept kept.moment kept.sessions server.sessions
   pub jobs : kept.jobs ≡ server.jobs
   pub bindings : kept.bindings ≡ server.bindings
+
+-- the sessions and the jobs without those of this name, where this is so
+
+abbrev pub without_kept_where : Bool → Name → List Standing → List Standing
+without_kept_where so name standings = if so then without_kept name standings else standings
+
+abbrev pub without_jobs_where : Bool → Name → Queue → Queue
+without_jobs_where so name jobs = if so then without_session name.key name.session jobs else jobs

@@ -5,6 +5,7 @@
 
 mod server;
 mod sessions;
+mod speech;
 
 pub use server::Server;
 pub use sessions::Sessions;

@@ -4,3 +4,4 @@ pub mod Says
 pub mod Outlooks
 pub mod Names
 pub mod Fates
+pub mod Repeats

@@ -7,6 +7,7 @@
 mod dropping;
 pub mod laws;
 mod outlook;
+mod repeating;
 mod standing;
 mod telling;
 

@@ -70,6 +70,7 @@ pub struct Standing {
 impl Standing {
     ghost use Rattle.standing.specs.Standing.{IsAt, Stands, key_of, number_of, numbers_left};
     ghost use Rattle.standing.specs.Names.{name_kept};
+    ghost use Rattle.standing.specs.Repeats.{kept_bytes, kept_count};
     ghost use Rattle.standing.specs.Says.{Keys, Says, setting_of};
 
     /// The session of this key and this number that a message of the number `first` makes now. Its unique number is drawn,
@@ -234,6 +235,7 @@ impl Standing {
         ensures numbers_last { numbers_left self.old ≤ numbers_left self.new + 1 }
         ensures same_key { key_of self.new ≡ key_of self.old }
         ensures same_number { number_of self.new ≡ number_of self.old }
+        ensures same_kept { (kept_count self.new ≡ kept_count self.old) × (kept_bytes self.new ≡ kept_bytes self.old) }
         ensures at { IsAt now self.old → IsAt now self.new }
     {
         let salt = self.salts.current(now, draw);

@@ -1,0 +1,41 @@
+//! A session says once more what it keeps (core.telegram.org/mtproto/service_messages, "Response to an RPC query").
+
+ghost use Rattle.std.specs.Prelude.{◌≡◌, ◌≤◌, ◌+◌, ℕ, slice_get};
+ghost use Rattle.std.specs.Option.{option_copied};
+ghost use Rattle.outbox.specs.Replies.{kept_bytes_max, kept_replies_max};
+ghost use Rattle.server_rules.specs.Event.{Speaker};
+ghost use Rattle.server_rules.specs.Server.{Session, kept_replies};
+
+use crate::standing::Standing;
+use draws::Draw;
+use outbox::Kept;
+use owing::Owing;
+
+impl Standing {
+    ghost use Rattle.standing.specs.Repeats.{kept_bytes, kept_count, says_all_again};
+    ghost use Rattle.standing.specs.Says.{Says};
+    ghost use Rattle.standing.specs.Standing.{Stands};
+
+    /// How many replies it keeps, at most 4,096.
+    pub fn kept_count(&self) -> usize
+        ensures value { result ≡ kept_count self.now }
+        ensures few { result ≤ kept_replies_max }
+    {
+        self.outbox.len()
+    }
+
+    /// How many bytes the bodies of these have together, at most 4,194,304.
+    pub fn kept_bytes(&self) -> usize
+        ensures value { result ≡ kept_bytes self.now }
+        ensures few { result ≤ kept_bytes_max }
+    {
+        self.outbox.bytes()
+    }
+
+    /// The kept reply at a place in order of making, from 0; none where there are no more.
+    pub fn kept(&self, place: usize) -> Option<&Kept>
+        ensures { (now : ℕ) (session : Session) → Stands now self.now session → option_copied result ≡ slice_get (kept_replies session.replies) place }
+    {
+        self.outbox.at(place)
+    }
+}
