@@ -1,8 +1,10 @@
 pub mod Lists
 pub mod Names
 pub mod One
+pub mod Places
 pub mod Sending
 pub mod Spent
 pub mod Standing
 pub mod Speaking
 pub mod Taking
+pub mod Attached

@@ -1,4 +1,5 @@
 pub mod One
 pub mod Sessions
 pub mod Server
+pub mod Effects
 pub mod Speech

@@ -5,6 +5,7 @@ use Rattle.owing.specs.Items.{new_session_bytes}
 use Rattle.server_rules.specs.Event.{Setting, Speaker}
 use Rattle.server_rules.specs.Answer.{attaches}
 use Rattle.standing.specs.declared.standing.Standing.{Standing}
+use Rattle.standing.specs.Standing.{Stands}
 use Rattle.standing.specs.Repeats.{kept_bytes, kept_count}
 use Rattle.server_core.specs.declared.speech.Speech.{Speech}
 use Rattle.server_core.specs.One.{says_its_own}
@@ -24,3 +25,10 @@ pub record CanAttach (standing : Standing) (speech : Speech) : Type 0 where
 -- a session after a connection was opened for it, and after all that it owes then went out
 abbrev pub attached : {S : Type 0} → Setting S → Speaker S → Speaker S
 attached setting speaker = says_its_own setting (attaches setting speaker)
+
+-- What is kept of a session, as an event begins, is that of a speaker, who owes and has sent nothing.
+pub record Begins {S : Type 0} (moment : ℕ) (standing : Standing) (draw : S) (speaker : Speaker S) : Type 0 where
+  pub stands : Stands moment standing speaker.session
+  pub draws : draw ≡ speaker.draw
+  pub owed : speaker.owed ≡ []
+  pub sent : speaker.sent ≡ []

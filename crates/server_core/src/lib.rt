@@ -3,9 +3,12 @@
 //! the definitions (`Stands`), and each event makes it stand for what the definitions say of that event.
 #![tactic(auto)]
 
+mod attaching;
+mod effects;
 mod server;
 mod sessions;
 mod speech;
 
+pub use effects::Effects;
 pub use server::Server;
 pub use sessions::Sessions;

@@ -1,1 +1,2 @@
 pub mod FateLemmas
+pub mod RepeatLemmas

@@ -38,4 +38,21 @@ impl Standing {
     {
         self.outbox.at(place)
     }
+
+    /// Says all replies that it keeps once more, in order of making, each unless it was said in this event.
+    pub fn says_all_again<D: Draw>(&self, owing: &mut Owing)
+        requires places { kept_count self.now ≤ owing.old.places }
+        requires bytes { kept_bytes self.now ≤ owing.old.room }
+        ensures says { (now : ℕ) (draw : D) (speaker : Speaker D) → Says now self.now owing.old draw speaker
+            → Says now self.now owing.new draw (says_all_again speaker) }
+        ensures places { owing.old.places ≤ owing.new.places + kept_count self.now }
+        ensures left { owing.old.room ≤ owing.new.room + kept_bytes self.now }
+        ensures taken { (owing.new.places_taken ≡ owing.old.places_taken) × (owing.new.bytes_taken ≡ owing.old.bytes_taken) }
+    {
+        for place in 0..self.outbox.len() {
+            if let Some(kept) = self.outbox.at(place) {
+                self.says_again::<D>(owing, kept);
+            }
+        }
+    }
 }

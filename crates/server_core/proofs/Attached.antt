@@ -14,6 +14,9 @@ use Rattle.server_rules.specs.Speaking.{has_said, message_of, needs_salts, owes_
 use Rattle.server_rules.specs.Sending.{messages_by, seals, sends}
 use Rattle.server_rules.specs.Answer.{Answer, after_attach, attaches, begun, ended, is_spent, room_min}
 use Rattle.server_laws.specs.Speech.{SaidFor}
+use Rattle.owing.specs.Dues.{Dues}
+use Rattle.standing.specs.Says.{Says}
+use Rattle.standing.specs.Repeats.{says_all_again}
 use Rattle.standing.specs.declared.standing.Standing.{Standing}
 use Rattle.standing.specs.Standing.{Stands as StandsFor, numbers_left}
 use Rattle.server_core.specs.One.{answer_of, lost_where, says_its_own, sends_all}
@@ -85,6 +88,25 @@ attached-rest {S} setting speaker =
     rest-then speaker said (attached setting speaker) (attaches-rest setting speaker)
     (sent-rest setting (messages_by (name_of said.session) said.owed) said)
 
+again-sent : {S : Type 0} (reply : Reply) (speaker : Speaker S) (said : Bool) → (cond said speaker (owes_message (message_of reply) speaker)).sent ≡ speaker.sent
+again-sent reply speaker true = refl
+again-sent reply speaker false = refl
+
+all_again-sent : {S : Type 0} (replies : List Reply) (speaker : Speaker S) → (fold (λ speaker reply. says_again reply speaker) speaker replies).sent ≡ speaker.sent
+all_again-sent [] speaker = refl
+all_again-sent {S} (reply ∷ replies) speaker =
+    all_again-sent replies (says_again reply speaker) ∙ again-sent reply speaker (has_said reply.number speaker)
+
+new-sent : {S : Type 0} (setting : Setting S) (speaker : Speaker S) (accepted : Bool) → (cond accepted speaker (says_it_is_new setting speaker)).sent ≡ speaker.sent
+new-sent setting speaker true = refl
+new-sent setting speaker false = refl
+
+-- what is said isn't sent yet
+pub attaches-sent : {S : Type 0} (setting : Setting S) (speaker : Speaker S) → (attaches setting speaker).sent ≡ speaker.sent
+attaches-sent {S} setting speaker =
+    all_again-sent (filter is_kept speaker.session.replies) (cond (has_accepted speaker.session) speaker (says_it_is_new setting speaker))
+    ∙ new-sent setting speaker (has_accepted speaker.session)
+
 -- ---- what an event of one session leaves
 
 pub ends-so : HasItsName → {S D : Type 0} (setting : Setting D) (state : State D) (done : Speaker D) (name : Name) (so : Bool) (seal : S) (standings : List Standing)
@@ -107,15 +129,15 @@ ends-so names setting state done name false seal standings jobs bindings are sam
     record { moment = refl; sessions = are; jobs = same; bindings = same_bindings }
 
 -- what is sent and drawn doesn't hang on whether the session is lost
-sent-where : {S : Type 0} (so : Bool) (name : Name) (state : State S) → (lost_where so name state).sent ≡ state.sent
+pub sent-where : {S : Type 0} (so : Bool) (name : Name) (state : State S) → (lost_where so name state).sent ≡ state.sent
 sent-where true name state = refl
 sent-where false name state = refl
 
-drawn-where : {S : Type 0} (so : Bool) (name : Name) (state : State S) → (lost_where so name state).draw ≡ state.draw
+pub drawn-where : {S : Type 0} (so : Bool) (name : Name) (state : State S) → (lost_where so name state).draw ≡ state.draw
 drawn-where true name state = refl
 drawn-where false name state = refl
 
-entered-where : {S : Type 0} (so : Bool) (name : Name) (state : State S) → (lost_where so name state).entries ≡ state.entries
+pub entered-where : {S : Type 0} (so : Bool) (name : Name) (state : State S) → (lost_where so name state).entries ≡ state.entries
 entered-where true name state = refl
 entered-where false name state = refl
 
@@ -126,6 +148,14 @@ pub record IsThere (S : Type 0) (setting : Setting S) (name : Name) (server : Ru
   pub apart : AllPairs AreOthers server.sessions
   pub room : All HasRoom server.sessions
   pub speaks : (speaker : Speaker S) → SaidFor S speaker (attaches setting speaker)
+
+pub attached-name : {S : Type 0} (setting : Setting S) (name : Name) (server : Rules) (draw : S) (session : Session) → IsThere S setting name server draw session
+    → name_of (attached setting (speaker_in (begun server draw) session)).session ≡ name
+attached-name {S} setting name server draw session there =
+    let speaker : Speaker S = speaker_in (begun server draw) session in
+    let said : SaidFor S speaker (attaches setting speaker) = there.speaks speaker in
+    own-name setting (attaches setting speaker)
+    ∙ (name-by (name_of (attaches setting speaker).session) (name_of session) said.key said.number ∙ found-named name server.sessions session there.found)
 
 pub attach-gives : {S : Type 0} (setting : Setting S) (name : Name) (server : Rules) (draw : S) (session : Session) → IsThere S setting name server draw session
     → after_attach setting name server draw
@@ -141,3 +171,33 @@ attach-gives {S} setting name server draw session there =
     let O : List Owed → Type 0 = λ owed. All (λ (one : Owed). one.name ≡ name) owed in
     let own = subst O (sym said.owed.1) (subst N (found-named name server.sessions session there.found) said.owed.2) in
     one-ends setting (attaches setting) state name session there.found there.apart there.room is own
+
+-- none is there
+pub none-gives : {S : Type 0} (setting : Setting S) (name : Name) (server : Rules) (draw : S) → session_named name server.sessions ≡ None
+    → All HasRoom server.sessions → after_attach setting name server draw ≡ answer_of setting (begun server draw)
+none-gives {S} setting name server draw none all =
+    ap (λ (found : Option Session). ended setting (spoken_by found (attaches setting) (begun server draw))) none
+    ∙ none-ends setting (begun server draw) all refl
+
+-- ---- what it says first, and then all that it keeps
+
+abbrev pub begun_so : {S : Type 0} → Setting S → Speaker S → Speaker S
+begun_so setting speaker = cond (has_accepted speaker.session) speaker (says_it_is_new setting speaker)
+
+new-replies : {S : Type 0} (setting : Setting S) (speaker : Speaker S) (accepted : Bool)
+    → (cond accepted speaker (says_it_is_new setting speaker)).session.replies ≡ speaker.session.replies
+new-replies setting speaker true = refl
+new-replies setting speaker false = refl
+
+pub all-again : {S : Type 0} (setting : Setting S) (speaker : Speaker S) → says_all_again (begun_so setting speaker) ≡ attaches setting speaker
+all-again {S} setting speaker =
+    ap (λ (replies : List Reply). fold (λ (so_far : Speaker S) (reply : Reply). says_again reply so_far) (begun_so setting speaker) (filter is_kept replies))
+    (new-replies setting speaker (has_accepted speaker.session))
+
+pub said-as : {S : Type 0} (now : ℕ) (standing other : Standing) (owing more : Dues) (draw next : S) (speaker said : Speaker S) → other ≡ standing → more ≡ owing
+    → next ≡ draw → said ≡ speaker → Says now standing owing draw speaker → Says now other more next said
+said-as {S} now standing other owing more draw next speaker said same_standing same_owing same_draw same says =
+    subst (λ (one : Standing). Says now one more next said) (sym same_standing)
+    (subst (λ (dues : Dues). Says now standing dues next said) (sym same_owing)
+    (subst (λ (one : S). Says now standing owing one said) (sym same_draw)
+    (subst (λ (one : Speaker S). Says now standing owing draw one) (sym same) says)))
