@@ -57,7 +57,9 @@ impl Short {
 
     /// The content as bytes that are shared. Takes no memory.
     pub fn bytes(self) -> Bytes
-        ensures { result ≡ content_of self }
+        ensures content { result ≡ content_of self }
+        ensures words { length (content_of self) % 4 ≡ 0 }
+        ensures short { length (content_of self) ≤ short_bytes_max }
     {
         Bytes::from_static(self.content())
     }

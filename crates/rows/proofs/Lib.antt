@@ -1,2 +1,5 @@
 pub mod Steps
 pub mod Bound
+pub mod Once
+pub mod Queries
+pub mod Accepting

@@ -1,15 +1,19 @@
 -- Steps of a session that leave the jobs, the bindings and the entries.
-use Rattle.std.proofs.Common.{◌≡◌, ◌∙◌, ℕ, List, [], ◌∷◌, refl, sym, inl, inr}
+use Rattle.std.proofs.Common.{◌≡◌, ◌∙◌, ℕ, Bool, List, [], ◌∷◌, ◌++◌, ap, refl, subst, sym, inl, inr}
 use Rattle.std.specs.Prelude.{◌==◌}
 use Rattle.std.proofs.lemmas.Bool.{cases_Bool}
 use Rattle.waits.specs.Jobs.{Queue}
 use Rattle.server_rules.specs.Server.{Binding}
-use Rattle.server_rules.specs.Event.{Setting, Speaker}
+use Rattle.server_rules.specs.Event.{Entry, Setting, Speaker}
+use Rattle.server_rules.specs.Speaking.{records}
+use Rattle.server_rules.specs.Calls.{with_binding}
+use Rattle.server_rules.specs.Waiting.{tells_of}
 use Rattle.server_rules.specs.Rows.{acknowledges, notices}
 use Rattle.owing.specs.Dues.{Dues}
 use Rattle.standing.specs.declared.standing.Standing.{Standing}
 use Rattle.standing.specs.Says.{Says}
 use Rattle.rows.specs.declared.turn.Turn.{Turn}
+use Rattle.rows.specs.Entries.{Held}
 use Rattle.rows.specs.Speaks.{Speaks}
 
 pub record LeavesRest {S : Type 0} (before after : Speaker S) : Type 0 where
@@ -44,3 +48,64 @@ notices-rest setting number seq code speaker =
 pub acknowledges-rest : {S : Type 0} (setting : Setting S) (numbers : List ℕ) (speaker : Speaker S) → LeavesRest speaker (acknowledges setting numbers speaker)
 acknowledges-rest setting [] speaker = record { jobs = refl; bindings = refl; entries = refl }
 acknowledges-rest setting (number ∷ numbers) speaker = record { jobs = refl; bindings = refl; entries = refl }
+
+-- an answer is recorded
+pub recorded : {S : Type 0} (now : ℕ) (standing : Standing) (turn : Turn) (entries : Held) (queue : Queue) (bound : List Binding) (draw : S) (speaker : Speaker S)
+    (ran : Bool) (call : ℕ) (request content : List ℕ) (key number : ℕ) (reply : List ℕ)
+    → Speaks now standing turn queue bound draw speaker
+    → key ≡ speaker.session.key → number ≡ speaker.session.number → reply ≡ content
+    → entries.entries ≡ turn.entries.entries ++ record { key = key; session = number; number = call; request = request; reply = reply; ran = ran } ∷ []
+    → Speaks now standing (record turn { entries = entries }) queue bound draw (records ran call request content speaker)
+recorded now standing turn entries queue bound draw speaker ran call request content key number reply speaks own named said is =
+    let one : ℕ → ℕ → List ℕ → Entry = λ k n r. record { key = k; session = n; number = call; request = request; reply = r; ran = ran } in
+    record {
+      says = record { stands = speaks.says.stands; owed = speaks.says.owed; draws = speaks.says.draws };
+      jobs = speaks.jobs;
+      bindings = speaks.bindings;
+      entries = is ∙ (ap (λ (es : List Entry). es ++ one key number reply ∷ []) speaks.entries
+          ∙ (ap (λ (k : ℕ). speaker.entries ++ one k number reply ∷ []) own
+          ∙ (ap (λ (n : ℕ). speaker.entries ++ one speaker.session.key n reply ∷ []) named
+          ∙ ap (λ (r : List ℕ). speaker.entries ++ one speaker.session.key speaker.session.number r ∷ []) said)));
+    }
+
+-- a binding is put
+pub put-bound : {S : Type 0} (now : ℕ) (standing : Standing) (turn : Turn) (queue : Queue) (bound after : List Binding) (draw : S) (speaker : Speaker S) (binding : Binding)
+    → Speaks now standing turn queue bound draw speaker
+    → after ≡ with_binding binding bound
+    → Speaks now standing turn queue after draw (record speaker { bindings = with_binding binding speaker.bindings })
+put-bound now standing turn queue bound after draw speaker binding speaks is =
+    record {
+      says = record { stands = speaks.says.stands; owed = speaks.says.owed; draws = speaks.says.draws };
+      jobs = speaks.jobs;
+      bindings = is ∙ ap (with_binding binding) speaks.bindings;
+      entries = speaks.entries;
+    }
+
+-- the jobs that wait for a number are told
+pub told-of : {S : Type 0} (now : ℕ) (standing : Standing) (turn : Turn) (queue after : Queue) (bound : List Binding) (draw : S) (speaker : Speaker S) (number : ℕ)
+    → Speaks now standing turn queue bound draw speaker
+    → after ≡ (tells_of number speaker).jobs
+    → Speaks now standing turn after bound draw (tells_of number speaker)
+told-of now standing turn queue after bound draw speaker number speaks is =
+    record {
+      says = record { stands = speaks.says.stands; owed = speaks.says.owed; draws = speaks.says.draws };
+      jobs = is;
+      bindings = speaks.bindings;
+      entries = speaks.entries;
+    }
+
+-- the same by another name
+pub spoken-as : {S : Type 0} (now : ℕ) (standing : Standing) (turn : Turn) (queue : Queue) (bound : List Binding) (draw : S) (other next : Speaker S)
+    → other ≡ next → Speaks now standing turn queue bound draw next → Speaks now standing turn queue bound draw other
+spoken-as now standing turn queue bound draw other next is speaks = subst (λ speaker. Speaks now standing turn queue bound draw speaker) (sym is) speaks
+
+-- the jobs are others
+pub with-jobs : {S : Type 0} (now : ℕ) (standing : Standing) (turn : Turn) (queue after told : Queue) (bound : List Binding) (draw : S) (speaker : Speaker S)
+    → Speaks now standing turn queue bound draw speaker → after ≡ told → Speaks now standing turn after bound draw (record speaker { jobs = told })
+with-jobs now standing turn queue after told bound draw speaker speaks is =
+    record {
+      says = record { stands = speaks.says.stands; owed = speaks.says.owed; draws = speaks.says.draws };
+      jobs = is;
+      bindings = speaks.bindings;
+      entries = speaks.entries;
+    }

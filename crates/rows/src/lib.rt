@@ -4,11 +4,16 @@
 //! (`Speaks`), and each method is one row of their table.
 #![tactic(auto)]
 
+mod answering;
 mod bindings;
+mod calls;
 mod entries;
 mod saying;
 mod turn;
+mod waiting;
 
 pub use bindings::Bindings;
+pub use calls::CallDue;
 pub use entries::{Entries, Entry};
 pub use turn::Turn;
+pub use waiting::Run;

@@ -125,5 +125,5 @@ fn place_of(list: &[Standing], key: u64, number: u64) -> Option<usize>
     ensures { result ≡ position (is_kept_as (record { key = key; session = number })) list.now }
 {
     list.iter()
-        .position(|standing| standing.is_named(key, number))
+        .position(|standing| standing.is_of(key, number))
 }

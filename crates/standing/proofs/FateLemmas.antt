@@ -194,7 +194,7 @@ mark-from number replies last (judgement ∷ history) =
           let mine : Option Mark = Some (mark_after replies judgement.number judgement.outcome) in
           ap (λ (so_far : Option Mark). from_mark number so_far (marks_of history replies))
           (cond-true (eqb judgement.number number) mine (option_map (mark_after replies number) last) is
-            ∙ ap (λ (n : ℕ). Some (mark_after replies n judgement.outcome)) (eqb-true judgement.number number is))
+          ∙ ap (λ (n : ℕ). Some (mark_after replies n judgement.outcome)) (eqb-true judgement.number number is))
           ∙ mark-from number replies (Some judgement.outcome) history
           ∙ ap (λ (so_far : Option Outcome). option_map (mark_after replies number) (outcome_from number so_far history))
           (sym (cond-true (eqb judgement.number number) (Some judgement.outcome) last is))

@@ -1,4 +1,5 @@
 pub mod Kept
+pub mod Marking
 pub mod Standing
 pub mod Says
 pub mod Outlooks

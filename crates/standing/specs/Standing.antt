@@ -1,8 +1,10 @@
 -- One session of a server, as it is kept: what it stands for.
-use Rattle.std.specs.Prelude.{◌≡◌, ◌≤◌, ℕ}
+use Rattle.std.specs.Prelude.{◌≡◌, ◌≤◌, ℕ, Option, Some, None, length}
 use Rattle.msg_ids.specs.Counters.{room}
 use Rattle.salt_line.specs.Line.{Stands as LineStands}
 use Rattle.inbox.specs.Inbox.{Stands as InboxStands}
+use Rattle.outbox.specs.declared.kept.Kept.{Kept}
+use Rattle.outbox.specs.Replies.{Contents, by_call}
 use Rattle.server_rules.specs.Server.{Session, kept_replies, marks_of}
 use Rattle.standing.specs.declared.standing.Standing.{Standing}
 
@@ -27,14 +29,28 @@ pub record Stands (now : ℕ) (standing : Standing) (session : Session) : Type 0
 abbrev pub numbers_left : Standing → ℕ
 numbers_left standing = room standing.numbers
 
+-- the replies that it keeps, and how many further ones it can keep without memory
+abbrev pub outbox_of : Standing → Contents
+outbox_of standing = standing.outbox
+
+abbrev pub replies_left : Standing → ℕ
+replies_left standing = standing.outbox.room
+
+-- how many bytes the body of the kept reply to a call has; none where none is kept
+abbrev pub body_bytes : Option Kept → ℕ
+body_bytes None = 0
+body_bytes (Some kept) = length kept.body
+
+abbrev pub reply_bytes : ℕ → Standing → ℕ
+reply_bytes call standing = body_bytes (by_call call standing.outbox.replies)
+
 -- its salts were needed at no later moment than this
 abbrev pub IsAt : ℕ → Standing → Type 0
 IsAt now standing = standing.salts.latest ≤ now
 
--- the key that it is a session of
+-- the key that it is a session of, and its number there
 abbrev pub key_of : Standing → ℕ
 key_of standing = standing.key
 
--- its number
 abbrev pub number_of : Standing → ℕ
 number_of standing = standing.number

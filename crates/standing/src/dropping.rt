@@ -64,7 +64,7 @@ fn ends_call(inbox: &mut Inbox, call: u64, ending: Ending)
 
 impl Standing {
     ghost use Rattle.standing.specs.Says.{Says};
-    ghost use Rattle.standing.specs.Standing.{IsAt, Stands, key_of, numbers_left};
+    ghost use Rattle.standing.specs.Standing.{IsAt, Stands, key_of, number_of, numbers_left};
 
     /// Drops the kept reply to a call, and tells of it; none, and nothing changes, where none is kept. Takes no memory.
     pub fn drops_reply(&mut self, call: u64) -> Option<DroppedReply>
@@ -75,6 +75,7 @@ impl Standing {
             → Stands now self.new (record session { replies = with_dropped (kept_to call session.replies) session.replies }) }
         ensures same_numbers { numbers_left self.new ≡ numbers_left self.old }
         ensures same_key { key_of self.new ≡ key_of self.old }
+        ensures same_number { number_of self.new ≡ number_of self.old }
         ensures at { (now : ℕ) → IsAt now self.old → IsAt now self.new }
     {
         let kept = self.outbox.by_call(call)?;
@@ -94,6 +95,7 @@ impl Standing {
             → Says now self.old owing draw speaker → Says now self.new owing draw (takes_acks ids.now speaker) }
         ensures same_numbers { numbers_left self.new ≡ numbers_left self.old }
         ensures same_key { key_of self.new ≡ key_of self.old }
+        ensures same_number { number_of self.new ≡ number_of self.old }
         ensures at { (now : ℕ) → IsAt now self.old → IsAt now self.new }
     {
         for place in 0..ids.len() {
@@ -107,6 +109,7 @@ impl Standing {
             → Stands now self.new (record session { replies = refated (fate_of ending) number session.replies }) }
         ensures same_numbers { numbers_left self.new ≡ numbers_left self.old }
         ensures same_key { key_of self.new ≡ key_of self.old }
+        ensures same_number { number_of self.new ≡ number_of self.old }
         ensures at { (now : ℕ) → IsAt now self.old → IsAt now self.new }
     {
         other_marks_count_nothing();

@@ -10,7 +10,7 @@ ghost use Rattle.inbox.specs.Refusals.{InEnvelope};
 ghost use Rattle.outbox.specs.Bodies.{head_bytes};
 ghost use Rattle.waits.specs.Jobs.{Queue};
 ghost use Rattle.server_rules.specs.Event.{Speaker};
-ghost use Rattle.server_rules.specs.Server.{Reply, Session, has_accepted, is_same, kept_of, mark_in, remembered};
+ghost use Rattle.server_rules.specs.Server.{Reply, Session, has_accepted, kept_of, mark_in, remembered};
 ghost use Rattle.server_rules.specs.Answer.{session_for};
 ghost use Rattle.server_rules.specs.Speaking.{says, says_again, says_it_is_new};
 ghost use Rattle.server_rules.specs.Rows.{acknowledges, notices, tells_salts};
@@ -68,9 +68,7 @@ pub struct Standing {
 }
 
 impl Standing {
-    ghost use Rattle.standing.specs.Standing.{IsAt, Stands, key_of, number_of, numbers_left};
-    ghost use Rattle.standing.specs.Names.{name_kept};
-    ghost use Rattle.standing.specs.Repeats.{kept_bytes, kept_count};
+    ghost use Rattle.standing.specs.Standing.{IsAt, Stands, key_of, number_of, numbers_left, outbox_of};
     ghost use Rattle.standing.specs.Says.{Keys, Says, setting_of};
 
     /// The session of this key and this number that a message of the number `first` makes now. Its unique number is drawn,
@@ -93,6 +91,7 @@ impl Standing {
         ensures key { IfOk result (λ standing. key_of standing ≡ key) }
         ensures number { IfOk result (λ standing. number_of standing ≡ number) }
         ensures numbers { IfOk result (λ standing. numbers_left standing ≡ 2 ^ 30) }
+        ensures no_replies { IfOk result (λ standing. outbox_of standing ≡ record { replies = []; room = 0 }) }
         ensures at { IfOk result (IsAt now) }
     {
         let unique = draw.word();
@@ -107,34 +106,6 @@ impl Standing {
             outbox: Outbox::new(alloc)?,
             numbers: Numbers::new(),
         })
-    }
-
-    /// The identifier of its key.
-    pub fn key(&self) -> u64
-        ensures { result ≡ key_of self.now }
-    {
-        self.key
-    }
-
-    /// Its number.
-    pub fn number(&self) -> u64
-        ensures { result ≡ number_of self.now }
-    {
-        self.number
-    }
-
-    /// Whether it is the session of this key and this number.
-    pub fn is_named(&self, key: u64, number: u64) -> bool
-        ensures { result ≡ is_same (record { key = key; session = number }) (name_kept self.now) }
-    {
-        key == self.key && number == self.number
-    }
-
-    /// For how many further messages it has numbers.
-    pub fn numbers_left(&self) -> u64
-        ensures { result ≡ numbers_left self.now }
-    {
-        self.numbers.room()
     }
 
     /// Whether it has accepted no message so far.
@@ -168,6 +139,7 @@ impl Standing {
         ensures same_numbers { numbers_left self.new ≡ numbers_left self.old }
         ensures same_key { key_of self.new ≡ key_of self.old }
         ensures same_number { number_of self.new ≡ number_of self.old }
+        ensures same_replies { outbox_of self.new ≡ outbox_of self.old }
         ensures at { IsAt now self.new }
     {
         packets_are_judged();
@@ -235,7 +207,7 @@ impl Standing {
         ensures numbers_last { numbers_left self.old ≤ numbers_left self.new + 1 }
         ensures same_key { key_of self.new ≡ key_of self.old }
         ensures same_number { number_of self.new ≡ number_of self.old }
-        ensures same_kept { (kept_count self.new ≡ kept_count self.old) × (kept_bytes self.new ≡ kept_bytes self.old) }
+        ensures same_replies { outbox_of self.new ≡ outbox_of self.old }
         ensures at { IsAt now self.old → IsAt now self.new }
     {
         let salt = self.salts.current(now, draw);
@@ -256,6 +228,7 @@ impl Standing {
         ensures numbers_last { numbers_left self.old ≤ numbers_left self.new + 1 }
         ensures same_key { key_of self.new ≡ key_of self.old }
         ensures same_number { number_of self.new ≡ number_of self.old }
+        ensures same_replies { outbox_of self.new ≡ outbox_of self.old }
         ensures at { IsAt now self.old → IsAt now self.new }
     {
         if !ids.is_empty() {
@@ -285,6 +258,7 @@ impl Standing {
         ensures numbers_last { numbers_left self.old ≤ numbers_left self.new + 1 }
         ensures same_key { key_of self.new ≡ key_of self.old }
         ensures same_number { number_of self.new ≡ number_of self.old }
+        ensures same_replies { outbox_of self.new ≡ outbox_of self.old }
         ensures at { IsAt now self.old → IsAt now self.new }
     {
         if code == WRONG_SALT {
@@ -308,6 +282,7 @@ impl Standing {
         ensures numbers_last { numbers_left self.old ≤ numbers_left self.new + 1 }
         ensures same_key { key_of self.new ≡ key_of self.old }
         ensures same_number { number_of self.new ≡ number_of self.old }
+        ensures same_replies { outbox_of self.new ≡ outbox_of self.old }
         ensures at { IsAt now self.old → IsAt now self.new }
     {
         owing.pong(now, &mut self.numbers, message, ping);
@@ -332,6 +307,7 @@ impl Standing {
         ensures numbers_last { numbers_left self.old ≤ numbers_left self.new + 1 }
         ensures same_key { key_of self.new ≡ key_of self.old }
         ensures same_number { number_of self.new ≡ number_of self.old }
+        ensures same_replies { outbox_of self.new ≡ outbox_of self.old }
         ensures at { IsAt now self.old → IsAt now self.new }
     {
         owing.destroyed(now, &mut self.numbers, session, ok);
@@ -358,6 +334,7 @@ impl Standing {
         ensures numbers_last { numbers_left self.old ≤ numbers_left self.new + 1 }
         ensures same_key { key_of self.new ≡ key_of self.old }
         ensures same_number { number_of self.new ≡ number_of self.old }
+        ensures same_replies { outbox_of self.new ≡ outbox_of self.old }
         ensures at { IsAt now self.old → IsAt now self.new }
     {
         let mut rows = [NO_SALT; SALT_ROWS_MAX];
@@ -393,6 +370,7 @@ impl Standing {
         ensures numbers_last { numbers_left self.old ≤ numbers_left self.new + packets_most packets.messages packets.bytes }
         ensures same_key { key_of self.new ≡ key_of self.old }
         ensures same_number { number_of self.new ≡ number_of self.old }
+        ensures same_replies { outbox_of self.new ≡ outbox_of self.old }
         ensures at { IsAt now self.new }
     {
         sent_as_the_rules_say::<D>();

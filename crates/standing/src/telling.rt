@@ -17,7 +17,7 @@ const STATES_MAX: usize = 8_192;
 
 impl Standing {
     ghost use Rattle.standing.specs.Says.{Keys, Says, setting_of};
-    ghost use Rattle.standing.specs.Standing.{IsAt, Stands, key_of, numbers_left};
+    ghost use Rattle.standing.specs.Standing.{IsAt, Stands, key_of, number_of, numbers_left};
 
     /// Tells how far each of these messages is, a byte for each, to the request in this message.
     pub fn tells_states<D: Draw>(
@@ -38,6 +38,7 @@ impl Standing {
         ensures taken { (owing.new.places_taken ≡ owing.old.places_taken) × (owing.new.bytes_taken ≡ owing.old.bytes_taken) }
         ensures numbers_last { numbers_left self.old ≤ numbers_left self.new + 1 }
         ensures same_key { key_of self.new ≡ key_of self.old }
+        ensures same_number { number_of self.new ≡ number_of self.old }
         ensures at { IsAt now self.old → IsAt now self.new }
     {
         let mut states = [0; STATES_MAX];

@@ -8,8 +8,10 @@ use crate::Standing;
 use auth_keys::Ring;
 use draws::{Draw, StepDraw};
 use envelope::{Dir, MtSeal, Opened, Seal};
+use inbox::{Mark, Outer};
 use msg_ids::Moment;
-use octets::Memory;
+use octets::{Memory, Octets};
+use outbox::Bytes;
 use owing::{Outs, Owing, Packets, packets_most};
 use std::alloc::Global;
 use std::test::*;
@@ -61,6 +63,63 @@ fn a_session_heard_first_owes_168_bytes(rt: HostRuntime) -> Result<(), Fail> {
     assert_eq!(rt;
         (envelope.session, envelope.number, envelope.seq),
         (9, 15, 2)
+    );
+    Ok(())
+}
+
+// Answers a call by `boolTrue`, where there are numbers left, and says how many bytes that owes.
+fn answers(alloc: Global, standing: &mut Standing, call: u64) -> Result<usize, Memory> {
+    if standing.numbers_left() == 0 {
+        return Ok(0);
+    }
+    let mut owing = Owing::new(alloc, 1, 16)?;
+    standing.reserve(alloc, 1)?;
+    let content = Bytes::from_static(b"\xb5\x75\x72\x99");
+    standing.answers::<StepDraw>(Moment::new(0), &mut owing, call, content);
+    Ok(owing.at(0).body.len())
+}
+
+// Says the kept reply to a call again, and then once more in the same event; how many messages that owes.
+fn says_twice(alloc: Global, standing: &Standing, call: u64) -> Result<usize, Memory> {
+    let bytes = match standing.kept_to(call) {
+        Some(kept) => kept.body.len(),
+        None => 0,
+    };
+    let mut owing = Owing::new(alloc, 2, 2 * bytes)?;
+    standing.says_kept::<StepDraw>(&mut owing, call);
+    standing.says_kept::<StepDraw>(&mut owing, call);
+    Ok(owing.len())
+}
+
+#[test]
+fn a_reply_is_kept_until_4096_others_are(rt: HostRuntime) -> Result<(), Fail> {
+    let alloc = rt.alloc();
+    let now = Moment::new(0);
+    let mut standing = Standing::new(alloc, now, KEY_ID, 9, 4, &mut StepDraw::new())?;
+    // The second word of the draw, 2 times its step.
+    let call = Outer {
+        number: 4,
+        seq: 1,
+        salt: 12_728_272_447_693_586_010,
+        body: Octets::copy(alloc, &[1, 2, 3, 4])?,
+    };
+    let judged = standing.judges(alloc, now, &call)?;
+    assert_eq!(rt; judged.judgements.len(), 1);
+    assert_eq!(rt; standing.mark(4), Some(Mark::Waiting));
+    assert_eq!(rt; answers(alloc, &mut standing, 4)?, 16);
+    assert_eq!(rt; standing.mark(4), Some(Mark::Replied(true)));
+    assert_eq!(rt; says_twice(alloc, &standing, 4)?, 1);
+    for call in 2..=4_096u64 {
+        assert_eq!(rt; answers(alloc, &mut standing, 4 * call)?, 16);
+    }
+    assert_eq!(rt; says_twice(alloc, &standing, 4)?, 1);
+    assert_eq!(rt; answers(alloc, &mut standing, 4 * 4_097)?, 16);
+    assert_eq!(rt; standing.mark(4), Some(Mark::Dropped(true)));
+    assert_eq!(rt; says_twice(alloc, &standing, 4)?, 0);
+    assert_eq!(rt; says_twice(alloc, &standing, 8)?, 1);
+    assert_eq!(rt;
+        (standing.key(), standing.number(), standing.is_of(KEY_ID, 9)),
+        (KEY_ID, 9, true)
     );
     Ok(())
 }

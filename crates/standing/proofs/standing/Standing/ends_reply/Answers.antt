@@ -75,8 +75,8 @@ returns-in_default-clause-stands c = λ now session stands apart.
 
 pub invariant_of-self : goal.invariant_of-self
 invariant_of-self c =
-    record { contents = subst (All IsResult) (sym (ap (λ box. box.replies) c.ack.ensures.after)) (all-left IsResult c.args.number c.args.self.now.outbox.replies c.args.self.now.contents); }
+    record { contents = subst (All IsResult) (sym (ap (λ box. box.replies) c.ack.ensures.after)) (all-left IsResult c.args.number c.args.self.now.outbox.replies c.args.self.now.contents) }
 
 pub invariant_of-self-in_default : goal.invariant_of-self-in_default
 invariant_of-self-in_default c =
-    record { contents = subst (All IsResult) (sym (ap (λ box. box.replies) c.ack.ensures.after)) (all-left IsResult c.args.number c.args.self.now.outbox.replies c.args.self.now.contents); }
+    record { contents = subst (All IsResult) (sym (ap (λ box. box.replies) c.ack.ensures.after)) (all-left IsResult c.args.number c.args.self.now.outbox.replies c.args.self.now.contents) }

@@ -8,23 +8,30 @@ use Rattle.standing.proofs.FateLemmas.{acked-in-turn, acked-apart, are-apart, no
 use Rattle.standing.proofs.standing.Standing.takes_acks.Goals as goal
 
 pub loop-place-init : goal.loop-place-init
-loop-place-init g c = (λ now session stands apart.
-    subst (λ (replies : List Reply). Stands now c.args.self.now (record session { replies = replies })) (sym (none-acked session.replies)) stands,
-    refl, refl, λ now is. is)
+loop-place-init g c = (
+  λ now session stands apart.
+      subst (λ (replies : List Reply). Stands now c.args.self.now (record session { replies = replies })) (sym (none-acked session.replies)) stands,
+  refl,
+  refl,
+  λ now is. is,
+  refl,
+)
 
 pub loop-place-preserved : goal.loop-place-preserved
-loop-place-preserved g c = 
+loop-place-preserved g c =
     let place = c.loop-place.place in
-    let ids = c.args.ids.now in
-    (λ now session stands apart.
-      let so_far = map (acked_by (take place ids)) session.replies in
-      let after = c.ends_reply.ensures.stands now (record session { replies = so_far }) (c.loop-place.invariant.0 now session stands apart) (acked-apart (take place ids) session.replies apart) in
-      subst (λ (replies : List Reply). Stands now c.ends_reply.new.self (record session { replies = replies }))
-      (acked-in-turn (take place ids) (get_or ids place 0) session.replies
-        ∙ ap (λ (numbers : List ℕ). map (acked_by numbers) session.replies) (sym (take_more ids place 0 c.loop-place-test.true))) after,
-    c.ends_reply.ensures.same_numbers ∙ c.loop-place.invariant.1,
-    c.ends_reply.ensures.same_key ∙ c.loop-place.invariant.2,
-    λ now is. c.ends_reply.ensures.at now (c.loop-place.invariant.3 now is))
+    let ids = c.args.ids.now in (
+      λ now session stands apart.
+          let so_far = map (acked_by (take place ids)) session.replies in
+          let after = c.ends_reply.ensures.stands now (record session { replies = so_far }) (c.loop-place.invariant.0 now session stands apart) (acked-apart (take place ids) session.replies apart) in
+          subst (λ (replies : List Reply). Stands now c.ends_reply.new.self (record session { replies = replies }))
+          (acked-in-turn (take place ids) (get_or ids place 0) session.replies
+          ∙ ap (λ (numbers : List ℕ). map (acked_by numbers) session.replies) (sym (take_more ids place 0 c.loop-place-test.true))) after,
+      c.ends_reply.ensures.same_numbers ∙ c.loop-place.invariant.1,
+      c.ends_reply.ensures.same_key ∙ c.loop-place.invariant.2,
+      λ now is. c.ends_reply.ensures.at now (c.loop-place.invariant.3 now is),
+      c.ends_reply.ensures.same_number ∙ c.loop-place.invariant.4,
+    )
 
 pub returns-clause-says : goal.returns-clause-says
 returns-clause-says g c = λ now owing draw speaker are says.
@@ -46,3 +53,6 @@ returns-clause-same_key g c = c.loop-place.invariant.2
 
 pub returns-clause-at : goal.returns-clause-at
 returns-clause-at g c = c.loop-place.invariant.3
+
+pub returns-clause-same_number : goal.returns-clause-same_number
+returns-clause-same_number g c = c.loop-place.invariant.4
