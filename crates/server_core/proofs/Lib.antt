@@ -1,7 +1,9 @@
+pub mod Failing
 pub mod Lists
 pub mod Names
 pub mod One
 pub mod Places
+pub mod Running
 pub mod Sending
 pub mod Spent
 pub mod Standing

@@ -5,6 +5,7 @@
 
 mod attaching;
 mod effects;
+pub mod laws;
 mod server;
 mod sessions;
 mod speech;
@@ -12,3 +13,6 @@ mod speech;
 pub use effects::Effects;
 pub use server::Server;
 pub use sessions::Sessions;
+
+#[cfg(test)]
+mod tests;
