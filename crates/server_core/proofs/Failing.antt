@@ -18,7 +18,7 @@ IsOwn name one = one.failed ≡ true → is_of name.key name.session one ≡ tru
 
 -- ---- the jobs that are left are its own too
 
-first-own : (name : Name) (jobs : Queue) (job : Job) → AreOwnFailures name jobs → first_job has_failed jobs ≡ Some job → named job.key job.session ≡ name
+pub first-own : (name : Name) (jobs : Queue) (job : Job) → AreOwnFailures name jobs → first_job has_failed jobs ≡ Some job → named job.key job.session ≡ name
 first-own name [] job own is = absurd (none-some job is)
 first-own name (one ∷ jobs) job own is =
     elim (cases_Bool one.failed) [
@@ -32,7 +32,7 @@ first-own name (one ∷ jobs) job own is =
           first-own name jobs job (All-tail (IsOwn name) one jobs own) (sym (cond-false one.failed (Some one.job) (first_job has_failed jobs) not_so) ∙ is)
     ]
 
-rest-own : (name : Name) (jobs : Queue) → AreOwnFailures name jobs → AreOwnFailures name (without_first has_failed jobs)
+pub rest-own : (name : Name) (jobs : Queue) → AreOwnFailures name jobs → AreOwnFailures name (without_first has_failed jobs)
 rest-own name [] own = own
 rest-own name (one ∷ jobs) own =
     let P : Queue → Type 0 = λ jobs. AreOwnFailures name jobs in
@@ -70,14 +70,14 @@ outlook-own session Over number jobs own = settled-own (name_of session) number 
 outlook-own session InVain number jobs own = settled-own (name_of session) number false jobs own
 outlook-own session GoesOn number jobs own = own
 
-given-own : {S : Type 0} (setting : Setting S) (found : Option Job) (speaker : Speaker S) → AreOwnFailures (name_of speaker.session) speaker.jobs
+pub given-own : {S : Type 0} (setting : Setting S) (found : Option Job) (speaker : Speaker S) → AreOwnFailures (name_of speaker.session) speaker.jobs
     → AreOwnFailures (name_of speaker.session) (given_up_by setting found speaker).jobs
 given-own setting None speaker own = own
 given-own {S} setting (Some job) speaker own =
     let answered : Speaker S = answers_in_place setting job.number job.request msg_wait_failed speaker in
     outlook-own answered.session (outlook answered.session answered.jobs job.number) job.number answered.jobs own
 
-given-name : {S : Type 0} (setting : Setting S) (found : Option Job) (speaker : Speaker S) → name_of (given_up_by setting found speaker).session ≡ name_of speaker.session
+pub given-name : {S : Type 0} (setting : Setting S) (found : Option Job) (speaker : Speaker S) → name_of (given_up_by setting found speaker).session ≡ name_of speaker.session
 given-name setting None speaker = refl
 given-name setting (Some job) speaker = refl
 

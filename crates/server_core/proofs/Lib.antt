@@ -1,3 +1,4 @@
+pub mod Blocked
 pub mod Failing
 pub mod Lists
 pub mod Names
@@ -8,5 +9,6 @@ pub mod Sending
 pub mod Spent
 pub mod Standing
 pub mod Speaking
+pub mod Steps
 pub mod Taking
 pub mod Attached

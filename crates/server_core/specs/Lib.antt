@@ -2,4 +2,5 @@ pub mod One
 pub mod Sessions
 pub mod Server
 pub mod Effects
+pub mod Failures
 pub mod Speech

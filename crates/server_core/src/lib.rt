@@ -5,6 +5,7 @@
 
 mod attaching;
 mod effects;
+mod failures;
 pub mod laws;
 mod server;
 mod sessions;

@@ -1,6 +1,6 @@
 //! Laws of a server, each the contract of a function that does nothing.
 
-ghost use Rattle.std.specs.Prelude.{map, ◌≡◌, ◌≢◌, ◌≤◌, ℕ, [], ◌∷◌, ◌++◌, true, false, All, Contains, List, Option, Some, length};
+ghost use Rattle.std.specs.Prelude.{Bool, map, ◌≡◌, ◌≢◌, ◌≤◌, ℕ, [], ◌∷◌, ◌++◌, true, false, All, Contains, List, Option, Some, length};
 ghost use Rattle.service_tl.specs.declared.item.Item.{Item};
 ghost use Rattle.service_tl.specs.declared.item.Item.TheVariants.{RpcResult};
 ghost use Rattle.service_tl.specs.Items.{spelling_of};
@@ -12,7 +12,8 @@ ghost use Rattle.inbox.specs.Refusals.{Way};
 ghost use Rattle.inbox.specs.Judging.{judgements, session_after, Session as Remembered};
 ghost use Rattle.regs_service.specs.Served.{Step};
 ghost use Rattle.waits.specs.declared.job.Job.{Job};
-ghost use Rattle.waits.specs.Jobs.{Queue};
+ghost use Rattle.waits.specs.declared.job.Unfinished.{Unfinished};
+ghost use Rattle.waits.specs.Jobs.{Queue, first_job, ready_job, without_first, without_ready};
 ghost use Rattle.server_rules.specs.Server.{Name, Server, Session, Reply, has_accepted, kept_of, kept_replies, mark_after, marks_of, name_of, remembered, reply_to, session_named};
 ghost use Rattle.server_rules.specs.Event.{Owed, Sent, Setting, Speaker, State, BindingCall, speaker_in, speaks};
 ghost use Rattle.server_rules.specs.Events.{Event, Course, course_of, after_event};
@@ -126,6 +127,17 @@ pub fn rows_keep_order<D: Draw>()
         → IsSpeaking name others past (job.number ∷ opened) speaker → IsSpeaking name others past opened (finishes setting job reply speaker) }
     ensures gives_up { (setting : Setting D) (content : List ℕ) (job : Job) (name : Name) (others : Name → Queue) (past : History) (opened : List ℕ) (speaker : Speaker D)
         → IsSpeaking name others past (job.number ∷ opened) speaker → IsSpeaking name others past opened (gives_up setting content job speaker) }
+{}
+
+/// A job of a session that is taken out leaves the session in order, with its number open: the first that is so, or the
+/// ready one of a place.
+pub fn jobs_are_taken_out<D: Draw>()
+    ensures first { (test : Unfinished → Bool) (job : Job) (name : Name) (others : Name → Queue) (past : History) (opened : List ℕ) (speaker : Speaker D)
+        → first_job test speaker.jobs ≡ Some job → job.key ≡ name.key → job.session ≡ name.session
+        → IsSpeaking name others past opened speaker → IsSpeaking name others past (job.number ∷ opened) (record speaker { jobs = without_first test speaker.jobs }) }
+    ensures ready { (place : ℕ) (job : Job) (name : Name) (others : Name → Queue) (past : History) (opened : List ℕ) (speaker : Speaker D)
+        → ready_job place speaker.jobs ≡ Some job → job.key ≡ name.key → job.session ≡ name.session
+        → IsSpeaking name others past opened speaker → IsSpeaking name others past (job.number ∷ opened) (record speaker { jobs = without_ready place speaker.jobs }) }
 {}
 
 /// The mark of a number that was judged is that of its outcome, and of the reply to it where there is one.
