@@ -58,14 +58,14 @@ said-more {S} standing before so_far after place kept at says places room taken 
     let first_room = said.room in
     record {
       says = λ now draw speaker is.
-        let replies = filter is_kept speaker.session.replies in
-        let within : place < length replies = subst (λ (n : ℕ). place < n)
-            (ap (λ (xs : Replies). length xs) is.stands.outbox ∙ length-map replies kept_of) (slice_get_within standing.outbox.replies place kept at) in
-        let same = kept-at speaker.session.replies standing.outbox.replies place kept is.stands.outbox at within in
-        let all = said_again speaker (take place replies) in
-        let step : said_again speaker (take (place + 1) replies) ≡ says_again (get_or replies place no-reply) all =
-            ap (said_again speaker) (take_more replies place no-reply within) ∙ fold-append (λ (so_far : Speaker S) (reply : Reply). says_again reply so_far) speaker (take place replies) (get_or replies place no-reply ∷ []) in
-        subst (λ (speaker : Speaker S). Says now standing after draw speaker) (sym step) (says now draw all (get_or replies place no-reply) same (said.says now draw speaker is));
+          let replies = filter is_kept speaker.session.replies in
+          let within : place < length replies = subst (λ (n : ℕ). place < n)
+          (ap (λ (xs : Replies). length xs) is.stands.outbox ∙ length-map replies kept_of) (slice_get_within standing.outbox.replies place kept at) in
+          let same = kept-at speaker.session.replies standing.outbox.replies place kept is.stands.outbox at within in
+          let all = said_again speaker (take place replies) in
+          let step : said_again speaker (take (place + 1) replies) ≡ says_again (get_or replies place no-reply) all =
+          ap (said_again speaker) (take_more replies place no-reply within) ∙ fold-append (λ (so_far : Speaker S) (reply : Reply). says_again reply so_far) speaker (take place replies) (get_or replies place no-reply ∷ []) in
+          subst (λ (speaker : Speaker S). Says now standing after draw speaker) (sym step) (says now draw all (get_or replies place no-reply) same (said.says now draw speaker is));
       places = omega arith;
       room = omega arith;
       places_taken = taken.0 ∙ said.places_taken;

@@ -9,7 +9,7 @@ use Rattle.standing.proofs.standing.Standing.says_all_again.Goals as goal
 use Rattle.standing.proofs.standing.Standing.says_all_again.Goals.{in-Some, in_default}
 
 pub loop-place-init : goal.loop-place-init
-loop-place-init g c = record { says = λ now draw speaker is. is; places = omega arith; room = omega arith; places_taken = refl; bytes_taken = refl; }
+loop-place-init g c = record { says = λ now draw speaker is. is; places = omega arith; room = omega arith; places_taken = refl; bytes_taken = refl }
 
 pub loop-place-preserved : goal.loop-place-preserved
 loop-place-preserved g c =
@@ -20,10 +20,10 @@ loop-place-preserved g c =
       | in-Some w ↦
           subst (λ (after : Dues). SaidSoFar g.row.D.Denot standing before (place + 1) after) (sym w.owing-is)
           (said-more standing before c.loop-place.owing w.says_again.new.owing place w.in-Some.kept.now (sym w.in-Some.ensures)
-            (λ now draw speaker reply. w.says_again.ensures.says now draw speaker reply) w.says_again.ensures.places w.says_again.ensures.left w.says_again.ensures.taken c.loop-place.invariant)
+          (λ now draw speaker reply. w.says_again.ensures.says now draw speaker reply) w.says_again.ensures.places w.says_again.ensures.left w.says_again.ensures.taken c.loop-place.invariant)
       | in_default w ↦
           absurd (none-some (get_or standing.outbox.replies place no-kept)
-            (w.in_default.ensures ∙ slice_get-get_or standing.outbox.replies place no-kept (omega (arith, c.loop-place-test.true, c.len-place-end.ensures.value))))
+          (w.in_default.ensures ∙ slice_get-get_or standing.outbox.replies place no-kept (omega (arith, c.loop-place-test.true, c.len-place-end.ensures.value))))
     ]
 
 pub says_again-requires-clause-content : goal.says_again-requires-clause-content
@@ -35,7 +35,7 @@ says_again-requires-clause-content g c =
     (c.args.self.now.contents place kept (slice_get_within replies place kept (sym c.in-Some.ensures))).content
 
 pub says_again-requires-clause-place : goal.says_again-requires-clause-place
-says_again-requires-clause-place g c = 
+says_again-requires-clause-place g c =
     let within = slice_get_within c.args.self.now.outbox.replies c.loop-place.place c.in-Some.kept.now (sym c.in-Some.ensures) in
     let said = c.loop-place.invariant.places in
     let enough = c.requires.places in
@@ -56,7 +56,7 @@ returns-clause-says g c = λ now draw speaker says.
     said-all c.args.self.now c.args.owing.now c.loop-place.owing c.loop-place.place (omega arith) c.loop-place.invariant now draw speaker says
 
 pub returns-clause-places : goal.returns-clause-places
-returns-clause-places g c = 
+returns-clause-places g c =
     let said = c.loop-place.invariant.places in
     omega arith
 
