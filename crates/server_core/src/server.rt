@@ -175,7 +175,9 @@ impl<S: Seal> Server<S> {
         sessions_speak_for_themselves::<D>();
         let entries = Entries::new(alloc, 0)?;
         let speech = self.sessions.room_to_attach(alloc, place)?;
-        let out = self.sessions.attach(place, moment, speech, &self.seal, draw);
+        let out = self
+            .sessions
+            .attach(place, moment, speech, &self.seal, draw);
         self.moment = moment;
         lose_spent(&mut self.sessions, &mut self.jobs, key, session, place);
         Ok(Effects { out, entries })

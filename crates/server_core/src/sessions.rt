@@ -124,6 +124,5 @@ impl Sessions {
 fn place_of(list: &[Standing], key: u64, number: u64) -> Option<usize>
     ensures { result ≡ position (is_kept_as (record { key = key; session = number })) list.now }
 {
-    list.iter()
-        .position(|standing| standing.is_of(key, number))
+    list.iter().position(|standing| standing.is_of(key, number))
 }
