@@ -1,6 +1,13 @@
 pub mod AloneLemmas
 pub mod CallLemmas
+pub mod DropLemmas
+pub mod GoesLemmas
+pub mod ListLemmas
 pub mod MarkLemmas
 pub mod TestLemmas
+pub mod NumberLemmas
+pub mod PacketLemmas
+pub mod QueueLemmas
 pub mod SizeLemmas
 pub mod SoundLemmas
+pub mod TurnLemmas

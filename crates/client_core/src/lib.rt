@@ -4,6 +4,7 @@
 //! (`specs/Kept.antt`).
 #![tactic(auto)]
 
+mod asking;
 mod binding;
 mod calling;
 mod core_client;
@@ -16,7 +17,9 @@ mod lone;
 mod open;
 mod opening;
 mod saying;
+mod says;
 mod sealing;
+mod turns;
 mod waiting;
 
 pub use binding::BindState;
