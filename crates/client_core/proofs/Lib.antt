@@ -1,5 +1,8 @@
 pub mod AloneLemmas
 pub mod CallLemmas
+pub mod DropLemmas
+pub mod GoesLemmas
+pub mod ListLemmas
 pub mod MarkLemmas
 pub mod TestLemmas
 pub mod ErrorLemmas
@@ -11,5 +14,9 @@ pub mod SettledLemmas
 pub mod TakingLemmas
 pub mod WalkLemmas
 pub mod RuleLemmas
+pub mod NumberLemmas
+pub mod PacketLemmas
+pub mod QueueLemmas
 pub mod SizeLemmas
 pub mod SoundLemmas
+pub mod TurnLemmas

@@ -14,7 +14,7 @@ marks test change k [] = []
 marks test change zero (x ∷ xs) = x ∷ xs
 marks test change (suc k) (x ∷ xs) = if test x then change x ∷ marks test change k xs else x ∷ marks test change (suc k) xs
 
-abbrev put : Bool → ℕ → List ℕ → List ℕ
+abbrev pub put : Bool → ℕ → List ℕ → List ℕ
 put is place places = if is then place ∷ places else places
 
 -- none of them is changed
@@ -30,7 +30,7 @@ marks_over test change (suc k) x xs fails = ap (λ b. if b then change x ∷ mar
 marks_here : {X : Type 0} (test : X → Bool) (change : X → X) (k : ℕ) (x : X) (xs : List X) → test x ≡ true → marks test change (suc k) (x ∷ xs) ≡ change x ∷ marks test change k xs
 marks_here test change k x xs holds = ap (λ b. if b then change x ∷ marks test change k xs else x ∷ marks test change (suc k) xs) holds
 
-places_here : {X : Type 0} (test : X → Bool) (place : ℕ) (x : X) (xs : List X) (is : Bool) → test x ≡ is → places_from test place (x ∷ xs) ≡ put is place (places_from test (place + 1) xs)
+pub places_here : {X : Type 0} (test : X → Bool) (place : ℕ) (x : X) (xs : List X) (is : Bool) → test x ≡ is → places_from test place (x ∷ xs) ≡ put is place (places_from test (place + 1) xs)
 places_here test place x xs is told = ap (λ b. put b place (places_from test (place + 1) xs)) told
 
 -- where the change leaves the test as it is, the same ones pass
@@ -108,7 +108,7 @@ is_there (suc k) (x ∷ xs) less = is_there k xs (omega (arith, less))
 abbrev pub marked : ℕ → List Call → List Call
 marked k calls = marks (is_in Outstanding) alone k calls
 
-named_at : (places : List ℕ) (k : ℕ) → slice_get places k ≡ option_map (λ (call : CallNo). call.n - 1) (slice_get (map call_no places) k)
+pub named_at : (places : List ℕ) (k : ℕ) → slice_get places k ≡ option_map (λ (call : CallNo). call.n - 1) (slice_get (map call_no places) k)
 named_at [] k = refl
 named_at (place ∷ places) zero = ap Some (omega arith)
 named_at (place ∷ places) (suc k) = named_at places k

@@ -1,12 +1,18 @@
 -- How many bytes what is said has, and that these are whole words.
-use Rattle.std.proofs.Common.{◌≡◌, ℕ, ◌+◌, ◌*◌, ◌<◌, ◌≤◌, ◌^◌, List, [], ◌∷◌, ◌++◌, length, refl, arith, length-append, lit<}
-use Rattle.tl_codec.specs.Spelling.{Form, Int, Long, Of, Fits, spelling, size_of}
-use Rattle.service_tl.specs.Fields.{Field, Plain, Rest, Salts, Bodies, Holds, FieldFits, field_spelling}
-use Rattle.service_tl.specs.Items.{Values, FieldsFit, ItemFits, fields_spelling, spelling_of}
+use Rattle.std.proofs.Common.{◌≡◌, ℕ, ◌+◌, ◌*◌, ◌≤◌, Option, Some, None, List, [], ◌∷◌, ◌++◌, length, refl, arith, length-append}
+use Rattle.std.specs.Prelude.{⊤}
+use Rattle.std.specs.List.{flat_map}
+use Rattle.byteorder.specs.Endian.{little_bytes}
+use Rattle.tl_codec.specs.Standard.{bytes_max}
+use Rattle.tl_codec.specs.Spelling.{Form, Int, Long, Raw, Bytes, Longs, Truth, Tag, Of, Fits, spelling, size_of}
+use Rattle.service_tl.specs.Fields.{Field, Plain, Rest, Salts, Bodies, Holds, field_spelling}
+use Rattle.service_tl.specs.Items.{Values, fields_spelling, spelling_of}
 use Rattle.service_tl.specs.Words.{ItemIsWords}
-use Rattle.service_tl.specs.Schema.{rpc_drop_answer, get_future_salts, ping, destroy_session, msgs_ack, msgs_state_req, msgs_state_info, msg_resend_req}
+use Rattle.service_tl.specs.Schema.{rpc_drop_answer, get_future_salts, ping, destroy_session, msgs_ack, msgs_state_req, msgs_state_info, msg_resend_req, invoke_after_msg}
 use Rattle.client_core.specs.declared.saying.Said.{Said}
 use Rattle.client_core.specs.declared.saying.Said.TheVariants.{Acks, Told, Resent, States, Pings, Salts as SaltsSaid, Destroys, Drops}
+use Rattle.client_rules.specs.Filling.{body_behind}
+use Rattle.client_core.specs.Calling.{wrap_bytes}
 use Rattle.client_core.specs.Draft.{CanBeSaid, item_of, said_bytes}
 
 abbrev field_bytes : (field : Field) → Holds field → ℕ
@@ -19,32 +25,64 @@ abbrev fields_bytes : (fields : List Field) → Values fields → ℕ
 fields_bytes [] values = 0
 fields_bytes (field ∷ fields) values = field_bytes field values.0 + fields_bytes fields values.1
 
+-- what a value needs, so that it has the size that is counted
+abbrev IsCounted : (form : Form) → Of form → Type 0
+IsCounted (Raw size) bytes = length bytes ≡ size
+IsCounted Bytes content = length content ≤ bytes_max
+IsCounted other value = ⊤
+
+abbrev FieldIsCounted : (field : Field) → Holds field → Type 0
+FieldIsCounted (Plain form) value = IsCounted form value
+FieldIsCounted other value = ⊤
+
+abbrev AreCounted : (fields : List Field) → Values fields → Type 0
+AreCounted [] values = ⊤
+AreCounted (field ∷ fields) values = FieldIsCounted field values.0 × AreCounted fields values.1
+
+longs-size : (numbers : List ℕ) → length (flat_map (little_bytes 8) numbers) ≡ 8 * length numbers
+longs-size [] = refl
+longs-size (number ∷ numbers) = omega (arith, length-append (little_bytes 8 number) (flat_map (little_bytes 8) numbers), longs-size numbers)
+
 module _ (sizes : (form : Form) (value : Of form) → Fits form value → length (spelling form value) ≡ size_of form value) where
-  field-size : (field : Field) (value : Holds field) → FieldFits field value → length (field_spelling field value) ≡ field_bytes field value
-  field-size (Plain form) value fits = sizes form value fits
-  field-size Rest value fits = refl
-  field-size Salts value fits = refl
-  field-size Bodies value fits = refl
+  form-size : (form : Form) (value : Of form) → IsCounted form value → length (spelling form value) ≡ size_of form value
+  unfolding spelling
+  form-size Int value counted = refl
+  form-size Long value counted = refl
+  form-size (Raw size) value counted = counted
+  form-size Bytes value counted = sizes Bytes value counted
+  form-size Longs value counted = omega (arith, longs-size value)
+  form-size Truth value counted = refl
+  form-size (Tag number) value counted = refl
 
-  fields-size : (fields : List Field) (values : Values fields) → FieldsFit fields values → length (fields_spelling fields values) ≡ fields_bytes fields values
-  fields-size [] values fits = refl
-  fields-size (field ∷ fields) values fits =
-      omega (arith, length-append (field_spelling field values.0) (fields_spelling fields values.1), field-size field values.0 fits.0, fields-size fields values.1 fits.1)
+  field-size : (field : Field) (value : Holds field) → FieldIsCounted field value → length (field_spelling field value) ≡ field_bytes field value
+  field-size (Plain form) value counted = form-size form value counted
+  field-size Rest value counted = refl
+  field-size Salts value counted = refl
+  field-size Bodies value counted = refl
 
-  pub boxed-size : (number : ℕ) (fields : List Field) (values : Values fields) → number < 2 ^ 32 → FieldsFit fields values
+  fields-size : (fields : List Field) (values : Values fields) → AreCounted fields values → length (fields_spelling fields values) ≡ fields_bytes fields values
+  fields-size [] values counted = refl
+  fields-size (field ∷ fields) values counted =
+      omega (arith, length-append (field_spelling field values.0) (fields_spelling fields values.1), field-size field values.0 counted.0, fields-size fields values.1 counted.1)
+
+  pub boxed-size : (number : ℕ) (fields : List Field) (values : Values fields) → AreCounted fields values
       → length (spelling Int number ++ fields_spelling fields values) ≡ 4 + fields_bytes fields values
-  boxed-size number fields values small fits =
-      omega (arith, length-append (spelling Int number) (fields_spelling fields values), sizes Int number small, fields-size fields values fits)
+  boxed-size number fields values counted =
+      omega (arith, length-append (spelling Int number) (fields_spelling fields values), form-size Int number tt, fields-size fields values counted)
 
-  pub said-size : (said : Said) → ItemFits (item_of said) → length (spelling_of (item_of said)) ≡ said_bytes said
-  said-size (Acks ids) fits = omega (arith, boxed-size msgs_ack.number msgs_ack.fields (ids.now, tt) (lit< tt) fits)
-  said-size (Told request info) fits = omega (arith, boxed-size msgs_state_info.number msgs_state_info.fields (request, (info.now, tt)) (lit< tt) fits)
-  said-size (Resent ids) fits = omega (arith, boxed-size msg_resend_req.number msg_resend_req.fields (ids.now, tt) (lit< tt) fits)
-  said-size (States ids) fits = omega (arith, boxed-size msgs_state_req.number msgs_state_req.fields (ids.now, tt) (lit< tt) fits)
-  said-size (Pings id) fits = boxed-size ping.number ping.fields (id, tt) (lit< tt) fits
-  said-size (SaltsSaid count) fits = boxed-size get_future_salts.number get_future_salts.fields (count, tt) (lit< tt) fits
-  said-size (Destroys session) fits = boxed-size destroy_session.number destroy_session.fields (session, tt) (lit< tt) fits
-  said-size (Drops number) fits = boxed-size rpc_drop_answer.number rpc_drop_answer.fields (number, tt) (lit< tt) fits
+  pub said-size : (said : Said) → CanBeSaid said → length (spelling_of (item_of said)) ≡ said_bytes said
+  said-size (Acks ids) can = omega (arith, boxed-size msgs_ack.number msgs_ack.fields (ids.now, tt) (tt, tt))
+  said-size (Told request info) can = omega (arith, boxed-size msgs_state_info.number msgs_state_info.fields (request, (info.now, tt)) (tt, (omega (arith, can), tt)))
+  said-size (Resent ids) can = omega (arith, boxed-size msg_resend_req.number msg_resend_req.fields (ids.now, tt) (tt, tt))
+  said-size (States ids) can = omega (arith, boxed-size msgs_state_req.number msgs_state_req.fields (ids.now, tt) (tt, tt))
+  said-size (Pings id) can = boxed-size ping.number ping.fields (id, tt) (tt, tt)
+  said-size (SaltsSaid count) can = boxed-size get_future_salts.number get_future_salts.fields (count, tt) (tt, tt)
+  said-size (Destroys session) can = boxed-size destroy_session.number destroy_session.fields (session, tt) (tt, tt)
+  said-size (Drops number) can = boxed-size rpc_drop_answer.number rpc_drop_answer.fields (number, tt) (tt, tt)
+
+  pub call-size : (wrap : Option ℕ) (body : List ℕ) → length (body_behind wrap body) ≡ wrap_bytes wrap + length body
+  call-size None body = omega arith
+  call-size (Some number) body = omega (arith, boxed-size invoke_after_msg.number invoke_after_msg.fields (number, (body, tt)) (tt, (tt, tt)))
 
 pub said-is_words : (said : Said) → ItemIsWords (item_of said)
 said-is_words (Acks ids) = (tt, tt)

@@ -12,6 +12,7 @@ use Rattle.call_table.specs.declared.row.Progress.TheVariants as progress
 use Rattle.call_table.specs.declared.row.Row.{Row}
 use Rattle.call_table.specs.Table.{changed, changed_at}
 use Rattle.call_table.specs.Kept.{IsBelow, again_row, flagged_row, new_row, number_in, progress_again, sent_row, settled_row}
+use Rattle.msg_ids.specs.Counters.{next_number}
 use Rattle.client_rules.specs.Asking.{body_bytes_max}
 use Rattle.client_core.specs.Sound.{IsSound, AreSound}
 
@@ -85,3 +86,7 @@ below_given last number less (Some living) given = omega (arith, less, given)
 pub sound_below : (last number : ℕ) (rows : List Row) → last < number → AreSound last rows → AllByRecursion (IsBelow number) rows
 sound_below last number rows less sound =
     all_each (IsSound last) (IsBelow number) (λ row is. below_given last number less (number_in row.progress) is.given) rows sound
+
+-- the next number is behind the last one
+pub next_behind : (last now : ℕ) → last < next_number last now
+next_behind last now = omega arith

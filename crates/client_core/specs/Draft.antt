@@ -1,29 +1,35 @@
 -- A packet that is filled, as it is kept: scaffolding of private functions, and no promise.
-use Rattle.std.specs.Prelude.{◌≡◌, ℕ, ◌+◌, ◌*◌, ◌≤◌, ◌&&◌, not, nat_le, Bool, true, false, List, [], length, ⊤}
+use Rattle.std.specs.Prelude.{◌≡◌, ℕ, suc, slice_get, fold, drop, Option, Some, ◌+◌, ◌*◌, ◌≤◌, ◌<◌, ◌&&◌, not, nat_le, Bool, true, false, List, [], ◌∷◌, length, ⊤}
 use Rattle.std.specs.List.{flat_map}
 use Rattle.tl_codec.specs.Standard.{longs_max}
 use Rattle.tl_codec.specs.Spelling.{string_size}
-use Rattle.msg_ids.specs.Counters.{Counters, next_number, seq_of}
+use Rattle.msg_ids.specs.Counters.{Counters, next_number, room, seq_of}
 use Rattle.service_tl.specs.Items.{spelling_of}
 use Rattle.service_tl.specs.declared.lists.Message.{Message}
 use Rattle.service_tl.specs.declared.item.Item.{Item}
 use Rattle.service_tl.specs.declared.item.Item.TheVariants.{RpcDropAnswer, GetFutureSalts, Ping, DestroySession, MsgsAck, MsgsStateReq, MsgsStateInfo, MsgResendReq}
 use Rattle.containers.specs.Container.{bytes_max, container_head, message_head, messages_max, row, size_of}
-use Rattle.client_rules.specs.Filling.{Filling}
+use Rattle.call_table.specs.declared.call.CallNo.{CallNo}
+use Rattle.call_table.specs.declared.call.Group.TheVariants.{Queued, Dropping}
+use Rattle.call_table.specs.Table.{group_of}
+use Rattle.client_rules.specs.Client.{calls_of}
+use Rattle.client_rules.specs.Filling.{Filling, says_call, says_drop}
 use Rattle.client_core.specs.Kept.{Contents, Stands}
 use Rattle.client_core.specs.declared.saying.Said.{Said}
 use Rattle.client_core.specs.declared.saying.Said.TheVariants.{Acks, Told, Resent, States, Pings, Salts, Destroys, Drops}
 
 -- what contracts see of it: the messages as they stand in a container, how many, the numbers of calls among them and of the
--- binding, and whether an item didn't fit
+-- binding, whether an item didn't fit, and the last message's number and seq
 pub record Draft : Type 0 where
   pub rows : List ℕ
   pub count : ℕ
   pub inner : List ℕ
   pub is_full : Bool
+  pub number : ℕ
+  pub seq : ℕ
 
 abbrev pub nothing_yet : Draft
-nothing_yet = record { rows = []; count = 0; inner = []; is_full = false }
+nothing_yet = record { rows = []; count = 0; inner = []; is_full = false; number = 0; seq = 0 }
 
 abbrev pub filled_up : Draft → Draft
 filled_up draft = record draft { is_full = true }
@@ -33,6 +39,7 @@ pub record Holds (draft : Draft) (messages : List Message) : Type 0 where
   pub rows : draft.rows ≡ flat_map row messages
   pub size : container_head + length draft.rows ≡ size_of messages
   pub count : draft.count ≡ length messages
+  pub last : (one : Message) → messages ≡ one ∷ [] → (draft.number ≡ one.number) × (draft.seq ≡ one.seq)
 
 -- a further message with a body of so many bytes fits
 abbrev pub enters : ℕ → Draft → Bool
@@ -90,3 +97,35 @@ said_message now counters said =
       seq = seq_of counters.content_messages (needs_answer said);
       body = spelling_of (item_of said);
     }
+
+-- there is a number for each further message of the packet, and for its container
+abbrev pub HasNumbers : Contents → Draft → Type 0
+HasNumbers core draft = messages_max < draft.count + room core.rest.counters
+
+-- ---- the turns of queued calls
+
+-- the queue of a filling's client
+abbrev pub queue : {S : Type 0} → Filling S → List CallNo
+queue filling = group_of Queued (calls_of filling.client)
+
+-- a call leaves the queue: those behind it move up
+abbrev pub LeavesQueue : {S : Type 0} → CallNo → Filling S → Filling S → Type 0
+LeavesQueue call old new = (place : ℕ) → slice_get (queue old) place ≡ Some call → drop place (queue new) ≡ drop (suc place) (queue old)
+
+-- so many turns came: what is left gives what all give
+pub record SoFar {S : Type 0} (first : Filling S) (core : Contents) (draft : Draft) (place k count : ℕ) : Type 0 where
+  pub now : Filling S
+  pub goes : Goes core draft now
+  pub same : fold says_call first (queue first) ≡ fold says_call now (drop place (queue now))
+  pub left : draft.is_full ≡ false → k + length (drop place (queue now)) ≡ count
+
+-- the calls of a filling's client whose answers are to be dropped
+abbrev pub drops : {S : Type 0} → Filling S → List CallNo
+drops filling = group_of Dropping (calls_of filling.client)
+
+-- so many of these went: what is left gives what all give
+pub record DropsSoFar {S : Type 0} (first : Filling S) (core : Contents) (draft : Draft) (k count : ℕ) : Type 0 where
+  pub now : Filling S
+  pub goes : Goes core draft now
+  pub same : fold says_drop first (drops first) ≡ fold says_drop now (drops now)
+  pub left : draft.is_full ≡ false → k + length (drops now) ≡ count

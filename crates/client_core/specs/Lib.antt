@@ -1,3 +1,4 @@
+pub mod Asked
 pub mod Calling
 pub mod Draft
 pub mod Flushed

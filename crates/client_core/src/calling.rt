@@ -1,6 +1,6 @@
 //! The body of a call as it goes, and a call that goes again, alone.
 
-ghost use Rattle.std.specs.Prelude.{◌≡◌, ◌≤◌, ◌<◌, ◌+◌, ◌++◌, ◌∷◌, [], IfOk, IfSome, IsSome, ℕ, Some, length, option_map};
+ghost use Rattle.std.specs.Prelude.{◌≡◌, ◌≤◌, ◌<◌, ◌+◌, ◌++◌, ◌∷◌, [], IfOk, IfSome, IsSome, ℕ, List, Option, Some, length, option_map};
 ghost use Rattle.auth_keys.specs.Rings.{entry_of};
 ghost use Rattle.envelope.specs.Packet.{sealed_size};
 ghost use Rattle.service_tl.specs.declared.lists.Message.{Message};
@@ -61,6 +61,13 @@ pub(crate) fn put_call(into: &mut Buffer, wrap: Option<u64>, body: &[u8])
         fill::long(into, number);
     }
     into.push_all(body);
+}
+
+/// The body of a call has as many bytes as is counted. Does nothing.
+pub(crate) fn sizes_of_calls()
+    ensures { (wrap : Option ℕ) (body : List ℕ) → length (body_behind wrap body) ≡ wrap_bytes wrap + length body }
+{
+    sizes_of_spellings();
 }
 
 /// The body of a call, as it goes.

@@ -1,22 +1,40 @@
 //! A packet that is filled, in room that was taken before.
 
-ghost use Rattle.std.specs.Prelude.{◌≡◌, ◌≤◌, ◌<◌, ◌+◌, ◌%◌, ◌^◌, ◌++◌, ◌∷◌, [], List, IfOk, IsTrue, IsFalse, length};
+ghost use Rattle.std.specs.List.{flat_map};
+ghost use Rattle.std.specs.Prelude.{◌≡◌, ◌≤◌, ◌<◌, ◌+◌, ◌*◌, ◌%◌, ◌^◌, ◌++◌, ◌∷◌, [], List, true, is_some, IfOk, IfSome, IfNone, OnSome, IsTrue, IsFalse, length};
 ghost use Rattle.msg_ids.specs.Counters.{after_next, next_number, room, seq_of};
 ghost use Rattle.service_tl.specs.declared.lists.Message.{Message};
 ghost use Rattle.service_tl.specs.Items.{spelling_of};
 ghost use Rattle.byteorder.specs.Endian.{little_bytes};
-ghost use Rattle.containers.specs.Container.{message_head, row};
+ghost use Rattle.containers.specs.Container.{bytes_max, container_head, message_head, messages_max, row};
+ghost use Rattle.packing.specs.Packing.{packed};
+ghost use Rattle.client_rules.specs.Asking.{body_bytes_max};
+ghost use Rattle.client_rules.specs.Filling.{body_behind};
+ghost use Rattle.client_core.specs.Calling.{call_message, wrap_bytes};
 ghost use Rattle.client_core.specs.Draft.{CanBeSaid, Holds, enters, filled_up, item_of, needs_answer, nothing_yet, said_bytes, said_message};
 
+use crate::calling::{put_call, sizes_of_calls, wrap_size};
 use crate::saying::{Said, needs_answer, said_size, sizes_of_said, spell};
 use containers::laws::container_sizes;
 use containers::{
     CONTAINER_BYTES_MAX, CONTAINER_HEAD_BYTES, CONTAINER_MESSAGES_MAX, MESSAGE_HEAD_BYTES, fits,
 };
 use msg_ids::{Moment, Numbers};
-use octets::{Buffer, Memory};
+use octets::{Buffer, IdList, Memory, Octets};
+use service_tl::MSG_CONTAINER;
 use std::alloc::Global;
 use std::marker::Model;
+
+/// What a packet was filled with: how many messages, the last one's number and seq, the packet's body, and the numbers of
+/// the calls in it and of the binding.
+#[derive(Debug, Drop)]
+pub(crate) struct Filled {
+    pub(crate) count: usize,
+    pub(crate) number: u64,
+    pub(crate) seq: u32,
+    pub(crate) body: Octets,
+    pub(crate) inner: IdList,
+}
 
 /// A packet that is filled: its messages so far, as they stand in a container, how many, the numbers of the calls among
 /// them and of the binding, and whether an item didn't fit. No further item takes memory.
@@ -26,11 +44,13 @@ pub(crate) struct Draft {
     count: usize,
     inner: Vec<u64>,
     is_full: bool,
+    number: u64,
+    seq: u32,
 }
 
 impl Model for Draft {
-    ghost use Rattle.std.specs.Prelude.{◌≡◌, ◌≤◌, ◌+◌, ◌%◌, length, vec_len, vec_capacity};
-    ghost use Rattle.containers.specs.Container.{bytes_max, container_head, messages_max};
+    ghost use Rattle.std.specs.Prelude.{◌≡◌, ◌≤◌, ◌+◌, ◌*◌, ◌%◌, length, vec_len, vec_capacity};
+    ghost use Rattle.containers.specs.Container.{bytes_max, container_head, message_head, messages_max};
     ghost use Rattle.client_core.specs.Draft.{Draft};
 
     ghost Value = { Draft };
@@ -40,11 +60,13 @@ impl Model for Draft {
       count = draft.count;
       inner = draft.inner.items;
       is_full = draft.is_full;
+      number = draft.number;
+      seq = draft.seq;
     } };
 
     ghost invariant = { λ draft. (container_head + length draft.rows.bytes ≤ bytes_max) × (container_head + length draft.rows.bytes + draft.rows.room ≡ bytes_max)
         × (draft.count ≤ messages_max) × (length draft.rows.bytes % 4 ≡ 0)
-        × (vec_len draft.inner ≤ draft.count) × (messages_max ≤ vec_capacity draft.inner) };
+        × (message_head * draft.count ≤ length draft.rows.bytes) × (vec_len draft.inner ≤ draft.count) × (messages_max ≤ vec_capacity draft.inner) };
 }
 
 impl Draft {
@@ -59,6 +81,8 @@ impl Draft {
             count: 0,
             inner: Vec::with_capacity(alloc, CONTAINER_MESSAGES_MAX)?,
             is_full: false,
+            number: 0,
+            seq: 0,
         })
     }
 
@@ -80,8 +104,10 @@ impl Draft {
     /// doesn't.
     pub(crate) fn say(&mut self, at: Moment, numbers: &mut Numbers, said: &Said<'_>) -> bool
         requires lawful { CanBeSaid said.now }
-        requires numbers { 0 < room numbers.old }
+        requires numbers { messages_max < self.old.count + room numbers.old }
         ensures told { result ≡ enters (said_bytes said.now) self.old }
+        ensures size { length (spelling_of (item_of said.now)) ≡ said_bytes said.now }
+        ensures number { IsTrue result → self.new.number ≡ numbers.new.last }
         ensures counted { IsTrue result → numbers.new ≡ after_next numbers.old at (needs_answer said.now) }
         ensures holds { IsTrue result → (messages : List Message) → Holds self.old messages → Holds self.new (messages ++ said_message at numbers.old said.now ∷ []) }
         ensures inner { IsTrue result → self.new.inner ≡ self.old.inner }
@@ -91,14 +117,114 @@ impl Draft {
         ensures room_lasts { self.old.count + room numbers.old ≤ self.new.count + room numbers.new }
     {
         container_sizes();
+        sizes_of_said();
         if !self.takes(said_size(said)) {
             return false;
         }
         let (number, seq) = numbers.next(at, needs_answer(said)).unwrap();
         put_said(&mut self.rows, number, seq, said);
         self.count += 1;
+        self.number = number;
+        self.seq = seq;
         true
     }
+
+    /// Puts a call under the next number, where it fits: its message identifier and sequence number. The packet is full
+    /// from then on where it doesn't.
+    pub(crate) fn send(
+        &mut self,
+        at: Moment,
+        numbers: &mut Numbers,
+        wrap: Option<u64>,
+        body: &[u8],
+    ) -> Option<(u64, u32)>
+        requires words { length body.now % 4 ≡ 0 }
+        requires short { length body.now ≤ body_bytes_max }
+        requires numbers { messages_max < self.old.count + room numbers.old }
+        ensures told { is_some result ≡ enters (wrap_bytes wrap + length body.now) self.old }
+        ensures given { IfSome result (λ given. given ≡ (next_number numbers.old.last at, seq_of numbers.old.content_messages true)) }
+        ensures counted { OnSome result (numbers.new ≡ after_next numbers.old at true) }
+        ensures holds { OnSome result ((messages : List Message) → Holds self.old messages → Holds self.new (messages ++ call_message at numbers.old wrap body.now ∷ [])) }
+        ensures inner { OnSome result (self.new.inner ≡ self.old.inner ++ next_number numbers.old.last at ∷ []) }
+        ensures kept { OnSome result (self.new.is_full ≡ self.old.is_full) }
+        ensures count { OnSome result (self.new.count ≡ self.old.count + 1) }
+        ensures size { length (body_behind wrap body.now) ≡ wrap_bytes wrap + length body.now }
+        ensures few { OnSome result (self.old.count < messages_max) }
+        ensures full { IfNone result (self.new ≡ filled_up self.old) }
+        ensures uncounted { IfNone result (numbers.new ≡ numbers.old) }
+        ensures room_lasts { self.old.count + room numbers.old ≤ self.new.count + room numbers.new }
+    {
+        container_sizes();
+        sizes_of_calls();
+        if !self.takes(wrap_size(wrap) + body.len()) {
+            return None;
+        }
+        let (number, seq) = numbers.next(at, true).unwrap();
+        put_sent(&mut self.rows, number, seq, wrap, body);
+        self.inner.push_reserved(number);
+        self.count += 1;
+        self.number = number;
+        self.seq = seq;
+        Some((number, seq))
+    }
+
+    /// Whether an item didn't fit.
+    pub(crate) fn is_full(&self) -> bool
+        ensures { result ≡ self.now.is_full }
+    {
+        self.is_full
+    }
+
+    /// The packet's body, in room that was taken before.
+    pub(crate) fn finish(self, mut body: Buffer) -> Filled
+        requires empty { body.bytes ≡ [] }
+        requires room { bytes_max ≤ body.room }
+        ensures count { result.count ≡ self.count }
+        ensures body { (messages : List Message) → Holds self messages → result.body ≡ packed messages }
+        ensures number { result.number ≡ self.number }
+        ensures seq { result.seq ≡ self.seq }
+        ensures inner { result.inner ≡ self.inner }
+        ensures words { length result.body % 4 ≡ 0 }
+        ensures short { length result.body ≤ bytes_max }
+        ensures few { result.count ≤ messages_max }
+    {
+        let Draft {
+            rows,
+            count,
+            inner,
+            is_full: _,
+            number,
+            seq,
+        } = self;
+        put_packet(&mut body, count, rows.as_slice());
+        Filled {
+            count,
+            number,
+            seq,
+            body: body.into_octets(),
+            inner: IdList::from(inner),
+        }
+    }
+
+    /// The number of the last message.
+    pub(crate) fn number(&self) -> u64
+        ensures { result ≡ self.now.number }
+    {
+        self.number
+    }
+}
+
+// Puts a message of a call at the end, as it stands in a container.
+fn put_sent(rows: &mut Buffer, number: u64, seq: u32, wrap: Option<u64>, body: &[u8])
+    requires short { length body.now ≤ body_bytes_max }
+    requires room { message_head + (wrap_bytes wrap + length body.now) ≤ rows.old.room }
+    ensures written { rows.new.bytes ≡ rows.old.bytes ++ row (record { number = number; seq = seq; body = body_behind wrap body.now }) }
+    ensures left { rows.new.room + message_head + (wrap_bytes wrap + length body.now) ≡ rows.old.room }
+    ensures body { length (body_behind wrap body.now) ≡ wrap_bytes wrap + length body.now }
+    ensures size { length rows.new.bytes ≡ length rows.old.bytes + message_head + (wrap_bytes wrap + length body.now) }
+{
+    put_head(rows, number, seq, wrap_size(wrap) + body.len());
+    put_call(rows, wrap, body);
 }
 
 // Puts a message of this item at the end, as it stands in a container.
@@ -114,6 +240,26 @@ fn put_said(rows: &mut Buffer, number: u64, seq: u32, said: &Said<'_>)
     sizes_of_said();
     put_head(rows, number, seq, said_size(said));
     spell(rows, said);
+}
+
+// Puts the body of a packet at the end, of so many messages as they stand in a container.
+fn put_packet(body: &mut Buffer, count: usize, rows: &[u8])
+    requires few { count ≤ messages_max }
+    requires heads { message_head * count ≤ length rows.now }
+    requires room { container_head + length rows.now ≤ body.old.room }
+    requires words { length rows.now % 4 ≡ 0 }
+    requires empty { body.old.bytes ≡ [] }
+    ensures packet { (messages : List Message) → rows.now ≡ flat_map row messages → count ≡ length messages → body.new.bytes ≡ packed messages }
+    ensures words { length body.new.bytes % 4 ≡ 0 }
+    ensures short { length body.new.bytes ≤ container_head + length rows.now }
+{
+    if count == 1 {
+        body.push_all(&rows[MESSAGE_HEAD_BYTES..]);
+        return;
+    }
+    body.push_all(&MSG_CONTAINER.to_le_bytes());
+    body.push_all(&(count as u32).to_le_bytes());
+    body.push_all(rows);
 }
 
 // Puts the head of a message whose body comes next.

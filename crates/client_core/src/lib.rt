@@ -4,6 +4,7 @@
 //! (`specs/Kept.antt`).
 #![tactic(auto)]
 
+mod asking;
 mod binding;
 mod brought;
 mod calling;
@@ -25,10 +26,12 @@ mod rebinding;
 mod receiving;
 mod renewing;
 mod saying;
+mod says;
 mod sealing;
 mod settling;
 mod step;
 mod taking;
+mod turns;
 mod waiting;
 
 pub use binding::BindState;

@@ -28,6 +28,7 @@ impl Core {
     pub(crate) fn is_open(&self) -> bool
         ensures open { result ≡ is_open self.now.rest }
         ensures opening { result ≡ false → self.now.rest.learnt ≡ [] }
+        ensures client { (client : Client) → Stands self.now client → result ≡ is_open client }
     {
         !self.learnt.ids().is_empty()
     }

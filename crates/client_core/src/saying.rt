@@ -98,7 +98,7 @@ pub(crate) fn spell(into: &mut Buffer, said: &Said<'_>)
 
 /// The body of an item has as many bytes as is counted, and these are whole words of 4 bytes. Does nothing.
 pub(crate) fn sizes_of_said()
-    ensures sizes { (said : Said) → ItemFits (item_of said) → length (spelling_of (item_of said)) ≡ said_bytes said }
+    ensures sizes { (said : Said) → CanBeSaid said → length (spelling_of (item_of said)) ≡ said_bytes said }
     ensures words { (said : Said) → ItemFits (item_of said) → IsWords (spelling_of (item_of said)) }
     ensures few { (said : Said) → CanBeSaid said → said_bytes said ≤ 65548 }
 {

@@ -4,7 +4,7 @@ use Rattle.waits.specs.Jobs.{Queue}
 use Rattle.server_rules.specs.Server.{Binding}
 use Rattle.server_rules.specs.Event.{Speaker}
 use Rattle.standing.specs.declared.standing.Standing.{Standing}
-use Rattle.standing.specs.Standing.{IsAt, key_of, numbers_left}
+use Rattle.standing.specs.Standing.{IsAt, key_of, number_of, numbers_left}
 use Rattle.standing.specs.Says.{Says}
 use Rattle.rows.specs.declared.turn.Turn.{Turn}
 
@@ -18,7 +18,7 @@ pub record Speaks {S : Type 0} (now : ℕ) (standing : Standing) (turn : Turn) (
 
 -- What a step of a session uses up at most of the room that was taken before: places for so many messages, which each have
 -- a number of the session, with so many bytes of bodies, and so many places for entries. What was taken, and the session's
--- key, stay.
+-- names, stay.
 pub record Spends (now messages size answers : ℕ) (standing : Standing) (turn : Turn) (after : Standing) (left : Turn) : Type 0 where
   pub places : turn.owing.places ≤ left.owing.places + messages
   pub bytes : turn.owing.room ≤ left.owing.room + size
@@ -27,6 +27,7 @@ pub record Spends (now messages size answers : ℕ) (standing : Standing) (turn 
   pub places_taken : left.owing.places_taken ≡ turn.owing.places_taken
   pub bytes_taken : left.owing.bytes_taken ≡ turn.owing.bytes_taken
   pub key : key_of after ≡ key_of standing
+  pub number : number_of after ≡ number_of standing
   pub at : IsAt now standing → IsAt now after
 
 -- there is so much room at least: for so many messages with their numbers, so many bytes of bodies, so many entries

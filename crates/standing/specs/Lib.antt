@@ -3,6 +3,7 @@ pub mod Marking
 pub mod Standing
 pub mod Says
 pub mod Outlooks
+pub mod Names
 pub mod Fates
 pub mod Repeats
 pub mod Unsaid

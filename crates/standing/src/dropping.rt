@@ -97,7 +97,7 @@ fn ends_call(inbox: &mut Inbox, call: u64, ending: Ending)
 
 impl Standing {
     ghost use Rattle.standing.specs.Says.{Keys, Says, setting_of};
-    ghost use Rattle.standing.specs.Standing.{IsAt, Stands, key_of, numbers_left, replies_left};
+    ghost use Rattle.standing.specs.Standing.{IsAt, Stands, key_of, number_of, numbers_left, replies_left};
 
     /// Drops the kept reply to a call, and tells of it; none, and nothing changes, where none is kept. Takes no memory.
     pub fn drops_reply(&mut self, call: u64) -> Option<DroppedReply>
@@ -109,6 +109,7 @@ impl Standing {
         ensures same_numbers { numbers_left self.new ≡ numbers_left self.old }
         ensures same_room { replies_left self.new ≡ replies_left self.old }
         ensures same_key { key_of self.new ≡ key_of self.old }
+        ensures same_number { number_of self.new ≡ number_of self.old }
         ensures at { (now : ℕ) → IsAt now self.old → IsAt now self.new }
     {
         let kept = self.outbox.by_call(call)?;
@@ -144,6 +145,7 @@ impl Standing {
         ensures numbers_last { numbers_left self.old ≤ numbers_left self.new + 1 }
         ensures replies_last { replies_left self.new + 1 ≡ replies_left self.old }
         ensures same_key { key_of self.new ≡ key_of self.old }
+        ensures same_number { number_of self.new ≡ number_of self.old }
         ensures at { IsAt now self.old → IsAt now self.new }
     {
         replies_are_results();
@@ -163,6 +165,7 @@ impl Standing {
         ensures same_numbers { numbers_left self.new ≡ numbers_left self.old }
         ensures same_room { replies_left self.new ≡ replies_left self.old }
         ensures same_key { key_of self.new ≡ key_of self.old }
+        ensures same_number { number_of self.new ≡ number_of self.old }
         ensures at { (now : ℕ) → IsAt now self.old → IsAt now self.new }
     {
         for place in 0..ids.len() {
@@ -177,6 +180,7 @@ impl Standing {
         ensures same_numbers { numbers_left self.new ≡ numbers_left self.old }
         ensures same_room { replies_left self.new ≡ replies_left self.old }
         ensures same_key { key_of self.new ≡ key_of self.old }
+        ensures same_number { number_of self.new ≡ number_of self.old }
         ensures at { (now : ℕ) → IsAt now self.old → IsAt now self.new }
     {
         other_marks_count_nothing();

@@ -6,7 +6,7 @@
 
 mod contents;
 mod dropping;
-mod laws;
+pub mod laws;
 mod marking;
 mod naming;
 mod outlook;

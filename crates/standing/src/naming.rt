@@ -1,7 +1,7 @@
 //! Which session it is, and for how much more it has numbers and room.
 
 ghost use Rattle.std.specs.Prelude.{◌≡◌, ℕ, OnErr, OnOk, max};
-ghost use Rattle.server_rules.specs.Server.{Session, is_named};
+ghost use Rattle.server_rules.specs.Server.{Session, is_named, is_same};
 
 use crate::standing::Standing;
 use octets::Memory;
@@ -9,6 +9,7 @@ use std::alloc::Global;
 
 impl Standing {
     ghost use Rattle.standing.specs.Standing.{IsAt, Stands, key_of, number_of, numbers_left, outbox_of};
+    ghost use Rattle.standing.specs.Names.{name_kept};
 
     /// The identifier of the key that it is a session of.
     pub fn key(&self) -> u64
@@ -28,7 +29,8 @@ impl Standing {
 
     /// Whether it is the session of this key and this number.
     pub fn is_of(&self, key: u64, number: u64) -> bool
-        ensures { (now : ℕ) (session : Session) → Stands now self.now session → result ≡ is_named (record { key = key; session = number }) session }
+        ensures kept { result ≡ is_same (record { key = key; session = number }) (name_kept self.now) }
+        ensures stands { (now : ℕ) (session : Session) → Stands now self.now session → result ≡ is_named (record { key = key; session = number }) session }
     {
         key == self.key && number == self.number
     }
@@ -51,6 +53,7 @@ impl Standing {
         ensures unchanged_on_memory { OnErr result (self.new ≡ self.old) }
         ensures same_numbers { numbers_left self.new ≡ numbers_left self.old }
         ensures same_key { key_of self.new ≡ key_of self.old }
+        ensures same_number { number_of self.new ≡ number_of self.old }
         ensures at { (now : ℕ) → IsAt now self.old → IsAt now self.new }
     {
         self.outbox.reserve(alloc, answers)

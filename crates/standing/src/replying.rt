@@ -29,7 +29,7 @@ use owing::Owing;
 use server_rules::laws::oldest_replies_are_dropped;
 
 impl Standing {
-    ghost use Rattle.standing.specs.Standing.{IsAt, Stands, key_of, numbers_left, replies_left, reply_bytes};
+    ghost use Rattle.standing.specs.Standing.{IsAt, Stands, key_of, number_of, numbers_left, replies_left, reply_bytes};
     ghost use Rattle.standing.specs.Says.{Keys, Says, setting_of};
 
     // Says the result of a call. Its number and its seq.
@@ -53,6 +53,7 @@ impl Standing {
         ensures numbers_last { numbers_left self.old ≤ numbers_left self.new + 1 }
         ensures same_outbox { self.new.outbox ≡ self.old.outbox }
         ensures same_key { key_of self.new ≡ key_of self.old }
+        ensures same_number { number_of self.new ≡ number_of self.old }
         ensures same_salts { self.new.salts ≡ self.old.salts }
     {
         owing.result(now, &mut self.numbers, call, content)
@@ -71,6 +72,7 @@ impl Standing {
         ensures same_room { replies_left self.new ≡ replies_left self.old }
         ensures same_numbers { self.new.numbers ≡ self.old.numbers }
         ensures same_key { key_of self.new ≡ key_of self.old }
+        ensures same_number { number_of self.new ≡ number_of self.old }
         ensures same_salts { self.new.salts ≡ self.old.salts }
     {
         oldest_replies_are_dropped::<D>();
@@ -92,6 +94,7 @@ impl Standing {
         ensures same_room { replies_left self.new ≡ replies_left self.old }
         ensures same_numbers { self.new.numbers ≡ self.old.numbers }
         ensures same_key { key_of self.new ≡ key_of self.old }
+        ensures same_number { number_of self.new ≡ number_of self.old }
         ensures same_salts { self.new.salts ≡ self.old.salts }
     {
         oldest_replies_are_dropped::<D>();
@@ -108,6 +111,7 @@ impl Standing {
         ensures room_lasts { replies_left self.new + 1 ≡ replies_left self.old }
         ensures same_numbers { self.new.numbers ≡ self.old.numbers }
         ensures same_key { key_of self.new ≡ key_of self.old }
+        ensures same_number { number_of self.new ≡ number_of self.old }
         ensures same_salts { self.new.salts ≡ self.old.salts }
     {
         replies_are_results();
@@ -137,6 +141,7 @@ impl Standing {
         ensures numbers_last { numbers_left self.old ≤ numbers_left self.new + 1 }
         ensures replies_last { replies_left self.new + 1 ≡ replies_left self.old }
         ensures same_key { key_of self.new ≡ key_of self.old }
+        ensures same_number { number_of self.new ≡ number_of self.old }
         ensures same_salts { self.new.salts ≡ self.old.salts }
     {
         let (number, seq) = self.owes_result::<D>(now, owing, call, body.rest());
@@ -165,6 +170,7 @@ impl Standing {
         ensures numbers_last { numbers_left self.old ≤ numbers_left self.new + 1 }
         ensures replies_last { replies_left self.new + 1 ≡ replies_left self.old }
         ensures same_key { key_of self.new ≡ key_of self.old }
+        ensures same_number { number_of self.new ≡ number_of self.old }
         ensures at { IsAt now self.old → IsAt now self.new }
     {
         replies_are_results();

@@ -15,7 +15,7 @@ use owing::Owing;
 
 impl Standing {
     ghost use Rattle.standing.specs.Says.{Keys, Says, setting_of};
-    ghost use Rattle.standing.specs.Standing.{IsAt, key_of, numbers_left, outbox_of};
+    ghost use Rattle.standing.specs.Standing.{IsAt, key_of, number_of, numbers_left, outbox_of};
     ghost use Rattle.standing.specs.Unsaid.{unsaid_bytes, unsaid_count};
 
     /// Says the kept reply of this number once more, unless it was said in this event, or none is kept.
@@ -78,6 +78,7 @@ impl Standing {
         ensures numbers_last { numbers_left self.old ≤ numbers_left self.new + 1 }
         ensures same_replies { outbox_of self.new ≡ outbox_of self.old }
         ensures same_key { key_of self.new ≡ key_of self.old }
+        ensures same_number { number_of self.new ≡ number_of self.old }
         ensures at { IsAt now self.old → IsAt now self.new }
     {
         if self.keeps_all(ids) {

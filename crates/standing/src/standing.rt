@@ -70,7 +70,7 @@ pub struct Standing {
 }
 
 impl Standing {
-    ghost use Rattle.standing.specs.Standing.{IsAt, Stands, key_of, numbers_left, outbox_of};
+    ghost use Rattle.standing.specs.Standing.{IsAt, Stands, key_of, number_of, numbers_left, outbox_of};
     ghost use Rattle.standing.specs.Says.{Keys, Says, setting_of};
 
     /// The session of this key and this number that a message of the number `first` makes now. Its unique number is drawn,
@@ -91,6 +91,7 @@ impl Standing {
             (record { key = key; salt = salt; session = number; number = first; seq = seq; body = body }) draw.old)) }
         ensures drawn { OnOk result (draw.new ≡ draw_after D.step 2 draw.old) }
         ensures key { IfOk result (λ standing. key_of standing ≡ key) }
+        ensures number { IfOk result (λ standing. number_of standing ≡ number) }
         ensures numbers { IfOk result (λ standing. numbers_left standing ≡ 2 ^ 30) }
         ensures no_replies { IfOk result (λ standing. outbox_of standing ≡ record { replies = []; room = 0 }) }
         ensures at { IfOk result (IsAt now) }
@@ -139,6 +140,7 @@ impl Standing {
         ensures unchanged_on_memory { OnErr result (self.new ≡ self.old) }
         ensures same_numbers { numbers_left self.new ≡ numbers_left self.old }
         ensures same_key { key_of self.new ≡ key_of self.old }
+        ensures same_number { number_of self.new ≡ number_of self.old }
         ensures same_replies { outbox_of self.new ≡ outbox_of self.old }
         ensures at { IsAt now self.new }
     {
@@ -209,6 +211,7 @@ impl Standing {
         ensures taken { (owing.new.places_taken ≡ owing.old.places_taken) × (owing.new.bytes_taken ≡ owing.old.bytes_taken) }
         ensures numbers_last { numbers_left self.old ≤ numbers_left self.new + 1 }
         ensures same_key { key_of self.new ≡ key_of self.old }
+        ensures same_number { number_of self.new ≡ number_of self.old }
         ensures same_replies { outbox_of self.new ≡ outbox_of self.old }
         ensures at { IsAt now self.old → IsAt now self.new }
     {
@@ -229,6 +232,7 @@ impl Standing {
         ensures taken { (owing.new.places_taken ≡ owing.old.places_taken) × (owing.new.bytes_taken ≡ owing.old.bytes_taken) }
         ensures numbers_last { numbers_left self.old ≤ numbers_left self.new + 1 }
         ensures same_key { key_of self.new ≡ key_of self.old }
+        ensures same_number { number_of self.new ≡ number_of self.old }
         ensures same_replies { outbox_of self.new ≡ outbox_of self.old }
         ensures at { IsAt now self.old → IsAt now self.new }
     {
@@ -258,6 +262,7 @@ impl Standing {
         ensures taken { (owing.new.places_taken ≡ owing.old.places_taken) × (owing.new.bytes_taken ≡ owing.old.bytes_taken) }
         ensures numbers_last { numbers_left self.old ≤ numbers_left self.new + 1 }
         ensures same_key { key_of self.new ≡ key_of self.old }
+        ensures same_number { number_of self.new ≡ number_of self.old }
         ensures same_replies { outbox_of self.new ≡ outbox_of self.old }
         ensures at { IsAt now self.old → IsAt now self.new }
     {
@@ -281,6 +286,7 @@ impl Standing {
         ensures taken { (owing.new.places_taken ≡ owing.old.places_taken) × (owing.new.bytes_taken ≡ owing.old.bytes_taken) }
         ensures numbers_last { numbers_left self.old ≤ numbers_left self.new + 1 }
         ensures same_key { key_of self.new ≡ key_of self.old }
+        ensures same_number { number_of self.new ≡ number_of self.old }
         ensures same_replies { outbox_of self.new ≡ outbox_of self.old }
         ensures at { IsAt now self.old → IsAt now self.new }
     {
@@ -305,6 +311,7 @@ impl Standing {
         ensures taken { (owing.new.places_taken ≡ owing.old.places_taken) × (owing.new.bytes_taken ≡ owing.old.bytes_taken) }
         ensures numbers_last { numbers_left self.old ≤ numbers_left self.new + 1 }
         ensures same_key { key_of self.new ≡ key_of self.old }
+        ensures same_number { number_of self.new ≡ number_of self.old }
         ensures same_replies { outbox_of self.new ≡ outbox_of self.old }
         ensures at { IsAt now self.old → IsAt now self.new }
     {
@@ -331,6 +338,7 @@ impl Standing {
         ensures taken { (owing.new.places_taken ≡ owing.old.places_taken) × (owing.new.bytes_taken ≡ owing.old.bytes_taken) }
         ensures numbers_last { numbers_left self.old ≤ numbers_left self.new + 1 }
         ensures same_key { key_of self.new ≡ key_of self.old }
+        ensures same_number { number_of self.new ≡ number_of self.old }
         ensures same_replies { outbox_of self.new ≡ outbox_of self.old }
         ensures at { IsAt now self.old → IsAt now self.new }
     {
@@ -366,6 +374,7 @@ impl Standing {
         ensures room_lasts { outs.old.room ≤ outs.new.room + packets_most packets.messages packets.bytes }
         ensures numbers_last { numbers_left self.old ≤ numbers_left self.new + packets_most packets.messages packets.bytes }
         ensures same_key { key_of self.new ≡ key_of self.old }
+        ensures same_number { number_of self.new ≡ number_of self.old }
         ensures same_replies { outbox_of self.new ≡ outbox_of self.old }
         ensures at { IsAt now self.new }
     {

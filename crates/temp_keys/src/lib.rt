@@ -17,7 +17,7 @@ mod plain;
 pub use binding::{Binding, Bound, Inner};
 pub use checking::check;
 pub use fault::{BindFault, InnerField};
-pub use message::{BIND_AUTH_KEY_INNER, MESSAGE_BYTES, bind_message};
+pub use message::{BIND_AUTH_KEY_INNER, MESSAGE_BYTES, bind_message, bind_message_in};
 
 #[cfg(test)]
 mod tests;

@@ -1,6 +1,6 @@
 //! Binding messages, both ways.
 
-ghost use Rattle.std.specs.Prelude.{◌≡◌, ◌≢◌, ℕ, ◌≤◌, ◌++◌, List, length, IfOk, IfSome, IfNone, OnOk, OnErr};
+ghost use Rattle.std.specs.Prelude.{◌≡◌, ◌≢◌, ℕ, ◌≤◌, ◌++◌, List, [], length, IfOk, IfSome, IfNone, OnOk, OnErr};
 ghost use Rattle.octets.specs.Bytes.{HasBytes, IsBytes};
 ghost use Rattle.draws.specs.Draws.{draw_after, next_bytes};
 ghost use Rattle.temp_keys.specs.Messages.{Says, binding_message, message_bytes, sealed};
@@ -42,9 +42,29 @@ pub fn bind_message<D: Draw>(
     ensures drawn { OnOk result (draw.new ≡ draw_after D.step 3 draw.old) }
     ensures unchanged_on_memory { OnErr result (draw.new ≡ draw.old) }
 {
+    let message = Buffer::new(alloc, MESSAGE_BYTES)?;
+    let plain = Buffer::new(alloc, PLAIN_BYTES)?;
+    Ok(bind_message_in(message, plain, perm, number, inner, draw))
+}
+
+/// As [`bind_message`], in room that was taken before: it takes no memory. The buffers have no byte yet, and room for
+/// 104 bytes of the message and 80 of its plain text.
+pub fn bind_message_in<D: Draw>(
+    mut message: Buffer,
+    mut plain: Buffer,
+    perm: &AuthKey,
+    number: u64,
+    inner: &Inner,
+    draw: &mut D,
+) -> Octets
+    requires message { (message.bytes ≡ []) × (message_bytes ≤ message.room) }
+    requires plain { (plain.bytes ≡ []) × (80 ≤ plain.room) }
+    ensures message { result ≡ binding_message perm.now (next_bytes D.step 16 draw.old) number inner.now (next_bytes D.step 8 (draw_after D.step 2 draw.old)) }
+    ensures says { Says perm.now result number inner.now }
+    ensures size { length result ≡ message_bytes }
+    ensures drawn { draw.new ≡ draw_after D.step 3 draw.old }
+{
     seal_laws();
-    let mut message = Buffer::new(alloc, MESSAGE_BYTES)?;
-    let mut plain = Buffer::new(alloc, PLAIN_BYTES)?;
     let mut random = [0; 16];
     draw_bytes(draw, &mut random);
     let mut padding = [0; 8];
@@ -52,7 +72,7 @@ pub fn bind_message<D: Draw>(
     let inner = *inner;
     fill(&mut plain, &random, &Said { number, inner }, &padding);
     seal(&mut message, perm, plain);
-    Ok(message.into_octets())
+    message.into_octets()
 }
 
 // Writes a plain text sealed.

@@ -5,4 +5,4 @@ use Rattle.client_core.proofs.filling.put_said.Goals as goal
 pub returns-clause-written : goal.returns-clause-written
 unfolding row
 returns-clause-written c =
-    rw (c.spell.ensures.written, c.put_head.ensures.written, c.said_size.ensures, c.sizes_of_said.ensures.sizes c.args.said.now c.spell.ensures.fits) (simp append_assoc)
+    rw (c.spell.ensures.written, c.put_head.ensures.written, c.said_size.ensures, c.sizes_of_said.ensures.sizes c.args.said.now c.requires.lawful) (simp append_assoc)

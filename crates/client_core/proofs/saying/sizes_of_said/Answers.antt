@@ -3,7 +3,7 @@ use Rattle.client_core.proofs.SizeLemmas.{said-size, said-is_words, said-few}
 use Rattle.client_core.proofs.saying.sizes_of_said.Goals as goal
 
 pub returns-clause-sizes : goal.returns-clause-sizes
-returns-clause-sizes c said fits = said-size c.sizes_of_spellings.ensures said fits
+returns-clause-sizes c said can = said-size c.sizes_of_spellings.ensures said can
 
 pub returns-clause-words : goal.returns-clause-words
 returns-clause-words c said fits = c.items_are_words.ensures (item_of said) fits (said-is_words said)

@@ -21,6 +21,7 @@ drops-preserved g c =
       same_room = step.same_room ∙ so_far.same_room;
       same_numbers = step.same_numbers ∙ so_far.same_numbers;
       same_key = step.same_key ∙ so_far.same_key;
+      same_number = step.same_number ∙ so_far.same_number;
       same_salts = step.same_salts ∙ so_far.same_salts;
     }
 

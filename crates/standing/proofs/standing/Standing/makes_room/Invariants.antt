@@ -1,7 +1,7 @@
 use Rattle.std.proofs.Common.{◌≡◌, ℕ, List, length}
 use Rattle.server_rules.specs.Server.{Reply, Session}
 use Rattle.server_rules.specs.Speaking.{made_room}
-use Rattle.standing.specs.Standing.{Stands, key_of, replies_left}
+use Rattle.standing.specs.Standing.{Stands, key_of, number_of, replies_left}
 use Rattle.standing.proofs.standing.Standing.makes_room.Given as goal
 
 -- the replies so far give the same, where room is made from there on
@@ -13,6 +13,7 @@ invariant-drops g l = record {
   same_room : replies_left l.self ≡ replies_left l.fn.self;
   same_numbers : l.self.numbers ≡ l.fn.self.numbers;
   same_key : key_of l.self ≡ key_of l.fn.self;
+  same_number : number_of l.self ≡ number_of l.fn.self;
   same_salts : l.self.salts ≡ l.fn.self.salts;
 }
 

@@ -15,6 +15,7 @@ loop-place-init g c = (
   refl,
   refl,
   λ now is. is,
+  refl,
 )
 
 pub loop-place-preserved : goal.loop-place-preserved
@@ -31,6 +32,7 @@ loop-place-preserved g c =
       c.ends_reply.ensures.same_key ∙ c.loop-place.invariant.2,
       c.ends_reply.ensures.same_room ∙ c.loop-place.invariant.3,
       λ now is. c.ends_reply.ensures.at now (c.loop-place.invariant.4 now is),
+      c.ends_reply.ensures.same_number ∙ c.loop-place.invariant.5,
     )
 
 pub returns-clause-says : goal.returns-clause-says
@@ -56,3 +58,6 @@ returns-clause-at g c = c.loop-place.invariant.4
 
 pub returns-clause-same_room : goal.returns-clause-same_room
 returns-clause-same_room g c = c.loop-place.invariant.3
+
+pub returns-clause-same_number : goal.returns-clause-same_number
+returns-clause-same_number g c = c.loop-place.invariant.5

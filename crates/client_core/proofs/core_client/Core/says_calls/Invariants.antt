@@ -1,0 +1,14 @@
+use Rattle.std.proofs.Common.{◌≡◌, ◌+◌, ◌≤◌}
+use Rattle.containers.specs.Container.{messages_max}
+use Rattle.client_rules.specs.Filling.{Filling}
+use Rattle.client_core.specs.Draft.{Goes, HasNumbers, SoFar}
+use Rattle.client_core.proofs.core_client.Core.says_calls.Given as goal
+
+abbrev pub invariant-loop-k : goal.invariant-loop-k
+invariant-loop-k g l = record {
+  so_far : (filling : Filling (Rattle.client_core.specs.contracts.core_client.Core.says_calls.D-type g.row.D)) → Goes l.fn.self l.fn.draft filling → SoFar filling l.self l.draft l.place l.k l.count;
+  few : l.place ≤ l.k;
+  numbers : HasNumbers l.self l.draft;
+  reserved : messages_max ≤ l.draft.count + l.self.calls.room;
+  rest : record l.self.rest { counters = l.fn.self.rest.counters } ≡ l.fn.self.rest;
+}

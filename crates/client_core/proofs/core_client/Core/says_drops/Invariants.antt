@@ -1,0 +1,12 @@
+use Rattle.std.proofs.Common.{◌≡◌}
+use Rattle.client_rules.specs.Filling.{Filling}
+use Rattle.client_core.specs.Draft.{DropsSoFar, Goes, HasNumbers}
+use Rattle.client_core.proofs.core_client.Core.says_drops.Given as goal
+
+abbrev pub invariant-loop-k : goal.invariant-loop-k
+invariant-loop-k g l = record {
+  so_far : (filling : Filling (Rattle.client_core.specs.contracts.core_client.Core.says_drops.D-type g.row.D)) → Goes l.fn.self l.fn.draft filling → DropsSoFar filling l.self l.draft l.k l.count;
+  numbers : HasNumbers l.self l.draft;
+  rest : record l.self.rest { counters = l.fn.self.rest.counters } ≡ l.fn.self.rest;
+  room : l.self.calls.room ≡ l.fn.self.calls.room;
+}

@@ -1,0 +1,53 @@
+use Rattle.std.proofs.Common.{◌≡◌, ◌∙◌, ℕ, List, [], Option, Some, None, ap, sym, subst}
+use Rattle.std.specs.Prelude.{option_map}
+use Rattle.msg_ids.specs.Counters.{Counters, after_next}
+use Rattle.client_rules.specs.Client.{Client, States, Waiting, after_message, numbered}
+use Rattle.client_rules.specs.Filling.{Filling, changes, says_resent}
+use Rattle.client_core.specs.Kept.{Contents, states_in, waiting_in}
+use Rattle.client_core.specs.Numbers.{Numbers}
+use Rattle.client_core.specs.Draft.{Goes, item_of, needs_answer, said_bytes}
+use Rattle.service_tl.specs.Items.{spelling_of}
+use Rattle.client_core.specs.declared.saying.Said.{Said}
+use Rattle.client_core.specs.declared.saying.Said.TheVariants as said
+use Rattle.client_core.proofs.GoesLemmas.{goes_out, moved, none_of, resent_go, resent_not, said_in, same_goes, some_of, told}
+use Rattle.client_core.proofs.core_client.Core.says_resent.Goals as goal
+
+abbrev change : Client → Client
+change client = record client { waiting = record client.waiting { resent = [] } }
+
+pub returns-then-is_empty-clause-goes : goal.returns-then-is_empty-clause-goes
+returns-then-is_empty-clause-goes g c filling is =
+    let none = none_of _ _ c.is_empty.ensures c.if-is_empty.true in
+    let waits = c.ids-numbers.ensures.value ∙ told _ _ filling.client (λ (rest : Client). rest.waiting.resent) c.self.view_is is.client in
+    moved _ _ (λ (own : List ℕ). says_resent own filling) filling.client.waiting.resent c.ids-numbers.result.now (sym waits)
+    (same_goes _ _ _ _ (resent_not c.ids-numbers.result.now filling none) is)
+
+pub returns-then-say-clause-goes : goal.returns-then-say-clause-goes
+returns-then-say-clause-goes g c filling is =
+    let kept = (Rattle.client_core.specs.contracts.core_client.Core.the_view c.self.inside).rest in
+    let numbers = c.ids-numbers.result.now in
+    let some = some_of _ _ c.is_empty.ensures c.if-is_empty.false in
+    let waits = c.ids-numbers.ensures.value ∙ told _ _ filling.client (λ (rest : Client). rest.waiting.resent) c.self.view_is is.client in
+    let counted = after_next c.self.inside.numbers c.time-at.result (needs_answer (said.Resent c.ids-numbers.result)) in
+    moved _ _ (λ (own : List ℕ). says_resent own filling) filling.client.waiting.resent numbers (sym waits)
+    (same_goes _ _ _ _ (resent_go numbers filling some)
+    (said_in c.args.self.now _ _ c.args.draft.now _ filling change (said.Resent c.ids-numbers.result) c.time-at.result c.self.view_is is
+    (c.time-at.ensures filling.client is.client) c.say.ensures.size (sym c.say.ensures.told ∙ c.if-say.true)
+    (c.say.ensures.holds c.if-say.true) (c.say.ensures.inner c.if-say.true) (c.say.ensures.open c.if-say.true)
+    (λ client rest.
+    ap (λ (own : Counters). record kept { counters = own; waiting = record kept.waiting { resent = c.clear.new.self.numbers } }) (c.say.ensures.counted c.if-say.true)
+    ∙ (ap (λ (own : Numbers). record kept { counters = counted; waiting = record kept.waiting { resent = own.numbers } }) c.clear.ensures ∙ ap change rest))
+    (λ client calls. calls)))
+
+pub returns-else-say-clause-goes : goal.returns-else-say-clause-goes
+returns-else-say-clause-goes g c filling is =
+    let numbers = c.ids-numbers.result.now in
+    let one : Said = said.Resent c.ids-numbers.result in
+    let some = some_of _ _ c.is_empty.ensures c.if-is_empty.false in
+    let inside : Goes (Rattle.client_core.specs.contracts.core_client.Core.the_view c.self.inside) c.args.draft.now filling = rw c.self.view_is is in
+    let waits = c.ids-numbers.ensures.value ∙ told _ _ filling.client (λ (rest : Client). rest.waiting.resent) c.self.view_is is.client in
+    rw (c.say.ensures.full c.if-say.false, c.say.ensures.uncounted c.if-say.false)
+    (moved _ _ (λ (own : List ℕ). says_resent own filling) filling.client.waiting.resent numbers (sym waits)
+    (same_goes _ _ _ _ (resent_go numbers filling some)
+    (goes_out _ c.args.draft.now filling (numbered (needs_answer one) (spelling_of (item_of one)) filling.client) (changes (λ (client : Client). change (after_message (needs_answer one) client))) (said_bytes one) inside
+    c.say.ensures.size (sym c.say.ensures.told ∙ c.if-say.false))))

@@ -1,0 +1,73 @@
+//! A binding is asked for.
+
+ghost use Rattle.std.specs.Prelude.{◌≡◌, ◌≤◌, ◌<◌, ◌+◌, ◌++◌, ◌∷◌, [], IfOk, IfSome, IsSome, length};
+ghost use Rattle.auth_keys.specs.Rings.{entry_of};
+ghost use Rattle.draws.specs.Draws.{draw_after, next_bytes, word_after};
+ghost use Rattle.service_tl.specs.Items.{spelling_of};
+ghost use Rattle.service_tl.specs.declared.item.Item.TheVariants.{AuthBindTempAuthKey};
+ghost use Rattle.temp_keys.specs.Messages.{binding_message, message_bytes};
+ghost use Rattle.client_core.specs.Asked.{HasRoom, bind_body_bytes};
+
+use auth_keys::AuthKey;
+use draws::Draw;
+use octets::{Buffer, Memory, Octets};
+use service_tl::AUTH_BIND_TEMP_AUTH_KEY;
+use std::alloc::Global;
+use temp_keys::{Inner, MESSAGE_BYTES, bind_message_in};
+use tl_codec::fill;
+use tl_codec::laws::sizes_of_spellings;
+
+/// The bytes of a binding message's plain text.
+const PLAIN_BYTES: usize = 80;
+
+/// The bytes of the body of a binding call.
+const BODY_BYTES: usize = 132;
+
+/// Room for a binding call: for its message, that message's plain text, and the body.
+#[derive(Debug, Drop)]
+pub(crate) struct BindRoom {
+    message: Buffer,
+    plain: Buffer,
+    body: Buffer,
+}
+
+impl BindRoom {
+    pub(crate) fn new(alloc: Global) -> Result<BindRoom, Memory>
+        ensures { IfOk result HasRoom }
+    {
+        Ok(BindRoom {
+            message: Buffer::new(alloc, MESSAGE_BYTES)?,
+            plain: Buffer::new(alloc, PLAIN_BYTES)?,
+            body: Buffer::new(alloc, BODY_BYTES)?,
+        })
+    }
+
+    /// The body of the binding call of this number.
+    pub(crate) fn body<D: Draw>(
+        self,
+        key: &AuthKey,
+        number: u64,
+        inner: &Inner,
+        draw: &mut D,
+    ) -> Octets
+        requires room { HasRoom self }
+        ensures body { result ≡ spelling_of (AuthBindTempAuthKey inner.now.perm inner.now.nonce inner.now.expires
+            (binding_message key.now (next_bytes D.step 16 draw.old) number inner.now (next_bytes D.step 8 (draw_after D.step 2 draw.old)))) }
+        ensures size { length result ≡ bind_body_bytes }
+        ensures drawn { draw.new ≡ draw_after D.step 3 draw.old }
+    {
+        sizes_of_spellings();
+        let BindRoom {
+            message,
+            plain,
+            mut body,
+        } = self;
+        let message = bind_message_in(message, plain, key, number, inner, draw);
+        fill::int(&mut body, AUTH_BIND_TEMP_AUTH_KEY);
+        fill::long(&mut body, inner.perm);
+        fill::long(&mut body, inner.nonce);
+        fill::int(&mut body, inner.expires);
+        fill::bytes(&mut body, message.as_slice());
+        body.into_octets()
+    }
+}

@@ -1,0 +1,200 @@
+//! The turn of a queued call.
+
+ghost use Rattle.std.specs.Prelude.{◌≡◌, ◌≤◌, ◌<◌, ◌+◌, ◌^◌, ℕ, fold, true, false, IfSome, IsTrue, IsFalse, Some, option_map};
+ghost use Rattle.call_table.specs.Kept.{Stands as StandsFor, state_in};
+ghost use Rattle.call_table.specs.Table.{IsGiven, Queued, Table, at};
+ghost use Rattle.containers.specs.Container.{messages_max};
+ghost use Rattle.client_rules.specs.Client.{Client, calls_of};
+ghost use Rattle.client_rules.specs.Filling.{Filling, Goes as Going, is_good, says_call, takes_turn, turn_after, turn_behind, turn_of, turn_under};
+ghost use Rattle.client_core.specs.Calling.{turn_in};
+ghost use Rattle.client_core.specs.Draft.{Goes, HasNumbers, LeavesQueue, SoFar, queue};
+ghost use Rattle.client_core.specs.Kept.{Stands, binding_in};
+
+use crate::binding::Binding;
+use crate::core_client::Core;
+use crate::filling::Draft;
+use byteorder::{ByteOrder, LittleEndian};
+use call_table::laws::tables_tell;
+use call_table::{CallNo, CallState, Calls, Fate, Group, Living};
+use draws::Draw;
+use service_tl::{RPC_ANSWER_DROPPED_RUNNING, RPC_ERROR};
+
+/// What a queued call does when its turn comes.
+#[derive(Clone, Copy, Debug)]
+pub(crate) enum Turn {
+    /// It goes, behind the message of this number where there is one.
+    Goes(Option<u64>),
+    /// It waits.
+    Waits,
+    /// It never goes.
+    Never,
+}
+
+/// Whether a result is one after which another call goes.
+fn is_good(bytes: &[u8]) -> bool
+    ensures { result ≡ is_good bytes.now }
+{
+    if bytes.len() < 4 {
+        return true;
+    }
+    let tag = LittleEndian::read_u32(bytes);
+    tag != RPC_ERROR && tag != RPC_ANSWER_DROPPED_RUNNING
+}
+
+/// The turn of a call that is to execute after this one, if one is given.
+fn turn_after(calls: &Calls, after: Option<CallNo>) -> Turn
+    requires given { IfSome after (λ one. IsGiven one calls.now.rows) }
+    ensures { (table : Table) → StandsFor calls.now table → turn_in result ≡ turn_after table.calls after }
+{
+    match after {
+        None => Turn::Goes(None),
+        Some(earlier) => turn_behind(calls, earlier),
+    }
+}
+
+fn turn_behind(calls: &Calls, earlier: CallNo) -> Turn
+    requires given { IsGiven earlier calls.now.rows }
+    ensures { (table : Table) → StandsFor calls.now table → turn_in result ≡ turn_behind (at earlier table.calls) }
+{
+    match calls.state(earlier) {
+        CallState::Done(bytes) => {
+            if is_good(bytes) {
+                Turn::Goes(None)
+            } else {
+                Turn::Never
+            }
+        }
+        CallState::Sent => Turn::Goes(number_of(calls.living(earlier))),
+        CallState::Queued | CallState::Held => Turn::Waits,
+        CallState::Refused(_) | CallState::Unknown(_) => Turn::Never,
+    }
+}
+
+fn number_of(living: Option<Living>) -> Option<u64>
+    ensures { result ≡ option_map (λ living. living.number) living }
+{
+    match living {
+        None => None,
+        Some(living) => Some(living.number),
+    }
+}
+
+fn turn_under(binding: &Binding, turn: Turn) -> Turn
+    ensures { turn_in result ≡ turn_under (binding_in binding.now) (turn_in turn) }
+{
+    match binding {
+        Binding::Bound => turn,
+        Binding::Refused(_) => Turn::Never,
+        _ => Turn::Waits,
+    }
+}
+
+impl Core {
+    /// The turn of a call.
+    fn turn(&self, call: CallNo) -> Turn
+        requires given { IsGiven call self.now.calls.rows }
+        ensures { (client : Client) → Stands self.now client → IfSome (at call (calls_of client)) (λ one. turn_in result ≡ turn_of client one) }
+    {
+        let turn = turn_after(&self.calls, self.calls.after(call));
+        if !self.is_open() {
+            return turn;
+        }
+        match &self.temporary {
+            None => turn,
+            Some(temporary) => turn_under(&temporary.binding, turn),
+        }
+    }
+
+    /// Puts a queued call in the packet, where it fits, and whether it does.
+    fn sends_call<D: Draw>(&mut self, draft: &mut Draft, call: CallNo, wrap: Option<u64>) -> bool
+        requires given { IsGiven call self.old.calls.rows }
+        requires queued { state_in call self.old.calls.rows ≡ Some Queued }
+        requires numbers { HasNumbers self.old draft.old }
+        requires reserved { messages_max ≤ draft.old.count + self.old.calls.room }
+        ensures goes { (filling : Filling D) → Goes self.old draft.old filling
+            → IfSome (at call (calls_of filling.client)) (λ one. Goes self.new draft.new (takes_turn call one.body (Going wrap) filling)) }
+        ensures left { IsTrue result → (filling : Filling D) → Goes self.old draft.old filling
+            → IfSome (at call (calls_of filling.client)) (λ one. LeavesQueue call filling (takes_turn call one.body (Going wrap) filling)) }
+        ensures full { IsFalse result → draft.new.is_full ≡ true }
+        ensures numbers { HasNumbers self.new draft.new }
+        ensures reserved { messages_max ≤ draft.new.count + self.new.calls.room }
+        ensures rest { record self.new.rest { counters = self.old.rest.counters } ≡ self.old.rest }
+    {
+        let at = self.time();
+        match draft.send(at, &mut self.numbers, wrap, self.calls.body(call)) {
+            None => false,
+            Some((number, seq)) => {
+                let living = Living { number, seq, wrap };
+                self.calls.send(call, self.session, living, self.salt);
+                true
+            }
+        }
+    }
+
+    /// The turn of a queued call comes. Whether it left the queue.
+    pub(crate) fn says_call<D: Draw>(&mut self, draft: &mut Draft, call: CallNo) -> bool
+        requires given { IsGiven call self.old.calls.rows }
+        requires queued { state_in call self.old.calls.rows ≡ Some Queued }
+        requires numbers { HasNumbers self.old draft.old }
+        requires reserved { messages_max ≤ draft.old.count + self.old.calls.room }
+        requires room { draft.old.is_full ≡ false }
+        ensures goes { (filling : Filling D) → Goes self.old draft.old filling → Goes self.new draft.new (says_call filling call) }
+        ensures left { IsTrue result → (filling : Filling D) → Goes self.old draft.old filling → LeavesQueue call filling (says_call filling call) }
+        ensures waits { IsFalse result → draft.new.is_full ≡ false → (filling : Filling D) → Goes self.old draft.old filling → says_call filling call ≡ filling }
+        ensures numbers { HasNumbers self.new draft.new }
+        ensures reserved { messages_max ≤ draft.new.count + self.new.calls.room }
+        ensures rest { record self.new.rest { counters = self.old.rest.counters } ≡ self.old.rest }
+    {
+        tables_tell();
+        match self.turn(call) {
+            Turn::Goes(wrap) => self.sends_call::<D>(draft, call, wrap),
+            Turn::Waits => false,
+            Turn::Never => {
+                self.calls.settle(call, Fate::Refused(0));
+                true
+            }
+        }
+    }
+
+    /// The turn of the queued call comes that has so many waiting before it. How many wait before the next one.
+    fn says_next<D: Draw>(&mut self, draft: &mut Draft, place: usize) -> usize
+        requires small { place + 1 < 2 ^ 64 }
+        requires room { draft.old.is_full ≡ false }
+        requires numbers { HasNumbers self.old draft.old }
+        requires reserved { messages_max ≤ draft.old.count + self.old.calls.room }
+        ensures so_far { (first : Filling D) (k count : ℕ) → k < count → SoFar first self.old draft.old place k count → SoFar first self.new draft.new result (k + 1) count }
+        ensures few { result ≤ place + 1 }
+        ensures numbers { HasNumbers self.new draft.new }
+        ensures reserved { messages_max ≤ draft.new.count + self.new.calls.room }
+        ensures rest { record self.new.rest { counters = self.old.rest.counters } ≡ self.old.rest }
+    {
+        match self.calls.member(Group::Queued, place) {
+            None => place,
+            Some(call) => {
+                if self.says_call::<D>(draft, call) {
+                    place
+                } else {
+                    place + 1
+                }
+            }
+        }
+    }
+
+    /// The turns of all queued calls come, in order, until one doesn't fit.
+    pub(crate) fn says_calls<D: Draw>(&mut self, draft: &mut Draft)
+        requires numbers { HasNumbers self.old draft.old }
+        requires reserved { messages_max ≤ draft.old.count + self.old.calls.room }
+        ensures goes { (filling : Filling D) → Goes self.old draft.old filling → Goes self.new draft.new (fold says_call filling (queue filling)) }
+        ensures numbers { HasNumbers self.new draft.new }
+        ensures rest { record self.new.rest { counters = self.old.rest.counters } ≡ self.old.rest }
+    {
+        let count = self.calls.members(Group::Queued);
+        let mut place = 0;
+        for k in 0..count {
+            if draft.is_full() {
+                return;
+            }
+            place = self.says_next::<D>(draft, place);
+        }
+    }
+}

@@ -1,0 +1,14 @@
+pub mod Blocked
+pub mod Failing
+pub mod Lists
+pub mod Names
+pub mod One
+pub mod Places
+pub mod Running
+pub mod Sending
+pub mod Spent
+pub mod Standing
+pub mod Speaking
+pub mod Steps
+pub mod Taking
+pub mod Attached

@@ -1,0 +1,6 @@
+pub mod One
+pub mod Sessions
+pub mod Server
+pub mod Effects
+pub mod Failures
+pub mod Speech

@@ -1,0 +1,47 @@
+-- A server, as it is kept.
+use Rattle.std.specs.Prelude.{◌≡◌, ◌≤◌, ℕ, Bool, if◌then◌else◌, List, length, All, IsSome}
+use Rattle.auth_keys.specs.declared.ring.RingKey.{RingKey}
+use Rattle.auth_keys.specs.Rings.{entry_of}
+use Rattle.waits.specs.Jobs.{Queue, without_session}
+use Rattle.server_rules.specs.Server.{Binding, Name, Server, sessions_max}
+use Rattle.server_rules.specs.Answer.{room_min}
+use Rattle.standing.specs.declared.standing.Standing.{Standing}
+use Rattle.standing.specs.Standing.{IsAt, key_of, numbers_left}
+use Rattle.server_core.specs.Sessions.{AreKept, without_kept}
+
+-- What contracts see of a server: what seals its packets, the greatest moment that it was given, its sessions, the one heard
+-- least recently first, the unfinished jobs in order of acceptance, and the bindings.
+pub record Kept (S : Type 0) : Type 0 where
+  pub seal : S
+  pub moment : ℕ
+  pub sessions : List Standing
+  pub jobs : Queue
+  pub bindings : List Binding
+
+-- A session can speak in an event: its key is there, it has numbers for an event, and its salts were needed at no later
+-- moment.
+pub record CanSpeak (keys : List RingKey) (moment : ℕ) (standing : Standing) : Type 0 where
+  pub key : IsSome (entry_of (key_of standing) keys)
+  pub numbers : room_min ≤ numbers_left standing
+  pub at : IsAt moment standing
+
+-- what holds of each server
+pub record IsSound (keys : List RingKey) (moment : ℕ) (standings : List Standing) : Type 0 where
+  pub few : length standings ≤ sessions_max
+  pub speaking : All (CanSpeak keys moment) standings
+
+-- It stands for a server of the definitions.
+pub record Stands {S : Type 0} (kept : Kept S) (server : Server) : Type 0 where
+  pub moment : kept.moment ≡ server.now
+  -- each session that is kept stands for one of the server's, in order
+  pub sessions : AreKept kept.moment kept.sessions server.sessions
+  pub jobs : kept.jobs ≡ server.jobs
+  pub bindings : kept.bindings ≡ server.bindings
+
+-- the sessions and the jobs without those of this name, where this is so
+
+abbrev pub without_kept_where : Bool → Name → List Standing → List Standing
+without_kept_where so name standings = if so then without_kept name standings else standings
+
+abbrev pub without_jobs_where : Bool → Name → Queue → Queue
+without_jobs_where so name jobs = if so then without_session name.key name.session jobs else jobs

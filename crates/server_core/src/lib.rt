@@ -1,0 +1,19 @@
+//! A server of sessions (core.telegram.org/mtproto/description, core.telegram.org/mtproto/service_messages). A `Server` keeps
+//! what its events need of its sessions, their unfinished jobs and the bindings of temporary keys. It stands for a server of
+//! the definitions (`Stands`), and each event makes it stand for what the definitions say of that event.
+#![tactic(auto)]
+
+mod attaching;
+mod effects;
+mod failures;
+pub mod laws;
+mod server;
+mod sessions;
+mod speech;
+
+pub use effects::Effects;
+pub use server::Server;
+pub use sessions::Sessions;
+
+#[cfg(test)]
+mod tests;

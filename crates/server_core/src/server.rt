@@ -1,0 +1,210 @@
+//! A server.
+
+ghost use Rattle.std.specs.Prelude.{◌≡◌, ◌<◌, ◌≤◌, ℕ, [], Some, is_some, length, max, nat_lt, slice_index_or, IfOk, OnErr, OnOk};
+ghost use Rattle.std.specs.List.{position};
+ghost use Rattle.standing.specs.declared.standing.Standing.{Standing};
+ghost use Rattle.standing.specs.Standing.{numbers_left};
+ghost use Rattle.standing.specs.Says.{Keys, setting_of};
+ghost use Rattle.waits.specs.Jobs.{ready_count};
+ghost use Rattle.server_rules.specs.Server.{Server as Rules, fresh_server, session_named};
+ghost use Rattle.server_rules.specs.Answer.{after_attach, after_loss, after_restart, room_min};
+ghost use Rattle.server_core.specs.Sessions.{is_kept_as};
+ghost use Rattle.server_core.specs.Server.{Stands, without_jobs_where, without_kept_where};
+ghost use Rattle.server_core.specs.Effects.{Gives};
+
+use crate::effects::Effects;
+use crate::sessions::Sessions;
+use draws::Draw;
+use envelope::Seal;
+use msg_ids::Moment;
+use octets::Memory;
+use rows::{Bindings, Entries};
+use server_laws::laws::sessions_speak_for_themselves;
+use standing::laws::sessions_stand_later;
+use std::alloc::Global;
+use std::marker::Model;
+use waits::Jobs;
+
+/// A server: what seals its packets, the greatest moment that it was given, its sessions, at most 256, their unfinished
+/// jobs, and the bindings of temporary keys.
+#[derive(Debug, Drop)]
+pub struct Server<S: Seal> {
+    seal: S,
+    moment: Moment,
+    sessions: Sessions,
+    jobs: Jobs,
+    bindings: Bindings,
+}
+
+impl<S: Seal> Model for Server<S> {
+    ghost use Rattle.server_core.specs.Server.{IsSound, Kept};
+
+    ghost Value = { Kept S };
+
+    ghost view = { λ server. record {
+      seal = server.seal;
+      moment = server.moment;
+      sessions = server.sessions;
+      jobs = server.jobs.jobs;
+      bindings = server.bindings.bindings;
+    } };
+
+    ghost invariant = { λ server. IsSound (S.keys server.seal) server.moment server.sessions };
+}
+
+impl<S: Seal> Server<S> {
+    /// A server without sessions, jobs and bindings, which was given no moment so far. Takes no memory.
+    pub fn new(alloc: Global, seal: S) -> Server<S>
+        ensures stands { Stands result fresh_server }
+        ensures seal { result.seal ≡ seal }
+    {
+        Server {
+            seal,
+            moment: Moment::new(0),
+            sessions: Sessions::new(alloc),
+            jobs: Jobs::new(alloc),
+            bindings: Bindings::new(alloc),
+        }
+    }
+
+    /// What seals its packets.
+    pub fn seal(&self) -> &S
+        ensures { result.now ≡ self.now.seal }
+    {
+        &self.seal
+    }
+
+    /// How many jobs are ready.
+    pub fn ready(&self) -> usize
+        ensures count { result ≡ ready_count self.now.jobs }
+        ensures stands { (server : Rules) → Stands self.now server → result ≡ ready_count server.jobs }
+    {
+        self.jobs.ready()
+    }
+
+    /// How many jobs are unfinished, ready or not.
+    pub fn unfinished(&self) -> usize
+        ensures count { result ≡ length self.now.jobs }
+        ensures stands { (server : Rules) → Stands self.now server → result ≡ length server.jobs }
+    {
+        self.jobs.len()
+    }
+
+    /// Loses the session of this name with its jobs; whether there was one. Takes no memory.
+    pub fn lose(&mut self, key: u64, session: u64) -> bool
+        ensures found { (server : Rules) → Stands self.old server → result ≡ is_some (session_named (record { key = key; session = session }) server.sessions) }
+        ensures stands { (server : Rules) → Stands self.old server → Stands self.new (after_loss (record { key = key; session = session }) server) }
+        ensures same_seal { self.new.seal ≡ self.old.seal }
+    {
+        sessions_stand_later();
+        self.jobs.forget(key, session);
+        self.sessions.take_out(key, session).is_some()
+    }
+
+    /// Starts again, at the same moment: no session, no job and no binding is left. Takes no memory.
+    pub fn restart(&mut self, alloc: Global)
+        ensures stands { (server : Rules) → Stands self.old server → Stands self.new (after_restart server) }
+        ensures same_seal { self.new.seal ≡ self.old.seal }
+    {
+        self.sessions = Sessions::new(alloc);
+        self.jobs = Jobs::new(alloc);
+        self.bindings = Bindings::new(alloc);
+    }
+
+    /// A connection is opened for the session of this name: it says that it is new as long as it has accepted nothing, and
+    /// then all kept replies, in order of making. Nothing is said where there is no such session.
+    ///
+    /// # Errors
+    ///
+    /// `Memory`, and then the server is as it was.
+    pub fn attach<D: Draw>(
+        &mut self,
+        alloc: Global,
+        key: u64,
+        session: u64,
+        now: Moment,
+        draw: &mut D,
+    ) -> Result<Effects, Memory>
+        ensures given { (keys : Keys) (server : Rules) → Stands self.old server
+            → IfOk result (λ effects. Gives S.lock (S.keys self.old.seal) self.new draw.new effects
+            (after_attach (setting_of (max self.old.moment now) D.step keys) (record { key = key; session = session }) server draw.old)) }
+        ensures unchanged_on_memory { OnErr result (self.new ≡ self.old) }
+        ensures same_seal { self.new.seal ≡ self.old.seal }
+    {
+        sessions_stand_later();
+        let moment = later(self.moment, now);
+        match self.sessions.place(key, session) {
+            None => self.passes(alloc, moment),
+            Some(place) => self.attach_at(alloc, key, session, place, moment, draw),
+        }
+    }
+
+    // Nothing happens at this moment.
+    fn passes(&mut self, alloc: Global, moment: Moment) -> Result<Effects, Memory>
+        requires later { self.old.moment ≤ moment }
+        ensures stands { (server : Rules) → Stands self.old server → OnOk result (Stands self.new (record server { now = moment })) }
+        ensures nothing { IfOk result (λ effects. (effects.out.outs ≡ []) × (effects.entries.entries ≡ [])) }
+        ensures unchanged_on_memory { OnErr result (self.new ≡ self.old) }
+        ensures same_seal { self.new.seal ≡ self.old.seal }
+    {
+        sessions_stand_later();
+        let effects = Effects::none(alloc)?;
+        self.moment = moment;
+        Ok(effects)
+    }
+
+    // A connection is opened for the session of this name, which is at this place.
+    fn attach_at<D: Draw>(
+        &mut self,
+        alloc: Global,
+        key: u64,
+        session: u64,
+        place: usize,
+        moment: Moment,
+        draw: &mut D,
+    ) -> Result<Effects, Memory>
+        requires later { self.old.moment ≤ moment }
+        requires place { position (is_kept_as (record { key = key; session = session })) self.old.sessions ≡ Some place }
+        ensures given { (keys : Keys) (server : Rules) → Stands self.old server
+            → IfOk result (λ effects. Gives S.lock (S.keys self.old.seal) self.new draw.new effects
+            (after_attach (setting_of moment D.step keys) (record { key = key; session = session }) server draw.old)) }
+        ensures unchanged_on_memory { OnErr result (self.new ≡ self.old) }
+        ensures same_seal { self.new.seal ≡ self.old.seal }
+    {
+        sessions_stand_later();
+        sessions_speak_for_themselves::<D>();
+        let entries = Entries::new(alloc, 0)?;
+        let speech = self.sessions.room_to_attach(alloc, place)?;
+        let out = self
+            .sessions
+            .attach(place, moment, speech, &self.seal, draw);
+        self.moment = moment;
+        lose_spent(&mut self.sessions, &mut self.jobs, key, session, place);
+        Ok(Effects { out, entries })
+    }
+}
+
+// The later of two moments.
+fn later(one: Moment, other: Moment) -> Moment
+    ensures { result ≡ max one other }
+{
+    if one.seconds() < other.seconds() {
+        other
+    } else {
+        one
+    }
+}
+
+// The session of this name, which is at this place, is lost with its jobs where it has no room for a further event.
+fn lose_spent(sessions: &mut Sessions, jobs: &mut Jobs, key: u64, session: u64, place: usize)
+    requires { place < length sessions.old }
+    ensures sessions { (d : Standing) → sessions.new ≡ without_kept_where (nat_lt (numbers_left (slice_index_or sessions.old place d)) room_min)
+        (record { key = key; session = session }) sessions.old }
+    ensures jobs { (d : Standing) → jobs.new.jobs ≡ without_jobs_where (nat_lt (numbers_left (slice_index_or sessions.old place d)) room_min)
+        (record { key = key; session = session }) jobs.old.jobs }
+{
+    if sessions.is_spent(place) {
+        jobs.forget(key, session);
+        sessions.take_out(key, session);
+    }
+}

@@ -1,0 +1,43 @@
+//! What a server does that no session has come to.
+
+use crate::Server;
+use auth_keys::Ring;
+use draws::StepDraw;
+use envelope::{MtSeal, Seal};
+use msg_ids::Moment;
+use std::alloc::Global;
+use std::test::*;
+
+// The identifier of the key `00` to `ff`: bytes 12 to 19 of its SHA-1, by Python's hashlib.
+const KEY_ID: u64 = 0xc8df_57a4_6e58_d132;
+
+// The ring of the key `00` to `ff`.
+fn ring(alloc: Global) -> Result<Ring, Fail> {
+    let mut bytes = [0; 256];
+    for byte in 0..=255u8 {
+        bytes[usize::from(byte)] = byte;
+    }
+    let digits = hex::encode(alloc, bytes.as_slice())?;
+    let text = format!(in alloc; "perm {digits}")?;
+    if u32::try_from(text.len()).is_err() {
+        return Err(Fail::new("too long"));
+    }
+    Ok(Ring::read(alloc, text.as_bytes())?)
+}
+
+#[test]
+fn an_unknown_session_owes_nothing(rt: HostRuntime) -> Result<(), Fail> {
+    let alloc = rt.alloc();
+    let mut server = Server::new(alloc, MtSeal::new(ring(alloc)?));
+    let mut draw = StepDraw::new();
+    for seconds in [0, 1_000, 5] {
+        let effects = server.attach(alloc, KEY_ID, 9, Moment::new(seconds), &mut draw)?;
+        assert_eq!(rt; effects.out.as_slice().len(), 0);
+        assert_eq!(rt; effects.entries.as_slice().len(), 0);
+    }
+    assert!(rt; !server.lose(KEY_ID, 9));
+    server.restart(alloc);
+    assert_eq!(rt; (server.ready(), server.unfinished()), (0, 0));
+    assert!(rt; server.seal().has(KEY_ID));
+    Ok(())
+}
