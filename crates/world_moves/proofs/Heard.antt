@@ -160,3 +160,11 @@ pub hears : Apart → (w : World) (number now : ℕ) (client : Client) (envelope
     → Leads number w (λ later. StandsAs later number (take now envelope client))
 hears apart w number now client envelope packet reached s made session items =
     takes_it apart w number now client envelope packet reached s made session items
+
+pub unopened : (w : World) (number now : ℕ) (client : Client) → StandsAs w number client → StandsAs w number (at_moment now client)
+unopened w number now client s = calm w number client (at_moment now client) (moment_same now client) s
+
+-- a packet that isn't looked at
+pub passes_over : (w : World) (number now : ℕ) (client : Client) (envelope : Envelope) → is_for client envelope ≡ false
+    → StandsAs w number client → StandsAs w number (take now envelope client)
+passes_over w number now client envelope isnt s = rw isnt (unopened w number now client s)

@@ -1,6 +1,6 @@
 //! Laws of events and moves, each the contract of a function that does nothing.
 
-ghost use Rattle.std.specs.Prelude.{◌≡◌, ℕ, List, Option, None, Some};
+ghost use Rattle.std.specs.Prelude.{◌≡◌, ℕ, false, List, Option, None, Some};
 ghost use Rattle.std.specs.List.{Contains};
 ghost use Rattle.envelope.specs.declared.parts.Envelope.{Envelope};
 ghost use Rattle.session_moves.specs.Table.{Packet};
@@ -14,10 +14,10 @@ ghost use Rattle.call_table.specs.declared.call.CallNo.{CallNo};
 ghost use Rattle.client_rules.specs.Client.{Client, fresh_client, temporary_of};
 ghost use Rattle.client_rules.specs.Asking.{attached, dropped, pinged, salts_asked, submit_fault, submitted, ticked};
 ghost use Rattle.client_rules.specs.Learning.{ended};
-ghost use Rattle.client_rules.specs.Events.{renewed};
+ghost use Rattle.client_rules.specs.Events.{renewed, takes};
 ghost use Rattle.client_rules.specs.Flush.{flush};
 ghost use Rattle.client_rules.specs.Sending.{Setting};
-ghost use Rattle.client_rules.specs.Taking.{take};
+ghost use Rattle.client_rules.specs.Taking.{is_for, take};
 ghost use Rattle.world_moves.specs.Clients.{IsNobody, StandsAs};
 ghost use Rattle.world_moves.specs.Leading.{Leads};
 ghost use Rattle.world_moves.specs.Packets.{packet_items};
@@ -76,11 +76,14 @@ pub fn clients_flush<D: Draw>()
 }
 
 /// A packet that a client takes, and that is a packet of the law's world with the same items, made by a server session of the
-/// client's present session number, is heard by one lawful move. A packet that isn't looked at is none.
+/// client's present session number, is heard by one lawful move. One that isn't looked at or doesn't open is no move.
 pub fn clients_hear()
-    ensures { (w : World) (number now : ℕ) (client : Client) (envelope : Envelope) (packet : Packet) → Reached w → StandsAs w number client
+    ensures heard { (w : World) (number now : ℕ) (client : Client) (envelope : Envelope) (packet : Packet) → Reached w → StandsAs w number client
         → Contains w.downs packet → (w.servers packet.server).session ≡ client.session → packet.items ≡ packet_items envelope
         → Leads number w (λ later. StandsAs later number (take now envelope client)) }
+    ensures passed_over { (w : World) (number now : ℕ) (client : Client) (envelope : Envelope) → is_for client envelope ≡ false
+        → StandsAs w number client → StandsAs w number (take now envelope client) }
+    ensures unopened { (w : World) (number now : ℕ) (client : Client) → StandsAs w number client → StandsAs w number (takes now None client) }
 {
     names_are_apart();
     numbers_are_given_once();

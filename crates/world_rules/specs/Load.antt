@@ -1,5 +1,5 @@
 -- A large schedule: many calls of one client, each settled, with restarts and repeats.
-use Rattle.std.specs.Prelude.{ℕ, zero, suc, ◌+◌, ◌*◌, ◌%◌, ◌==◌, not, nat_le, Bool, true, false, if◌then◌else◌, is_some, Option, Some, None, List, [], ◌∷◌, ◌++◌, codes, length, map}
+use Rattle.std.specs.Prelude.{ℕ, zero, suc, ◌+◌, ◌*◌, ◌%◌, ◌==◌, Bool, true, false, if◌then◌else◌, is_some, Option, Some, None, List, [], ◌∷◌, ◌++◌, codes, length, map}
 use Rattle.std.specs.List.{list_any}
 use Rattle.sched_text.specs.declared.event.Event.{Event}
 use Rattle.sched_text.specs.declared.event.Event.TheVariants as line
@@ -10,10 +10,10 @@ use Rattle.world_rules.specs.World.{World, Seat, counted, counted_job, begins}
 use Rattle.world_rules.specs.Ends.{flushed_at}
 use Rattle.world_rules.specs.Run.{step, run_from}
 
--- a world, and which packets were given so far: the first ones of all, as many as this
+-- a world, and the numbers of the packets that were given so far
 pub record Settling (S V : Type 0) : Type 0 where
   pub world : World S V
-  pub given : ℕ
+  pub given : List ℕ
 
 -- how often a settling goes on at most
 abbrev pub settling_max : ℕ
@@ -30,15 +30,28 @@ can_flush setting (Some seat) world = sends (flushed_at setting seat world).answ
 abbrev pub does : {S V : Type 0} → Setting S V → Event → Settling S V → Settling S V
 does setting event settling = record settling { world = step setting settling.world event }
 
+-- the first of so many packets, counted on from this number, that was never given
+abbrev pub first_ungiven : ℕ → ℕ → List ℕ → Option ℕ
+first_ungiven number zero given = None
+first_ungiven number (suc n) given =
+    if list_any (λ other. other == number) given then first_ungiven (suc number) n given else Some number
+
+-- a packet comes
+abbrev pub gives : {S V : Type 0} → Setting S V → ℕ → Settling S V → Settling S V
+gives setting packet settling = record (does setting (line.Give packet) settling) { given = settling.given ++ packet ∷ [] }
+
+abbrev pub next_by : {S V : Type 0} → Option ℕ → Option (Settling S V) → Setting S V → Settling S V → Option (Settling S V)
+next_by None other setting settling = other
+next_by (Some packet) other setting settling = Some (gives setting packet settling)
+
 -- the first of these that can be done: the first packet that was never given comes, the first ready job runs, the client
 -- flushes
 abbrev pub next_step : {S V : Type 0} → Setting S V → Settling S V → Option (Settling S V)
 next_step setting settling =
-    if not (nat_le (length settling.world.bag) settling.given)
-    then Some (record (does setting (line.Give (suc settling.given)) settling) { given = suc settling.given })
-    else if is_some (counted_job 1 settling.world) then Some (does setting (line.Work 1) settling)
+    next_by (first_ungiven 1 (length settling.world.bag) settling.given)
+    (if is_some (counted_job 1 settling.world) then Some (does setting (line.Work 1) settling)
     else if can_flush setting (counted 1 settling.world.seats) settling.world then Some (does setting (line.Flush 1) settling)
-    else None
+    else None) setting settling
 
 abbrev pub goes_on : {S V : Type 0} → Setting S V → ℕ → Settling S V → Option (Settling S V) → Settling S V
 goes_on setting zero settling next = settling
@@ -62,7 +75,7 @@ restarts setting i settling =
 abbrev pub repeats : {S V : Type 0} → Setting S V → ℕ → Settling S V → Settling S V
 repeats setting i settling =
     if i % 3 == 0
-    then settled setting (does setting (line.Give (1 + (7 * i) % length settling.world.bag)) settling)
+    then settled setting (gives setting (1 + (7 * i) % length settling.world.bag) settling)
     else settling
 
 abbrev pub round : {S V : Type 0} → Setting S V → ℕ → Settling S V → Settling S V
@@ -76,4 +89,4 @@ rounds setting (suc n) settling = round setting (suc n) (rounds setting n settli
 -- the world after the schedule of this many calls
 abbrev pub load : {S V : Type 0} → Setting S V → S → ℕ → World S V
 load setting draw calls =
-    (rounds setting calls (does setting line.Client (record { world = begins setting draw; given = 0 }))).world
+    (rounds setting calls (does setting line.Client (record { world = begins setting draw; given = [] }))).world

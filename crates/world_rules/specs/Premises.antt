@@ -1,6 +1,9 @@
 -- What is taken for granted of a setting, and of the words and foreign bytes of a run.
-use Rattle.std.specs.Prelude.{◌≡◌, ◌≢◌, ◌↔◌, ℕ, Bool, true, false, Option, Some, None, List, [], ◌∷◌, ◌++◌, map, Contains}
+use Rattle.std.specs.Prelude.{◌≡◌, ◌≢◌, ◌↔◌, ◌<◌, ◌^◌, is_some, ℕ, Bool, true, false, Option, Some, None, List, [], ◌∷◌, ◌++◌, map, Contains}
 use Rattle.std.specs.List.{All, AllPairs, flat_map}
+use Rattle.octets.specs.Bytes.{IsBytes}
+use Rattle.regs_service.specs.Served.{IsReply}
+use Rattle.temp_keys.specs.declared.binding.Inner.{Inner}
 use Rattle.auth_keys.specs.declared.ring.RingKey.{RingKey}
 use Rattle.envelope.specs.declared.parts.Dir.{Dir}
 use Rattle.envelope.specs.declared.parts.Dir.TheVariants.{Up, Down}
@@ -14,7 +17,7 @@ use Rattle.server_rules.specs.Server.{Session}
 use Rattle.client_rules.specs.Client.{Client}
 use Rattle.world_rules.specs.Setting.{Setting}
 use Rattle.world_rules.specs.World.{World, Packet, Seat, Entered, bytes_of, counted, lives, server_now, seat_now}
-use Rattle.world_rules.specs.Run.{step}
+use Rattle.world_rules.specs.Run.{step_any}
 
 -- ---- the seal
 
@@ -25,6 +28,20 @@ pub record IsSealed {S V : Type 0} (lock : Lock) (ring : List RingKey) (setting 
       → setting.sealed dir envelope padding ≡ packet_of lock entry.key dir envelope padding
   pub opens : (now : ℕ) (dir : Dir) (bytes : List ℕ) (envelope : Envelope)
       → (setting.opens now dir bytes ≡ Some envelope ↔ Opens lock ring now dir bytes envelope)
+
+-- The setting is one of a world: its keys are in the ring, its words have 64 bits, a reply is one, and what goes into
+-- packets are bytes.
+pub record IsSound {S V : Type 0} (ring : List RingKey) (setting : Setting S V) : Type 0 where
+  pub permanent : is_some (entry_of setting.keys.permanent ring) ≡ true
+  pub temporary : is_some (entry_of setting.keys.temporary ring) ≡ true
+  pub words : (draw : S) → (setting.step draw).0 < 2 ^ 64
+  pub replies : (service : V) (request : List ℕ) → IsReply (setting.serve service request).0 × IsBytes (setting.serve service request).0
+  pub bindings : (perm number : ℕ) (random padding : List ℕ) (inner : Inner) → IsBytes (setting.binding_message perm random number inner padding)
+
+-- the body of a call is bytes
+abbrev pub IsOfBytes : Event → Type 0
+IsOfBytes (line.Call client body after) = IsBytes body
+IsOfBytes _ = Unit {0}
 
 -- ---- foreign bytes
 
@@ -46,10 +63,11 @@ IsByNoChance setting world (line.ForeignClient client bytes) =
     (seat : Seat) → counted client world.seats ≡ Some seat → OpensOnly setting world (seat_now seat) Down bytes
 IsByNoChance setting world _ = Unit {0}
 
--- over all events of a run, foreign bytes that open are the bytes of a packet made in that direction
+-- over all events of a run in which foreign bytes are taken like packets, those that open are the bytes of a packet made in
+-- that direction
 abbrev pub NoChance : {S V : Type 0} → Setting S V → World S V → List Event → Type 0
 NoChance setting world [] = Unit {0}
-NoChance setting world (event ∷ events) = IsByNoChance setting world event × NoChance setting (step setting world event) events
+NoChance setting world (event ∷ events) = IsByNoChance setting world event × NoChance setting (step_any setting world event) events
 
 -- ---- words
 

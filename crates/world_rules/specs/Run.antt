@@ -1,5 +1,5 @@
 -- What each event of a schedule does to a world, and the world after all of them.
-use Rattle.std.specs.Prelude.{ℕ, zero, suc, if◌then◌else◌, is_some, Option, Some, None, option_map, List, [], ◌∷◌, ◌++◌, fold, map}
+use Rattle.std.specs.Prelude.{ℕ, zero, suc, Bool, true, false, if◌then◌else◌, is_some, Option, Some, None, option_map, List, [], ◌∷◌, ◌++◌, fold, map}
 use Rattle.draws.specs.Draws.{draw_after, word_after}
 use Rattle.envelope.specs.declared.parts.Dir.TheVariants.{Up, Down}
 use Rattle.sched_text.specs.declared.event.Event.{Event}
@@ -12,7 +12,7 @@ use Rattle.client_rules.specs.Events as wishes
 use Rattle.world_rules.specs.Setting.{Setting, at_client}
 use Rattle.world_rules.specs.World.{World, Seat, counted, changed_at, begins}
 use Rattle.world_rules.specs.Ends.{serves, acts, flushes, comes_up, comes_down, with_seat, arrives}
-use Rattle.world_rules.specs.Refusals.{Refusal, call_numbered, refusal}
+use Rattle.world_rules.specs.Refusals.{ForeignOpens, Refusal, call_numbered, refusal}
 
 -- ---- one event
 
@@ -72,6 +72,16 @@ after setting world line.Restart =
 abbrev pub step : {S V : Type 0} → Setting S V → World S V → Event → World S V
 step setting world event = if is_some (refusal setting world event) then world else after setting world event
 
+-- a refusal that an event meets wherever it comes, and not in a schedule alone
+abbrev pub is_in_the_way : Option Refusal → Bool
+is_in_the_way None = false
+is_in_the_way (Some ForeignOpens) = false
+is_in_the_way (Some refusal) = true
+
+-- one event where foreign bytes that open are taken like any packet, as over a network
+abbrev pub step_any : {S V : Type 0} → Setting S V → World S V → Event → World S V
+step_any setting world event = if is_in_the_way (refusal setting world event) then world else after setting world event
+
 -- ---- all events
 
 abbrev pub run_from : {S V : Type 0} → Setting S V → World S V → List Event → World S V
@@ -79,6 +89,10 @@ run_from setting world events = fold (step setting) world events
 
 abbrev pub run_of : {S V : Type 0} → Setting S V → S → List Event → World S V
 run_of setting draw events = run_from setting (begins setting draw) events
+
+-- all events, foreign bytes taken like packets
+abbrev pub run_of_any : {S V : Type 0} → Setting S V → S → List Event → World S V
+run_of_any setting draw events = fold (step_any setting) (begins setting draw) events
 
 -- the events of a schedule, without their lines
 abbrev pub events_of : List Placed → List Event

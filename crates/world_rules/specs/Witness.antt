@@ -1,6 +1,6 @@
 -- Schedules that show what the definitions give, in a setting of their own: words drawn one after the other, packets
 -- without a cipher, and a service that adds.
-use Rattle.std.specs.Prelude.{ℕ, zero, suc, ◌+◌, ◌==◌, Bool, true, false, if◌then◌else◌, Option, Some, None, codes, List, [], ◌∷◌, ◌++◌, map, replicate, slice_get, unwrap_or}
+use Rattle.std.specs.Prelude.{ℕ, zero, suc, ◌+◌, ◌==◌, Bool, true, false, if◌then◌else◌, Option, Some, None, codes, List, [], ◌∷◌, ◌++◌, length, map, replicate, slice_get, unwrap_or}
 use Rattle.draws.specs.Steps.{step_word}
 use Rattle.envelope.specs.declared.parts.Dir.{Dir}
 use Rattle.envelope.specs.declared.parts.Dir.TheVariants.{Up, Down}
@@ -14,7 +14,8 @@ use Rattle.world_rules.specs.Setting.{Setting}
 use Rattle.world_rules.specs.World.{World, begins}
 use Rattle.world_rules.specs.Refusals.{Refusal, refusal}
 use Rattle.world_rules.specs.Run.{run_of, run_from}
-use Rattle.world_rules.specs.Report.{report}
+use Rattle.world_rules.specs.Report.{report, all_calls, count_of, is_done}
+use Rattle.world_rules.specs.Load.{load}
 
 -- ---- the setting
 
@@ -148,6 +149,15 @@ ends =
 -- bytes that nobody sent
 abbrev pub foreign : List Event
 foreign = line.ForeignServer [] ∷ line.ForeignServer (replicate 4 0) ∷ line.ForeignServer (9 ∷ replicate 23 0) ∷ []
+
+-- an open client whose call is queued
+abbrev pub opened_queued : List Event
+opened_queued = line.Client ∷ line.Call 1 (add_x 5) None ∷ line.Flush 1 ∷ line.Give 1 ∷ line.Give 2 ∷ []
+
+-- the large schedule of so many calls: how many are done, and how many packets there are
+abbrev pub loaded : ℕ → ℕ × ℕ
+loaded calls =
+    let world = load setting 0 calls in (count_of is_done (all_calls world), length world.bag)
 
 -- a client alone
 abbrev pub joined : List Event

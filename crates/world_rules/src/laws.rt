@@ -3,8 +3,14 @@
 ghost use Rattle.std.specs.Prelude.{◌≡◌, ◌∷◌, [], None, Some, codes, replicate};
 ghost use Rattle.sched_text.specs.declared.event.Event.TheVariants as line;
 ghost use Rattle.client_rules.specs.Asking.{NoSuchCall, NotWords, ServiceTag, TooLong};
-ghost use Rattle.world_rules.specs.Refusals.{ForeignOpens, NoClient, NoJob, NoPacket, Submit, WrongState};
+ghost use Rattle.world_rules.specs.Refusals.{ForeignOpens, NoClient, NoJob, NoPacket, NotSent, Submit, WrongState, refusal};
+ghost use Rattle.sched_text.specs.declared.event.Event.{Event};
+ghost use Rattle.world_rules.specs.Run.{step, step_any};
+ghost use Rattle.world_rules.specs.Setting.{Setting};
+ghost use Rattle.world_rules.specs.World.{World};
 ghost use Rattle.world_rules.specs.Witness as shown;
+
+use draws::Draw;
 
 /// A call is sent under salt 0, refused for that, sent again under a new number and the right salt, runs once, and is
 /// answered. It is so where every packet comes more than once, and late.
@@ -55,4 +61,19 @@ pub fn refused_events()
     ensures no_packet { shown.refused shown.joined (line.Give 1) ≡ Some (NoPacket 1) }
     ensures no_job { shown.refused shown.joined (line.Work 1) ≡ Some (NoJob 1) }
     ensures wrong_state { shown.refused shown.joined (line.Renew 1) ≡ Some WrongState }
+    ensures not_sent { shown.refused shown.opened_queued (line.DropAnswer 1 1) ≡ Some NotSent }
+    ensures no_call_to_drop { shown.refused shown.opened_queued (line.DropAnswer 1 2) ≡ Some (Submit NoSuchCall) }
+{}
+
+/// Of the large schedule of one, two and three calls all are done, with 6, 10 and 14 packets.
+pub fn loads()
+    ensures one { shown.loaded 1 ≡ (1, 6) }
+    ensures two { shown.loaded 2 ≡ (2, 10) }
+    ensures three { shown.loaded 3 ≡ (3, 14) }
+{}
+
+/// A schedule differs from what happens over a network in one thing: it refuses foreign bytes that open.
+pub fn schedules_refuse_foreign_bytes<D: Draw, V>()
+    ensures { (setting : Setting D V) (world : World D V) (event : Event) → (refusal setting world event ≡ Some ForeignOpens → ⊥)
+        → step_any setting world event ≡ step setting world event }
 {}

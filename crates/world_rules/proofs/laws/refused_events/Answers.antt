@@ -45,3 +45,11 @@ returns-clause-no_job c = refl
 pub returns-clause-wrong_state : goal.returns-clause-wrong_state
 unfolding digits kept forgotten begins_container service_numbers schema spelling container_of row head_of message_in after cause_in parts_of number_at tag_at truth_at head_at bytes_at longs_at salt_at message_at items_at vector_at room
 returns-clause-wrong_state c = refl
+
+pub returns-clause-not_sent : goal.returns-clause-not_sent
+unfolding digits kept forgotten begins_container service_numbers schema spelling container_of row head_of message_in after cause_in parts_of number_at tag_at truth_at head_at bytes_at longs_at salt_at message_at items_at vector_at room
+returns-clause-not_sent c = refl
+
+pub returns-clause-no_call_to_drop : goal.returns-clause-no_call_to_drop
+unfolding digits kept forgotten begins_container service_numbers schema spelling container_of row head_of message_in after cause_in parts_of number_at tag_at truth_at head_at bytes_at longs_at salt_at message_at items_at vector_at room
+returns-clause-no_call_to_drop c = refl
