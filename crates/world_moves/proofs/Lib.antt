@@ -11,3 +11,4 @@ pub mod Settling
 pub mod Learning
 pub mod Hearing
 pub mod Heard
+pub mod Others

@@ -1,15 +1,17 @@
 //! Laws of events and moves, each the contract of a function that does nothing.
 
-ghost use Rattle.std.specs.Prelude.{◌≡◌, ℕ, false, List, Option, None, Some};
-ghost use Rattle.std.specs.List.{Contains};
+ghost use Rattle.std.specs.Prelude.{◌≡◌, ◌≢◌, ℕ, false, List, Option, None, Some};
+ghost use Rattle.std.specs.List.{All, Contains};
 ghost use Rattle.envelope.specs.declared.parts.Envelope.{Envelope};
 ghost use Rattle.session_moves.specs.Table.{Packet};
 ghost use Rattle.session_moves.specs.World.{World};
+ghost use Rattle.session_moves.specs.Move.{Move};
 ghost use Rattle.session_moves.specs.Move.Move.{Own};
+ghost use Rattle.session_moves.specs.Extends.{IsOfClient, IsOfServer};
 ghost use Rattle.session_moves.specs.Move.OwnAct.{End, NewClient, Renew, Submit};
 ghost use Rattle.session_moves.specs.After.{after};
 ghost use Rattle.session_moves.specs.Lawful.{IsLawful, IsNewSession};
-ghost use Rattle.session_moves.specs.Reached.{Reached};
+ghost use Rattle.session_moves.specs.Reached.{AreLawful, Reached, after_all};
 ghost use Rattle.call_table.specs.declared.call.CallNo.{CallNo};
 ghost use Rattle.client_rules.specs.Client.{Client, fresh_client, temporary_of};
 ghost use Rattle.client_rules.specs.Asking.{attached, dropped, pinged, salts_asked, submit_fault, submitted, ticked};
@@ -23,7 +25,7 @@ ghost use Rattle.world_moves.specs.Leading.{Leads};
 ghost use Rattle.world_moves.specs.Packets.{packet_items};
 
 use draws::Draw;
-use session_moves::laws::{moves_go_on, names_are_apart, numbers_are_given_once};
+use session_moves::laws::{moves_go_on, moves_leave, names_are_apart, numbers_are_given_once};
 
 /// A client that is made joins by a lawful move, where nobody has its number and its session number is a new one.
 pub fn clients_join()
@@ -87,4 +89,17 @@ pub fn clients_hear()
 {
     names_are_apart();
     numbers_are_given_once();
+}
+
+/// A client stands still while another client moves, and while a server session does.
+pub fn others_stand_still()
+    ensures clients { (w : World) (mover number : ℕ) (moves : List Move) (client : Client) → Reached w → AreLawful w moves
+        → All (IsOfClient mover) moves → number ≢ mover → StandsAs w number client → StandsAs (after_all w moves) number client }
+    ensures servers { (w : World) (unique number : ℕ) (moves : List Move) (client : Client) → Reached w → AreLawful w moves
+        → All (IsOfServer unique) moves → StandsAs w number client → StandsAs (after_all w moves) number client }
+{
+    names_are_apart();
+    numbers_are_given_once();
+    moves_go_on();
+    moves_leave();
 }
