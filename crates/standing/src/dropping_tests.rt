@@ -43,8 +43,29 @@ fn said_again(alloc: Global, standing: &Standing) -> Result<Owing, Memory> {
     Ok(owing)
 }
 
+// The reply to 8, as a request to drop it is answered.
+fn reply() -> DroppedReply {
+    DroppedReply {
+        number: 9,
+        seq: 3,
+        length: 16,
+    }
+}
+
+// What it answers to the request 12, which asked to drop that reply.
+fn told(alloc: Global) -> Result<Owing, Memory> {
+    let mut standing = answered(alloc)?;
+    let mut owing = Owing::new(alloc, 1, 32)?;
+    standing.reserve(alloc, 1)?;
+    if standing.numbers_left() > 0 {
+        standing.answers_dropped::<StepDraw>(Moment::new(0), &mut owing, 12, &reply());
+    }
+    Ok(owing)
+}
+
 // What it tells of four numbers, to the request 12.
-fn states(alloc: Global, standing: &mut Standing) -> Result<Owing, Memory> {
+fn states(alloc: Global) -> Result<Owing, Memory> {
+    let mut standing = answered(alloc)?;
     let mut owing = Owing::new(alloc, 1, 20)?;
     if standing.numbers_left() > 0 {
         standing.tells_states::<StepDraw>(Moment::new(0), &mut owing, 12, &[0, 4, 6, 12]);
@@ -52,44 +73,54 @@ fn states(alloc: Global, standing: &mut Standing) -> Result<Owing, Memory> {
     Ok(owing)
 }
 
-// What it answers to the request 12, which asked to drop a reply.
-fn told(alloc: Global, standing: &mut Standing, dropped: &DroppedReply) -> Result<Owing, Memory> {
-    let mut owing = Owing::new(alloc, 1, 32)?;
-    standing.reserve(alloc, 1)?;
-    if standing.numbers_left() > 0 {
-        standing.answers_dropped::<StepDraw>(Moment::new(0), &mut owing, 12, dropped);
-    }
-    Ok(owing)
+// What is kept, and how 4 stands, once its reply was acknowledged.
+fn acknowledged(alloc: Global) -> Result<(usize, Option<Mark>), Memory> {
+    let mut standing = answered(alloc)?;
+    standing.takes_acks::<StepDraw>(&[5, 7]);
+    Ok((standing.kept_count(), standing.mark(4)))
+}
+
+// The reply to 8 that it dropped, and what is kept behind that.
+fn dropped(alloc: Global) -> Result<(Option<DroppedReply>, usize), Memory> {
+    let mut standing = answered(alloc)?;
+    let dropped = standing.drops_reply(8);
+    Ok((dropped, standing.kept_count()))
 }
 
 #[test]
-fn kept_replies_are_acknowledged_and_dropped(rt: HostRuntime) -> Result<(), Fail> {
+fn all_that_is_kept_is_said_again(rt: HostRuntime) -> Result<(), Fail> {
     let alloc = rt.alloc();
-    let mut standing = answered(alloc)?;
-    let again = said_again(alloc, &standing)?;
-    assert_eq!(rt; again.len(), 2);
-    assert_eq!(rt; (again.at(0).number, again.at(1).number), (5, 9));
-    standing.takes_acks::<StepDraw>(&[5, 7]);
-    assert_eq!(rt; standing.kept_count(), 1);
-    assert_eq!(rt; standing.mark(4), Some(Mark::Acked(true)));
-    assert_eq!(rt; standing.mark(8), Some(Mark::Replied(true)));
-    assert_eq!(rt; standing.drops_reply(4), None);
-    let dropped = DroppedReply {
-        number: 9,
-        seq: 3,
-        length: 16,
-    };
-    assert_eq!(rt; standing.drops_reply(8), Some(dropped));
-    assert_eq!(rt; standing.kept_count(), 0);
-    assert_eq!(rt; standing.mark(8), Some(Mark::Dropped(true)));
-    assert!(rt; standing.kept(0).is_none());
-    let told = told(alloc, &mut standing, &dropped)?;
+    let standing = answered(alloc)?;
+    assert_eq!(rt; said_again(alloc, &standing)?.len(), 2);
+    Ok(())
+}
+
+#[test]
+fn an_acknowledged_reply_is_not_kept(rt: HostRuntime) -> Result<(), Fail> {
+    assert_eq!(rt; acknowledged(rt.alloc())?, (1, Some(Mark::Acked(true))));
+    Ok(())
+}
+
+#[test]
+fn a_dropped_reply_is_told(rt: HostRuntime) -> Result<(), Fail> {
+    assert_eq!(rt; dropped(rt.alloc())?, (Some(reply()), 1));
+    Ok(())
+}
+
+#[test]
+fn a_request_to_drop_is_answered(rt: HostRuntime) -> Result<(), Fail> {
+    let told = told(rt.alloc())?;
     assert_eq!(rt; told.len(), 1);
     assert_eq!(rt;
         told.at(0).body,
         b"\x01\x6d\x5c\xf3\x0c\0\0\0\0\0\0\0\xb7\xd8\x3a\xa4\x09\0\0\0\0\0\0\0\x03\0\0\0\x10\0\0\0".as_slice()
     );
-    let states = states(alloc, &mut standing)?;
+    Ok(())
+}
+
+#[test]
+fn states_are_told(rt: HostRuntime) -> Result<(), Fail> {
+    let states = states(rt.alloc())?;
     assert_eq!(rt; states.len(), 1);
     assert_eq!(rt;
         states.at(0).body,
