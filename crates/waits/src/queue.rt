@@ -94,6 +94,7 @@ pub(crate) fn put(queue: &mut VecDeque<Unfinished>, tallies: &mut Vec<Tally>, on
     counted.count += 1;
     counted.bytes += one.job.load();
     counted.waiting += one_if(one.is_waiting());
+    counted.blocked += one_if(!one.is_ready());
     tally::store(tallies, counted);
     queue.push_back_reserved(one);
 }
@@ -119,6 +120,7 @@ pub(crate) fn take_out(
     counted.count -= 1;
     counted.bytes -= one.job.load();
     counted.waiting -= one_if(one.is_waiting());
+    counted.blocked -= one_if(!one.is_ready());
     tally::store(tallies, counted);
     one
 }
@@ -176,12 +178,14 @@ fn tally_of_session(queue: &VecDeque<Unfinished>, key: u64, session: u64) -> Tal
     let mut count = 0;
     let mut bytes = 0;
     let mut waiting = 0;
+    let mut blocked = 0;
     for place in 0..queue.len() {
         let one = &queue[place];
         if one.is_of(key, session) {
             count += 1;
             bytes += one.job.load();
             waiting += one_if(one.is_waiting());
+            blocked += one_if(!one.is_ready());
         }
     }
     Tally {
@@ -190,6 +194,7 @@ fn tally_of_session(queue: &VecDeque<Unfinished>, key: u64, session: u64) -> Tal
         count,
         bytes,
         waiting,
+        blocked,
     }
 }
 
