@@ -150,12 +150,17 @@ impl Jobs {
     pub fn settle(&mut self, key: u64, session: u64, number: u64, ok: bool)
         ensures { self.new ≡ record self.old { jobs = settled key session number ok self.old.jobs } }
     {
-        if tally::find(&self.tallies, key, session).waiting > 0 {
-            queue::settle_counted(&mut self.queue, &mut self.tallies, key, session, number, ok);
-            self.blocked = queue::count_of(&self.queue, &Wanted::Blocked);
-            self.failing = queue::count_of(&self.queue, &Wanted::Failed);
-            self.passed = 0;
+        if tally::find(&self.tallies, key, session).waiting == 0 {
+            return;
         }
+        let waits = Wanted::Waiting(key, session, number);
+        if queue::first_place(&self.queue, &waits) == self.queue.len() {
+            return;
+        }
+        queue::settle_counted(&mut self.queue, &mut self.tallies, key, session, number, ok);
+        self.blocked = queue::count_of(&self.queue, &Wanted::Blocked);
+        self.failing = queue::count_of(&self.queue, &Wanted::Failed);
+        self.passed = 0;
     }
 
     /// Takes out the first job that has failed; `None` where none has. Takes no memory.

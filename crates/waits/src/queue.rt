@@ -28,6 +28,8 @@ pub(crate) enum Wanted {
     Overdue(Moment),
     /// The call of a key, a session and a number.
     Call(u64, u64, u64),
+    /// A job of a key and a session that waits for the call of a number.
+    Waiting(u64, u64, u64),
 }
 
 /// Whether a job is what is looked for.
@@ -41,6 +43,7 @@ fn is_wanted(wanted: &Wanted, one: &Unfinished) -> bool
             one.is_waiting() && one.job.since.seconds() + WAIT_SECONDS <= now.seconds()
         }
         Wanted::Call(key, session, number) => one.is_of(key, session) && one.job.number == number,
+        Wanted::Waiting(key, session, number) => one.waits_for(key, session, number),
     }
 }
 
