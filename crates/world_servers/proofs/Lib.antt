@@ -1,0 +1,5 @@
+pub mod Lists
+pub mod Leading
+pub mod Others
+pub mod Losing
+pub mod Still
