@@ -3,3 +3,5 @@ pub mod Leading
 pub mod Others
 pub mod Losing
 pub mod Still
+pub mod One
+pub mod Judging

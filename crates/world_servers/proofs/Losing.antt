@@ -74,7 +74,7 @@ filter_apart test (s ∷ sessions) h =
       | inr not ↦ rw not (filter_apart test sessions h.1)
     ]
 
-standing_is_not_lost : (at : ℕ) → Lost at ≡ Standing → ⊥
+pub standing_is_not_lost : (at : ℕ) → Lost at ≡ Standing → ⊥
 standing_is_not_lost at is = cc
 
 module _ (w : World) (lost sessions : List Session) (jobs : Queue) (name : Name) (s : ServerStands w lost sessions jobs) where
@@ -206,10 +206,10 @@ module _ (w : World) (lost sessions : List Session) (jobs : Queue) (name : Name)
 
 -- ---- all are lost
 
-named_itself : (x : Session) → is_named (name_of x) x ≡ true
+pub named_itself : (x : Session) → is_named (name_of x) x ≡ true
 named_itself x = rw (eq-eqb x.key x.key refl, eq-eqb x.number x.number refl) refl
 
-named_no_other : (x o : Session) → o.number ≢ x.number → is_named (name_of x) o ≡ false
+pub named_no_other : (x o : Session) → o.number ≢ x.number → is_named (name_of x) o ≡ false
 named_no_other x o differs =
     elim (cases_Bool (is_named (name_of x) o)) [
       | inl is ↦ absurd (differs (sym (number_of_named (name_of x) o is)))

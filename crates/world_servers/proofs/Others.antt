@@ -13,7 +13,7 @@ use Rattle.world_servers.proofs.Lists.{each_of, first_or}
 
 -- ---- sessions apart
 
-empty_has : (one : Session) → Contains [] one → ⊥
+pub empty_has : (one : Session) → Contains [] one → ⊥
 empty_has one a = let below : a.0 < 0 = a.1 in omega (arith, below)
 
 -- two that stand and have one session number are one

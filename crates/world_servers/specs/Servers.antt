@@ -2,6 +2,7 @@
 -- number.
 use Rattle.std.specs.Prelude.{◌≡◌, ◌≢◌, ◌≤◌, ◌⊎◌, ⊤, ℕ, ◌==◌, ◌&&◌, Bool, true, false, List, [], ◌∷◌, ◌++◌, map, reverse}
 use Rattle.std.specs.List.{AllByRecursion, Contains, list_any}
+use Rattle.salt_line.specs.Rows.{Row}
 use Rattle.id_window.specs.History.{History, FirstJudgement, Outcome, Refused, floor}
 use Rattle.waits.specs.declared.job.Unfinished.{Unfinished}
 use Rattle.waits.specs.Jobs.{Queue, is_of}
@@ -95,3 +96,21 @@ pub record ServerStands (w : World) (lost sessions : List Session) (jobs : Queue
   pub gone : AllByRecursion (IsLost w) lost
   pub apart : AreApart sessions
   pub only : (unique : ℕ) → (w.servers unique).status ≢ Unmade → IsOneOf unique (lost ++ sessions)
+
+-- ---- what changes one session
+
+-- a word that no server session has as a salt
+abbrev pub IsNewSalt : World → ℕ → Type 0
+IsNewSalt w word = (word ≢ 0) × ((unique : ℕ) → Contains (w.servers unique).salts word → ⊥)
+
+-- the session with one more row of salts, and with this history
+abbrev pub with_row : Row → Session → Session
+with_row row session = record session { salts = record session.salts { rows = session.salts.rows ++ row ∷ [] } }
+
+abbrev pub with_history : History → Session → Session
+with_history history session = record session { history = history }
+
+-- an outcome there is as that of a judgement: the notice of its code, or some acceptance
+abbrev pub IsSuch : Outcome → moves.Outcome → Type 0
+IsSuch (Refused code) there = there ≡ Noticed code
+IsSuch _ there = IsAccepted there
