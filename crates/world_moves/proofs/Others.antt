@@ -15,6 +15,7 @@ use Rattle.session_moves.specs.Lawful.{IsLawful}
 use Rattle.session_moves.specs.Reached.{AreLawful, Reached, after_all}
 use Rattle.call_table.specs.Table.{Call, Name}
 use Rattle.client_rules.specs.Client.{Client, Binding, Needed, Asked, Held, Bound, Refused, Temporary, calls_of}
+use Rattle.world_moves.specs.Leading.{IsOfServers}
 use Rattle.world_moves.specs.Clients.{StandsAs, IsAskedThere, IsGivenBy, IsNameThere, StandsThere}
 use Rattle.world_moves.proofs.Basics.{Apart, later, names_keep}
 use Rattle.world_moves.proofs.Leading.{GoOn}
@@ -226,19 +227,19 @@ of_server P make draw judge forget answer speak lose unique (Speak other items) 
 of_server P make draw judge forget answer speak lose unique (Hear client packet takes) its = absurd its
 of_server P make draw judge forget answer speak lose unique (Lose other) its = lose other
 
-pub servers_move : Apart → Leaves → GoOn → (w : World) (unique number : ℕ) (list : List Move) (client : Client) → Reached w → AreLawful w list
-    → All (IsOfServer unique) list → StandsAs w number client → StandsAs (after_all w list) number client
-servers_move apart leaves on w unique number [] client reached lawful its s = s
-servers_move apart leaves on w unique number (move ∷ list) client reached lawful its s =
-    let of = All-head (IsOfServer unique) move list its in
-    servers_move apart leaves on (after w move) unique number list client (on.reached w (move ∷ []) reached (lawful.0, tt)) lawful.1
-    (All-tail (IsOfServer unique) move list its)
+pub servers_move : Apart → Leaves → GoOn → (w : World) (number : ℕ) (list : List Move) (client : Client) → Reached w → AreLawful w list
+    → All IsOfServers list → StandsAs w number client → StandsAs (after_all w list) number client
+servers_move apart leaves on w number [] client reached lawful its s = s
+servers_move apart leaves on w number (move ∷ list) client reached lawful its s =
+    let of = All-head IsOfServers move list its in
+    servers_move apart leaves on (after w move) number list client (on.reached w (move ∷ []) reached (lawful.0, tt)) lawful.1
+    (All-tail IsOfServers move list its)
     (stands_still apart w (after w move) number client [] reached s
     (ap (λ (f : ℕ → moves.Client). f number) (leaves.clients w (move ∷ []) (just LeavesClients move
-    (of_server LeavesClients (λ _ _. tt) (λ _ _. tt) (λ _ _ _. tt) (λ _ _. tt) (λ _ _ _ _. tt) (λ _ _. tt) (λ _. tt) unique move of))))
+    (of_server LeavesClients (λ _ _. tt) (λ _ _. tt) (λ _ _ _. tt) (λ _ _. tt) (λ _ _ _ _. tt) (λ _ _. tt) (λ _. tt) of.0 move of.1))))
     (ap (λ (f : ℕ → ℕ). f number) (leaves.submitted w (move ∷ []) (just LeavesSubmitted move
-    (of_server LeavesSubmitted (λ _ _. tt) (λ _ _. tt) (λ _ _ _. tt) (λ _ _. tt) (λ _ _ _ _. tt) (λ _ _. tt) (λ _. tt) unique move of))))
+    (of_server LeavesSubmitted (λ _ _. tt) (λ _ _. tt) (λ _ _ _. tt) (λ _ _. tt) (λ _ _ _ _. tt) (λ _ _. tt) (λ _. tt) of.0 move of.1))))
     (λ place. ap (λ (f : moves.CallId → moves.Call). f (moves.call_at number place)) (leaves.calls w (move ∷ []) (just LeavesCalls move
-    (of_server LeavesCalls (λ _ _. tt) (λ _ _. tt) (λ _ _ _. tt) (λ _ _. tt) (λ _ _ _ _. tt) (λ _ _. tt) (λ _. tt) unique move of))))
+    (of_server LeavesCalls (λ _ _. tt) (λ _ _. tt) (λ _ _ _. tt) (λ _ _. tt) (λ _ _ _ _. tt) (λ _ _. tt) (λ _. tt) of.0 move of.1))))
     (leaves.messages w (move ∷ []) (just LeavesMessages move
-    (of_server LeavesMessages (λ _ _. tt) (λ _ _. tt) (λ _ _ _. tt) (λ _ _. tt) (λ _ _ _ _. tt) (λ _ _. tt) (λ _. tt) unique move of))) tt)
+    (of_server LeavesMessages (λ _ _. tt) (λ _ _. tt) (λ _ _ _. tt) (λ _ _. tt) (λ _ _ _ _. tt) (λ _ _. tt) (λ _. tt) of.0 move of.1))) tt)

@@ -7,7 +7,7 @@ ghost use Rattle.session_moves.specs.Table.{Packet};
 ghost use Rattle.session_moves.specs.World.{World};
 ghost use Rattle.session_moves.specs.Move.{Move};
 ghost use Rattle.session_moves.specs.Move.Move.{Own};
-ghost use Rattle.session_moves.specs.Extends.{IsOfClient, IsOfServer};
+ghost use Rattle.session_moves.specs.Extends.{IsOfClient};
 ghost use Rattle.session_moves.specs.Move.OwnAct.{End, NewClient, Renew, Submit};
 ghost use Rattle.session_moves.specs.After.{after};
 ghost use Rattle.session_moves.specs.Lawful.{IsLawful, IsNewSession};
@@ -21,7 +21,7 @@ ghost use Rattle.client_rules.specs.Flush.{flush};
 ghost use Rattle.client_rules.specs.Sending.{Setting};
 ghost use Rattle.client_rules.specs.Taking.{is_for, take};
 ghost use Rattle.world_moves.specs.Clients.{IsNobody, StandsAs};
-ghost use Rattle.world_moves.specs.Leading.{Leads};
+ghost use Rattle.world_moves.specs.Leading.{IsOfServers, Leads};
 ghost use Rattle.world_moves.specs.Packets.{packet_items};
 ghost use Rattle.world_moves.specs.Sent.{IsAnswerSent};
 
@@ -97,12 +97,12 @@ pub fn clients_hear()
     numbers_are_given_once();
 }
 
-/// A client stands still while another client moves, and while a server session does.
+/// A client stands still while another client moves, and while server sessions do.
 pub fn others_stand_still()
     ensures clients { (w : World) (mover number : ℕ) (moves : List Move) (client : Client) → Reached w → AreLawful w moves
         → All (IsOfClient mover) moves → number ≢ mover → StandsAs w number client → StandsAs (after_all w moves) number client }
-    ensures servers { (w : World) (unique number : ℕ) (moves : List Move) (client : Client) → Reached w → AreLawful w moves
-        → All (IsOfServer unique) moves → StandsAs w number client → StandsAs (after_all w moves) number client }
+    ensures servers { (w : World) (number : ℕ) (moves : List Move) (client : Client) → Reached w → AreLawful w moves
+        → All IsOfServers moves → StandsAs w number client → StandsAs (after_all w moves) number client }
 {
     names_are_apart();
     numbers_are_given_once();
