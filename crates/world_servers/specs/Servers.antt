@@ -1,11 +1,11 @@
 -- How a server of the definitions stands in a world of the law on moves. A server session is told there by its unique
 -- number.
-use Rattle.std.specs.Prelude.{◌≡◌, ◌≢◌, ◌≤◌, ◌⊎◌, ⊤, ℕ, ◌==◌, ◌&&◌, Bool, true, false, List, [], ◌∷◌, ◌++◌, map, reverse}
+use Rattle.std.specs.Prelude.{◌≡◌, ◌≢◌, ◌≤◌, ◌⊎◌, ⊤, ℕ, ◌==◌, ◌&&◌, Bool, true, false, Option, Some, None, List, [], ◌∷◌, ◌++◌, map, reverse}
 use Rattle.std.specs.List.{AllByRecursion, Contains, list_any}
 use Rattle.salt_line.specs.Rows.{Row}
 use Rattle.service_tl.specs.declared.lists.Message.{Message}
 use Rattle.inbox.specs.Kinds.{item_told}
-use Rattle.server_lives.specs.Lives.{request_of}
+use Rattle.server_lives.specs.Lives.{Acceptance, request_of}
 use Rattle.world_moves.specs.Sent.{WasSent}
 use Rattle.id_window.specs.History.{History, FirstJudgement, Outcome, Refused, floor}
 use Rattle.waits.specs.declared.job.Unfinished.{Unfinished}
@@ -176,3 +176,12 @@ CanSay w session (moves.Item.WrongSalt number salt) = HasNoticed session number 
 -- a message that a server may judge was sent: under this session number and salt, as the call that its body asks for, or none
 abbrev pub IsUp : List moves.Message → ℕ → ℕ → Message → Type 0
 IsUp ups session salt message = WasSent ups session salt message.number (request_of (item_told message.body) message.body)
+
+-- what a number that was accepted is there: the call that is asked for, or a message that is no call
+abbrev pub AsksThere : World → Session → ℕ → Option (List ℕ) → Type 0
+AsksThere w session number (Some request) =
+    Contains (w.servers session.unique).judged (record { number = number; outcome = AcceptedCall request })
+AsksThere w session number None = WasNoCall w.ups session.number number
+
+abbrev pub IsAcceptedThere : World → Session → Acceptance → Type 0
+IsAcceptedThere w session one = AsksThere w session one.number (request_of one.item one.body)

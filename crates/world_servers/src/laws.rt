@@ -1,16 +1,17 @@
 //! Laws of a server's events and moves, each the contract of a function that does nothing.
 
-ghost use Rattle.std.specs.Prelude.{◌++◌, ◌≡◌, ◌≢◌, ◌∷◌, ◌⊎◌, ℕ, false, true, List, [], filter};
-ghost use Rattle.std.specs.List.{All, AllByRecursion, Contains};
+ghost use Rattle.std.specs.Prelude.{filter_map, map, ◌++◌, ◌≡◌, ◌≢◌, ◌∷◌, ◌⊎◌, ℕ, false, true, List, [], filter};
+ghost use Rattle.std.specs.List.{All, AllByRecursion, Contains, zip};
 ghost use Rattle.salt_line.specs.Rows.{Row};
 ghost use Rattle.service_tl.specs.declared.lists.Message.{Message as Said};
 ghost use Rattle.id_window.specs.History.{EachOnce, Outcome, noted};
 ghost use Rattle.inbox.specs.Refusals.{InEnvelope};
-ghost use Rattle.inbox.specs.Judging.{session_after};
+ghost use Rattle.inbox.specs.Judging.{judgements, session_after};
 ghost use Rattle.waits.specs.declared.job.Job.{Job};
 ghost use Rattle.waits.specs.Jobs.{Queue, accepted, is_of, without_session as without_jobs_of};
 ghost use Rattle.server_rules.specs.Server.{Name, Reply, Server, Session, has_accepted, is_named, remembered, with_session, without_session};
 ghost use Rattle.server_rules.specs.Answer.{after_loss, after_restart, messages_judged};
+ghost use Rattle.server_lives.specs.Lives.{acceptance_of};
 ghost use Rattle.session_moves.specs.Table as moves;
 ghost use Rattle.session_moves.specs.Table.{Message};
 ghost use Rattle.session_moves.specs.Table.Outcome.{AcceptedCall};
@@ -21,7 +22,7 @@ ghost use Rattle.session_moves.specs.Move.{Move};
 ghost use Rattle.session_moves.specs.Extends.{IsOfClient};
 ghost use Rattle.session_moves.specs.Reached.{AreLawful, Reached, after_all};
 ghost use Rattle.world_servers.specs.Leading.{Leads};
-ghost use Rattle.world_servers.specs.Servers.{CanSay, GoOn, HasForgotten, IsJobOf, IsNewSalt, IsSuch, IsUp, ServerStands, WasAnswered, WasJudged, with_history, with_replies, with_row};
+ghost use Rattle.world_servers.specs.Servers.{CanSay, GoOn, HasForgotten, IsAcceptedThere, IsJobOf, IsNewSalt, IsSuch, IsUp, ServerStands, WasAnswered, WasJudged, with_history, with_replies, with_row};
 
 use id_window::laws::others_are_not_above_the_floor;
 use server_laws::laws::{floors_never_fall, marks_are_of_replies};
@@ -128,13 +129,16 @@ pub fn sessions_speak_by_moves()
 }
 
 /// A packet's messages are judged by lawful moves of its session, where each was sent under the packet's session number and
-/// salt, as the call that its body asks for, or as none.
+/// salt, as the call that its body asks for, or as none. What is accepted is that call there, or no call.
 pub fn packets_are_judged_by_moves()
     ensures { (w : World) (lost sessions : List Session) (jobs : Queue) (session : Session) (now salt : ℕ) (message : Said) → Reached w
         → ServerStands w lost sessions jobs → Contains sessions session → EachOnce session.history
         → AllByRecursion (IsUp w.ups session.number salt) (messages_judged (InEnvelope now session.salts salt) session message)
         → Leads w (λ later. ServerStands later lost
-        (with_session (with_history (session_after (InEnvelope now session.salts salt) (remembered session) message).history session) sessions) jobs) }
+        (with_session (with_history (session_after (InEnvelope now session.salts salt) (remembered session) message).history session) sessions) jobs
+        × AllByRecursion (IsAcceptedThere later session) (filter_map acceptance_of
+        (zip (judgements (InEnvelope now session.salts salt) (remembered session) message)
+        (map (λ one. one.body) (messages_judged (InEnvelope now session.salts salt) session message))))) }
 {
     floors_never_fall();
     marks_are_of_replies();
