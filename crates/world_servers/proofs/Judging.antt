@@ -25,7 +25,7 @@ map_more : (rows : List Row) (row : Row) → map (λ (r : Row). r.word) (rows ++
 map_more [] row = refl
 map_more (first ∷ rows) row = ap (λ (l : List ℕ). first.word ∷ l) (map_more rows row)
 
-at_all : {X : Type 0} (P : X → Type 0) (xs : List X) → AllByRecursion P xs → All P xs
+pub at_all : {X : Type 0} (P : X → Type 0) (xs : List X) → AllByRecursion P xs → All P xs
 at_all P [] h k d below = absurd (omega (arith, below))
 at_all P (x ∷ xs) h zero d below = h.0
 at_all P (x ∷ xs) h (suc k) d below = at_all P xs h.1 k d (omega (arith, below))

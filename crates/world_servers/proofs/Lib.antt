@@ -5,3 +5,7 @@ pub mod Losing
 pub mod Still
 pub mod One
 pub mod Judging
+pub mod Making
+pub mod Answering
+pub mod Speaking
+pub mod Packets

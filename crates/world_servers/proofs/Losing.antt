@@ -29,11 +29,11 @@ append_one (y ∷ xs) x ys = ap (λ (l : List _). y ∷ l) (append_one xs x ys)
 
 -- ---- names
 
-and_right : (a b : Bool) → (a && b) ≡ true → b ≡ true
+pub and_right : (a b : Bool) → (a && b) ≡ true → b ≡ true
 and_right true b is = is
 and_right false b is = absurd (cc)
 
-eq_true : (a b : ℕ) → (a == b) ≡ true → a ≡ b
+pub eq_true : (a b : ℕ) → (a == b) ≡ true → a ≡ b
 eq_true a b is =
     elim (cases_eq a b) [
       | inl same ↦ same
@@ -141,6 +141,9 @@ module _ (w : World) (lost sessions : List Session) (jobs : Queue) (name : Name)
           (all_of (IsLost v) (filter (is_named name) sessions) (λ x among. let f = from_filter (is_named name) sessions x among in now x f.0 f.1));
       apart = filter_apart (λ (x : Session). not (is_named name x)) sessions s.apart;
       only = λ unique is. only_left unique (s.only unique (made unique is));
+      entered = subst (λ (l : List moves.Entry). AllByRecursion (λ (entry : moves.Entry). IsOneOf entry.server ((lost ++ filter (is_named name) sessions) ++ without_session name sessions)) l) (sym entries)
+          (map_all (λ (entry : moves.Entry). IsOneOf entry.server (lost ++ sessions)) (λ (entry : moves.Entry). IsOneOf entry.server ((lost ++ filter (is_named name) sessions) ++ without_session name sessions)) w.entries
+          (λ entry among one. only_left entry.server one) s.entered);
     }
 
   -- one has the name
@@ -241,6 +244,7 @@ loses_all on w lost [] jobs reached s =
       gone = subst (λ (l : List Session). AllByRecursion (IsLost w) l) (sym (append_nothing lost)) s.gone;
       apart = tt;
       only = λ unique is. subst (λ (l : List Session). IsOneOf unique l) (sym (append_nothing (lost ++ []))) (s.only unique is);
+      entered = subst (λ (l : List Session). AllByRecursion (λ (entry : moves.Entry). IsOneOf entry.server l) w.entries) (sym (append_nothing (lost ++ []))) s.entered;
     })
 loses_all on w lost (x ∷ sessions) jobs reached s =
     let jobs_left : Queue = without_jobs_of x.key x.number jobs in

@@ -147,4 +147,30 @@ module _ (w : World) (lost sessions : List Session) (jobs jobs' : Queue) (s : Se
     gone = map_all (IsLost w) (IsLost v) lost (λ o is h. lost_left w v o (servers o.unique (lost_differ o h)) h) s.gone;
     apart = still_apart sessions s.apart;
     only = λ u is. only_so u (s.only u (was_made u is));
+    entered = subst (λ (l : List moves.Entry). AllByRecursion (λ (entry : moves.Entry). IsOneOf entry.server (lost ++ map (put new) sessions)) l) (sym entries.1)
+        (all_append (λ (entry : moves.Entry). IsOneOf entry.server (lost ++ map (put new) sessions)) entries.0 w.entries
+        (map_all (λ (entry : moves.Entry). entry.server ≡ x.unique) (λ (entry : moves.Entry). IsOneOf entry.server (lost ++ map (put new) sessions)) entries.0
+        (λ entry is same. only_so entry.server (x, Contains-append_right lost sessions x among, sym same)) entries.2)
+        (map_all (λ (entry : moves.Entry). IsOneOf entry.server (lost ++ sessions)) (λ (entry : moves.Entry). IsOneOf entry.server (lost ++ map (put new) sessions)) w.entries
+        (λ entry is one. only_so entry.server one) s.entered));
   }
+
+-- ---- put in its own place
+
+same_map : (x : Session) (list : List Session) → ((o : Session) → Contains list o → put x o ≡ o) → map (put x) list ≡ list
+same_map x [] each = refl
+same_map x (o ∷ list) each =
+    ap (λ (z : Session). z ∷ map (put x) list) (each o (here o list))
+    ∙ ap (λ (l : List Session). o ∷ l) (same_map x list (λ z among. each z (later z o list among)))
+
+put_same : (sessions : List Session) → AreApart sessions → (x : Session) → Contains sessions x → (o : Session) → Contains sessions o → put x o ≡ o
+put_same sessions apart x among o among_too =
+    elim (cases_eq o.number x.number) [
+      | inl same ↦
+          let one : o ≡ x = one_of_number sessions apart o x among_too among same in
+          subst (λ (z : Session). put x z ≡ z) (sym one) (put_itself x x refl refl)
+      | inr differs ↦ put_other x o differs
+    ]
+
+pub with_itself : (sessions : List Session) → AreApart sessions → (x : Session) → Contains sessions x → with_session x sessions ≡ sessions
+with_itself sessions apart x among = same_map x sessions (put_same sessions apart x among)

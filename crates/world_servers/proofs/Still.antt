@@ -11,7 +11,7 @@ use Rattle.session_moves.specs.Move.{Move}
 use Rattle.session_moves.specs.Move.Move.{Own, Send, Make, Draw, Judge, Forget, Answer, Speak, Hear, Lose}
 use Rattle.session_moves.specs.Extends.{IsOfClient, LeavesEntries, LeavesServers}
 use Rattle.session_moves.specs.Reached.{AreLawful, after_all}
-use Rattle.world_servers.specs.Servers.{IsJobThere, IsLost, IsReplyThere, IsStanding, ServerStands, WasAnswered}
+use Rattle.world_servers.specs.Servers.{IsJobThere, IsLost, IsOneOf, IsReplyThere, IsStanding, ServerStands, WasAnswered}
 use Rattle.world_servers.proofs.Lists.{map_all}
 use Rattle.world_servers.proofs.Others.{job_left, lost_left, standing_left}
 
@@ -34,6 +34,7 @@ left_alone w v lost sessions jobs servers entries grows s =
           (λ x among h. map_all (IsJobThere w x) (IsJobThere v x) jobs (λ one is j. job_left w v x (same x) one j) h) s.working;
       gone = map_all (IsLost w) (IsLost v) lost (λ x among h. lost_left w v x (same x) h) s.gone;
       apart = s.apart;
+      entered = subst (λ (l : List moves.Entry). AllByRecursion (λ (entry : moves.Entry). IsOneOf entry.server (lost ++ sessions)) l) (sym entries) s.entered;
       only = λ unique is. s.only unique (λ none. is (ap (λ (f : ℕ → moves.ServerSession). (f unique).status) servers ∙ none));
     }
 

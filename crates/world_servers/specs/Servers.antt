@@ -1,12 +1,16 @@
 -- How a server of the definitions stands in a world of the law on moves. A server session is told there by its unique
 -- number.
-use Rattle.std.specs.Prelude.{◌≡◌, ◌≢◌, ◌≤◌, ◌⊎◌, ⊤, ℕ, ◌==◌, ◌&&◌, Bool, true, false, List, [], ◌∷◌, ◌++◌, map, reverse}
+use Rattle.std.specs.Prelude.{◌≡◌, ◌≢◌, ◌≤◌, ◌⊎◌, ⊤, ℕ, ◌==◌, ◌&&◌, Bool, true, false, Option, Some, None, List, [], ◌∷◌, ◌++◌, map, reverse}
 use Rattle.std.specs.List.{AllByRecursion, Contains, list_any}
 use Rattle.salt_line.specs.Rows.{Row}
+use Rattle.service_tl.specs.declared.lists.Message.{Message}
+use Rattle.inbox.specs.Kinds.{item_told}
+use Rattle.server_lives.specs.Lives.{Acceptance, request_of}
+use Rattle.world_moves.specs.Sent.{WasSent}
 use Rattle.id_window.specs.History.{History, FirstJudgement, Outcome, Refused, floor}
 use Rattle.waits.specs.declared.job.Unfinished.{Unfinished}
 use Rattle.waits.specs.Jobs.{Queue, is_of}
-use Rattle.server_rules.specs.Server.{Fate, Reply, Session, WasDropped}
+use Rattle.server_rules.specs.Server.{Fate, IsKept, Reply, Session, WasDropped}
 use Rattle.session_moves.specs.Table as moves
 use Rattle.session_moves.specs.Table.Outcome.{AcceptedCall, Noticed}
 use Rattle.session_moves.specs.Table.Status.{Unmade, Standing, Lost}
@@ -43,11 +47,14 @@ abbrev pub is_dropped : Fate → Bool
 is_dropped WasDropped = true
 is_dropped _ = false
 
+abbrev pub has_dropped : ℕ → List Reply → Bool
+has_dropped number replies = list_any (λ reply. (reply.call == number) && is_dropped reply.fate) replies
+
 -- the number isn't above the floor, or its reply was dropped
 abbrev pub HasForgotten : ℕ → Session → Type 0
 HasForgotten number session =
     (number ≤ floor session.history)
-    ⊎ (list_any (λ reply. (reply.call == number) && is_dropped reply.fate) session.replies ≡ true)
+    ⊎ (has_dropped number session.replies ≡ true)
 
 -- ---- a session
 
@@ -89,13 +96,15 @@ AreApart (session ∷ sessions) = AllByRecursion (λ other. other.number ≢ ses
 abbrev pub IsOneOf : ℕ → List Session → Type 0
 IsOneOf unique sessions = (session : Session) × Contains sessions session × (session.unique ≡ unique)
 
--- The server stands there with its sessions and jobs, and those that were lost in all its starts; no others were made.
+-- The server stands there with its sessions and jobs, and those that were lost in all its starts; no others were made, and
+-- each entry is of one of them.
 pub record ServerStands (w : World) (lost sessions : List Session) (jobs : Queue) : Type 0 where
   pub standing : AllByRecursion (IsStanding w) sessions
   pub working : AllByRecursion (λ session. AllByRecursion (IsJobThere w session) jobs) sessions
   pub gone : AllByRecursion (IsLost w) lost
   pub apart : AreApart sessions
   pub only : (unique : ℕ) → (w.servers unique).status ≢ Unmade → IsOneOf unique (lost ++ sessions)
+  pub entered : AllByRecursion (λ entry. IsOneOf entry.server (lost ++ sessions)) w.entries
 
 -- ---- what changes one session
 
@@ -114,3 +123,65 @@ with_history history session = record session { history = history }
 abbrev pub IsSuch : Outcome → moves.Outcome → Type 0
 IsSuch (Refused code) there = there ≡ Noticed code
 IsSuch _ there = IsAccepted there
+
+-- ---- replies that stay what they are
+
+-- one of these is to the same call, with the same content
+abbrev pub HasSame : List Reply → Reply → Type 0
+HasSame replies reply = (other : Reply) × Contains replies other × (other.call ≡ reply.call) × (other.content ≡ reply.content)
+
+-- These replies became those, which differ from them in what became of each alone; one that was dropped stays so.
+pub record GoOn (old new : List Reply) : Type 0 where
+  pub from : AllByRecursion (HasSame old) new
+  pub all : AllByRecursion (HasSame new) old
+  pub dropped : (number : ℕ) → has_dropped number old ≡ true → has_dropped number new ≡ true
+
+abbrev pub with_replies : List Reply → Session → Session
+with_replies replies session = record session { replies = replies }
+
+-- ---- jobs that stay what they are
+
+-- one of these is the same call
+abbrev pub IsJobOf : Queue → Unfinished → Type 0
+IsJobOf jobs one =
+    (other : Unfinished)
+    × Contains jobs other
+    × (other.job.key ≡ one.job.key)
+    × (other.job.session ≡ one.job.session)
+    × (other.job.number ≡ one.job.number)
+    × (other.job.request ≡ one.job.request)
+
+-- ---- what a session may say
+
+-- a row of the session's has this salt
+abbrev pub HasSalt : Session → ℕ → Type 0
+HasSalt session salt = (row : Row) × Contains session.salts.rows row × (row.word ≡ salt)
+
+-- it noticed the number with this code
+abbrev pub HasNoticed : Session → ℕ → ℕ → Type 0
+HasNoticed session number code =
+    (judgement : FirstJudgement) × Contains session.history judgement × (judgement.number ≡ number) × (judgement.outcome ≡ Refused code)
+
+-- By what it has itself: its unique number and salts, its replies, what it noticed, and for notice 20 a number that it has
+-- forgotten there.
+abbrev pub CanSay : World → Session → moves.Item → Type 0
+CanSay w session (moves.Item.NewSession unique salt) = (unique ≡ session.unique) × HasSalt session salt
+CanSay w session (moves.Item.Result call content) = HasSame session.replies (record { call = call; number = 0; seq = 0; content = content; fate = IsKept })
+CanSay w session (moves.Item.Notice number code) =
+    HasNoticed session number code ⊎ ((code ≡ 20) × Contains (w.servers session.unique).forgotten number)
+CanSay w session (moves.Item.WrongSalt number salt) = HasNoticed session number 48 × HasSalt session salt
+
+-- ---- what comes up
+
+-- a message that a server may judge was sent: under this session number and salt, as the call that its body asks for, or none
+abbrev pub IsUp : List moves.Message → ℕ → ℕ → Message → Type 0
+IsUp ups session salt message = WasSent ups session salt message.number (request_of (item_told message.body) message.body)
+
+-- what a number that was accepted is there: the call that is asked for, or a message that is no call
+abbrev pub AsksThere : World → Session → ℕ → Option (List ℕ) → Type 0
+AsksThere w session number (Some request) =
+    Contains (w.servers session.unique).judged (record { number = number; outcome = AcceptedCall request })
+AsksThere w session number None = WasNoCall w.ups session.number number
+
+abbrev pub IsAcceptedThere : World → Session → Acceptance → Type 0
+IsAcceptedThere w session one = AsksThere w session one.number (request_of one.item one.body)

@@ -1,28 +1,43 @@
 //! Laws of a server's events and moves, each the contract of a function that does nothing.
 
-ghost use Rattle.std.specs.Prelude.{◌++◌, ◌≡◌, ℕ, List, [], filter};
-ghost use Rattle.std.specs.List.{All, Contains};
+ghost use Rattle.std.specs.Prelude.{filter_map, map, ◌++◌, ◌≡◌, ◌≢◌, ◌∷◌, ◌⊎◌, ℕ, false, true, List, [], filter};
+ghost use Rattle.std.specs.List.{All, AllByRecursion, Contains, zip};
 ghost use Rattle.salt_line.specs.Rows.{Row};
-ghost use Rattle.id_window.specs.History.{Outcome, noted};
-ghost use Rattle.waits.specs.Jobs.{Queue, without_session as without_jobs_of};
-ghost use Rattle.server_rules.specs.Server.{Name, Session, is_named, with_session, without_session};
+ghost use Rattle.service_tl.specs.declared.lists.Message.{Message as Said};
+ghost use Rattle.id_window.specs.History.{EachOnce, Outcome, noted};
+ghost use Rattle.inbox.specs.Refusals.{InEnvelope};
+ghost use Rattle.inbox.specs.Judging.{judgements, session_after};
+ghost use Rattle.waits.specs.declared.job.Job.{Job};
+ghost use Rattle.waits.specs.Jobs.{Queue, accepted, is_of, without_session as without_jobs_of};
+ghost use Rattle.server_rules.specs.Server.{Name, Reply, Server, Session, has_accepted, is_named, remembered, with_session, without_session};
+ghost use Rattle.server_rules.specs.Answer.{after_loss, after_restart, messages_judged};
+ghost use Rattle.server_lives.specs.Lives.{acceptance_of};
 ghost use Rattle.session_moves.specs.Table as moves;
 ghost use Rattle.session_moves.specs.Table.{Message};
-ghost use Rattle.session_moves.specs.Lawful.{MayDecide};
-ghost use Rattle.session_moves.specs.World.{World};
+ghost use Rattle.session_moves.specs.Table.Outcome.{AcceptedCall};
+ghost use Rattle.session_moves.specs.Table.Status.{Unmade};
+ghost use Rattle.session_moves.specs.Lawful.{BeginsNew, MayDecide, WasNoCall};
+ghost use Rattle.session_moves.specs.World.{Owns, WasGiven, World};
 ghost use Rattle.session_moves.specs.Move.{Move};
 ghost use Rattle.session_moves.specs.Extends.{IsOfClient};
 ghost use Rattle.session_moves.specs.Reached.{AreLawful, Reached, after_all};
 ghost use Rattle.world_servers.specs.Leading.{Leads};
-ghost use Rattle.world_servers.specs.Servers.{IsNewSalt, IsSuch, ServerStands, WasJudged, with_history, with_row};
+ghost use Rattle.world_servers.specs.Servers.{CanSay, GoOn, HasForgotten, IsAcceptedThere, IsJobOf, IsNewSalt, IsSuch, IsUp, ServerStands, WasAnswered, WasJudged, with_history, with_replies, with_row};
 
-use server_laws::laws::floors_never_fall;
-use session_moves::laws::{moves_go_on, moves_leave, moves_only_add};
+use id_window::laws::others_are_not_above_the_floor;
+use server_laws::laws::{floors_never_fall, marks_are_of_replies};
+use session_moves::laws::{
+    moves_go_on, moves_leave, moves_only_add, numbers_are_given_once, what_was_not_made_is_blank,
+};
 
 /// The session of a name is lost with its jobs by a lawful move, where there is one, and all are by a restart.
 pub fn sessions_are_lost()
     ensures one { (w : World) (lost sessions : List Session) (jobs : Queue) (name : Name) → ServerStands w lost sessions jobs
         → Leads w (λ later. ServerStands later (lost ++ filter (is_named name) sessions) (without_session name sessions) (without_jobs_of name.key name.session jobs)) }
+    ensures loss { (w : World) (lost : List Session) (server : Server) (name : Name) → ServerStands w lost server.sessions server.jobs
+        → Leads w (λ later. ServerStands later (lost ++ filter (is_named name) server.sessions) (after_loss name server).sessions (after_loss name server).jobs) }
+    ensures restart { (w : World) (lost : List Session) (server : Server) → Reached w → ServerStands w lost server.sessions server.jobs
+        → Leads w (λ later. ServerStands later (lost ++ server.sessions) (after_restart server).sessions (after_restart server).jobs) }
     ensures all { (w : World) (lost sessions : List Session) (jobs : Queue) → Reached w → ServerStands w lost sessions jobs
         → Leads w (λ later. ServerStands later (lost ++ sessions) [] []) }
 {
@@ -55,4 +70,79 @@ pub fn messages_are_judged_by_moves()
         × Contains (later.servers session.unique).judged (record { number = number; outcome = there })) }
 {
     floors_never_fall();
+}
+
+/// A session is made by lawful moves under a new unique number, for a session number of some client under which none stands,
+/// and draws its first salt.
+pub fn sessions_are_made_by_moves()
+    ensures { (w : World) (lost sessions : List Session) (jobs : Queue) (session : Session) (row : Row) → Reached w → ServerStands w lost sessions jobs
+        → session.salts.rows ≡ [] → session.history ≡ [] → session.replies ≡ []
+        → session.unique ≢ 0 → (w.servers session.unique).status ≡ Unmade → IsNewSalt w row.word
+        → ((client : ℕ) × Owns (w.clients client) session.number)
+        → AllByRecursion (λ other. other.number ≢ session.number) sessions
+        → AllByRecursion (λ one. is_of session.key session.number one ≡ false) jobs
+        → Leads w (λ later. ServerStands later lost (sessions ++ with_row row session ∷ []) jobs) }
+{
+    moves_go_on();
+    what_was_not_made_is_blank();
+}
+
+/// A call that was accepted and has no reply is answered by a lawful move, which makes its entry; the reply to a message that
+/// is no call is no move, and nor is what becomes of replies and jobs later.
+pub fn calls_are_answered_by_moves()
+    ensures called { (w : World) (lost sessions : List Session) (jobs : Queue) (session : Session) (reply : Reply) (request : List ℕ)
+        → ServerStands w lost sessions jobs → Contains sessions session
+        → Contains (w.servers session.unique).judged (record { number = reply.call; outcome = AcceptedCall request })
+        → (WasAnswered reply.call session.replies → ⊥)
+        → Leads w (λ later. ServerStands later lost (with_session (with_replies (session.replies ++ reply ∷ []) session) sessions) jobs) }
+    ensures uncalled { (w : World) (lost sessions : List Session) (jobs : Queue) (session : Session) (reply : Reply)
+        → ServerStands w lost sessions jobs → Contains sessions session → WasNoCall w.ups session.number reply.call
+        → ServerStands w lost (with_session (with_replies (session.replies ++ reply ∷ []) session) sessions) jobs }
+    ensures fated { (w : World) (lost sessions : List Session) (jobs : Queue) (session : Session) (replies : List Reply)
+        → ServerStands w lost sessions jobs → Contains sessions session → GoOn session.replies replies
+        → ServerStands w lost (with_session (with_replies replies session) sessions) jobs }
+    ensures accepted { (w : World) (lost sessions : List Session) (jobs : Queue) (session : Session) (job : Job)
+        → ServerStands w lost sessions jobs → Contains sessions session → job.session ≡ session.number
+        → Contains (w.servers session.unique).judged (record { number = job.number; outcome = AcceptedCall job.request })
+        → ServerStands w lost sessions (accepted job jobs) }
+    ensures jobs { (w : World) (lost sessions : List Session) (jobs later : Queue) → ServerStands w lost sessions jobs
+        → AllByRecursion (IsJobOf jobs) later → ServerStands w lost sessions later }
+{}
+
+/// A number that a session has forgotten, for it isn't above the floor or its reply was dropped, is forgotten by a lawful
+/// move, where it isn't above all that were given under the session's number.
+pub fn numbers_are_forgotten_by_moves()
+    ensures { (w : World) (lost sessions : List Session) (jobs : Queue) (session : Session) (number : ℕ)
+        → ServerStands w lost sessions jobs → Contains sessions session → WasGiven w.ups session.number number → HasForgotten number session
+        → Leads w (λ later. ServerStands later lost sessions jobs × Contains (later.servers session.unique).forgotten number) }
+{}
+
+/// A session speaks by a lawful move: it says what it can by its own salts, replies and judgements, and while it has accepted
+/// nothing its `new_session_created` first.
+pub fn sessions_speak_by_moves()
+    ensures { (w : World) (lost sessions : List Session) (jobs : Queue) (session : Session) (items : List moves.Item) → Reached w
+        → ServerStands w lost sessions jobs → Contains sessions session → AllByRecursion (CanSay w session) items
+        → (has_accepted session ≡ true) ⊎ BeginsNew items
+        → Leads w (λ later. ServerStands later lost sessions jobs × Contains later.downs (record { server = session.unique; items = items })) }
+{
+    numbers_are_given_once();
+}
+
+/// A packet's messages are judged by lawful moves of its session, where each was sent under the packet's session number and
+/// salt, as the call that its body asks for, or as none. What is accepted is that call there, or no call.
+pub fn packets_are_judged_by_moves()
+    ensures { (w : World) (lost sessions : List Session) (jobs : Queue) (session : Session) (now salt : ℕ) (message : Said) → Reached w
+        → ServerStands w lost sessions jobs → Contains sessions session → EachOnce session.history
+        → AllByRecursion (IsUp w.ups session.number salt) (messages_judged (InEnvelope now session.salts salt) session message)
+        → Leads w (λ later. ServerStands later lost
+        (with_session (with_history (session_after (InEnvelope now session.salts salt) (remembered session) message).history session) sessions) jobs
+        × AllByRecursion (IsAcceptedThere later session) (filter_map acceptance_of
+        (zip (judgements (InEnvelope now session.salts salt) (remembered session) message)
+        (map (λ one. one.body) (messages_judged (InEnvelope now session.salts salt) session message))))) }
+{
+    floors_never_fall();
+    marks_are_of_replies();
+    others_are_not_above_the_floor();
+    moves_go_on();
+    moves_only_add();
 }
