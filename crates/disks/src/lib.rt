@@ -1,0 +1,21 @@
+//! Files that are read and written at places, and what a crash may leave of them.
+//!
+//! `specs/Crash.antt` is the disk model. It is a premise: what tells its contents tells them by it, and the files of this
+//! machine tell nothing.
+#![tactic(auto)]
+
+mod disk;
+mod disk_act;
+mod disk_len;
+mod disks;
+mod file_disks;
+pub mod laws;
+
+pub use disk::Disk;
+pub use disk_act::DiskAct;
+pub use disk_len::DiskLen;
+pub use disks::{DiskOpen, Disks};
+pub use file_disks::{FileDisk, FileDisks};
+
+#[cfg(test)]
+mod tests;

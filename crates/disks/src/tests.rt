@@ -1,0 +1,57 @@
+//! Files in memory and of this machine.
+
+ghost use Rattle.std.specs.Prelude.{◌≡◌, ◌++◌, IfSome, IsSomeAnd};
+ghost use Rattle.disks.specs.Crash.{synced_at};
+ghost use Rattle.disks.specs.Told.{now};
+
+use crate::{Disk, DiskLen, DiskOpen, Disks, FileDisks};
+use mt_edge::Act;
+use std::fs;
+use std::test::Fail;
+
+/// What a journal does: it adds bytes behind the end, and makes sure of them.
+fn add<K: Disk>(disk: &mut K, bytes: &[u8]) -> Act
+    ensures added { result ≡ Act.Ready → IfSome (K.told disk.old) (λ before. IsSomeAnd (K.told disk.new) (λ after. after.contents ≡ before.contents ++ bytes.now)) }
+    ensures sure { result ≡ Act.Ready → IfSome (K.told disk.old) (λ _. IsSomeAnd (K.told disk.new) (λ after. now after ≡ synced_at after.contents)) }
+{
+    match disk.len() {
+        DiskLen::Failed => Act::Failed,
+        DiskLen::Len(end) => match disk.write(end, bytes) {
+            Act::Failed => Act::Failed,
+            Act::Ready => disk.sync(),
+        },
+    }
+}
+
+/// What a journal does: it reads a file that it knows nothing of, from its start on. It answers with the first byte.
+fn first_byte<K: Disk>(disk: &mut K) -> Option<u8> {
+    let mut into = [0u8; 1];
+    match disk.len() {
+        DiskLen::Len(len) if len > 0 => match disk.read(0, &mut into) {
+            Act::Ready => Some(into[0]),
+            Act::Failed => None,
+        },
+        _ => None,
+    }
+}
+
+#[test]
+fn files_of_this_machine(rt: HostRuntime) -> Result<(), Fail> {
+    let name = "disks_file.tmp";
+    let mut disks = FileDisks::new(&rt);
+    let DiskOpen::Disk(mut disk) = disks.open(name) else {
+        return Err("no file".into());
+    };
+    assert_eq!(rt; add(&mut disk, b"abc"), Act::Ready);
+    assert_eq!(rt; (disk.cut(1), disk.len()), (Act::Ready, DiskLen::Len(1)));
+    assert_eq!(rt;
+        (disk.write(0, b"x"), first_byte(&mut disk)),
+        (Act::Ready, Some(b'x'))
+    );
+    assert_eq!(rt; disk.read(0, &mut [0u8; 2]), Act::Failed);
+    disks.done(disk);
+    fs::remove_file(&rt, name)?;
+    assert!(rt; matches!(disks.open("no_such_folder/file"), DiskOpen::Failed));
+    assert_eq!(rt; disks.faults(), 2);
+    Ok(())
+}
