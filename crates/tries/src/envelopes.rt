@@ -4,10 +4,10 @@ ghost use Rattle.std.specs.Prelude.{◌≡◌, ◌≤◌, ◌%◌, IfOk, IfSome,
 ghost use Rattle.auth_keys.specs.Rings.{entry_of};
 ghost use Rattle.envelope.specs.Packet.{body_max};
 
-use super::*;
 use auth_keys::{AuthKey, Ring};
 use cipher_modes::ige_encrypt;
 use draws::{Draw, StepDraw};
+use envelope::{ClearSeal, Dir, Envelope, MtSeal, Opened, Refusal, Seal, laws, packet_bytes};
 use msg_ids::Moment;
 use msg_key::{UP, aes_of, msg_key};
 use octets::{Buffer, Memory, Octets};
@@ -110,77 +110,88 @@ fn refusal<S: Seal>(
     }
 }
 
+// The refusal of such a packet, where it is refused.
 fn outcome(
     alloc: Global,
     seal: &MtSeal,
-    key: &AuthKey,
     behind: usize,
     said: u32,
-) -> Result<Option<Refusal>, Memory>
-    requires short { behind ≤ 1040 }
-    requires blocks { behind % 16 ≡ 0 }
-{
-    let packet = packet(alloc, key, behind, said)?;
-    refusal(alloc, seal, 0, packet.as_slice())
+) -> Result<Option<Refusal>, Fail> {
+    if behind > 1040 || behind % 16 != 0 {
+        return Err(Fail::new("no whole blocks"));
+    }
+    let key = AuthKey::new(&bytes_from_0_to_255());
+    let packet = packet(alloc, &key, behind, said)?;
+    Ok(refusal(alloc, seal, 0, packet.as_slice())?)
 }
 
 #[test]
 fn lengths_and_paddings(rt: HostRuntime) -> Result<(), Fail> {
     let alloc = rt.alloc();
-    let seal = MtSeal::new(ring(alloc, "perm")?);
-    let key = AuthKey::new(&bytes_from_0_to_255());
     let rows = [
-        (outcome(alloc, &seal, &key, 16, 4)?, None),
-        (
-            outcome(alloc, &seal, &key, 16, 8)?,
-            Some(Refusal::Padding { bytes: 8 }),
-        ),
-        (outcome(alloc, &seal, &key, 1040, 16)?, None),
-        (
-            outcome(alloc, &seal, &key, 1040, 12)?,
-            Some(Refusal::Padding { bytes: 1028 }),
-        ),
-        (
-            outcome(alloc, &seal, &key, 16, 3)?,
-            Some(Refusal::Length { said: 3 }),
-        ),
-        (
-            outcome(alloc, &seal, &key, 16, 20)?,
-            Some(Refusal::Length { said: 20 }),
-        ),
-        (
-            outcome(alloc, &seal, &key, 16, 16)?,
-            Some(Refusal::Padding { bytes: 0 }),
-        ),
+        (16, 4, None),
+        (16, 8, Some(Refusal::Padding { bytes: 8 })),
+        (1040, 16, None),
+        (1040, 12, Some(Refusal::Padding { bytes: 1028 })),
+        (16, 3, Some(Refusal::Length { said: 3 })),
+        (16, 20, Some(Refusal::Length { said: 20 })),
+        (16, 16, Some(Refusal::Padding { bytes: 0 })),
     ];
-    for (found, expected) in rows {
-        assert_eq!(rt; found, expected);
+    let seal = MtSeal::new(ring(alloc, "perm")?);
+    for (behind, said, expected) in rows {
+        assert_eq!(rt; outcome(alloc, &seal, behind, said)?, expected);
     }
     Ok(())
 }
 
+// The refusal of the first so many bytes of the packet up at a moment, where its key expires at 7200.
+fn refusal_at(alloc: Global, now: u64, size: usize) -> Result<Option<Refusal>, Fail> {
+    if size > 72 {
+        return Err(Fail::new("no such bytes"));
+    }
+    let seal = MtSeal::new(ring(alloc, "temp 7200")?);
+    Ok(refusal(alloc, &seal, now, &UP_PACKET[..size])?)
+}
+
 #[test]
 fn keys_and_sizes(rt: HostRuntime) -> Result<(), Fail> {
-    let alloc = rt.alloc();
-    let seal = MtSeal::new(ring(alloc, "temp 7200")?);
-    let no_key = Refusal::NoKey { id: KEY_ID };
-    assert_eq!(rt; refusal(alloc, &seal, 7199, &UP_PACKET)?, None);
-    assert_eq!(rt; refusal(alloc, &seal, 7200, &UP_PACKET)?, Some(no_key));
-    let short = &UP_PACKET[..71];
+    let rows = [
+        (7199, 72, None),
+        (7200, 72, Some(Refusal::NoKey { id: KEY_ID })),
+        (0, 71, Some(Refusal::Size { len: 71 })),
+    ];
+    for (now, size, expected) in rows {
+        assert_eq!(rt; refusal_at(rt.alloc(), now, size)?, expected);
+    }
+    Ok(())
+}
+
+// The refusal of the packet up where a bit of one of its bytes is turned.
+fn refusal_turned(alloc: Global, place: usize) -> Result<Option<Refusal>, Fail> {
+    if place >= 72 {
+        return Err(Fail::new("no such byte"));
+    }
+    let mut turned = UP_PACKET;
+    turned[place] ^= 1;
+    let seal = MtSeal::new(ring(alloc, "perm")?);
+    Ok(refusal(alloc, &seal, 0, &turned)?)
+}
+
+#[test]
+fn a_bit_of_the_key_is_turned(rt: HostRuntime) -> Result<(), Fail> {
     assert_eq!(rt;
-        refusal(alloc, &seal, 0, short)?,
-        Some(Refusal::Size { len: 71 })
+        refusal_turned(rt.alloc(), 3)?,
+        Some(Refusal::NoKey {
+            id: KEY_ID ^ 0x0100_0000
+        })
     );
-    let mut flipped = UP_PACKET;
-    flipped[3] ^= 1;
-    let other = Refusal::NoKey {
-        id: KEY_ID ^ 0x0100_0000,
-    };
-    assert_eq!(rt; refusal(alloc, &seal, 0, &flipped)?, Some(other));
+    Ok(())
+}
+
+#[test]
+fn a_bit_of_the_text_is_turned(rt: HostRuntime) -> Result<(), Fail> {
     for place in [8, 23, 24, 71] {
-        let mut flipped = UP_PACKET;
-        flipped[place] ^= 1;
-        let found = refusal(alloc, &seal, 0, &flipped)?;
+        let found = refusal_turned(rt.alloc(), place)?;
         assert!(rt;
             matches!(found, Some(Refusal::KeyMismatch { .. })),
             "at {place}"
@@ -212,48 +223,104 @@ fn there_and_back<S: Seal, D: Draw>(
     }
 }
 
+// The packet of the message of this number.
+fn packet_of<S: Seal>(alloc: Global, seal: &S, dir: Dir, number: u64) -> Result<Octets, Fail> {
+    if !seal.has(KEY_ID) {
+        return Err(Fail::new("no key"));
+    }
+    let envelope = envelope(alloc, number)?;
+    Ok(seal.seal(alloc, dir, &envelope, &mut StepDraw::new())?)
+}
+
+#[test]
+fn a_seal_has_the_keys_of_its_ring(rt: HostRuntime) -> Result<(), Fail> {
+    let seal = MtSeal::new(ring(rt.alloc(), "perm")?);
+    assert_eq!(rt;
+        (seal.has(KEY_ID), seal.has(0), seal.ring().len()),
+        (true, false, 1)
+    );
+    Ok(())
+}
+
 #[test]
 fn sealed_as_another_does(rt: HostRuntime) -> Result<(), Fail> {
     let alloc = rt.alloc();
     let seal = MtSeal::new(ring(alloc, "perm")?);
-    assert!(rt; seal.has(KEY_ID));
-    assert!(rt; !seal.has(0));
-    assert_eq!(rt; seal.ring().len(), 1);
-    let up = seal.seal(alloc, Dir::Up, &envelope(alloc, 4)?, &mut StepDraw::new())?;
-    assert_eq!(rt; up.as_slice(), UP_PACKET.as_slice());
-    let down = seal.seal(alloc, Dir::Down, &envelope(alloc, 5)?, &mut StepDraw::new())?;
-    assert_eq!(rt; down.as_slice(), DOWN_PACKET.as_slice());
-    let Opened::Envelope(opened) = seal.unseal(alloc, Moment::new(0), Dir::Down, &DOWN_PACKET)
-    else {
-        return Err(Fail::new("the packet doesn't open"));
-    };
-    assert_eq!(rt; (opened.key, opened.number, opened.seq), (KEY_ID, 5, 1));
-    assert_eq!(rt; opened.salt, 0x0102_0304_0506_0708);
-    assert_eq!(rt; opened.session, 0x1112_1314_1516_1718);
+    let rows = [(Dir::Up, 4, UP_PACKET), (Dir::Down, 5, DOWN_PACKET)];
+    for (dir, number, packet) in rows {
+        let sealed = packet_of(alloc, &seal, dir, number)?;
+        assert_eq!(rt; sealed.as_slice(), packet.as_slice());
+    }
+    Ok(())
+}
+
+// What a packet down opens to.
+fn opened_down(alloc: Global, packet: &[u8]) -> Result<Envelope, Fail> {
+    let seal = MtSeal::new(ring(alloc, "perm")?);
+    match seal.unseal(alloc, Moment::new(0), Dir::Down, packet) {
+        Opened::Envelope(envelope) => Ok(envelope),
+        Opened::Refused(_) | Opened::Memory => Err(Fail::new("the packet doesn't open")),
+    }
+}
+
+#[test]
+fn opened_as_another_does(rt: HostRuntime) -> Result<(), Fail> {
+    let opened = opened_down(rt.alloc(), &DOWN_PACKET)?;
+    assert_eq!(rt;
+        (
+            opened.key,
+            opened.salt,
+            opened.session,
+            opened.number,
+            opened.seq
+        ),
+        (KEY_ID, 0x0102_0304_0506_0708, 0x1112_1314_1516_1718, 5, 1)
+    );
     assert_eq!(rt; opened.body.as_slice(), [0xa0, 0xa1, 0xa2, 0xa3].as_slice());
     Ok(())
 }
 
 #[test]
 fn sealed_without_a_cipher(rt: HostRuntime) -> Result<(), Fail> {
-    let alloc = rt.alloc();
-    let seal = ClearSeal::new(ring(alloc, "perm")?);
-    assert!(rt; seal.has(KEY_ID));
-    let packet = seal.seal(alloc, Dir::Down, &envelope(alloc, 5)?, &mut StepDraw::new())?;
-    assert_eq!(rt; packet.as_slice(), CLEAR_PACKET.as_slice());
-    assert_eq!(rt; packet.as_slice().len(), packet_bytes(4));
-    let found = refusal(alloc, &seal, 0, packet.as_slice())?;
+    let seal = ClearSeal::new(ring(rt.alloc(), "perm")?);
+    let packet = packet_of(rt.alloc(), &seal, Dir::Down, 5)?;
+    assert_eq!(rt;
+        (packet.as_slice(), packet_bytes(4)),
+        (CLEAR_PACKET.as_slice(), 72)
+    );
+    Ok(())
+}
+
+#[test]
+fn a_packet_down_is_none_up(rt: HostRuntime) -> Result<(), Fail> {
+    let seal = ClearSeal::new(ring(rt.alloc(), "perm")?);
+    let found = refusal(rt.alloc(), &seal, 0, &CLEAR_PACKET)?;
     assert!(rt; matches!(found, Some(Refusal::KeyMismatch { .. })));
-    let mut draw = StepDraw::new();
+    Ok(())
+}
+
+// Whether a message goes down and is opened there.
+fn is_opened_again(alloc: Global) -> Result<bool, Fail> {
+    let seal = ClearSeal::new(ring(alloc, "perm")?);
+    if !seal.has(KEY_ID) {
+        return Err(Fail::new("no key"));
+    }
+    let envelope = envelope(alloc, 5)?;
+    let now = Moment::new(0);
     let again = there_and_back(
         alloc,
         &seal,
-        Moment::new(0),
+        now,
         Dir::Down,
-        &envelope(alloc, 5)?,
-        &mut draw,
+        &envelope,
+        &mut StepDraw::new(),
     )?;
-    assert!(rt; again.is_some());
+    Ok(again.is_some())
+}
+
+#[test]
+fn opened_without_a_cipher(rt: HostRuntime) -> Result<(), Fail> {
+    assert!(rt; is_opened_again(rt.alloc())?);
     Ok(())
 }
 

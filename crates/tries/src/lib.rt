@@ -1,0 +1,8 @@
+//! Callers' tries, worked rows and vectors of crates whose proofs are long. A crate with tests is proved twice, so theirs
+//! stand here, over what they hand out. There is nothing else in this crate.
+#![tactic(auto)]
+
+#[cfg(test)]
+mod calls;
+#[cfg(test)]
+mod envelopes;
