@@ -3,7 +3,9 @@ pub mod Failing
 pub mod Lists
 pub mod Names
 pub mod One
+pub mod Own
 pub mod Places
+pub mod Rooms
 pub mod Running
 pub mod Sending
 pub mod Spent
@@ -12,3 +14,5 @@ pub mod Speaking
 pub mod Steps
 pub mod Taking
 pub mod Attached
+pub mod Worked
+pub mod First

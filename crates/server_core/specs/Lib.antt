@@ -4,3 +4,4 @@ pub mod Server
 pub mod Effects
 pub mod Failures
 pub mod Speech
+pub mod Working

@@ -10,6 +10,8 @@ pub mod laws;
 mod server;
 mod sessions;
 mod speech;
+mod work;
+mod working;
 
 pub use effects::Effects;
 pub use server::Server;

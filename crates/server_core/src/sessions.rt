@@ -31,7 +31,7 @@ const ROOM_MIN: u64 = 16_384;
 /// search looks at names alone.
 #[derive(Debug, Drop)]
 pub struct Sessions {
-    list: Vec<Standing>,
+    pub(crate) list: Vec<Standing>,
 }
 
 impl Model for Sessions {
