@@ -12,3 +12,11 @@ pub mod Speaking
 pub mod Steps
 pub mod Taking
 pub mod Attached
+pub mod Last
+pub mod OwnJobs
+pub mod Among
+pub mod Ordered
+pub mod HearLemmas
+pub mod DestroyLemmas
+pub mod Pairs
+pub mod Remembering

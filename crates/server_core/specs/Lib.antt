@@ -4,3 +4,6 @@ pub mod Server
 pub mod Effects
 pub mod Failures
 pub mod Speech
+pub mod Among
+pub mod Others
+pub mod Hearing
