@@ -16,3 +16,11 @@ pub mod Taking
 pub mod Attached
 pub mod Worked
 pub mod First
+pub mod Last
+pub mod OwnJobs
+pub mod Among
+pub mod Ordered
+pub mod HearLemmas
+pub mod DestroyLemmas
+pub mod Pairs
+pub mod Remembering

@@ -5,3 +5,6 @@ pub mod Effects
 pub mod Failures
 pub mod Speech
 pub mod Working
+pub mod Among
+pub mod Others
+pub mod Hearing

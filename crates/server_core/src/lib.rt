@@ -4,15 +4,20 @@
 #![tactic(auto)]
 
 mod attaching;
+mod desk;
+mod destroying;
 mod effects;
 mod failures;
+mod hearing;
 pub mod laws;
+mod others;
 mod server;
 mod sessions;
 mod speech;
 mod work;
 mod working;
 
+pub use desk::{DeskFault, Heard, Plain, Reply};
 pub use effects::Effects;
 pub use server::Server;
 pub use sessions::Sessions;

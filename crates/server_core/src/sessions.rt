@@ -1,6 +1,6 @@
 //! The sessions that a server keeps.
 
-ghost use Rattle.std.specs.Prelude.{◌≡◌, ◌<◌, ℕ, [], All, IfOk, length, nat_lt, slice_index_or, slice_set};
+ghost use Rattle.std.specs.Prelude.{◌≡◌, ◌<◌, ◌≤◌, ℕ, [], All, IfOk, OnErr, OnOk, Some, length, nat_lt, slice_index_or, slice_set, vec_capacity, vec_len};
 ghost use Rattle.std.specs.List.{position};
 ghost use Rattle.standing.specs.declared.standing.Standing.{Standing as One};
 ghost use Rattle.standing.specs.Standing.{IsAt, Stands, numbers_left};
@@ -9,11 +9,13 @@ ghost use Rattle.standing.specs.Says.{Keys, setting_of};
 ghost use Rattle.owing.specs.Outs.{AreSent};
 ghost use Rattle.server_rules.specs.Answer.{room_min};
 ghost use Rattle.server_rules.specs.Event.{Speaker};
+ghost use Rattle.server_rules.specs.Server.{Name};
 ghost use Rattle.server_core.specs.Sessions.{AreApart, is_kept_as, kept_as, without_kept};
 ghost use Rattle.server_core.specs.Server.{CanSpeak};
 ghost use Rattle.server_core.specs.Speech.{Begins, CanAttach, attached};
 
 use crate::attaching;
+use crate::others::Others;
 use crate::speech::Speech;
 use draws::Draw;
 use envelope::Seal;
@@ -23,6 +25,7 @@ use owing::Outs;
 use standing::Standing;
 use std::alloc::Global;
 use std::marker::Model;
+use std::mem;
 
 /// For how many further numbers a session has to have room after an event.
 const ROOM_MIN: u64 = 16_384;
@@ -61,8 +64,36 @@ impl Sessions {
         ensures found { result ≡ kept_as (record { key = key; session = number }) self.old }
         ensures others { self.new ≡ without_kept (record { key = key; session = number }) self.old }
     {
-        let place = place_of(&self.list, key, number)?;
-        Some(self.list.remove(place))
+        out_of(&mut self.list, key, number)
+    }
+
+    /// Lends the session at this place, with the others, among which there is room for it. None are left here. Takes no
+    /// memory.
+    pub(crate) fn lend(&mut self, alloc: Global, place: usize) -> (Others, Standing)
+        requires { place < length self.old }
+        ensures others { (name : Name) → position (is_kept_as name) self.old ≡ Some place → result.0 ≡ without_kept name self.old }
+        ensures one { (name : Name) → position (is_kept_as name) self.old ≡ Some place → kept_as name self.old ≡ Some result.1 }
+        ensures lent { self.new ≡ [] }
+    {
+        let mut list = mem::replace(&mut self.list, Vec::new(alloc));
+        let standing = list.remove(place);
+        (Others { list }, standing)
+    }
+
+    /// Lends all sessions, with room for a further one. None are left here.
+    ///
+    /// # Errors
+    ///
+    /// `Memory`, and then none was lent.
+    pub(crate) fn lend_all(&mut self, alloc: Global) -> Result<Others, Memory>
+        ensures all { IfOk result (λ others. others ≡ self.old) }
+        ensures apart { IfOk result AreApart }
+        ensures lent { OnOk result (self.new ≡ []) }
+        ensures unchanged_on_memory { OnErr result (self.new ≡ self.old) }
+    {
+        self.list.reserve(1)?;
+        let list = mem::replace(&mut self.list, Vec::new(alloc));
+        Ok(Others { list })
     }
 
     /// The place of the session of this name; `None` where there is none.
@@ -118,6 +149,18 @@ impl Sessions {
     {
         self.list[place].numbers_left() < ROOM_MIN
     }
+}
+
+/// Takes the session of this name out of these; `None` where there is none.
+pub(crate) fn out_of(list: &mut Vec<Standing>, key: u64, number: u64) -> Option<Standing>
+    requires { AreApart list.old.items }
+    ensures found { result ≡ kept_as (record { key = key; session = number }) list.old.items }
+    ensures others { list.new.items ≡ without_kept (record { key = key; session = number }) list.old.items }
+    ensures fewer { vec_len list.new ≤ vec_len list.old }
+    ensures capacity { vec_capacity list.new ≡ vec_capacity list.old }
+{
+    let place = place_of(list, key, number)?;
+    Some(list.remove(place))
 }
 
 // The place of the first session of this name.
