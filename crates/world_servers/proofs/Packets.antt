@@ -351,7 +351,7 @@ module _ (low : (history : History) → All (λ (j : FirstJudgement). is_kept j.
         stays w (AtWith r (one_of way r message)) (
           s,
           one_fact w x message (judge way r message)
-          (λ item accepted. absurd (none_is_not_some (outcome_of (kind_of message)) (recorded_accepted message (judge way r message) item accepted None is))),
+              (λ item accepted. absurd (none_is_not_some (outcome_of (kind_of message)) (recorded_accepted message (judge way r message) item accepted None is))),
         )
     step_by way r message (Some outcome) is marks salted w s up =
         let now : Session = with_history r.history x in
@@ -367,19 +367,19 @@ module _ (low : (history : History) → All (λ (j : FirstJudgement). is_kept j.
           own = l.own;
           gives = (
             subst (λ (list : List Session). ServerStands (after_all w l.moves) lost list jobs)
-            (with_twice sessions now (with_history (noted message.number message.seq outcome r.history) x) refl refl) l.gives.0,
+                (with_twice sessions now (with_history (noted message.number message.seq outcome r.history) x) refl refl) l.gives.0,
             one_fact (after_all w l.moves) x message (judge way r message)
-            (λ item accepted.
-            let same : item_told message.body ≡ item =
-            item_same (found message.number r.history r.marks) (refusal way r.history message) message (item_told message.body) item accepted in
-            let was : was_accepted outcome ≡ true =
-            subst (λ (o : Outcome). was_accepted o ≡ true)
-            (ap (λ (o : Option Outcome). or_outcome o outcome) (sym (recorded_accepted message (judge way r message) item accepted (Some outcome) is)))
-            (accepted_among (container_in message.number message.body) message.body) in
-            subst (λ (i : Item). AsksThere (after_all w l.moves) x message.number (request_of i message.body)) same
-            (asks_now (after_all w l.moves) x salt message.number (request_of (item_told message.body) message.body) (up_more w l.moves l.lawful message up)
-            (λ body asked. subst (λ (o : moves.Outcome). Contains ((after_all w l.moves).servers x.unique).judged (record { number = message.number; outcome = o }))
-            (decision.called body was (up.is ∙ asked)) l.gives.1))),
+                (λ item accepted.
+                let same : item_told message.body ≡ item =
+                item_same (found message.number r.history r.marks) (refusal way r.history message) message (item_told message.body) item accepted in
+                let was : was_accepted outcome ≡ true =
+                subst (λ (o : Outcome). was_accepted o ≡ true)
+                (ap (λ (o : Option Outcome). or_outcome o outcome) (sym (recorded_accepted message (judge way r message) item accepted (Some outcome) is)))
+                (accepted_among (container_in message.number message.body) message.body) in
+                subst (λ (i : Item). AsksThere (after_all w l.moves) x message.number (request_of i message.body)) same
+                (asks_now (after_all w l.moves) x salt message.number (request_of (item_told message.body) message.body) (up_more w l.moves l.lawful message up)
+                (λ body asked. subst (λ (o : moves.Outcome). Contains ((after_all w l.moves).servers x.unique).judged (record { number = message.number; outcome = o }))
+                (decision.called body was (up.is ∙ asked)) l.gives.1))),
           );
         }
 
