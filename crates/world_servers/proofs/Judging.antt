@@ -1,23 +1,21 @@
 -- A salt is drawn, and a message is judged.
-use Rattle.std.proofs.Common.{◌≡◌, ◌≢◌, ℕ, zero, suc, ◌≤◌, ◌<◌, ◌==◌, Bool, true, false, List, [], ◌∷◌, ◌++◌, map, length, reverse, if◌then◌else◌, inl, inr, refl, sym, ap, subst, ◌∙◌, arith, eq-eqb, ne_eqb}
-use Rattle.std.specs.Prelude.{◌⊎◌, ⊤}
+use Rattle.std.proofs.Common.{◌≡◌, ◌≢◌, ℕ, zero, suc, ◌≤◌, List, [], ◌∷◌, ◌++◌, map, reverse, inl, inr, refl, sym, ap, subst, ◌∙◌, arith, eq-eqb, ne_eqb}
 use Rattle.std.specs.List.{All, AllByRecursion, Contains}
 use Rattle.std.proofs.lemmas.List.{reverse-append}
 use Rattle.std.proofs.lemmas.List.Elements.{Contains-append_left, Contains-append_right}
 use Rattle.salt_line.specs.Rows.{Row}
 use Rattle.id_window.specs.History.{History, FirstJudgement, Outcome, Refused, AcceptedContainer, AcceptedCall, AcceptedOther, floor, noted}
-use Rattle.waits.specs.declared.job.Unfinished.{Unfinished}
 use Rattle.waits.specs.Jobs.{Queue}
-use Rattle.server_rules.specs.Server.{Reply, Session, with_session}
+use Rattle.server_rules.specs.Server.{Session, with_session}
 use Rattle.session_moves.specs.Table as moves
 use Rattle.session_moves.specs.Table.Status.{Standing}
-use Rattle.session_moves.specs.World.{World, IsAccepted}
+use Rattle.session_moves.specs.World.{World}
 use Rattle.session_moves.specs.Move.Move.{Draw, Judge}
 use Rattle.session_moves.specs.After.{after}
 use Rattle.session_moves.specs.Lawful.{MayDecide}
 use Rattle.world_servers.specs.Leading.{Leads}
-use Rattle.world_servers.specs.Servers.{HasForgotten, IsJobThere, IsMade, IsNewSalt, IsOutcomeThere, IsReplyThere, IsSuch, IsStanding, ServerStands, WasJudged, with_history, with_row}
-use Rattle.world_servers.proofs.Lists.{all_append, all_of, each_of, here, later, map_all}
+use Rattle.world_servers.specs.Servers.{HasForgotten, IsJobThere, IsNewSalt, IsOutcomeThere, IsSuch, IsStanding, ServerStands, WasJudged, with_history, with_row}
+use Rattle.world_servers.proofs.Lists.{all_append, each_of, here, later, map_all}
 use Rattle.world_servers.proofs.Leading.{moves_once}
 use Rattle.world_servers.proofs.One.{changes, none_grow}
 

@@ -1,11 +1,11 @@
 -- What an event makes of replies and of jobs leaves them what they are.
-use Rattle.std.proofs.Common.{◌≡◌, ◌≢◌, ℕ, zero, suc, ◌==◌, ◌&&◌, ◌||◌, Bool, true, false, List, [], ◌∷◌, ◌++◌, map, if◌then◌else◌, inl, inr, refl, sym, ap, subst, ◌∙◌}
-use Rattle.std.specs.Prelude.{◌⊎◌, ⊤}
+use Rattle.std.proofs.Common.{◌≡◌, ℕ, zero, suc, ◌==◌, ◌&&◌, ◌||◌, Bool, true, false, List, [], ◌∷◌, map, if◌then◌else◌, inl, inr, refl, sym, ap, subst, ◌∙◌}
+use Rattle.std.specs.Prelude.{⊤}
 use Rattle.std.specs.List.{AllByRecursion, Contains, list_any}
 use Rattle.std.proofs.lemmas.Bool.{cases_Bool}
 use Rattle.outbox.specs.Replies.{fits}
 use Rattle.waits.specs.declared.job.Unfinished.{Unfinished}
-use Rattle.waits.specs.Jobs.{Queue, after_answer, is_of, is_ready, settled, told as job_told, waits_for, without_first, without_ready, without_session}
+use Rattle.waits.specs.Jobs.{Queue, after_answer, is_ready, settled, told as job_told, waits_for, without_first, without_ready, without_session}
 use Rattle.server_rules.specs.Server.{Fate, IsKept, Reply, Session, WasAcked, WasDropped, is_fate_kept, is_kept, kept_replies}
 use Rattle.server_rules.specs.Speaking.{dropped, made_room}
 use Rattle.server_rules.specs.Waiting.{GoesOn, InVain, Outlook, Over, told}

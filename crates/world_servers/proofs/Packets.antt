@@ -1,6 +1,6 @@
 -- A packet's messages are judged.
-use Rattle.std.proofs.Common.{◌≡◌, ◌≢◌, ℕ, zero, suc, ◌≤◌, ◌<◌, ◌==◌, ◌&&◌, ◌||◌, Bool, true, false, List, [], ◌∷◌, ◌++◌, map, fold, reverse, Option, None, Some, Result, Ok, Err, if◌then◌else◌, inl, inr, refl, sym, ap, subst, ◌∙◌, arith, eq-eqb, ne_eqb}
-use Rattle.std.specs.Prelude.{◌⊎◌, ⊤, nat_le, nat_lt}
+use Rattle.std.proofs.Common.{◌≡◌, ◌≢◌, ℕ, ◌≤◌, ◌<◌, ◌==◌, ◌&&◌, ◌||◌, Bool, true, false, List, [], ◌∷◌, ◌++◌, map, fold, Option, None, Some, Result, Ok, Err, if◌then◌else◌, inl, inr, refl, sym, ap, subst, ◌∙◌, arith, eq-eqb, ne_eqb}
+use Rattle.std.specs.Prelude.{nat_le}
 use Rattle.std.specs.List.{All, AllByRecursion, Contains, cons_option, filter_map, list_any, zip}
 use Rattle.std.specs.Option.{option_or}
 use Rattle.std.proofs.lemmas.Bool.{cases_Bool, cases_eq}
@@ -11,14 +11,14 @@ use Rattle.salt_line.specs.Line.{Line}
 use Rattle.service_tl.specs.declared.lists.Message.{Message}
 use Rattle.service_tl.specs.declared.item.Item.{Item}
 use Rattle.id_window.specs.declared.mark.Mark.{Mark}
-use Rattle.id_window.specs.Marks.{Marks, given, mark_of}
+use Rattle.id_window.specs.Marks.{Marks, mark_of}
 use Rattle.id_window.specs.History.{FirstJudgement, History, Outcome, Refused, AcceptedContainer, AcceptedCall, AcceptedOther, EachOnce, floor, found, is_kept, noted, was_accepted}
 use Rattle.containers.specs.declared.fault.ContainerFault.{ContainerFault}
 use Rattle.inbox.specs.declared.judged.Verdict.{Verdict}
 use Rattle.inbox.specs.declared.judged.Verdict.TheVariants.{Accepted, Again, Noticed}
 use Rattle.inbox.specs.Kinds.{begins_acknowledgement, begins_call, constructor_of, container_in, item_told, kind_among, kind_of}
-use Rattle.inbox.specs.Refusals.{Way, InContainer, InEnvelope, by_envelope, by_neighbours, by_number, by_parity, by_body, is_row_of, is_valid_salt, refusal}
-use Rattle.inbox.specs.Judging.{Session as Remembered, first_mark, inner_judgements, inner_session, is_container, is_recorded, is_uncontained, judge, judged_session, judgements, outcome_of, recorded, remembered as remembers, session_after, unfolded, verdict_again, verdict_by}
+use Rattle.inbox.specs.Refusals.{Way, InContainer, InEnvelope, by_envelope, by_number, is_row_of, is_valid_salt, refusal}
+use Rattle.inbox.specs.Judging.{Session as Remembered, first_mark, inner_judgements, inner_session, is_container, is_recorded, is_uncontained, judge, judged_session, judgements, outcome_of, recorded, remembered as remembers, session_after, unfolded, verdict_by}
 use Rattle.waits.specs.Jobs.{Queue}
 use Rattle.server_rules.specs.Server.{Reply, Session, is_named, mark_after, marks_of, name_of, remembered, with_session}
 use Rattle.server_rules.specs.Answer.{messages_judged}
@@ -32,7 +32,7 @@ use Rattle.world_moves.specs.Sent.{WasSent}
 use Rattle.world_servers.specs.Leading.{Leads}
 use Rattle.world_servers.specs.Servers.{AsksThere, HasSalt, IsAcceptedThere, IsStanding, IsSuch, IsUp, ServerStands, WasJudged, with_history}
 use Rattle.world_servers.proofs.Lists.{each_of, first_or, here, later, map_all}
-use Rattle.world_servers.proofs.Leading.{GoOn, goes_on, leads_so, stays}
+use Rattle.world_servers.proofs.Leading.{GoOn, goes_on, stays}
 use Rattle.world_servers.proofs.Judging.{judges}
 use Rattle.world_servers.proofs.Others.{empty_has}
 use Rattle.world_servers.proofs.One.{put, put_itself, with_itself}
