@@ -10,3 +10,4 @@ pub mod Answering
 pub mod Speaking
 pub mod Packets
 pub mod Kept
+pub mod Lines

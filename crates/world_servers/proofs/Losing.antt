@@ -18,11 +18,11 @@ use Rattle.world_servers.proofs.Lists.{all_append, all_of, each_of, filtered_in,
 use Rattle.world_servers.proofs.Leading.{GoOn, goes_on, leads_so, moves_once, stays}
 use Rattle.world_servers.proofs.Others.{job_left, lost_left, one_of_number, standing_left, two_uniques}
 
-append_nothing : {X : Type 0} (xs : List X) → xs ++ [] ≡ xs
+pub append_nothing : {X : Type 0} (xs : List X) → xs ++ [] ≡ xs
 append_nothing [] = refl
 append_nothing (x ∷ xs) = ap (λ (l : List _). x ∷ l) (append_nothing xs)
 
-append_one : {X : Type 0} (xs : List X) (x : X) (ys : List X) → (xs ++ x ∷ []) ++ ys ≡ xs ++ x ∷ ys
+pub append_one : {X : Type 0} (xs : List X) (x : X) (ys : List X) → (xs ++ x ∷ []) ++ ys ≡ xs ++ x ∷ ys
 append_one [] x ys = refl
 append_one (y ∷ xs) x ys = ap (λ (l : List _). y ∷ l) (append_one xs x ys)
 

@@ -244,7 +244,7 @@ all_last lasts w list lawful x ones h =
 
 -- ---- sessions with a longer history
 
-with_among : (sessions : List Session) (x new : Session) → new.key ≡ x.key → new.number ≡ x.number → Contains sessions x → Contains (with_session new sessions) new
+pub with_among : (sessions : List Session) (x new : Session) → new.key ≡ x.key → new.number ≡ x.number → Contains sessions x → Contains (with_session new sessions) new
 with_among [] x new key number h = absurd (empty_has x h)
 with_among (first ∷ sessions) x new key number h =
     elim (first_or x first sessions h) [
@@ -264,7 +264,7 @@ put_twice one two o key number =
       | inr not ↦ rw not refl
     ]
 
-with_twice : (sessions : List Session) (one two : Session) → two.key ≡ one.key → two.number ≡ one.number → with_session two (with_session one sessions) ≡ with_session two sessions
+pub with_twice : (sessions : List Session) (one two : Session) → two.key ≡ one.key → two.number ≡ one.number → with_session two (with_session one sessions) ≡ with_session two sessions
 with_twice [] one two key number = refl
 with_twice (o ∷ sessions) one two key number =
     ap (λ (z : Session). z ∷ with_session two (with_session one sessions)) (put_twice one two o key number)

@@ -26,7 +26,7 @@ ghost use Rattle.session_moves.specs.Move.{Move};
 ghost use Rattle.session_moves.specs.Extends.{IsOfClient};
 ghost use Rattle.session_moves.specs.Reached.{AreLawful, Reached, after_all};
 ghost use Rattle.world_servers.specs.Leading.{Leads};
-ghost use Rattle.world_servers.specs.Servers.{CanSay, GoOn, HasForgotten, IsAcceptedThere, IsJobOf, IsNewSalt, IsSuch, IsUp, ServerStands, WasAnswered, WasJudged, with_history, with_replies, with_row};
+ghost use Rattle.world_servers.specs.Servers.{AreNewSalts, CanSay, GoOn, HasForgotten, IsAcceptedThere, IsJobOf, IsNewSalt, IsSuch, IsUp, ServerStands, WasAnswered, WasJudged, with_history, with_replies, with_row, with_rows};
 
 use id_window::laws::others_are_not_above_the_floor;
 use server_laws::laws::{floors_never_fall, marks_are_of_replies};
@@ -57,11 +57,15 @@ pub fn servers_stand_still()
     moves_only_add();
 }
 
-/// A session that needs a further row of salts draws its word by a lawful move, where it is a new one.
+/// A session that needs further rows of salts draws their words by lawful moves, where they are new ones.
 pub fn salts_are_drawn_by_moves()
-    ensures { (w : World) (lost sessions : List Session) (jobs : Queue) (session : Session) (row : Row) → ServerStands w lost sessions jobs
+    ensures all { (w : World) (lost sessions : List Session) (jobs : Queue) (session : Session) (rows : List Row) → Reached w → ServerStands w lost sessions jobs
+        → Contains sessions session → AreNewSalts w rows → Leads w (λ later. ServerStands later lost (with_session (with_rows rows session) sessions) jobs) }
+    ensures one { (w : World) (lost sessions : List Session) (jobs : Queue) (session : Session) (row : Row) → ServerStands w lost sessions jobs
         → Contains sessions session → IsNewSalt w row.word → Leads w (λ later. ServerStands later lost (with_session (with_row row session) sessions) jobs) }
-{}
+{
+    moves_go_on();
+}
 
 /// A number that wasn't judged is judged by a lawful move, where a message of that number was sent under the session's number
 /// and may have that outcome.
