@@ -1,13 +1,11 @@
 -- What becomes of replies and jobs, an answer, and a number that is forgotten.
-use Rattle.std.proofs.Common.{◌≡◌, ◌≢◌, ℕ, zero, suc, ◌==◌, ◌&&◌, ◌||◌, Bool, true, false, List, [], ◌∷◌, ◌++◌, map, if◌then◌else◌, inl, inr, refl, sym, ap, subst, ◌∙◌, eq-eqb, ne_eqb}
-use Rattle.std.specs.Prelude.{◌⊎◌, ⊤}
+use Rattle.std.proofs.Common.{◌≡◌, ◌≢◌, ℕ, ◌==◌, ◌&&◌, ◌||◌, Bool, true, false, List, [], ◌∷◌, ◌++◌, inl, inr, refl, sym, ap, subst, ◌∙◌, eq-eqb, ne_eqb}
 use Rattle.std.specs.List.{All, AllByRecursion, Contains}
-use Rattle.std.proofs.lemmas.Bool.{cases_Bool, cases_eq}
+use Rattle.std.proofs.lemmas.Bool.{cases_Bool}
 use Rattle.std.proofs.lemmas.List.Elements.{Contains-append_left, Contains-append_right}
-use Rattle.id_window.specs.History.{floor}
 use Rattle.waits.specs.declared.job.Job.{Job}
 use Rattle.waits.specs.declared.job.Unfinished.{Unfinished}
-use Rattle.waits.specs.Jobs.{Queue, accepted, is_of}
+use Rattle.waits.specs.Jobs.{Queue, accepted}
 use Rattle.server_rules.specs.Server.{Reply, Session, with_session}
 use Rattle.session_moves.specs.Table as moves
 use Rattle.session_moves.specs.Table.Outcome.{AcceptedCall}
@@ -17,12 +15,12 @@ use Rattle.session_moves.specs.After.{after}
 use Rattle.session_moves.specs.Lawful.{WasNoCall}
 use Rattle.world_servers.specs.Leading.{Leads}
 use Rattle.world_servers.specs.Servers.{GoOn, HasForgotten, HasSame, IsJobOf, IsJobThere, IsReplyThere, IsStanding, ServerStands, WasAnswered, has_dropped, is_dropped, with_replies}
-use Rattle.world_servers.proofs.Lists.{all_append, all_of, each_of, first_or, here, later, map_all}
+use Rattle.world_servers.proofs.Lists.{all_append, all_of, each_of, here, later, map_all}
 use Rattle.world_servers.proofs.Leading.{moves_once}
 use Rattle.world_servers.proofs.Judging.{at_all}
 use Rattle.world_servers.proofs.Losing.{and_right, eq_true}
 use Rattle.world_servers.proofs.One.{changes, none_grow, with_itself}
-use Rattle.world_servers.proofs.Others.{empty_has, one_of_number}
+use Rattle.world_servers.proofs.Others.{one_of_number}
 
 reply_same : (w : World) (x : Session) (one other : Reply) → one.call ≡ other.call → one.content ≡ other.content → IsReplyThere w x one → IsReplyThere w x other
 reply_same w x one other call content (inl h) = inl (h.0, h.1, h.2, h.3 ∙ call, h.4 ∙ content)

@@ -1,24 +1,23 @@
 -- A salt is drawn, and a message is judged.
-use Rattle.std.proofs.Common.{◌≡◌, ◌≢◌, ℕ, zero, suc, ◌≤◌, ◌<◌, ◌==◌, Bool, true, false, List, [], ◌∷◌, ◌++◌, map, length, reverse, if◌then◌else◌, inl, inr, refl, sym, ap, subst, ◌∙◌, arith, eq-eqb, ne_eqb}
-use Rattle.std.specs.Prelude.{◌⊎◌, ⊤}
+use Rattle.std.proofs.Common.{◌≡◌, ◌≢◌, ℕ, zero, suc, ◌≤◌, List, [], ◌∷◌, ◌++◌, map, reverse, inl, inr, refl, sym, ap, subst, ◌∙◌, arith, eq-eqb, ne_eqb}
 use Rattle.std.specs.List.{All, AllByRecursion, Contains}
+use Rattle.std.proofs.lemmas.Bool.{cases_eq}
 use Rattle.std.proofs.lemmas.List.{reverse-append}
 use Rattle.std.proofs.lemmas.List.Elements.{Contains-append_left, Contains-append_right}
 use Rattle.salt_line.specs.Rows.{Row}
 use Rattle.id_window.specs.History.{History, FirstJudgement, Outcome, Refused, AcceptedContainer, AcceptedCall, AcceptedOther, floor, noted}
-use Rattle.waits.specs.declared.job.Unfinished.{Unfinished}
 use Rattle.waits.specs.Jobs.{Queue}
-use Rattle.server_rules.specs.Server.{Reply, Session, with_session}
+use Rattle.server_rules.specs.Server.{Session, with_session}
 use Rattle.session_moves.specs.Table as moves
 use Rattle.session_moves.specs.Table.Status.{Standing}
-use Rattle.session_moves.specs.World.{World, IsAccepted}
+use Rattle.session_moves.specs.World.{World}
 use Rattle.session_moves.specs.Move.Move.{Draw, Judge}
 use Rattle.session_moves.specs.After.{after}
 use Rattle.session_moves.specs.Lawful.{MayDecide}
 use Rattle.world_servers.specs.Leading.{Leads}
-use Rattle.world_servers.specs.Servers.{HasForgotten, IsJobThere, IsMade, IsNewSalt, IsOutcomeThere, IsReplyThere, IsSuch, IsStanding, ServerStands, WasJudged, with_history, with_row}
-use Rattle.world_servers.proofs.Lists.{all_append, all_of, each_of, here, later, map_all}
-use Rattle.world_servers.proofs.Leading.{moves_once}
+use Rattle.world_servers.specs.Servers.{HasForgotten, IsJobThere, IsNewSalt, IsOutcomeThere, IsSuch, IsStanding, ServerStands, WasJudged, with_history, with_row}
+use Rattle.world_servers.proofs.Lists.{all_append, each_of, first_or, here, later, map_all}
+use Rattle.world_servers.proofs.Leading.{leads_so, moves_once}
 use Rattle.world_servers.proofs.One.{changes, none_grow}
 
 map_more : (rows : List Row) (row : Row) → map (λ (r : Row). r.word) (rows ++ row ∷ []) ≡ map (λ (r : Row). r.word) rows ++ row.word ∷ []
@@ -65,11 +64,35 @@ module _ (w : World) (lost sessions : List Session) (jobs : Queue) (s : ServerSt
       entries = its.entries;
     }
 
+    -- what was new, but for the word, still is
+    still_new : (b : ℕ) → IsNewSalt w b → b ≢ row.word → IsNewSalt drawn_w b
+    still_new b h differs = (
+      h.0,
+      λ u has.
+          elim (cases_eq u x.unique) [
+            | inl same ↦
+                let list : (drawn_w.servers u).salts ≡ row.word ∷ (w.servers u).salts = rw (eq-eqb u x.unique same) refl in
+                elim (first_or b row.word (w.servers u).salts (subst (λ (l : List ℕ). Contains l b) list has)) [
+                  | inl is ↦ absurd (differs (sym is))
+                  | inr old ↦ h.1 u old
+                ]
+            | inr other ↦ h.1 u (subst (λ (one : moves.ServerSession). Contains one.salts b) (other_left u other) has)
+          ],
+    )
+
+    pub draws_on : Leads w (λ later. ServerStands later lost (with_session drawn sessions) jobs × ((b : ℕ) → IsNewSalt w b → b ≢ row.word → IsNewSalt later b))
+    draws_on =
+        moves_once w (λ later. ServerStands later lost (with_session drawn sessions) jobs × ((b : ℕ) → IsNewSalt w b → b ≢ row.word → IsNewSalt later b))
+        x.unique (Draw x.unique row.word) (its.stands, new.0, new.1) refl (
+          changes w lost sessions jobs jobs s x drawn among refl refl refl drawn_w other_left (none_grow x.unique w.entries) (λ m is. is)
+              (λ reply o differs r. r) drawn_stands its_jobs (λ o differs h. h),
+          still_new,
+        )
+
     pub draws : Leads w (λ later. ServerStands later lost (with_session drawn sessions) jobs)
     draws =
-        moves_once w (λ later. ServerStands later lost (with_session drawn sessions) jobs) x.unique (Draw x.unique row.word) (its.stands, new.0, new.1) refl
-        (changes w lost sessions jobs jobs s x drawn among refl refl refl drawn_w other_left (none_grow x.unique w.entries) (λ m is. is)
-        (λ reply o differs r. r) drawn_stands its_jobs (λ o differs h. h))
+        leads_so w (λ later. ServerStands later lost (with_session drawn sessions) jobs × ((b : ℕ) → IsNewSalt w b → b ≢ row.word → IsNewSalt later b))
+        (λ later. ServerStands later lost (with_session drawn sessions) jobs) (λ later h. h.0) draws_on
 
   -- ---- a message is judged
 

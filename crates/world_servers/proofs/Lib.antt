@@ -9,3 +9,5 @@ pub mod Making
 pub mod Answering
 pub mod Speaking
 pub mod Packets
+pub mod Kept
+pub mod Lines

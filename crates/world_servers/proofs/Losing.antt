@@ -1,12 +1,11 @@
 -- A session is lost.
-use Rattle.std.proofs.Common.{◌≡◌, ◌≢◌, ℕ, zero, suc, ◌==◌, ◌&&◌, not, Bool, true, false, List, [], ◌∷◌, ◌++◌, filter, map, if◌then◌else◌, inl, inr, refl, sym, ap, subst, ◌∙◌, eq-eqb, ne_eqb}
-use Rattle.std.specs.Prelude.{◌⊎◌, ⊤}
+use Rattle.std.proofs.Common.{◌≡◌, ◌≢◌, ℕ, ◌==◌, ◌&&◌, not, Bool, true, false, List, [], ◌∷◌, ◌++◌, filter, inl, inr, refl, sym, ap, subst, ◌∙◌, eq-eqb, ne_eqb}
+use Rattle.std.specs.Prelude.{◌⊎◌}
 use Rattle.std.specs.List.{AllByRecursion, Contains}
 use Rattle.std.proofs.lemmas.Bool.{cases_Bool, cases_eq}
 use Rattle.std.proofs.lemmas.List.Elements.{Contains-append_cases, Contains-append_left, Contains-append_right}
-use Rattle.waits.specs.declared.job.Unfinished.{Unfinished}
-use Rattle.waits.specs.Jobs.{Queue, is_of, without_session as without_jobs_of}
-use Rattle.server_rules.specs.Server.{Name, Reply, Session, is_named, is_same, name_of, without_session}
+use Rattle.waits.specs.Jobs.{Queue, without_session as without_jobs_of}
+use Rattle.server_rules.specs.Server.{Name, Session, is_named, name_of, without_session}
 use Rattle.session_moves.specs.Table as moves
 use Rattle.session_moves.specs.Table.Status.{Unmade, Standing, Lost}
 use Rattle.session_moves.specs.World.{World}
@@ -14,16 +13,16 @@ use Rattle.session_moves.specs.Move.Move.{Lose}
 use Rattle.session_moves.specs.After.{after}
 use Rattle.session_moves.specs.Reached.{Reached}
 use Rattle.world_servers.specs.Leading.{Leads}
-use Rattle.world_servers.specs.Servers.{AreApart, IsJobThere, IsLost, IsMade, IsOneOf, IsReplyThere, IsStanding, ServerStands, WasAnswered}
-use Rattle.world_servers.proofs.Lists.{all_append, all_of, each_of, filtered_in, filtered_out, first_or, from_filter, here, kept_in, later, map_all}
+use Rattle.world_servers.specs.Servers.{AreApart, IsJobThere, IsLost, IsOneOf, IsReplyThere, IsStanding, ServerStands, WasAnswered}
+use Rattle.world_servers.proofs.Lists.{all_append, all_of, each_of, filtered_in, filtered_out, from_filter, here, kept_in, later, map_all}
 use Rattle.world_servers.proofs.Leading.{GoOn, goes_on, leads_so, moves_once, stays}
 use Rattle.world_servers.proofs.Others.{job_left, lost_left, one_of_number, standing_left, two_uniques}
 
-append_nothing : {X : Type 0} (xs : List X) → xs ++ [] ≡ xs
+pub append_nothing : {X : Type 0} (xs : List X) → xs ++ [] ≡ xs
 append_nothing [] = refl
 append_nothing (x ∷ xs) = ap (λ (l : List _). x ∷ l) (append_nothing xs)
 
-append_one : {X : Type 0} (xs : List X) (x : X) (ys : List X) → (xs ++ x ∷ []) ++ ys ≡ xs ++ x ∷ ys
+pub append_one : {X : Type 0} (xs : List X) (x : X) (ys : List X) → (xs ++ x ∷ []) ++ ys ≡ xs ++ x ∷ ys
 append_one [] x ys = refl
 append_one (y ∷ xs) x ys = ap (λ (l : List _). y ∷ l) (append_one xs x ys)
 

@@ -1,8 +1,7 @@
 -- A session is made.
-use Rattle.std.proofs.Common.{◌≡◌, ◌≢◌, ℕ, zero, suc, ◌==◌, Bool, true, false, List, [], ◌∷◌, ◌++◌, map, if◌then◌else◌, inl, inr, refl, sym, ap, subst, ◌∙◌, eq-eqb, ne_eqb}
-use Rattle.std.specs.Prelude.{◌⊎◌, ⊤}
+use Rattle.std.proofs.Common.{◌≡◌, ◌≢◌, ℕ, true, false, List, [], ◌∷◌, ◌++◌, inl, inr, refl, sym, ap, subst, ◌∙◌, eq-eqb, ne_eqb}
 use Rattle.std.specs.List.{AllByRecursion, Contains}
-use Rattle.std.proofs.lemmas.Bool.{cases_Bool, cases_eq}
+use Rattle.std.proofs.lemmas.Bool.{cases_eq}
 use Rattle.std.proofs.lemmas.List.Elements.{Contains-append_cases, Contains-append_left, Contains-append_right}
 use Rattle.salt_line.specs.Rows.{Row}
 use Rattle.id_window.specs.History.{FirstJudgement}
@@ -16,12 +15,12 @@ use Rattle.session_moves.specs.Move.Move.{Make}
 use Rattle.session_moves.specs.After.{after}
 use Rattle.session_moves.specs.Reached.{Reached}
 use Rattle.world_servers.specs.Leading.{Leads}
-use Rattle.world_servers.specs.Servers.{AreApart, HasForgotten, IsJobThere, IsLost, IsMade, IsNewSalt, IsOneOf, IsOutcomeThere, IsReplyThere, IsStanding, ServerStands, WasAnswered, WasJudged, with_row}
+use Rattle.world_servers.specs.Servers.{AreApart, HasForgotten, IsJobThere, IsLost, IsNewSalt, IsOneOf, IsOutcomeThere, IsReplyThere, IsStanding, ServerStands, WasAnswered, WasJudged, with_row}
 use Rattle.world_servers.proofs.Lists.{all_append, all_of, each_of, here, map_all}
 use Rattle.world_servers.proofs.Leading.{GoOn, goes_on, leads_so, moves_once}
 use Rattle.world_servers.proofs.Losing.{standing_is_not_lost}
 use Rattle.world_servers.proofs.Others.{job_left, lost_left, standing_left}
-use Rattle.world_servers.proofs.One.{put, put_itself, put_other}
+use Rattle.world_servers.proofs.One.{put_itself, put_other}
 use Rattle.world_servers.proofs.Judging.{draws}
 
 lost_is_made : (at : ℕ) → Lost at ≡ Unmade → ⊥

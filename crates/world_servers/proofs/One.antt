@@ -1,20 +1,18 @@
 -- One session changes.
-use Rattle.std.proofs.Common.{◌≡◌, ◌≢◌, ℕ, zero, suc, ◌==◌, ◌&&◌, Bool, true, false, List, [], ◌∷◌, ◌++◌, map, if◌then◌else◌, inl, inr, refl, sym, ap, subst, ◌∙◌, eq-eqb, ne_eqb}
-use Rattle.std.specs.Prelude.{◌⊎◌, ⊤}
+use Rattle.std.proofs.Common.{◌≡◌, ◌≢◌, ℕ, List, [], ◌∷◌, ◌++◌, map, if◌then◌else◌, inl, inr, refl, sym, ap, subst, ◌∙◌, eq-eqb}
+use Rattle.std.specs.Prelude.{◌⊎◌}
 use Rattle.std.specs.List.{AllByRecursion, Contains}
 use Rattle.std.proofs.lemmas.Bool.{cases_Bool, cases_eq}
 use Rattle.std.proofs.lemmas.List.Elements.{Contains-append_cases, Contains-append_left, Contains-append_right}
-use Rattle.waits.specs.declared.job.Unfinished.{Unfinished}
-use Rattle.waits.specs.Jobs.{Queue, is_of}
-use Rattle.server_rules.specs.Server.{Name, Reply, Session, is_named, name_of, with_session}
+use Rattle.waits.specs.Jobs.{Queue}
+use Rattle.server_rules.specs.Server.{Reply, Session, is_named, name_of, with_session}
 use Rattle.session_moves.specs.Table as moves
 use Rattle.session_moves.specs.Table.Status.{Unmade, Standing, Lost}
 use Rattle.session_moves.specs.World.{World}
-use Rattle.world_servers.specs.Servers.{AreApart, IsJobThere, IsLost, IsMade, IsOneOf, IsReplyThere, IsStanding, ServerStands, WasAnswered}
-use Rattle.world_servers.proofs.Lists.{all_append, all_of, each_of, first_or, here, later, map_all}
-use Rattle.world_servers.proofs.Losing.{named_itself, named_no_other, number_of_named, standing_is_not_lost}
+use Rattle.world_servers.specs.Servers.{AreApart, IsJobThere, IsLost, IsOneOf, IsReplyThere, IsStanding, ServerStands, WasAnswered}
+use Rattle.world_servers.proofs.Lists.{all_append, each_of, first_or, here, later, map_all}
+use Rattle.world_servers.proofs.Losing.{named_no_other, number_of_named, standing_is_not_lost}
 use Rattle.world_servers.proofs.Others.{empty_has, job_left, lost_left, one_of_number, standing_left, two_uniques}
-use Rattle.world_servers.proofs.Still.{reply_more}
 
 -- the list of entries grew by entries of one server session
 abbrev pub EntriesGrow : ℕ → List moves.Entry → List moves.Entry → Type 0

@@ -1,9 +1,8 @@
 -- What a move leaves of the sessions that it isn't of.
-use Rattle.std.proofs.Common.{◌≡◌, ◌≢◌, ℕ, ◌<◌, arith, Bool, true, List, [], ◌∷◌, inl, inr, refl, sym, ap, subst, ◌∙◌}
+use Rattle.std.proofs.Common.{◌≡◌, ◌≢◌, ℕ, ◌<◌, arith, List, [], ◌∷◌, inl, inr, sym, ap, subst, ◌∙◌}
 use Rattle.std.specs.List.{AllByRecursion, Contains}
 use Rattle.id_window.specs.History.{FirstJudgement}
 use Rattle.waits.specs.declared.job.Unfinished.{Unfinished}
-use Rattle.waits.specs.Jobs.{Queue}
 use Rattle.server_rules.specs.Server.{Session}
 use Rattle.session_moves.specs.Table as moves
 use Rattle.session_moves.specs.Table.Outcome.{AcceptedCall}

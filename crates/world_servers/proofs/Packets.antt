@@ -1,6 +1,6 @@
 -- A packet's messages are judged.
-use Rattle.std.proofs.Common.{◌≡◌, ◌≢◌, ℕ, zero, suc, ◌≤◌, ◌<◌, ◌==◌, ◌&&◌, ◌||◌, Bool, true, false, List, [], ◌∷◌, ◌++◌, map, fold, reverse, Option, None, Some, Result, Ok, Err, if◌then◌else◌, inl, inr, refl, sym, ap, subst, ◌∙◌, arith, eq-eqb, ne_eqb}
-use Rattle.std.specs.Prelude.{◌⊎◌, ⊤, nat_le, nat_lt}
+use Rattle.std.proofs.Common.{◌≡◌, ◌≢◌, ℕ, ◌≤◌, ◌<◌, ◌==◌, ◌&&◌, ◌||◌, Bool, true, false, List, [], ◌∷◌, ◌++◌, map, fold, Option, None, Some, Result, Ok, Err, if◌then◌else◌, inl, inr, refl, sym, ap, subst, ◌∙◌, arith, eq-eqb, ne_eqb}
+use Rattle.std.specs.Prelude.{nat_le}
 use Rattle.std.specs.List.{All, AllByRecursion, Contains, cons_option, filter_map, list_any, zip}
 use Rattle.std.specs.Option.{option_or}
 use Rattle.std.proofs.lemmas.Bool.{cases_Bool, cases_eq}
@@ -11,14 +11,14 @@ use Rattle.salt_line.specs.Line.{Line}
 use Rattle.service_tl.specs.declared.lists.Message.{Message}
 use Rattle.service_tl.specs.declared.item.Item.{Item}
 use Rattle.id_window.specs.declared.mark.Mark.{Mark}
-use Rattle.id_window.specs.Marks.{Marks, given, mark_of}
+use Rattle.id_window.specs.Marks.{Marks, mark_of}
 use Rattle.id_window.specs.History.{FirstJudgement, History, Outcome, Refused, AcceptedContainer, AcceptedCall, AcceptedOther, EachOnce, floor, found, is_kept, noted, was_accepted}
 use Rattle.containers.specs.declared.fault.ContainerFault.{ContainerFault}
 use Rattle.inbox.specs.declared.judged.Verdict.{Verdict}
 use Rattle.inbox.specs.declared.judged.Verdict.TheVariants.{Accepted, Again, Noticed}
 use Rattle.inbox.specs.Kinds.{begins_acknowledgement, begins_call, constructor_of, container_in, item_told, kind_among, kind_of}
-use Rattle.inbox.specs.Refusals.{Way, InContainer, InEnvelope, by_envelope, by_neighbours, by_number, by_parity, by_body, is_row_of, is_valid_salt, refusal}
-use Rattle.inbox.specs.Judging.{Session as Remembered, first_mark, inner_judgements, inner_session, is_container, is_recorded, is_uncontained, judge, judged_session, judgements, outcome_of, recorded, remembered as remembers, session_after, unfolded, verdict_again, verdict_by}
+use Rattle.inbox.specs.Refusals.{Way, InContainer, InEnvelope, by_envelope, by_number, is_row_of, is_valid_salt, refusal}
+use Rattle.inbox.specs.Judging.{Session as Remembered, first_mark, inner_judgements, inner_session, is_container, is_recorded, is_uncontained, judge, judged_session, judgements, outcome_of, recorded, remembered as remembers, session_after, unfolded, verdict_by}
 use Rattle.waits.specs.Jobs.{Queue}
 use Rattle.server_rules.specs.Server.{Reply, Session, is_named, mark_after, marks_of, name_of, remembered, with_session}
 use Rattle.server_rules.specs.Answer.{messages_judged}
@@ -32,7 +32,7 @@ use Rattle.world_moves.specs.Sent.{WasSent}
 use Rattle.world_servers.specs.Leading.{Leads}
 use Rattle.world_servers.specs.Servers.{AsksThere, HasSalt, IsAcceptedThere, IsStanding, IsSuch, IsUp, ServerStands, WasJudged, with_history}
 use Rattle.world_servers.proofs.Lists.{each_of, first_or, here, later, map_all}
-use Rattle.world_servers.proofs.Leading.{GoOn, goes_on, leads_so, stays}
+use Rattle.world_servers.proofs.Leading.{GoOn, goes_on, stays}
 use Rattle.world_servers.proofs.Judging.{judges}
 use Rattle.world_servers.proofs.Others.{empty_has}
 use Rattle.world_servers.proofs.One.{put, put_itself, with_itself}
@@ -244,7 +244,7 @@ all_last lasts w list lawful x ones h =
 
 -- ---- sessions with a longer history
 
-with_among : (sessions : List Session) (x new : Session) → new.key ≡ x.key → new.number ≡ x.number → Contains sessions x → Contains (with_session new sessions) new
+pub with_among : (sessions : List Session) (x new : Session) → new.key ≡ x.key → new.number ≡ x.number → Contains sessions x → Contains (with_session new sessions) new
 with_among [] x new key number h = absurd (empty_has x h)
 with_among (first ∷ sessions) x new key number h =
     elim (first_or x first sessions h) [
@@ -264,7 +264,7 @@ put_twice one two o key number =
       | inr not ↦ rw not refl
     ]
 
-with_twice : (sessions : List Session) (one two : Session) → two.key ≡ one.key → two.number ≡ one.number → with_session two (with_session one sessions) ≡ with_session two sessions
+pub with_twice : (sessions : List Session) (one two : Session) → two.key ≡ one.key → two.number ≡ one.number → with_session two (with_session one sessions) ≡ with_session two sessions
 with_twice [] one two key number = refl
 with_twice (o ∷ sessions) one two key number =
     ap (λ (z : Session). z ∷ with_session two (with_session one sessions)) (put_twice one two o key number)
@@ -351,7 +351,7 @@ module _ (low : (history : History) → All (λ (j : FirstJudgement). is_kept j.
         stays w (AtWith r (one_of way r message)) (
           s,
           one_fact w x message (judge way r message)
-          (λ item accepted. absurd (none_is_not_some (outcome_of (kind_of message)) (recorded_accepted message (judge way r message) item accepted None is))),
+              (λ item accepted. absurd (none_is_not_some (outcome_of (kind_of message)) (recorded_accepted message (judge way r message) item accepted None is))),
         )
     step_by way r message (Some outcome) is marks salted w s up =
         let now : Session = with_history r.history x in
@@ -367,19 +367,19 @@ module _ (low : (history : History) → All (λ (j : FirstJudgement). is_kept j.
           own = l.own;
           gives = (
             subst (λ (list : List Session). ServerStands (after_all w l.moves) lost list jobs)
-            (with_twice sessions now (with_history (noted message.number message.seq outcome r.history) x) refl refl) l.gives.0,
+                (with_twice sessions now (with_history (noted message.number message.seq outcome r.history) x) refl refl) l.gives.0,
             one_fact (after_all w l.moves) x message (judge way r message)
-            (λ item accepted.
-            let same : item_told message.body ≡ item =
-            item_same (found message.number r.history r.marks) (refusal way r.history message) message (item_told message.body) item accepted in
-            let was : was_accepted outcome ≡ true =
-            subst (λ (o : Outcome). was_accepted o ≡ true)
-            (ap (λ (o : Option Outcome). or_outcome o outcome) (sym (recorded_accepted message (judge way r message) item accepted (Some outcome) is)))
-            (accepted_among (container_in message.number message.body) message.body) in
-            subst (λ (i : Item). AsksThere (after_all w l.moves) x message.number (request_of i message.body)) same
-            (asks_now (after_all w l.moves) x salt message.number (request_of (item_told message.body) message.body) (up_more w l.moves l.lawful message up)
-            (λ body asked. subst (λ (o : moves.Outcome). Contains ((after_all w l.moves).servers x.unique).judged (record { number = message.number; outcome = o }))
-            (decision.called body was (up.is ∙ asked)) l.gives.1))),
+                (λ item accepted.
+                let same : item_told message.body ≡ item =
+                item_same (found message.number r.history r.marks) (refusal way r.history message) message (item_told message.body) item accepted in
+                let was : was_accepted outcome ≡ true =
+                subst (λ (o : Outcome). was_accepted o ≡ true)
+                (ap (λ (o : Option Outcome). or_outcome o outcome) (sym (recorded_accepted message (judge way r message) item accepted (Some outcome) is)))
+                (accepted_among (container_in message.number message.body) message.body) in
+                subst (λ (i : Item). AsksThere (after_all w l.moves) x message.number (request_of i message.body)) same
+                (asks_now (after_all w l.moves) x salt message.number (request_of (item_told message.body) message.body) (up_more w l.moves l.lawful message up)
+                (λ body asked. subst (λ (o : moves.Outcome). Contains ((after_all w l.moves).servers x.unique).judged (record { number = message.number; outcome = o }))
+                (decision.called body was (up.is ∙ asked)) l.gives.1))),
           );
         }
 

@@ -1,7 +1,7 @@
 -- A session speaks.
-use Rattle.std.proofs.Common.{◌≡◌, ◌≢◌, ℕ, zero, suc, ◌<◌, ◌||◌, arith, None, Bool, true, false, List, [], ◌∷◌, ◌++◌, map, reverse, if◌then◌else◌, inl, inr, refl, sym, ap, subst, ◌∙◌}
-use Rattle.std.specs.Prelude.{◌⊎◌, ⊤}
-use Rattle.std.specs.List.{All, AllByRecursion, Contains, list_any}
+use Rattle.std.proofs.Common.{◌≡◌, ℕ, ◌<◌, ◌||◌, arith, None, Bool, true, List, [], ◌∷◌, map, reverse, inl, inr, refl, sym, subst, ◌∙◌}
+use Rattle.std.specs.Prelude.{◌⊎◌}
+use Rattle.std.specs.List.{AllByRecursion, Contains}
 use Rattle.std.proofs.lemmas.Bool.{cases_Bool}
 use Rattle.std.proofs.lemmas.List.{reverse-append}
 use Rattle.std.proofs.lemmas.List.Elements.{Contains-append_left, Contains-append_right}
@@ -9,17 +9,17 @@ use Rattle.salt_line.specs.Rows.{Row}
 use Rattle.id_window.specs.History.{FirstJudgement, History, Outcome, Refused, AcceptedContainer, AcceptedCall, AcceptedOther, was_accepted}
 use Rattle.inbox.specs.Inbox.{was_heard}
 use Rattle.waits.specs.Jobs.{Queue}
-use Rattle.server_rules.specs.Server.{IsKept, Reply, Session, has_accepted}
+use Rattle.server_rules.specs.Server.{Reply, Session, has_accepted}
 use Rattle.session_moves.specs.Table as moves
 use Rattle.session_moves.specs.Table.Item.{NewSession, Result, Notice, WrongSalt}
 use Rattle.session_moves.specs.Table.Outcome.{Noticed}
-use Rattle.session_moves.specs.World.{World, HasAccepted, IsAccepted}
+use Rattle.session_moves.specs.World.{World, HasAccepted}
 use Rattle.session_moves.specs.Move.Move.{Speak}
 use Rattle.session_moves.specs.After.{after}
-use Rattle.session_moves.specs.Lawful.{BeginsNew, MaySay, WasNoCall}
+use Rattle.session_moves.specs.Lawful.{BeginsNew, MaySay}
 use Rattle.session_moves.specs.Reached.{Reached}
 use Rattle.world_servers.specs.Leading.{Leads}
-use Rattle.world_servers.specs.Servers.{CanSay, HasNoticed, HasSalt, HasSame, IsOutcomeThere, IsReplyThere, IsStanding, ServerStands}
+use Rattle.world_servers.specs.Servers.{CanSay, HasNoticed, HasSalt, IsOutcomeThere, IsReplyThere, IsStanding, ServerStands}
 use Rattle.world_servers.proofs.Lists.{each_of, first_or, here, later, map_all}
 use Rattle.world_servers.proofs.Leading.{moves_once}
 use Rattle.world_servers.proofs.Judging.{at_all}

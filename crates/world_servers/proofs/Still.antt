@@ -1,8 +1,6 @@
 -- A server stands still while clients move.
-use Rattle.std.proofs.Common.{◌≡◌, ◌≢◌, ℕ, zero, suc, ◌<◌, List, [], ◌∷◌, ◌++◌, inl, inr, refl, sym, ap, subst, ◌∙◌, arith}
-use Rattle.std.specs.Prelude.{◌⊎◌, ⊤}
+use Rattle.std.proofs.Common.{◌≡◌, ℕ, List, ◌++◌, inl, inr, sym, ap, subst, ◌∙◌}
 use Rattle.std.specs.List.{All, AllByRecursion, Contains}
-use Rattle.std.proofs.lemmas.List.Elements.{All-head, All-tail}
 use Rattle.waits.specs.Jobs.{Queue}
 use Rattle.server_rules.specs.Server.{Session, Reply}
 use Rattle.session_moves.specs.Table as moves

@@ -116,6 +116,14 @@ IsNewSalt w word = (word ≢ 0) × ((unique : ℕ) → Contains (w.servers uniqu
 abbrev pub with_row : Row → Session → Session
 with_row row session = record session { salts = record session.salts { rows = session.salts.rows ++ row ∷ [] } }
 
+-- the words of these rows are such, and differ
+abbrev pub AreNewSalts : World → List Row → Type 0
+AreNewSalts w [] = ⊤
+AreNewSalts w (row ∷ rows) = IsNewSalt w row.word × AllByRecursion (λ other. other.word ≢ row.word) rows × AreNewSalts w rows
+
+abbrev pub with_rows : List Row → Session → Session
+with_rows rows session = record session { salts = record session.salts { rows = session.salts.rows ++ rows } }
+
 abbrev pub with_history : History → Session → Session
 with_history history session = record session { history = history }
 

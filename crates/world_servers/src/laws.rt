@@ -1,6 +1,6 @@
 //! Laws of a server's events and moves, each the contract of a function that does nothing.
 
-ghost use Rattle.std.specs.Prelude.{filter_map, map, ◌++◌, ◌≡◌, ◌≢◌, ◌∷◌, ◌⊎◌, ℕ, false, true, List, [], filter};
+ghost use Rattle.std.specs.Prelude.{Bool, ◌==◌, if◌then◌else◌, filter_map, map, ◌++◌, ◌≡◌, ◌≢◌, ◌∷◌, ◌⊎◌, ℕ, false, true, List, [], filter};
 ghost use Rattle.std.specs.List.{All, AllByRecursion, Contains, zip};
 ghost use Rattle.salt_line.specs.Rows.{Row};
 ghost use Rattle.service_tl.specs.declared.lists.Message.{Message as Said};
@@ -8,8 +8,12 @@ ghost use Rattle.id_window.specs.History.{EachOnce, Outcome, noted};
 ghost use Rattle.inbox.specs.Refusals.{InEnvelope};
 ghost use Rattle.inbox.specs.Judging.{judgements, session_after};
 ghost use Rattle.waits.specs.declared.job.Job.{Job};
-ghost use Rattle.waits.specs.Jobs.{Queue, accepted, is_of, without_session as without_jobs_of};
+ghost use Rattle.waits.specs.declared.job.Unfinished.{Unfinished};
+ghost use Rattle.waits.specs.Jobs.{Queue, accepted, is_of, without_first, without_ready, without_session as without_jobs_of};
 ghost use Rattle.server_rules.specs.Server.{Name, Reply, Server, Session, has_accepted, is_named, remembered, with_session, without_session};
+ghost use Rattle.server_rules.specs.Rows.{acked_by};
+ghost use Rattle.server_rules.specs.Speaking.{dropped, made_room};
+ghost use Rattle.server_rules.specs.Waiting.{Outlook, told};
 ghost use Rattle.server_rules.specs.Answer.{after_loss, after_restart, messages_judged};
 ghost use Rattle.server_lives.specs.Lives.{acceptance_of};
 ghost use Rattle.session_moves.specs.Table as moves;
@@ -22,7 +26,7 @@ ghost use Rattle.session_moves.specs.Move.{Move};
 ghost use Rattle.session_moves.specs.Extends.{IsOfClient};
 ghost use Rattle.session_moves.specs.Reached.{AreLawful, Reached, after_all};
 ghost use Rattle.world_servers.specs.Leading.{Leads};
-ghost use Rattle.world_servers.specs.Servers.{CanSay, GoOn, HasForgotten, IsAcceptedThere, IsJobOf, IsNewSalt, IsSuch, IsUp, ServerStands, WasAnswered, WasJudged, with_history, with_replies, with_row};
+ghost use Rattle.world_servers.specs.Servers.{AreNewSalts, CanSay, GoOn, HasForgotten, IsAcceptedThere, IsJobOf, IsNewSalt, IsSuch, IsUp, ServerStands, WasAnswered, WasJudged, with_history, with_replies, with_row, with_rows};
 
 use id_window::laws::others_are_not_above_the_floor;
 use server_laws::laws::{floors_never_fall, marks_are_of_replies};
@@ -53,11 +57,15 @@ pub fn servers_stand_still()
     moves_only_add();
 }
 
-/// A session that needs a further row of salts draws its word by a lawful move, where it is a new one.
+/// A session that needs further rows of salts draws their words by lawful moves, where they are new ones.
 pub fn salts_are_drawn_by_moves()
-    ensures { (w : World) (lost sessions : List Session) (jobs : Queue) (session : Session) (row : Row) → ServerStands w lost sessions jobs
+    ensures all { (w : World) (lost sessions : List Session) (jobs : Queue) (session : Session) (rows : List Row) → Reached w → ServerStands w lost sessions jobs
+        → Contains sessions session → AreNewSalts w rows → Leads w (λ later. ServerStands later lost (with_session (with_rows rows session) sessions) jobs) }
+    ensures one { (w : World) (lost sessions : List Session) (jobs : Queue) (session : Session) (row : Row) → ServerStands w lost sessions jobs
         → Contains sessions session → IsNewSalt w row.word → Leads w (λ later. ServerStands later lost (with_session (with_row row session) sessions) jobs) }
-{}
+{
+    moves_go_on();
+}
 
 /// A number that wasn't judged is judged by a lawful move, where a message of that number was sent under the session's number
 /// and may have that outcome.
@@ -146,3 +154,19 @@ pub fn packets_are_judged_by_moves()
     moves_go_on();
     moves_only_add();
 }
+
+/// What becomes of replies in an event leaves each what it is: room is made, receipts are taken, one is dropped.
+pub fn replies_go_on()
+    ensures room { (bytes : ℕ) (replies : List Reply) → GoOn replies (made_room bytes replies) }
+    ensures acked { (numbers : List ℕ) (replies : List Reply) → GoOn replies (map (acked_by numbers) replies) }
+    ensures dropped { (number : ℕ) (replies : List Reply) → GoOn replies (map (λ other. if other.number == number then dropped other else other) replies) }
+{}
+
+/// What becomes of jobs in an event leaves each the call that it is: one is taken out, they are told of a number, those of a
+/// session go.
+pub fn jobs_go_on()
+    ensures first { (test : Unfinished → Bool) (jobs : Queue) → AllByRecursion (IsJobOf jobs) (without_first test jobs) }
+    ensures ready { (place : ℕ) (jobs : Queue) → AllByRecursion (IsJobOf jobs) (without_ready place jobs) }
+    ensures told { (outlook : Outlook) (session : Session) (number : ℕ) (jobs : Queue) → AllByRecursion (IsJobOf jobs) (told outlook session number jobs) }
+    ensures session { (key number : ℕ) (jobs : Queue) → AllByRecursion (IsJobOf jobs) (without_jobs_of key number jobs) }
+{}
