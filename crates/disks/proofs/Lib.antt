@@ -1,1 +1,3 @@
+pub mod Moments
 pub mod CrashLemmas
+pub mod LostLemmas

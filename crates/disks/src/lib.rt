@@ -10,12 +10,14 @@ mod disk_len;
 mod disks;
 mod file_disks;
 pub mod laws;
+mod mem_disk;
 
 pub use disk::Disk;
 pub use disk_act::DiskAct;
 pub use disk_len::DiskLen;
 pub use disks::{DiskOpen, Disks};
 pub use file_disks::{FileDisk, FileDisks};
+pub use mem_disk::MemDisk;
 
 #[cfg(test)]
 mod tests;

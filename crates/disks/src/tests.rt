@@ -4,8 +4,10 @@ ghost use Rattle.std.specs.Prelude.{◌≡◌, ◌++◌, IfSome, IsSomeAnd};
 ghost use Rattle.disks.specs.Crash.{synced_at};
 ghost use Rattle.disks.specs.Told.{now};
 
-use crate::{Disk, DiskLen, DiskOpen, Disks, FileDisks};
+use crate::{Disk, DiskLen, DiskOpen, Disks, FileDisks, MemDisk};
 use mt_edge::Act;
+use octets::Octets;
+use std::alloc::Global;
 use std::fs;
 use std::test::Fail;
 
@@ -33,6 +35,26 @@ fn first_byte<K: Disk>(disk: &mut K) -> Option<u8> {
         },
         _ => None,
     }
+}
+
+/// What a stop after so many acts may leave is this.
+fn loses(disk: &MemDisk, alloc: Global, acts: usize, want: &[u8]) -> Result<bool, Fail> {
+    if acts > disk.acts().len() {
+        return Ok(false);
+    }
+    Ok(disk.lost(alloc, acts)?.as_slice() == want)
+}
+
+#[test]
+fn files_in_memory(rt: HostRuntime) -> Result<(), Fail> {
+    let alloc = rt.alloc();
+    let mut disk = MemDisk::new(alloc, b"ab", &[4, 8], 8, 4)?;
+    assert_eq!(rt; add(&mut disk, b"cd"), Act::Ready);
+    assert_eq!(rt; add(&mut disk, b"ef"), Act::Failed);
+    assert_eq!(rt; first_byte(&mut disk), Some(b'a'));
+    assert_eq!(rt; (disk.contents(), disk.faults()), (b"abcd".as_slice(), 1));
+    assert!(rt; loses(&disk, alloc, 1, b"ab")? && loses(&disk, alloc, 2, b"abcd")?);
+    Ok(())
 }
 
 #[test]
