@@ -8,15 +8,20 @@ mod answering;
 mod bindings;
 mod calls;
 mod dropping;
+mod due;
 mod entries;
+mod opening;
+mod owes;
 mod repeating;
 mod saying;
 mod turn;
 mod waiting;
 
 pub use bindings::Bindings;
-pub use calls::CallDue;
+pub use calls::{Awaited, CallDue};
+pub use due::{Answering, Asked, Due, Telling};
 pub use entries::{Entries, Entry};
+pub use opening::acks_of;
 pub use turn::Turn;
 pub use waiting::Run;
 

@@ -81,11 +81,7 @@ fn answers(alloc: Global, standing: &mut Standing, call: u64) -> Result<usize, M
 
 // Says the kept reply to a call again, and then once more in the same event; how many messages that owes.
 fn says_twice(alloc: Global, standing: &Standing, call: u64) -> Result<usize, Memory> {
-    let bytes = match standing.kept_to(call) {
-        Some(kept) => kept.body.len(),
-        None => 0,
-    };
-    let mut owing = Owing::new(alloc, 2, 2 * bytes)?;
+    let mut owing = Owing::new(alloc, standing.kept_count(), standing.kept_bytes())?;
     standing.says_kept::<StepDraw>(&mut owing, call);
     standing.says_kept::<StepDraw>(&mut owing, call);
     Ok(owing.len())
