@@ -1,8 +1,8 @@
 -- A session at its place has judged: what is kept of the others stands as it did.
-use Rattle.std.proofs.Common.{◌≡◌, ◌∙◌, ℕ, ◌<◌, Some, List, length, get_or, set, ap, sym, subst, arith, Option}
-use Rattle.std.specs.List.{position, position_or_len}
+use Rattle.std.proofs.Common.{◌≡◌, ◌∙◌, ℕ, Some, List, get_or, set, sym, subst, arith}
+use Rattle.std.specs.List.{position}
 use Rattle.id_window.specs.History.{History}
-use Rattle.server_rules.specs.Server.{Name, Session, name_of, session_named, with_session}
+use Rattle.server_rules.specs.Server.{Name, Session, session_named, with_session}
 use Rattle.standing.specs.declared.standing.Standing.{Standing}
 use Rattle.standing.specs.Standing.{Stands}
 use Rattle.server_core.specs.Sessions.{AreApart, AreKept, is_kept_as}

@@ -1,5 +1,5 @@
 -- The session that spoke goes back among the others, as it is kept.
-use Rattle.std.proofs.Common.{◌≡◌, ◌∙◌, ℕ, Bool, true, false, List, [], ◌∷◌, ◌++◌, ap, sym, subst, refl}
+use Rattle.std.proofs.Common.{◌≡◌, ◌∙◌, ℕ, Bool, true, false, List, [], ◌∷◌, ◌++◌, ap, sym, subst}
 use Rattle.std.specs.Prelude.{nat_lt}
 use Rattle.waits.specs.Jobs.{Queue, without_session as without_jobs_of}
 use Rattle.server_rules.specs.Server.{Name, Session}

@@ -10,14 +10,11 @@ ghost use Rattle.server_core.specs.Server.{without_jobs_where};
 ghost use Rattle.server_core.specs.Sessions.{AreKept};
 
 use crate::others::Others;
-use crate::sessions::Sessions;
+use crate::sessions::{ROOM_MIN, Sessions};
 use draws::Draw;
 use standing::Standing;
 use standing::laws::sessions_stand_later;
 use waits::Jobs;
-
-/// For how many further numbers a session has to have room after an event.
-const ROOM_MIN: u64 = 16_384;
 
 /// The session that spoke is the one heard last, or is lost with its jobs where it has no room for the numbers of a further
 /// event. Takes no memory.

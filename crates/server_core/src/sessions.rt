@@ -34,7 +34,7 @@ use std::marker::Model;
 use std::mem;
 
 /// For how many further numbers a session has to have room after an event.
-const ROOM_MIN: u64 = 16_384;
+pub(crate) const ROOM_MIN: u64 = 16_384;
 
 /// The sessions that a server keeps, the one heard least recently first, and no two of one name. Contracts see the list. A
 /// search looks at names alone.

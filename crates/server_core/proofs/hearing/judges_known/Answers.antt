@@ -1,4 +1,4 @@
-use Rattle.std.proofs.Common.{◌≡◌, List, get_or, sym, subst}
+use Rattle.std.proofs.Common.{List, get_or, sym, subst}
 use Rattle.inbox.specs.Inbox.{message_in}
 use Rattle.inbox.specs.Judging.{session_after}
 use Rattle.inbox.specs.Refusals.{InEnvelope}

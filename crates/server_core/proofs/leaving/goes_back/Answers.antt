@@ -1,4 +1,4 @@
-use Rattle.std.proofs.Common.{◌≡◌, ◌∙◌, ℕ, List, ap, sym, subst}
+use Rattle.std.proofs.Common.{◌∙◌, ℕ, List, ap, sym, subst}
 use Rattle.std.specs.Prelude.{nat_lt}
 use Rattle.server_rules.specs.Answer.{is_spent, room_min}
 use Rattle.standing.specs.declared.standing.Standing.{Standing}

@@ -1,9 +1,9 @@
-use Rattle.std.proofs.Common.{◌≡◌, ◌∙◌, ◌<◌, List, length, get_or, set, ap, sym, subst}
+use Rattle.std.proofs.Common.{◌≡◌, ◌∙◌, ◌<◌, List, length, get_or, ap, sym, subst}
 use Rattle.std.proofs.lemmas.List.{get_or-set_same, get_or_default}
 use Rattle.inbox.specs.Inbox.{message_in}
 use Rattle.inbox.specs.Judging.{session_after}
 use Rattle.inbox.specs.Refusals.{InEnvelope}
-use Rattle.server_rules.specs.Server.{Session, remembered}
+use Rattle.server_rules.specs.Server.{remembered}
 use Rattle.standing.specs.declared.standing.Standing.{Standing}
 use Rattle.standing.specs.Standing.{Stands}
 use Rattle.server_core.proofs.sessions.Sessions.judges.Goals as goal
