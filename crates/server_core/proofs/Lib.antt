@@ -24,3 +24,5 @@ pub mod HearLemmas
 pub mod DestroyLemmas
 pub mod Pairs
 pub mod Remembering
+pub mod JudgeLemmas
+pub mod LeaveLemmas

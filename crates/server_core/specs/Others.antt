@@ -1,5 +1,5 @@
 -- The sessions that a server keeps beside one that speaks.
-use Rattle.std.specs.Prelude.{nat_lt, if◌then◌else◌, Option, Some, None, List, [], ◌∷◌, length}
+use Rattle.std.specs.Prelude.{nat_lt, Bool, if◌then◌else◌, Option, Some, None, List, [], ◌∷◌, ◌++◌, length}
 use Rattle.server_rules.specs.Server.{sessions_max}
 use Rattle.standing.specs.declared.standing.Standing.{Standing}
 use Rattle.standing.specs.Standing.{key_of, number_of}
@@ -26,3 +26,7 @@ with_place standings = if nat_lt (length standings) sessions_max then standings 
 abbrev pub without_lost : Option Standing → Queue → Queue
 without_lost None jobs = jobs
 without_lost (Some standing) jobs = without_session (key_of standing) (number_of standing) jobs
+
+-- the others, and last the one that spoke, unless it is lost
+abbrev pub with_last_where : Bool → Standing → List Standing → List Standing
+with_last_where lost standing standings = if lost then standings else standings ++ standing ∷ []

@@ -10,6 +10,7 @@ mod effects;
 mod failures;
 mod hearing;
 pub mod laws;
+mod leaving;
 mod others;
 mod server;
 mod sessions;
