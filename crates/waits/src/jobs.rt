@@ -4,7 +4,7 @@ ghost use Rattle.std.specs.Prelude.{◌≡◌, ◌+◌, ◌<◌, ◌≤◌, [], 
 ghost use Rattle.std.specs.Option.{option_copied};
 ghost use Rattle.std.specs.List.{list_any};
 ghost use Rattle.waits.specs.Limits.{most_jobs, most_job_bytes};
-ghost use Rattle.waits.specs.Jobs.{accepted, is_call, is_overdue, has_failed, ready_count, ready_job, without_ready, first_job, without_first, settled, without_session, job_count, job_bytes, waiting_count, blocked_count_of, load_of};
+ghost use Rattle.waits.specs.Jobs.{accepted, is_call, is_overdue, has_failed, ready_count, ready_job, without_ready, first_job, without_first, settled, without_session, job_count, job_bytes, waiting_count, blocked_count_of, overdue_count, overdue_count_of, load_of};
 ghost use Rattle.waits.specs.Wanted.{is_wanted};
 
 use crate::job::{Job, Unfinished};
@@ -235,6 +235,27 @@ impl Jobs {
         ensures within { result ≤ most_jobs }
     {
         tally::find(&self.tallies, key, session).blocked
+    }
+
+    /// How many jobs wait for a call and were accepted `WAIT_SECONDS` or more before `now`. Looks at no job where all
+    /// are ready.
+    pub fn overdue(&self, now: Moment) -> usize
+        ensures count { result ≡ overdue_count now self.now.jobs }
+    {
+        if self.blocked == 0 {
+            return 0;
+        }
+        queue::count_of(&self.queue, &Wanted::Overdue(now))
+    }
+
+    /// How many of these a session has. Looks at no job where none of the session waits.
+    pub fn overdue_of(&self, key: u64, session: u64, now: Moment) -> usize
+        ensures count { result ≡ overdue_count_of key session now self.now.jobs }
+    {
+        if self.waiting(key, session) == 0 {
+            return 0;
+        }
+        queue::count_of(&self.queue, &Wanted::OverdueOf(key, session, now))
     }
 
     /// Whether an unfinished job has this number in this session.

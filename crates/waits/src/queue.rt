@@ -10,7 +10,6 @@ ghost use Rattle.waits.specs.Tallies.{is_tally_of, counted_in, IsTallied};
 ghost use Rattle.waits.specs.Wanted.{is_wanted};
 
 use crate::job::Unfinished;
-use crate::jobs::WAIT_SECONDS;
 use crate::tally::{self, Tally};
 use msg_ids::Moment;
 use octets::Memory;
@@ -26,6 +25,8 @@ pub(crate) enum Wanted {
     Failed,
     /// A job that has waited too long at this moment.
     Overdue(Moment),
+    /// Such a job of a key and a session.
+    OverdueOf(u64, u64, Moment),
     /// The call of a key, a session and a number.
     Call(u64, u64, u64),
     /// A job of a key and a session that waits for the call of a number.
@@ -39,9 +40,8 @@ fn is_wanted(wanted: &Wanted, one: &Unfinished) -> bool
     match *wanted {
         Wanted::Blocked => !one.is_ready(),
         Wanted::Failed => one.failed,
-        Wanted::Overdue(now) => {
-            one.is_waiting() && one.job.since.seconds() + WAIT_SECONDS <= now.seconds()
-        }
+        Wanted::Overdue(now) => one.is_overdue(now),
+        Wanted::OverdueOf(key, session, now) => one.is_of(key, session) && one.is_overdue(now),
         Wanted::Call(key, session, number) => one.is_of(key, session) && one.job.number == number,
         Wanted::Waiting(key, session, number) => one.waits_for(key, session, number),
     }
