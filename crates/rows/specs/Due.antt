@@ -2,9 +2,11 @@
 use Rattle.std.specs.Prelude.{ℕ, ◌+◌, ◌≤◌, Bool, true, false, List, [], ◌∷◌, length, min, ⊤}
 use Rattle.service_tl.specs.declared.item.Item.{Item}
 use Rattle.service_tl.specs.declared.item.Item.TheVariants.{RpcDropAnswer, GetFutureSalts, Ping, PingDelayDisconnect, DestroySession, MsgsAck, MsgsStateReq, MsgResendReq, InvokeAfterMsg, InvokeAfterMsgs, AuthBindTempAuthKey, Packed, Call, Broken}
+use Rattle.service_tl.specs.declared.lists.Message.{Message}
 use Rattle.salt_line.specs.Rows.{future_rows_max}
 use Rattle.inbox.specs.declared.judged.Verdict.{Verdict}
 use Rattle.inbox.specs.declared.judged.Verdict.TheVariants.{Accepted, Again, Noticed}
+use Rattle.inbox.specs.Kinds.{item_told}
 use Rattle.server_rules.specs.Calls.{each_once}
 use Rattle.answers.specs.Contents.{short_bytes_max}
 use Rattle.owing.specs.Items.{bad_salt_bytes, destroyed_bytes, ids_max, pong_bytes, result_bytes, salts_bytes, states_bytes}
@@ -56,6 +58,16 @@ abbrev pub due_of : ℕ → ℕ → Verdict → List ℕ → Due
 due_of number seq (Noticed code) body = Notice seq code
 due_of number seq (Again mark) body = CameAgain seq
 due_of number seq (Accepted item) body = accepted_needed number item body
+
+-- what a message needs where it is accepted
+abbrev pub needed_of : Message → Due
+needed_of message = accepted_needed message.number (item_told message.body) message.body
+
+-- what it needs once it is judged so, where this is what it needs accepted
+abbrev pub due_by : ℕ → Verdict → Due → Due
+due_by seq (Noticed code) due = Notice seq code
+due_by seq (Again mark) due = CameAgain seq
+due_by seq (Accepted item) due = due
 
 -- its list, where it asks by one, is no longer than what one message tells
 abbrev pub IsItemShort : Item → Type 0

@@ -5,7 +5,7 @@ ghost use Rattle.salt_line.specs.Rows.{future_rows_max};
 ghost use Rattle.owing.specs.Items.{ids_max, salts_bytes, states_bytes};
 ghost use Rattle.rows.specs.declared.due.Due.TheVariants.{Answers};
 ghost use Rattle.rows.specs.declared.due.Answering.TheVariants.{ForService};
-ghost use Rattle.rows.specs.Due.{IsItemShort, IsShort, accepted_needed, body_needed, call_needed, due_bytes, due_of, due_repeats, list_needed, telling_bytes, word_needed};
+ghost use Rattle.rows.specs.Due.{IsItemShort, IsShort, accepted_needed, body_needed, call_needed, due_by, due_bytes, due_of, due_repeats, list_needed, telling_bytes, word_needed};
 
 use crate::calls::CallDue;
 use answers::Bytes;
@@ -164,6 +164,18 @@ impl Due {
         }
     }
 
+    /// What the message of this sequence number needs, which was judged so, where this is what it needs accepted. Takes no
+    /// memory.
+    pub fn judged(self, seq: u32, verdict: &Verdict) -> Due
+        ensures { result ≡ due_by seq verdict.now self }
+    {
+        match verdict {
+            Verdict::Noticed(code) => Due::Notice { seq, code: *code },
+            Verdict::Again(_) => Due::CameAgain { seq },
+            Verdict::Accepted(_) => self,
+        }
+    }
+
     /// Whether it may say again replies that are kept already.
     pub fn repeats(&self) -> bool
         ensures { result ≡ due_repeats self.now }
@@ -217,8 +229,17 @@ fn states_bytes(asked: &Asked) -> usize
     STATES_BYTES + fill::string_size(count)
 }
 
-// What an accepted message needs by a query for the service, or else by its body, its list or a word.
-fn accepted_needed(alloc: Global, number: u64, item: &Item, body: &[u8]) -> Result<Due, Memory>
+/// What an accepted message needs by a query for the service, or else by its body, its list or a word.
+///
+/// # Errors
+///
+/// `Memory`.
+pub(crate) fn accepted_needed(
+    alloc: Global,
+    number: u64,
+    item: &Item,
+    body: &[u8],
+) -> Result<Due, Memory>
     requires short { IsItemShort item.now }
     ensures { IfOk result (λ due. due ≡ accepted_needed number item.now body.now) }
 {
