@@ -269,10 +269,7 @@ impl Core {
         };
         let body = room.body(key, number, &inner, draw);
         draft.put(number, seq, body.as_slice());
-        set_binding(
-            &mut self.temporary,
-            Binding::Asked { number, seq, body },
-        );
+        set_binding(&mut self.temporary, Binding::Asked { number, seq, body });
     }
 
     /// The answer to a call is to be dropped: that goes, where it fits, and whether it does.

@@ -26,7 +26,7 @@ returns-clause-holds g c messages holds =
     let rest = (Rattle.client_core.specs.contracts.core_client.Core.the_view c.self.inside).rest in
     let whole = asked_message step c.args.key.now c.args.at rest needed draw in
     let says = λ (nonce number : ℕ) (behind : g.row.D.Denot). spelling_of (AuthBindTempAuthKey needed.perm nonce needed.expires
-        (binding_message c.args.key.now (next_bytes step 16 behind) number (asked_inner rest needed nonce) (next_bytes step 8 (draw_after step 2 behind)))) in
+    (binding_message c.args.key.now (next_bytes step 16 behind) number (asked_inner rest needed nonce) (next_bytes step 8 (draw_after step 2 behind)))) in
     let number = ap (λ own. own.0) c.given-number.ensures.given in
     let body : c.as_slice.result.now ≡ whole.body =
     c.as_slice.ensures.value ∙ (c.body-body.ensures.body
