@@ -83,6 +83,19 @@ goes_out core draft filling message leaves size is sized fits =
           (record { client = is.client; messages = holds; inner = is.inner; is_full = refl })
     ]
 
+-- and what a filling tells stays
+pub goes_out_keeps : {S X : Type 0} (tells : Filling S → X) (core : Contents) (draft : Draft) (filling : Filling S) (message : Message) (leaves : Filling S → Filling S) (size : ℕ)
+    → Goes core draft filling → length message.body ≡ size → enters size draft ≡ false → tells (record filling { is_full = true }) ≡ tells filling
+    → tells (goes message leaves filling) ≡ tells filling
+goes_out_keeps tells core draft filling message leaves size is sized fits stays =
+    let within = is_within (filling.messages ++ message ∷ []) in
+    let gone = leaves (record filling { messages = filling.messages ++ message ∷ [] }) in
+    let all = record filling { is_full = true } in
+    elim (cases_Bool filling.is_full) [
+      | inl full ↦ ap tells (picks_full filling.is_full within filling gone all full)
+      | inr room ↦ ap tells (picks_out filling.is_full within filling gone all room (enters_is core draft filling message size is sized ∙ fits)) ∙ stays
+    ]
+
 -- the client changes besides
 pub goes_so : {S : Type 0} (core inside new : Contents) (draft : Draft) (filling : Filling S) (change : Client → Client)
     → inside ≡ core → Goes core draft filling

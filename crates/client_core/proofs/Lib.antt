@@ -1,6 +1,10 @@
 pub mod AloneLemmas
+pub mod BindSizes
+pub mod BoundLemmas
 pub mod CallLemmas
 pub mod DropLemmas
+pub mod FillLemmas
+pub mod FlushLemmas
 pub mod GoesLemmas
 pub mod ListLemmas
 pub mod MarkLemmas

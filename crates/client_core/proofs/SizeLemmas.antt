@@ -1,14 +1,15 @@
 -- How many bytes what is said has, and that these are whole words.
-use Rattle.std.proofs.Common.{◌≡◌, ℕ, ◌+◌, ◌*◌, ◌≤◌, Option, Some, None, List, [], ◌∷◌, ◌++◌, length, refl, arith, length-append}
+use Rattle.std.proofs.Common.{◌≡◌, ◌∙◌, ap, ℕ, ◌+◌, ◌*◌, ◌≤◌, Option, Some, None, List, [], ◌∷◌, ◌++◌, length, refl, arith, length-append}
 use Rattle.std.specs.Prelude.{⊤}
 use Rattle.std.specs.List.{flat_map}
 use Rattle.byteorder.specs.Endian.{little_bytes}
 use Rattle.tl_codec.specs.Standard.{bytes_max}
-use Rattle.tl_codec.specs.Spelling.{Form, Int, Long, Raw, Bytes, Longs, Truth, Tag, Of, Fits, spelling, size_of}
+use Rattle.tl_codec.specs.Spelling.{string_size, Form, Int, Long, Raw, Bytes, Longs, Truth, Tag, Of, Fits, spelling, size_of}
 use Rattle.service_tl.specs.Fields.{Field, Plain, Rest, Salts, Bodies, Holds, field_spelling}
 use Rattle.service_tl.specs.Items.{Values, fields_spelling, spelling_of}
 use Rattle.service_tl.specs.Words.{ItemIsWords}
-use Rattle.service_tl.specs.Schema.{rpc_drop_answer, get_future_salts, ping, destroy_session, msgs_ack, msgs_state_req, msgs_state_info, msg_resend_req, invoke_after_msg}
+use Rattle.service_tl.specs.Schema.{rpc_drop_answer, get_future_salts, ping, destroy_session, msgs_ack, msgs_state_req, msgs_state_info, msg_resend_req, invoke_after_msg, auth_bind_temp_auth_key}
+use Rattle.service_tl.specs.declared.item.Item.TheVariants.{AuthBindTempAuthKey}
 use Rattle.client_core.specs.declared.saying.Said.{Said}
 use Rattle.client_core.specs.declared.saying.Said.TheVariants.{Acks, Told, Resent, States, Pings, Salts as SaltsSaid, Destroys, Drops}
 use Rattle.client_rules.specs.Filling.{body_behind}
@@ -83,6 +84,11 @@ module _ (sizes : (form : Form) (value : Of form) → Fits form value → length
   pub call-size : (wrap : Option ℕ) (body : List ℕ) → length (body_behind wrap body) ≡ wrap_bytes wrap + length body
   call-size None body = omega arith
   call-size (Some number) body = omega (arith, boxed-size invoke_after_msg.number invoke_after_msg.fields (number, (body, tt)) (tt, (tt, tt)))
+
+  pub bind-size : (perm nonce expires : ℕ) (message : List ℕ) → length message ≡ 104 → length (spelling_of (AuthBindTempAuthKey perm nonce expires message)) ≡ 132
+  bind-size perm nonce expires message size =
+      boxed-size auth_bind_temp_auth_key.number auth_bind_temp_auth_key.fields (perm, (nonce, (expires, (message, tt)))) (tt, (tt, (tt, (omega (arith, size), tt))))
+      ∙ ap (λ n. 4 + (8 + (8 + (4 + (string_size n + 0))))) size
 
 pub said-is_words : (said : Said) → ItemIsWords (item_of said)
 said-is_words (Acks ids) = (tt, tt)

@@ -1,5 +1,5 @@
 -- What a flush answers, beside the definition's answer.
-use Rattle.std.specs.Prelude.{ℕ, Option, Some, None, List, [], ⊤}
+use Rattle.std.specs.Prelude.{◌≡◌, ℕ, nat_lt, Bool, true, false, Option, Some, None, List, [], ⊤}
 use Rattle.auth_keys.specs.declared.ring.RingKey.{RingKey}
 use Rattle.auth_keys.specs.Rings.{entry_of, key_in}
 use Rattle.temp_keys.specs.declared.binding.Inner.{Inner}
@@ -7,7 +7,10 @@ use Rattle.temp_keys.specs.Messages.{binding_message}
 use Rattle.envelope.specs.declared.parts.Dir.TheVariants.{Up}
 use Rattle.envelope.specs.Packet.{Lock, Sealed}
 use Rattle.client_rules.specs.Sending.{Setting, Packet}
-use Rattle.client_rules.specs.Flush.{Answer, Nothing, Spent, Sends}
+use Rattle.msg_ids.specs.Counters.{room}
+use Rattle.client_rules.specs.Client.{Client, at_moment}
+use Rattle.client_rules.specs.Flush.{Answer, Flushed, Nothing, Spent, Sends, flush, is_due, room_min}
+use Rattle.client_core.specs.Kept.{Contents, Stands}
 use Rattle.client_core.specs.declared.flush.Flush.{Flush}
 use Rattle.client_core.specs.declared.flush.Flush.TheVariants as told
 
@@ -32,3 +35,29 @@ TellsFlush lock keys Spent told.Spent = ⊤
 TellsFlush lock keys (Sends packet) (told.Packet bytes) = IsSealed lock keys packet bytes
 TellsFlush lock keys answer told.Memory = ⊤
 TellsFlush lock keys answer other = ⊥
+
+-- ---- what a flush does
+
+-- a packet was sent: the answer, what stands for the client then, and the draw are the definition's
+pub record Sent {S : Type 0} (lock : Lock) (keys : List RingKey) (due : Flushed S) (bytes : List ℕ) (core : Contents) (draw : S) : Type 0 where
+  pub answer : TellsFlush lock keys due.answer (told.Packet bytes)
+  pub client : Stands core due.client
+  pub drawn : draw ≡ due.draw
+
+-- why a flush answers so: whether something is due, and whether there may be too few numbers for it
+abbrev pub CauseOf : Bool → Bool → Flush → Type 0
+CauseOf due few told.Nothing = due ≡ false
+CauseOf due few told.Spent = (due ≡ true) × (few ≡ true)
+CauseOf due few (told.Packet bytes) = (due ≡ true) × (few ≡ false)
+CauseOf due few told.Memory = ⊤
+
+-- what it leaves: by an answer the definition's client and draw, and where memory ran out all as it was
+abbrev pub Leaves : {S : Type 0} → Flush → Contents → S → Client → S → Flushed S → Type 0
+Leaves told.Memory core draw client before due = Stands core client × (draw ≡ before)
+Leaves other core draw client before due = Stands core due.client × (draw ≡ due.draw)
+
+-- A flush of this client at a moment, that answers and leaves so.
+pub record Flushes {S : Type 0} (setting : Setting S) (lock : Lock) (keys : List RingKey) (now : ℕ) (client : Client) (before : S) (answer : Flush) (core : Contents) (draw : S) : Type 0 where
+  pub told : TellsFlush lock keys (flush setting now client before).answer answer
+  pub leaves : Leaves answer core draw client before (flush setting now client before)
+  pub cause : CauseOf (is_due setting (at_moment now client) before) (nat_lt (room client.counters) room_min) answer

@@ -1,18 +1,21 @@
 //! A binding is asked for.
 
-ghost use Rattle.std.specs.Prelude.{◌≡◌, ◌≤◌, ◌<◌, ◌+◌, ◌++◌, ◌∷◌, [], IfOk, IfSome, IsSome, length};
+ghost use Rattle.std.specs.Prelude.{◌≡◌, ◌≤◌, ◌<◌, ◌+◌, ◌++◌, ◌∷◌, [], ℕ, List, IfOk, IfSome, IsSome, length};
 ghost use Rattle.auth_keys.specs.Rings.{entry_of};
 ghost use Rattle.draws.specs.Draws.{draw_after, next_bytes, word_after};
 ghost use Rattle.service_tl.specs.Items.{spelling_of};
 ghost use Rattle.service_tl.specs.declared.item.Item.TheVariants.{AuthBindTempAuthKey};
 ghost use Rattle.temp_keys.specs.Messages.{binding_message, message_bytes};
-ghost use Rattle.client_core.specs.Asked.{HasRoom, bind_body_bytes};
+ghost use Rattle.client_rules.specs.Client.{Client};
+ghost use Rattle.client_core.specs.declared.rebinding.Needed.{Needed};
+ghost use Rattle.client_core.specs.Asked.{HasRoom, asked_message, bind_body_bytes};
 
 use auth_keys::AuthKey;
 use draws::Draw;
 use octets::{Buffer, Memory, Octets};
 use service_tl::AUTH_BIND_TEMP_AUTH_KEY;
 use std::alloc::Global;
+use temp_keys::laws::sizes_of_messages;
 use temp_keys::{Inner, MESSAGE_BYTES, bind_message_in};
 use tl_codec::fill;
 use tl_codec::laws::sizes_of_spellings;
@@ -21,7 +24,7 @@ use tl_codec::laws::sizes_of_spellings;
 const PLAIN_BYTES: usize = 80;
 
 /// The bytes of the body of a binding call.
-const BODY_BYTES: usize = 132;
+pub(crate) const BODY_BYTES: usize = 132;
 
 /// Room for a binding call: for its message, that message's plain text, and the body.
 #[derive(Debug, Drop)]
@@ -70,4 +73,13 @@ impl BindRoom {
         fill::bytes(&mut body, message.as_slice());
         body.into_octets()
     }
+}
+
+/// The body of a binding call has 132 bytes, whatever is drawn. Does nothing.
+pub(crate) fn sizes_of_bindings<D: Draw>()
+    ensures { (key : List ℕ) (at : ℕ) (client : Client) (needed : Needed) (draw : D)
+        → length (asked_message D.step key at client needed draw).body ≡ bind_body_bytes }
+{
+    sizes_of_spellings();
+    sizes_of_messages();
 }

@@ -87,7 +87,7 @@ impl Draft {
     }
 
     /// Whether a further message with a body of so many bytes fits. The packet is full from then on where it doesn't.
-    fn takes(&mut self, size: usize) -> bool
+    pub(crate) fn takes(&mut self, size: usize) -> bool
         ensures told { result ≡ enters size self.old }
         ensures kept { IsTrue result → self.new ≡ self.old }
         ensures full { IsFalse result → self.new ≡ filled_up self.old }
@@ -166,6 +166,26 @@ impl Draft {
         self.number = number;
         self.seq = seq;
         Some((number, seq))
+    }
+
+    /// Puts a message under a number that was given, which is among those of the calls in the packet and of the binding.
+    /// It was found to fit.
+    pub(crate) fn put(&mut self, number: u64, seq: u32, body: &[u8])
+        requires fits { enters (length body.now) self.old ≡ true }
+        requires words { length body.now % 4 ≡ 0 }
+        requires short { length body.now ≤ body_bytes_max }
+        ensures holds { (messages : List Message) → Holds self.old messages
+            → Holds self.new (messages ++ record { number = number; seq = seq; body = body.now } ∷ []) }
+        ensures inner { self.new.inner ≡ self.old.inner ++ number ∷ [] }
+        ensures kept { self.new.is_full ≡ self.old.is_full }
+        ensures count { self.new.count ≡ self.old.count + 1 }
+    {
+        container_sizes();
+        put_sent(&mut self.rows, number, seq, None, body);
+        self.inner.push_reserved(number);
+        self.count += 1;
+        self.number = number;
+        self.seq = seq;
     }
 
     /// Whether an item didn't fit.

@@ -5,6 +5,7 @@ ghost use Rattle.tl_codec.specs.Standard.{bool_true};
 ghost use Rattle.client_rules.specs.Asking.{begins};
 ghost use Rattle.client_rules.specs.Client.{bound_so};
 ghost use Rattle.client_rules.specs.Taking.{alone_among, binding_noticed, has_asked};
+ghost use Rattle.client_core.specs.Asked.{needed_of};
 ghost use Rattle.client_core.specs.Brought.{binding_by};
 ghost use Rattle.client_core.specs.Kept.{binding_in, temporary_in};
 ghost use Rattle.client_core.specs.Sound.{CanBind, CanGoAgain};
@@ -23,6 +24,30 @@ pub(crate) fn has_asked(temporary: &Option<Temporary>, number: u64) -> bool
     match temporary {
         None => false,
         Some(temporary) => temporary.is_asked_by(number),
+    }
+}
+
+/// What is to be said of a temporary key whose binding is needed: the permanent key, and the first moment at which the
+/// binding doesn't hold any more, in seconds of Unix time.
+#[derive(Clone, Copy, Debug)]
+pub(crate) struct Needed {
+    pub(crate) perm: u64,
+    pub(crate) expires: u32,
+}
+
+/// What is to be said, where the binding is needed.
+pub(crate) fn need_of(temporary: &Option<Temporary>) -> Option<Needed>
+    ensures { result ≡ needed_of (option_map temporary_in temporary.now) }
+{
+    match temporary {
+        None => None,
+        Some(temporary) => match temporary.binding {
+            Binding::Needed => Some(Needed {
+                perm: temporary.perm,
+                expires: temporary.expires.seconds() as u32,
+            }),
+            _ => None,
+        },
     }
 }
 

@@ -1,24 +1,36 @@
 //! What waits beside the calls goes into a packet.
 
-ghost use Rattle.std.specs.Prelude.{◌≡◌, ◌<◌, ◌≤◌, ◌+◌, ℕ, [], drop, fold, option_map, slice_get, length, min, take, vec_len, vec_capacity, IsTrue, IsFalse, false, true, None, Some};
-ghost use Rattle.msg_ids.specs.Counters.{room};
+ghost use Rattle.std.specs.Prelude.{◌≡◌, ◌<◌, ◌≤◌, ◌+◌, ◌++◌, ◌∷◌, ℕ, List, [], drop, fold, option_map, slice_get, length, min, take, vec_len, vec_capacity, IfSome, IsSome, IsTrue, IsFalse, false, true, None, Some};
+ghost use Rattle.msg_ids.specs.Counters.{after_next, next_number, room, seq_of};
 ghost use Rattle.call_table.specs.Kept.{numbers_in, state_in};
 ghost use Rattle.call_table.specs.Table.{IsGiven, Sent};
 ghost use Rattle.service_tl.specs.Items.{spelling_of};
-ghost use Rattle.client_rules.specs.Client.{Client, is_open, time_of};
-ghost use Rattle.client_rules.specs.Filling.{Filling, changes, says, says_acks, says_destroyed, says_drop, says_ping, says_resent, says_salts, says_states, says_told, numbers_max};
-ghost use Rattle.client_core.specs.Draft.{CanBeSaid, DropsSoFar, Goes, HasNumbers, drops, enters, item_of, needs_answer, said_bytes};
+ghost use Rattle.auth_keys.specs.Rings.{entry_of};
+ghost use Rattle.client_rules.specs.Client.{Client, is_open, time_of, with_binding};
+ghost use Rattle.client_rules.specs.Client as rules;
+ghost use Rattle.service_tl.specs.declared.lists.Message.{Message};
+ghost use Rattle.draws.specs.Draws.{draw_after};
+ghost use Rattle.client_rules.specs.Filling.{Filling, changes, says, says_acks, says_binding, says_destroyed, says_drop, says_ping, says_resent, says_salts, says_states, says_told, numbers_max};
+ghost use Rattle.client_core.specs.Draft.{CanBeSaid, DropsSoFar, Goes, HasNumbers, Holds, drops, enters, item_of, needs_answer, said_bytes};
+ghost use Rattle.client_core.specs.Asked.{HasRoom, asked_message, bind_body_bytes};
+ghost use Rattle.client_core.specs.Flushed.{setting_of};
 ghost use Rattle.client_core.specs.Kept.{Stands, asked_in, waiting_in};
 ghost use Rattle.client_core.specs.Sound.{CanWait};
 
+use crate::asking::{BODY_BYTES, BindRoom, sizes_of_bindings};
+use crate::binding::Binding;
 use crate::core_client::Core;
 use crate::filling::Draft;
+use crate::rebinding::{Needed, need_of, set_binding};
 use crate::saying::Said;
 use crate::waiting::{Asked, Waiting};
+use auth_keys::AuthKey;
 use call_table::{CallNo, Calls, Flags, Group};
 use draws::Draw;
-use msg_ids::Moment;
+use envelope::Seal;
+use msg_ids::{Moment, Numbers};
 use octets::IdList;
+use temp_keys::Inner;
 
 /// The most numbers in a request for states.
 const NUMBERS_MAX: usize = 8_192;
@@ -189,6 +201,77 @@ impl Core {
         }
     }
 
+    /// A binding is asked for, where the client is open and needs it, and the message fits.
+    pub(crate) fn says_binding<S: Seal, D: Draw>(
+        &mut self,
+        draft: &mut Draft,
+        room: BindRoom,
+        seal: &S,
+        draw: &mut D,
+    )
+        requires numbers { HasNumbers self.old draft.old }
+        requires room { HasRoom room }
+        requires perm { IfSome self.old.rest.temporary (λ temporary. IsSome (entry_of temporary.perm (S.keys seal.now))) }
+        ensures goes { (filling : Filling D) → Goes self.old draft.old filling → filling.draw ≡ draw.old
+            → Goes self.new draft.new (says_binding (setting_of D.step (S.keys seal.now)) filling.client.temporary filling) }
+        ensures drawn { (filling : Filling D) → Goes self.old draft.old filling → filling.draw ≡ draw.old
+            → (says_binding (setting_of D.step (S.keys seal.now)) filling.client.temporary filling).draw ≡ draw.new }
+        ensures numbers { HasNumbers self.new draft.new }
+        ensures rest { record self.new.rest { counters = self.old.rest.counters; temporary = self.old.rest.temporary } ≡ self.old.rest }
+        ensures calls { self.new.calls ≡ self.old.calls }
+    {
+        sizes_of_bindings::<D>();
+        let Some(needed) = need_of(&self.temporary) else {
+            return;
+        };
+        let Some(key) = seal.ring().find(needed.perm) else {
+            return;
+        };
+        if !self.is_open() {
+            return;
+        }
+        if !draft.takes(BODY_BYTES) {
+            return;
+        }
+        let at = self.time();
+        self.ask_binding(draft, at, room, key, needed, draw);
+    }
+
+    /// Asks for a binding in a packet in which the message fits.
+    fn ask_binding<D: Draw>(
+        &mut self,
+        draft: &mut Draft,
+        at: Moment,
+        room: BindRoom,
+        key: &AuthKey,
+        needed: Needed,
+        draw: &mut D,
+    )
+        requires numbers { HasNumbers self.old draft.old }
+        requires room { HasRoom room }
+        requires fits { enters bind_body_bytes draft.old ≡ true }
+        ensures holds { (messages : List Message) → Holds draft.old messages
+            → Holds draft.new (messages ++ asked_message D.step key.now at self.old.rest needed draw.old ∷ []) }
+        ensures inner { draft.new.inner ≡ draft.old.inner ++ next_number self.old.rest.counters.last at ∷ [] }
+        ensures kept { draft.new.is_full ≡ draft.old.is_full }
+        ensures asked { self.new.rest ≡ with_binding (rules.Asked (asked_message D.step key.now at self.old.rest needed draw.old)) (record self.old.rest { counters = after_next self.old.rest.counters at true }) }
+        ensures drawn { draw.new ≡ draw_after D.step 4 draw.old }
+        ensures numbers { HasNumbers self.new draft.new }
+        ensures calls { self.new.calls ≡ self.old.calls }
+    {
+        let (number, seq) = given(&mut self.numbers, at, true);
+        let inner = Inner {
+            nonce: draw.word(),
+            temp: self.key,
+            perm: needed.perm,
+            session: self.session,
+            expires: needed.expires,
+        };
+        let body = room.body(key, number, &inner, draw);
+        draft.put(number, seq, body.as_slice());
+        set_binding(&mut self.temporary, Binding::Asked { number, seq, body });
+    }
+
     /// The answer to a call is to be dropped: that goes, where it fits, and whether it does.
     pub(crate) fn says_drop<D: Draw>(&mut self, draft: &mut Draft, call: CallNo) -> bool
         requires given { IsGiven call self.old.calls.rows }
@@ -249,6 +332,16 @@ impl Core {
             self.says_next_drop::<D>(draft);
         }
     }
+}
+
+/// The next number and its seq, where there is room for one.
+pub(crate) fn given(numbers: &mut Numbers, at: Moment, content: bool) -> (u64, u32)
+    requires room { 0 < room numbers.old }
+    ensures given { result ≡ (next_number numbers.old.last at, seq_of numbers.old.content_messages content) }
+    ensures counted { numbers.new ≡ after_next numbers.old at content }
+    ensures room_lasts { room numbers.old ≤ room numbers.new + 1 }
+{
+    numbers.next(at, content).unwrap()
 }
 
 /// The states of these were asked for by the message of this number.
