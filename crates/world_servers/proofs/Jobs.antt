@@ -177,3 +177,169 @@ module _ (sessions : List Session) (x b : Session) (rest new : Queue) (job : Job
 
   pub answered_open : AllByRecursion (AreUnanswered new) (with_session b sessions)
   answered_open = all_mapped (AreUnanswered new) (put b) sessions put_open
+
+-- ---- in an event
+
+-- what an event so far is, with its jobs
+abbrev pub IsGoing : {S : Type 0} → World → List Session → (Name → Line) → State S → Type 0
+IsGoing w gone lines state = EventStands w gone lines state × AreOpenJobs state.sessions state.jobs
+
+abbrev pub GivesUpAlone : Type 0 → Type 0
+GivesUpAlone S = (setting : Setting S) (speaker : Speaker S) (content : List ℕ) (job : Job) → SaidFor S speaker (gives_up setting content job speaker)
+
+abbrev pub FinishesAlone : Type 0 → Type 0
+FinishesAlone S = (setting : Setting S) (speaker : Speaker S) (job : Job) (reply : List ℕ) → SaidFor S speaker (finishes setting job reply speaker)
+
+module _ {S : Type 0} (adds : Adds) (setting : Setting S) (gone : List Session) (lines : Name → Line) where
+  -- a reply to a job leaves the other numbers open
+  replied_open : (x : Session) (job : ℕ) (content : List ℕ) (n : ℕ) → IsOpen n x.replies → (n ≡ job → ⊥)
+      → IsOpen n (made_room (length (numbered setting.now x.counters (RpcResult job content)).body) x.replies
+      ++ record {
+        call = job;
+        number = (numbered setting.now x.counters (RpcResult job content)).number;
+        seq = (numbered setting.now x.counters (RpcResult job content)).seq;
+        content = content;
+        fate = IsKept;
+      } ∷ [])
+  replied_open x job content n is_open differs =
+      let message = numbered setting.now x.counters (RpcResult job content) in
+      let room : List Reply = made_room (length message.body) x.replies in
+      open_more room (record { call = job; number = message.number; seq = message.seq; content = content; fate = IsKept }) n
+      (still_open x.replies room (room_made (length message.body) x.replies) n is_open) differs
+
+  module _ (w : World) (state : State S) (rest : Queue) (job : Job) (one : Unfinished) (h : EventStands w gone lines state) (jobs : AreOpenJobs state.sessions state.jobs)
+      (among : Contains state.jobs one) (is_job : one.job ≡ job) (from : AllByRecursion (IsJobOf state.jobs) rest) (none : IsNoneOf rest job) (apart : AreCallsApart rest) where
+    abbrev name : Name
+    name = record { key = job.key; session = job.session }
+
+    abbrev without : State S
+    without = record state { jobs = rest }
+
+    h_rest : EventStands w gone lines without
+    h_rest = record { stands = jobs_go_on w gone (with_lines lines state.sessions) state.jobs rest h.stands from; owed = h.owed }
+
+    open_rest : AllByRecursion (AreUnanswered rest) state.sessions
+    open_rest = map_all (AreUnanswered state.jobs) (AreUnanswered rest) state.sessions (λ o there is. unanswered_so state.jobs rest o from is) jobs.unanswered
+
+    module _ (x : Session) (found : session_named name state.sessions ≡ Some x) where
+      x_among : Contains state.sessions x
+      x_among = (found_in (is_named name) state.sessions x found).0
+
+      its_name : name ≡ name_of x
+      its_name = name_is name x (found_in (is_named name) state.sessions x found).1
+
+      of_x : is_of x.key x.number one ≡ true
+      of_x = subst (λ (j : Job). ((j.key == x.key) && (j.session == x.number)) ≡ true) (sym is_job) (found_in (is_named name) state.sessions x found).1
+
+      asks : AsksThere w x job.number (Some job.request)
+      asks =
+          let its : Session = with_line (lines (name_of x)) x in
+          let there : Contains (with_lines lines state.sessions) its = mapped_in (λ (session : Session). with_line (lines (name_of session)) session) state.sessions x x_among in
+          subst (λ (j : Job). AsksThere w x j.number (Some j.request)) is_job
+          (each_of (IsJobThere w its) state.jobs (each_of (λ (o : Session). AllByRecursion (IsJobThere w o) state.jobs) (with_lines lines state.sessions) h.stands.working its there) one among of_x)
+
+      is_open : IsOpen job.number x.replies
+      is_open =
+          subst (λ (j : Job). IsOpen j.number x.replies) is_job
+          (each_of (λ (one : Unfinished). is_of x.key x.number one ≡ true → IsOpen one.job.number x.replies) state.jobs (each_of (AreUnanswered state.jobs) state.sessions jobs.unanswered x x_among) one among of_x)
+
+    -- one that is given up
+    given_open : (content : List ℕ) (found : Option Session) → session_named name state.sessions ≡ found
+        → AreOpenJobs (spoken_by found (gives_up setting content job) without).sessions (spoken_by found (gives_up setting content job) without).jobs
+    given_open content None is = record { unanswered = open_rest; apart = apart }
+    given_open content (Some x) is =
+        let b : Speaker S = gives_up setting content job (speaker_in without x) in
+        let told_by : Speaker S = record (answers setting job.number content (speaker_in without x)) { jobs = rest } in
+        let told_of : Outlook = outlook told_by.session rest job.number in
+        record {
+          unanswered = answered_open state.sessions x b.session rest b.jobs job (x_among x is) refl refl (ap (λ (n : Name). n.key) (its_name x is)) (ap (λ (n : Name). n.session) (its_name x is))
+              (replied_open x job.number content) open_rest none (all_told told_of told_by.session job.number rest);
+          apart = told_apart told_of told_by.session job.number rest apart;
+        }
+
+    pub gives_up_on : GivesUpAlone S → (content : List ℕ) → Leads w (λ later. IsGoing later gone lines (speaks name (gives_up setting content job) without))
+    gives_up_on alone content =
+        leads_so w (λ later. EventStands later gone lines (speaks name (gives_up setting content job) without)) (λ later. IsGoing later gone lines (speaks name (gives_up setting content job) without))
+        (λ later k. (k, given_open content (session_named name state.sessions) refl))
+        (speaks_on adds w gone lines without h_rest name (gives_up setting content job)
+        (λ x found. (
+          alone setting (speaker_in without x) content job,
+          λ k. gives_up_it adds setting gone (with_lines lines state.sessions) (lines name) w content job (speaker_in without x) k (asks x found) (is_open x found),
+        )))
+
+    -- one that has run
+    finished_open : (reply : List ℕ) (found : Option Session) → session_named name state.sessions ≡ found
+        → AreOpenJobs (spoken_by found (finishes setting job reply) without).sessions (spoken_by found (finishes setting job reply) without).jobs
+    finished_open reply None is = record { unanswered = open_rest; apart = apart }
+    finished_open reply (Some x) is =
+        let b : Speaker S = finishes setting job reply (speaker_in without x) in
+        let told_by : Speaker S = record (answers setting job.number reply (speaker_in without x)) { jobs = rest } in
+        let told_of : Outlook = outlook told_by.session rest job.number in
+        record {
+          unanswered = answered_open state.sessions x b.session rest b.jobs job (x_among x is) refl refl (ap (λ (n : Name). n.key) (its_name x is)) (ap (λ (n : Name). n.session) (its_name x is))
+              (replied_open x job.number reply) open_rest none (all_told told_of told_by.session job.number rest);
+          apart = told_apart told_of told_by.session job.number rest apart;
+        }
+
+    pub finishes_on : FinishesAlone S → (reply : List ℕ) → Leads w (λ later. IsGoing later gone lines (speaks name (finishes setting job reply) without))
+    finishes_on alone reply =
+        leads_so w (λ later. EventStands later gone lines (speaks name (finishes setting job reply) without)) (λ later. IsGoing later gone lines (speaks name (finishes setting job reply) without))
+        (λ later k. (k, finished_open reply (session_named name state.sessions) refl))
+        (speaks_on adds w gone lines without h_rest name (finishes setting job reply)
+        (λ x found. (
+          alone setting (speaker_in without x) job reply,
+          λ k. finishes_it adds setting gone (with_lines lines state.sessions) (lines name) w job reply (speaker_in without x) k (asks x found) (is_open x found),
+        )))
+
+  -- ---- all that are so
+
+  abbrev first_of : (Unfinished → Bool) → Queue → Option Job × Queue
+  first_of test queue = (first_job test queue, without_first test queue)
+
+  first_on : GivesUpAlone S → (content : List ℕ) (test : Unfinished → Bool) (w : World) (state : State S) → IsGoing w gone lines state → (found : Option Job) → first_job test state.jobs ≡ found
+      → Leads w (λ later. IsGoing later gone lines (given_up setting content found (record state { jobs = without_first test state.jobs })))
+  first_on alone content test w state h None is =
+      let from = first_out test state.jobs in
+      stays w (λ later. IsGoing later gone lines (record state { jobs = without_first test state.jobs })) (
+        record { stands = jobs_go_on w gone (with_lines lines state.sessions) state.jobs (without_first test state.jobs) h.0.stands from; owed = h.0.owed },
+        record {
+          unanswered = map_all (AreUnanswered state.jobs) (AreUnanswered (without_first test state.jobs)) state.sessions
+              (λ o there k. unanswered_so state.jobs (without_first test state.jobs) o from k) h.1.unanswered;
+          apart = apart_first test state.jobs h.1.apart;
+        },
+      )
+  first_on alone content test w state h (Some job) is =
+      let found = first_in test state.jobs job is in
+      gives_up_on w state (without_first test state.jobs) job found.0 h.0 h.1 found.1 found.2 (first_out test state.jobs) (first_apart test state.jobs job h.1.apart is)
+      (apart_first test state.jobs h.1.apart) alone content
+
+  all_on : GivesUpAlone S → MovesGoOn → (content : List ℕ) (test : Unfinished → Bool) (n : ℕ) (w : World) (state : State S) → Reached w → IsGoing w gone lines state
+      → Leads w (λ later. IsGoing later gone lines (all_given_up setting content (first_of test) n state))
+  all_on alone on content test zero w state reached h = stays w (λ later. IsGoing later gone lines state) h
+  all_on alone on content test (suc n) w state reached h =
+      let next : State S = first_given_up setting content (first_of test) state in
+      goes_on on w (λ later. IsGoing later gone lines next) (λ later. IsGoing later gone lines (all_given_up setting content (first_of test) n next)) reached
+      (first_on alone content test w state h (first_job test state.jobs) refl)
+      (λ later reached k. all_on alone on content test n later next reached k)
+
+  pub failures_on : GivesUpAlone S → MovesGoOn → (w : World) (state : State S) → Reached w → IsGoing w gone lines state
+      → Leads w (λ later. IsGoing later gone lines (after_failures setting state))
+  failures_on alone on w state reached h = all_on alone on msg_wait_failed has_failed (length state.jobs) w state reached h
+
+  pub ticks_on : GivesUpAlone S → MovesGoOn → (w : World) (state : State S) → Reached w → IsGoing w gone lines state
+      → Leads w (λ later. IsGoing later gone lines (ticks setting state))
+  ticks_on alone on w state reached h =
+      goes_on on w (λ later. IsGoing later gone lines (after_timeouts setting state)) (λ later. IsGoing later gone lines (ticks setting state)) reached
+      (all_on alone on msg_wait_timeout (is_overdue setting.now) (length state.jobs) w state reached h)
+      (λ later reached k. failures_on alone on later (after_timeouts setting state) reached k)
+
+  pub runs_on : GivesUpAlone S → FinishesAlone S → MovesGoOn → (w : World) (state : State S) (place : ℕ) (job : Job) (reply : List ℕ) → Reached w → IsGoing w gone lines state
+      → ready_job place state.jobs ≡ Some job → Leads w (λ later. IsGoing later gone lines (runs setting place job reply state))
+  runs_on alone finishing on w state place job reply reached h is =
+      let rest : Queue = without_ready place state.jobs in
+      let found = ready_in place state.jobs job is in
+      let next : State S = speaks (record { key = job.key; session = job.session }) (finishes setting job reply) (record state { jobs = rest }) in
+      goes_on on w (λ later. IsGoing later gone lines next) (λ later. IsGoing later gone lines (runs setting place job reply state)) reached
+      (finishes_on w state rest job found.0 h.0 h.1 found.1 found.2 (ready_out place state.jobs) (ready_apart place state.jobs job h.1.apart is) (apart_ready place state.jobs h.1.apart)
+      finishing reply)
+      (λ later reached k. failures_on alone on later next reached k)

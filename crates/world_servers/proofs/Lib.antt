@@ -16,3 +16,5 @@ pub mod Speech
 pub mod Words
 pub mod Events
 pub mod Jobs
+pub mod Ordered
+pub mod Beginning

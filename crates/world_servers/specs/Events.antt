@@ -1,6 +1,7 @@
 -- An event of a server as it is so far, as it stands in a world of the law on moves.
-use Rattle.std.specs.Prelude.{◌≡◌, ⊤, true, List, [], ◌∷◌, map}
-use Rattle.std.specs.List.{AllByRecursion}
+use Rattle.std.specs.Prelude.{◌≡◌, ⊤, true, List, [], ◌∷◌, ◌++◌, map}
+use Rattle.std.specs.List.{AllByRecursion, flat_map}
+use Rattle.salt_line.specs.Rows.{Row}
 use Rattle.salt_line.specs.Line.{Line}
 use Rattle.waits.specs.declared.job.Job.{Job}
 use Rattle.waits.specs.declared.job.Unfinished.{Unfinished}
@@ -8,7 +9,7 @@ use Rattle.waits.specs.Jobs.{Queue, is_of}
 use Rattle.server_rules.specs.Server.{Name, Session, name_of}
 use Rattle.server_rules.specs.Event.{State}
 use Rattle.session_moves.specs.World.{World}
-use Rattle.world_servers.specs.Servers.{ServerStands}
+use Rattle.world_servers.specs.Servers.{AreNewSalts, ServerStands}
 use Rattle.world_servers.specs.Speaking.{IsOpen, IsOwedThere, with_line}
 
 -- each session with the line of salts that it has, by its name, at the event's end
@@ -42,3 +43,11 @@ AreCallsApart (one ∷ jobs) = IsNoneOf jobs one.job × AreCallsApart jobs
 pub record AreOpenJobs (sessions : List Session) (jobs : Queue) : Type 0 where
   pub unanswered : AllByRecursion (AreUnanswered jobs) sessions
   pub apart : AreCallsApart jobs
+
+-- ---- salts
+
+-- What each session draws in an event, by its name: its line has these rows more at the event's end. All their words are
+-- new ones, and differ.
+pub record AreLines (w : World) (lines : Name → Line) (more : Name → List Row) (sessions : List Session) : Type 0 where
+  pub ahead : AllByRecursion (λ session. lines (name_of session) ≡ record session.salts { rows = session.salts.rows ++ more (name_of session) }) sessions
+  pub new : AreNewSalts w (flat_map (λ session. more (name_of session)) sessions)

@@ -9,14 +9,14 @@ ghost use Rattle.inbox.specs.Refusals.{InEnvelope};
 ghost use Rattle.inbox.specs.Judging.{judgements, session_after};
 ghost use Rattle.waits.specs.declared.job.Job.{Job};
 ghost use Rattle.waits.specs.declared.job.Unfinished.{Unfinished};
-ghost use Rattle.waits.specs.Jobs.{Queue, accepted, is_of, without_first, without_ready, without_session as without_jobs_of};
+ghost use Rattle.waits.specs.Jobs.{Queue, ready_job, accepted, is_of, without_first, without_ready, without_session as without_jobs_of};
 ghost use Rattle.server_rules.specs.Server.{Name, Reply, Server, Session, has_accepted, is_named, remembered, session_named, with_session, without_session};
 ghost use Rattle.server_rules.specs.Event.{Setting, Speaker, State, lost, speaker_in, speaks};
 ghost use Rattle.server_laws.specs.Speech.{SaidFor};
 ghost use Rattle.server_rules.specs.Rows.{acked_by, owes};
 ghost use Rattle.server_rules.specs.Speaking.{dropped, made_room};
 ghost use Rattle.server_rules.specs.Waiting.{Outlook, gives_up, told};
-ghost use Rattle.server_rules.specs.Answer.{after_loss, after_restart, attaches, finishes, messages_judged, opens};
+ghost use Rattle.server_rules.specs.Answer.{after_loss, after_restart, attaches, begun, finishes, messages_judged, opens, runs, ticks};
 ghost use Rattle.server_lives.specs.Lives.{acceptance_of};
 ghost use Rattle.session_moves.specs.Table as moves;
 ghost use Rattle.session_moves.specs.Table.{Message};
@@ -31,7 +31,8 @@ ghost use Rattle.world_servers.specs.Leading.{Leads};
 ghost use Rattle.salt_line.specs.Line.{Line};
 ghost use Rattle.inbox.specs.declared.judged.Judgement.{Judgement};
 ghost use Rattle.inbox.specs.declared.judged.Verdict.{Verdict};
-ghost use Rattle.world_servers.specs.Events.{EventStands, with_lines};
+ghost use Rattle.world_servers.specs.Events.{AreLines, AreOpenJobs, EventStands, with_lines};
+ghost use Rattle.server_laws.specs.Order.{AreOrdered};
 ghost use Rattle.world_servers.specs.Speaking.{IsDue, IsOpen, IsWithin, SpeaksThere};
 ghost use Rattle.world_servers.specs.Servers.{AsksThere, AreNewSalts, CanSay, GoOn, HasForgotten, IsAcceptedThere, IsJobOf, IsNewSalt, IsSuch, IsUp, ServerStands, WasAnswered, WasJudged, with_history, with_replies, with_row, with_rows};
 
@@ -216,4 +217,36 @@ pub fn events_go_on_by_moves<D: Draw>()
         → Leads w (λ later. EventStands later (gone ++ filter (is_named name) (with_lines lines state.sessions)) lines (lost name state)) }
 {
     moves_only_add();
+}
+
+/// What an event does before it sends, it does by lawful moves, and each session can say what it owes then: a job has run
+/// and those that fail by that are answered, a tick answers those that have waited too long, a connection is opened. No job
+/// is answered twice.
+pub fn works_are_moves<D: Draw>()
+    ensures runs { (w : World) (gone : List Session) (lines : Name → Line) (setting : Setting D) (state : State D) (place : ℕ) (job : Job) (reply : List ℕ) → Reached w
+        → EventStands w gone lines state → AreOpenJobs state.sessions state.jobs → ready_job place state.jobs ≡ Some job
+        → Leads w (λ later. EventStands later gone lines (runs setting place job reply state)
+        × AreOpenJobs (runs setting place job reply state).sessions (runs setting place job reply state).jobs) }
+    ensures ticks { (w : World) (gone : List Session) (lines : Name → Line) (setting : Setting D) (state : State D) → Reached w
+        → EventStands w gone lines state → AreOpenJobs state.sessions state.jobs
+        → Leads w (λ later. EventStands later gone lines (ticks setting state) × AreOpenJobs (ticks setting state).sessions (ticks setting state).jobs) }
+    ensures attaches { (w : World) (gone : List Session) (lines : Name → Line) (setting : Setting D) (state : State D) (name : Name)
+        → EventStands w gone lines state
+        → ((session : Session) → session_named name state.sessions ≡ Some session → IsWithin (lines name) (attaches setting (speaker_in state session)).session)
+        → Leads w (λ later. EventStands later gone lines (speaks name (attaches setting) state)) }
+{
+    moves_only_add();
+    moves_go_on();
+    server_laws::laws::sessions_speak_for_themselves::<D>();
+}
+
+/// An event begins by drawing all the salts that it will draw, each by a lawful move, where their words are new. Where the
+/// server is in order, none of its jobs is answered.
+pub fn events_begin_by_moves<D: Draw>()
+    ensures salts { (w : World) (gone : List Session) (lines : Name → Line) (more : Name → List Row) (server : Server) (draw : D) → Reached w
+        → ServerStands w gone server.sessions server.jobs → AreLines w lines more server.sessions
+        → Leads w (λ later. EventStands later gone lines (begun server draw)) }
+    ensures jobs { (w : World) (gone sessions : List Session) (jobs : Queue) → ServerStands w gone sessions jobs → AreOrdered sessions jobs → AreOpenJobs sessions jobs }
+{
+    moves_go_on();
 }
