@@ -123,7 +123,7 @@ one_more : (one : Unfinished) (jobs new : Queue) → AllByRecursion (IsJobOf job
 one_more one jobs new h =
     map_all (IsJobOf jobs) (IsJobOf (one ∷ jobs)) new (λ j is s. (s.0, later s.0 one jobs s.1, s.2, s.3, s.4, s.5)) h
 
-same_jobs : (jobs : Queue) → AllByRecursion (IsJobOf jobs) jobs
+pub same_jobs : (jobs : Queue) → AllByRecursion (IsJobOf jobs) jobs
 same_jobs [] = tt
 same_jobs (one ∷ jobs) = ((one, here one jobs, refl, refl, refl, refl), one_more one jobs jobs (same_jobs jobs))
 

@@ -11,3 +11,10 @@ pub mod Speaking
 pub mod Packets
 pub mod Kept
 pub mod Lines
+pub mod Found
+pub mod Speech
+pub mod Words
+pub mod Events
+pub mod Jobs
+pub mod Ordered
+pub mod Beginning

@@ -15,12 +15,12 @@ use Rattle.world_servers.proofs.Losing.{append_nothing, append_one}
 use Rattle.world_servers.proofs.One.{with_itself}
 use Rattle.world_servers.proofs.Packets.{with_among, with_twice}
 
-still_all : (w v : World) (word : ℕ) → ((b : ℕ) → IsNewSalt w b → b ≢ word → IsNewSalt v b) → (rows : List Row)
+pub still_all : (w v : World) (word : ℕ) → ((b : ℕ) → IsNewSalt w b → b ≢ word → IsNewSalt v b) → (rows : List Row)
     → AllByRecursion (λ (row : Row). row.word ≢ word) rows → AreNewSalts w rows → AreNewSalts v rows
 still_all w v word so [] differ h = tt
 still_all w v word so (row ∷ rows) differ h = (so row.word h.0 differ.0, h.1, still_all w v word so rows differ.1 h.2)
 
-abbrev with_all : List Row → Session → Session
+abbrev pub with_all : List Row → Session → Session
 with_all rows session = record session { salts = record session.salts { rows = rows } }
 
 pub draws_all : GoOn → (w : World) (lost sessions : List Session) (jobs : Queue) (x : Session) (rows : List Row) → Reached w → ServerStands w lost sessions jobs

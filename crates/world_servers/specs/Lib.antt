@@ -1,2 +1,4 @@
 pub mod Leading
 pub mod Servers
+pub mod Speaking
+pub mod Events

@@ -1,20 +1,22 @@
 //! Laws of a server's events and moves, each the contract of a function that does nothing.
 
-ghost use Rattle.std.specs.Prelude.{Bool, ◌==◌, if◌then◌else◌, filter_map, map, ◌++◌, ◌≡◌, ◌≢◌, ◌∷◌, ◌⊎◌, ℕ, false, true, List, [], filter};
+ghost use Rattle.std.specs.Prelude.{Bool, ◌==◌, if◌then◌else◌, filter_map, map, ◌++◌, ◌≡◌, ◌≢◌, ◌∷◌, ◌⊎◌, ℕ, false, true, List, [], Some, filter};
 ghost use Rattle.std.specs.List.{All, AllByRecursion, Contains, zip};
 ghost use Rattle.salt_line.specs.Rows.{Row};
 ghost use Rattle.service_tl.specs.declared.lists.Message.{Message as Said};
-ghost use Rattle.id_window.specs.History.{EachOnce, Outcome, noted};
+ghost use Rattle.id_window.specs.History.{EachOnce, History, Outcome, noted};
 ghost use Rattle.inbox.specs.Refusals.{InEnvelope};
 ghost use Rattle.inbox.specs.Judging.{judgements, session_after};
 ghost use Rattle.waits.specs.declared.job.Job.{Job};
 ghost use Rattle.waits.specs.declared.job.Unfinished.{Unfinished};
-ghost use Rattle.waits.specs.Jobs.{Queue, accepted, is_of, without_first, without_ready, without_session as without_jobs_of};
-ghost use Rattle.server_rules.specs.Server.{Name, Reply, Server, Session, has_accepted, is_named, remembered, with_session, without_session};
-ghost use Rattle.server_rules.specs.Rows.{acked_by};
+ghost use Rattle.waits.specs.Jobs.{Queue, ready_job, accepted, is_of, without_first, without_ready, without_session as without_jobs_of};
+ghost use Rattle.server_rules.specs.Server.{Name, Reply, Server, Session, has_accepted, is_named, remembered, session_named, with_session, without_session};
+ghost use Rattle.server_rules.specs.Event.{Setting, Speaker, State, lost, speaker_in, speaks};
+ghost use Rattle.server_laws.specs.Speech.{SaidFor};
+ghost use Rattle.server_rules.specs.Rows.{acked_by, owes};
 ghost use Rattle.server_rules.specs.Speaking.{dropped, made_room};
-ghost use Rattle.server_rules.specs.Waiting.{Outlook, told};
-ghost use Rattle.server_rules.specs.Answer.{after_loss, after_restart, messages_judged};
+ghost use Rattle.server_rules.specs.Waiting.{Outlook, gives_up, told};
+ghost use Rattle.server_rules.specs.Answer.{after_loss, after_restart, attaches, begun, finishes, messages_judged, opens, runs, ticks};
 ghost use Rattle.server_lives.specs.Lives.{acceptance_of};
 ghost use Rattle.session_moves.specs.Table as moves;
 ghost use Rattle.session_moves.specs.Table.{Message};
@@ -26,8 +28,15 @@ ghost use Rattle.session_moves.specs.Move.{Move};
 ghost use Rattle.session_moves.specs.Extends.{IsOfClient};
 ghost use Rattle.session_moves.specs.Reached.{AreLawful, Reached, after_all};
 ghost use Rattle.world_servers.specs.Leading.{Leads};
-ghost use Rattle.world_servers.specs.Servers.{AreNewSalts, CanSay, GoOn, HasForgotten, IsAcceptedThere, IsJobOf, IsNewSalt, IsSuch, IsUp, ServerStands, WasAnswered, WasJudged, with_history, with_replies, with_row, with_rows};
+ghost use Rattle.salt_line.specs.Line.{Line};
+ghost use Rattle.inbox.specs.declared.judged.Judgement.{Judgement};
+ghost use Rattle.inbox.specs.declared.judged.Verdict.{Verdict};
+ghost use Rattle.world_servers.specs.Events.{AreLines, AreOpenJobs, EventStands, with_lines};
+ghost use Rattle.server_laws.specs.Order.{AreOrdered};
+ghost use Rattle.world_servers.specs.Speaking.{IsDue, IsOpen, IsWithin, SpeaksThere};
+ghost use Rattle.world_servers.specs.Servers.{AsksThere, AreNewSalts, CanSay, GoOn, HasForgotten, IsAcceptedThere, IsJobOf, IsNewSalt, IsSuch, IsUp, ServerStands, WasAnswered, WasJudged, with_history, with_replies, with_row, with_rows};
 
+use draws::Draw;
 use id_window::laws::others_are_not_above_the_floor;
 use server_laws::laws::{floors_never_fall, marks_are_of_replies};
 use session_moves::laws::{
@@ -170,3 +179,74 @@ pub fn jobs_go_on()
     ensures told { (outlook : Outlook) (session : Session) (number : ℕ) (jobs : Queue) → AllByRecursion (IsJobOf jobs) (told outlook session number jobs) }
     ensures session { (key number : ℕ) (jobs : Queue) → AllByRecursion (IsJobOf jobs) (without_jobs_of key number jobs) }
 {}
+
+/// What a session says and answers within an event is said and answered by lawful moves, and all that it owes then it can
+/// say: the row of a judgement, a job that has run or is given up, an attach, and what a packet opens with.
+pub fn rows_are_moves<D: Draw>()
+    ensures row { (w : World) (lost sessions : List Session) (line : Line) (setting : Setting D) (number seq : ℕ) (verdict : Verdict) (body : List ℕ) (speaker : Speaker D)
+        → SpeaksThere w lost sessions line speaker → IsDue w speaker.session speaker.jobs number verdict body
+        → IsWithin line (owes setting number seq verdict body speaker).session
+        → Leads w (λ later. SpeaksThere later lost sessions line (owes setting number seq verdict body speaker)) }
+    ensures finishes { (w : World) (lost sessions : List Session) (line : Line) (setting : Setting D) (job : Job) (reply : List ℕ) (speaker : Speaker D)
+        → SpeaksThere w lost sessions line speaker → AsksThere w speaker.session job.number (Some job.request) → IsOpen job.number speaker.session.replies
+        → Leads w (λ later. SpeaksThere later lost sessions line (finishes setting job reply speaker)) }
+    ensures gives_up { (w : World) (lost sessions : List Session) (line : Line) (setting : Setting D) (content : List ℕ) (job : Job) (speaker : Speaker D)
+        → SpeaksThere w lost sessions line speaker → AsksThere w speaker.session job.number (Some job.request) → IsOpen job.number speaker.session.replies
+        → Leads w (λ later. SpeaksThere later lost sessions line (gives_up setting content job speaker)) }
+    ensures attaches { (w : World) (lost sessions : List Session) (line : Line) (setting : Setting D) (speaker : Speaker D)
+        → SpeaksThere w lost sessions line speaker → IsWithin line (attaches setting speaker).session
+        → SpeaksThere w lost sessions line (attaches setting speaker) }
+    ensures opens { (w : World) (lost sessions : List Session) (line : Line) (setting : Setting D) (history : History) (judged : List Judgement) (speaker : Speaker D)
+        → SpeaksThere w lost sessions line (record speaker { session = record speaker.session { history = history } })
+        → IsWithin line (opens setting history judged speaker).session
+        → SpeaksThere w lost sessions line (opens setting history judged speaker) }
+{
+    moves_only_add();
+}
+
+/// Where the session of a name speaks by lawful moves, and for itself alone, an event in which it speaks so goes on by them,
+/// and each session can say what it owes then. One in which a session is lost goes on by a lawful move.
+pub fn events_go_on_by_moves<D: Draw>()
+    ensures speaks { (w : World) (gone : List Session) (lines : Name → Line) (state : State D) (name : Name) (speak : Speaker D → Speaker D) → EventStands w gone lines state
+        → ((session : Session) → session_named name state.sessions ≡ Some session
+        → SaidFor D (speaker_in state session) (speak (speaker_in state session))
+        × (SpeaksThere w gone (with_lines lines state.sessions) (lines name) (speaker_in state session)
+        → Leads w (λ later. SpeaksThere later gone (with_lines lines state.sessions) (lines name) (speak (speaker_in state session)))))
+        → Leads w (λ later. EventStands later gone lines (speaks name speak state)) }
+    ensures lost { (w : World) (gone : List Session) (lines : Name → Line) (state : State D) (name : Name) → EventStands w gone lines state
+        → Leads w (λ later. EventStands later (gone ++ filter (is_named name) (with_lines lines state.sessions)) lines (lost name state)) }
+{
+    moves_only_add();
+}
+
+/// What an event does before it sends, it does by lawful moves, and each session can say what it owes then: a job has run
+/// and those that fail by that are answered, a tick answers those that have waited too long, a connection is opened. No job
+/// is answered twice.
+pub fn works_are_moves<D: Draw>()
+    ensures runs { (w : World) (gone : List Session) (lines : Name → Line) (setting : Setting D) (state : State D) (place : ℕ) (job : Job) (reply : List ℕ) → Reached w
+        → EventStands w gone lines state → AreOpenJobs state.sessions state.jobs → ready_job place state.jobs ≡ Some job
+        → Leads w (λ later. EventStands later gone lines (runs setting place job reply state)
+        × AreOpenJobs (runs setting place job reply state).sessions (runs setting place job reply state).jobs) }
+    ensures ticks { (w : World) (gone : List Session) (lines : Name → Line) (setting : Setting D) (state : State D) → Reached w
+        → EventStands w gone lines state → AreOpenJobs state.sessions state.jobs
+        → Leads w (λ later. EventStands later gone lines (ticks setting state) × AreOpenJobs (ticks setting state).sessions (ticks setting state).jobs) }
+    ensures attaches { (w : World) (gone : List Session) (lines : Name → Line) (setting : Setting D) (state : State D) (name : Name)
+        → EventStands w gone lines state
+        → ((session : Session) → session_named name state.sessions ≡ Some session → IsWithin (lines name) (attaches setting (speaker_in state session)).session)
+        → Leads w (λ later. EventStands later gone lines (speaks name (attaches setting) state)) }
+{
+    moves_only_add();
+    moves_go_on();
+    server_laws::laws::sessions_speak_for_themselves::<D>();
+}
+
+/// An event begins by drawing all the salts that it will draw, each by a lawful move, where their words are new. Where the
+/// server is in order, none of its jobs is answered.
+pub fn events_begin_by_moves<D: Draw>()
+    ensures salts { (w : World) (gone : List Session) (lines : Name → Line) (more : Name → List Row) (server : Server) (draw : D) → Reached w
+        → ServerStands w gone server.sessions server.jobs → AreLines w lines more server.sessions
+        → Leads w (λ later. EventStands later gone lines (begun server draw)) }
+    ensures jobs { (w : World) (gone sessions : List Session) (jobs : Queue) → ServerStands w gone sessions jobs → AreOrdered sessions jobs → AreOpenJobs sessions jobs }
+{
+    moves_go_on();
+}
