@@ -1,12 +1,10 @@
 -- What follows from the disk model.
-use Rattle.std.proofs.Common.{◌≡◌, ◌≤◌, ◌<◌, ◌+◌, ◌-◌, ◌∙◌, ℕ, List, [], ◌∷◌, ◌++◌, length, take, drop, max, ◌⊎◌, inl, inr, arith, refl, subst, sym, ap, ap₂}
-use Rattle.std.specs.List.{All}
-use Rattle.std.proofs.lemmas.Grind.{common_steps}
+use Rattle.std.proofs.Common.{◌≡◌, ◌≤◌, ◌+◌, ◌-◌, ◌∙◌, ℕ, List, [], ◌∷◌, ◌++◌, length, take, drop, max, ◌⊎◌, inl, inr, arith, subst, sym, ap, ap₂}
 use Rattle.std.proofs.lemmas.List.{take_all, take-append-le, take-append-drop, drop-drop, length-append, length-drop}
 use Rattle.std.proofs.lemmas.List.Elements.{All-nil, All-cons}
 use Rattle.disks.specs.declared.disk_act.DiskAct.{DiskAct}
 use Rattle.disks.specs.declared.disk_act.DiskAct.TheVariants.{Write}
-use Rattle.disks.specs.Crash.{Range, Standing, IsApart, MayLeave, after_act, after_acts, synced_at}
+use Rattle.disks.specs.Crash.{Standing, IsApart, MayLeave, after_act, after_acts, synced_at}
 use Rattle.disks.specs.Told.{DiskTold, MayHaveLeft, Noted, moment, now}
 
 -- a moment at or past the end of the acts is now

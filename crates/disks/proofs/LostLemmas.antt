@@ -1,5 +1,5 @@
 -- What stood at the last sync is one of the contents that a crash may leave.
-use Rattle.std.proofs.Common.{◌≡◌, ◌≤◌, ◌∙◌, ℕ, List, [], ◌∷◌, length, min, max, fold, arith, refl, ap, sym, subst}
+use Rattle.std.proofs.Common.{◌≡◌, ◌≤◌, ◌∙◌, ℕ, List, [], ◌∷◌, length, fold, arith, refl, ap, sym, subst}
 use Rattle.octets.specs.Bytes.{IsBytes}
 use Rattle.disks.specs.declared.disk_act.DiskAct.{DiskAct}
 use Rattle.disks.specs.declared.disk_act.DiskAct.TheVariants.{Write, Cut, Sync}

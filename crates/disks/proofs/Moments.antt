@@ -1,7 +1,5 @@
 -- What a read gives is one of the contents that a crash may leave, after each act.
-use Rattle.std.proofs.Common.{◌≡◌, ◌≤◌, ◌<◌, ◌+◌, ◌-◌, ◌∙◌, ℕ, List, [], ◌∷◌, ◌++◌, length, take, drop, min, max, ◌⊎◌, inl, inr, Some, arith, refl, subst, sym, ap, append_assoc, zero, suc}
-use Rattle.std.specs.List.{All}
-use Rattle.std.proofs.lemmas.Grind.{common_steps}
+use Rattle.std.proofs.Common.{◌≡◌, ◌≤◌, ◌+◌, ◌-◌, ◌∙◌, ℕ, List, [], ◌∷◌, ◌++◌, length, take, drop, min, max, ◌⊎◌, inl, inr, Some, arith, refl, subst, sym, ap, zero, suc}
 use Rattle.std.proofs.lemmas.List.{take-take, take-append-le, drop-append-le, drop-drop, drop-take, drop_at, length-take, length-drop, length-append}
 use Rattle.std.proofs.lemmas.List.Sums.{fold-append}
 use Rattle.std.proofs.lemmas.List.Elements.{All-pop}
@@ -9,7 +7,7 @@ use Rattle.octets.specs.Bytes.{IsBytes}
 use Rattle.disks.specs.declared.disk_act.DiskAct.{DiskAct}
 use Rattle.disks.specs.declared.disk_act.DiskAct.TheVariants.{Write, Cut, Sync}
 use Rattle.mt_edge.specs.declared.act.Act.TheVariants.{Ready, Failed}
-use Rattle.disks.specs.Told.{DiskTold, Changes, Syncs, Noted, now}
+use Rattle.disks.specs.Told.{DiskTold, Changes, Syncs, now}
 use Rattle.disks.specs.Crash.{Standing, Range, IsApart, MayLeave, after_act, after_acts, synced_at, overwritten}
 
 -- bounds of lengths

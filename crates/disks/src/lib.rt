@@ -11,6 +11,8 @@ mod disks;
 mod file_disks;
 pub mod laws;
 mod mem_disk;
+mod mem_disks;
+mod mem_file;
 
 pub use disk::Disk;
 pub use disk_act::DiskAct;
@@ -18,6 +20,8 @@ pub use disk_len::DiskLen;
 pub use disks::{DiskOpen, Disks};
 pub use file_disks::{FileDisk, FileDisks};
 pub use mem_disk::MemDisk;
+pub use mem_disks::MemDisks;
+pub use mem_file::MemFile;
 
 #[cfg(test)]
 mod tests;

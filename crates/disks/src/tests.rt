@@ -4,7 +4,7 @@ ghost use Rattle.std.specs.Prelude.{◌≡◌, ◌++◌, IfSome, IsSomeAnd};
 ghost use Rattle.disks.specs.Crash.{synced_at};
 ghost use Rattle.disks.specs.Told.{now};
 
-use crate::{Disk, DiskLen, DiskOpen, Disks, FileDisks, MemDisk};
+use crate::{Disk, DiskLen, DiskOpen, Disks, FileDisks, MemDisk, MemDisks, MemFile};
 use mt_edge::Act;
 use octets::Octets;
 use std::alloc::Global;
@@ -54,6 +54,64 @@ fn files_in_memory(rt: HostRuntime) -> Result<(), Fail> {
     assert_eq!(rt; first_byte(&mut disk), Some(b'a'));
     assert_eq!(rt; (disk.contents(), disk.faults()), (b"abcd".as_slice(), 1));
     assert!(rt; loses(&disk, alloc, 1, b"ab")? && loses(&disk, alloc, 2, b"abcd")?);
+    Ok(())
+}
+
+/// Two files in memory, the first of which fails its first call.
+fn two_files(alloc: Global) -> Result<MemDisks, Fail> {
+    let mut files = Vec::new(alloc);
+    let name = Octets::copy(alloc, b"journal")?;
+    let disk = Some(MemDisk::new(alloc, b"", &[1], 8, 4)?);
+    files.push(MemFile { name, disk })?;
+    let name = Octets::copy(alloc, b"other")?;
+    let disk = Some(MemDisk::new(alloc, b"ab", &[], 8, 4)?);
+    files.push(MemFile { name, disk })?;
+    Ok(MemDisks::new(alloc, files, &[], 8, 8)?)
+}
+
+/// Opens a file, does what a journal does, and hands it back.
+fn add_by_name<D: Disks>(disks: &mut D, name: &str, bytes: &[u8]) -> Act {
+    match disks.open(name) {
+        DiskOpen::Failed => Act::Failed,
+        DiskOpen::Disk(mut disk) => {
+            let act = add(&mut disk, bytes);
+            disks.done(disk);
+            act
+        }
+    }
+}
+
+/// What a read of this file gives first, while another is open.
+fn first_beside<D: Disks>(disks: &mut D, name: &str, open: &str) -> Option<u8> {
+    let DiskOpen::Disk(held) = disks.open(open) else {
+        return None;
+    };
+    let first = match disks.open(name) {
+        DiskOpen::Failed => None,
+        DiskOpen::Disk(mut disk) => {
+            let first = first_byte(&mut disk);
+            disks.done(disk);
+            first
+        }
+    };
+    disks.done(held);
+    first
+}
+
+#[test]
+fn files_in_memory_by_name(rt: HostRuntime) -> Result<(), Fail> {
+    let mut disks = two_files(rt.alloc())?;
+    assert!(rt;
+        add_by_name(&mut disks, "journal", b"x") == Act::Failed
+            && add_by_name(&mut disks, "journal", b"y") == Act::Ready
+    );
+    assert_eq!(rt;
+        (
+            first_beside(&mut disks, "journal", "other"),
+            first_beside(&mut disks, "other", "other")
+        ),
+        (Some(b'y'), None)
+    );
     Ok(())
 }
 
