@@ -37,7 +37,7 @@ const NOTICE_BYTES: usize = 28;
 /// How many bytes an answer to `destroy_session` has.
 const DESTROYED_BYTES: usize = 12;
 
-/// How many bytes two short answers have.
+/// How many bytes two short answers have at most.
 const ANSWERS_BYTES: usize = 96;
 
 /// The numbers of messages that a message asks for, at most 8,192. Contracts see the list.

@@ -1,7 +1,8 @@
 //! What a server owes for each judgement, over one session within an event, in room that was taken before
 //! (core.telegram.org/mtproto/service_messages, core.telegram.org/mtproto/service_messages_about_messages). A `Turn` is what
 //! a session has so far of an event; with the session, the jobs and the bindings it stands for a speaker of the definitions
-//! (`Speaks`), and each method is one row of their table.
+//! (`Speaks`). `opens` is what is owed first to a packet, `owes` is a row of their table, and `finishes` and `gives_up` are
+//! what a job that was taken out owes.
 #![tactic(auto)]
 
 mod answering;

@@ -42,7 +42,7 @@ pub enum DeskFault {
     /// An earlier call came to a fault of the disk; nothing is done any more.
     #[error("the journal is closed")]
     Closed,
-    /// The journal is as long as it may be.
+    /// What this call writes would make the journal longer than it may be.
     #[error("the journal is full with {len} bytes")]
     Full {
         /// Its length in bytes.

@@ -1,4 +1,4 @@
-//! A ready job of a session is run (core.telegram.org/mtproto/description, "Messages requiring explicit acknowledgment").
+//! A ready job of a session is run (core.telegram.org/mtproto/service_messages, "Response to an RPC query").
 
 ghost use Rattle.std.specs.Prelude.{◌≡◌, ◌≤◌, ◌<◌, ◌+◌, ℕ, List, [], Some, length, max, IfOk, OnErr, OnOk};
 ghost use Rattle.id_window.specs.History.{History};

@@ -68,7 +68,7 @@ impl Standing {
         self.outbox.room()
     }
 
-    /// Gives back memory that was taken for answers: it stays for so many at most. Takes no memory.
+    /// Lowers for how many further answers memory is promised, to so many at most. The memory itself stays. Takes no memory.
     pub fn release(&mut self, answers: usize)
         ensures { self.new ≡ with_replies_left (min (replies_left self.old) answers) self.old }
     {
