@@ -6,3 +6,5 @@
 mod calls;
 #[cfg(test)]
 mod envelopes;
+#[cfg(test)]
+mod wires;
