@@ -7,4 +7,8 @@ mod calls;
 #[cfg(test)]
 mod envelopes;
 #[cfg(test)]
+mod keys;
+#[cfg(test)]
+mod owed;
+#[cfg(test)]
 mod wires;
