@@ -4,7 +4,8 @@ ghost use Rattle.std.specs.Prelude.{◌≡◌, ◌≤◌, ◌%◌, IfOk, IfSome,
 ghost use Rattle.auth_keys.specs.Rings.{entry_of};
 ghost use Rattle.envelope.specs.Packet.{body_max};
 
-use auth_keys::{AuthKey, Ring};
+use crate::keys::{KEY_ID, bytes_from_0_to_255, ring};
+use auth_keys::AuthKey;
 use cipher_modes::ige_encrypt;
 use draws::{Draw, StepDraw};
 use envelope::{ClearSeal, Dir, Envelope, MtSeal, Opened, Refusal, Seal, laws, packet_bytes};
@@ -13,9 +14,6 @@ use msg_key::{UP, aes_of, msg_key};
 use octets::{Buffer, Memory, Octets};
 use std::alloc::Global;
 use std::test::*;
-
-// The identifier of the key `00` to `ff`: bytes 12 to 19 of its SHA-1, by Python's hashlib.
-const KEY_ID: u64 = 0xc8df_57a4_6e58_d132;
 
 // Two packets made by another implementation of the equations: a few lines of Python over the SHA-1 and SHA-256 of its
 // hashlib and the block of AES of OpenSSL 3 (`AES_encrypt`). Key `00` to `ff`, salt 0102030405060708, session
@@ -45,24 +43,6 @@ const CLEAR_PACKET: [u8; 72] = [
     0x01, 0x00, 0x00, 0x00, 0x04, 0x00, 0x00, 0x00, 0xa0, 0xa1, 0xa2, 0xa3, 0x2d, 0x7f, 0x95, 0x4c,
     0x2d, 0xf4, 0x51, 0x58, 0x5a, 0xfe, 0x2a, 0x99,
 ];
-
-fn bytes_from_0_to_255() -> [u8; 256] {
-    let mut bytes = [0; 256];
-    for byte in 0..=255u8 {
-        bytes[usize::from(byte)] = byte;
-    }
-    bytes
-}
-
-// The ring of the key `00` to `ff`, whose line begins with this.
-fn ring(alloc: Global, kind: &str) -> Result<Ring, Fail> {
-    let digits = hex::encode(alloc, bytes_from_0_to_255().as_slice())?;
-    let text = format!(in alloc; "{kind} {digits}")?;
-    if u32::try_from(text.len()).is_err() {
-        return Err(Fail::new("too long"));
-    }
-    Ok(Ring::read(alloc, text.as_bytes())?)
-}
 
 fn envelope(alloc: Global, number: u64) -> Result<Envelope, Memory>
     ensures { IfOk result (λ envelope. (envelope.key ≡ KEY_ID) × (length envelope.body ≡ 4)) }

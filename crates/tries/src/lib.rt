@@ -6,3 +6,13 @@
 mod calls;
 #[cfg(test)]
 mod envelopes;
+#[cfg(test)]
+mod forgetting;
+#[cfg(test)]
+mod keys;
+#[cfg(test)]
+mod owed;
+#[cfg(test)]
+mod sessions;
+#[cfg(test)]
+mod wires;

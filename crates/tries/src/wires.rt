@@ -8,11 +8,11 @@ ghost use Rattle.transport.specs.Forms.{IsSent};
 ghost use Rattle.transport.specs.Wires.{Hears};
 ghost use Rattle.transport.specs.declared.form.Form.TheVariants as forms;
 
-use crate::{Form, Framed, Next, RawStep, Wire};
 use draws::{Draw, Seeded, StepDraw};
 use octets::{Memory, Octets};
 use std::alloc::Global;
 use std::test::*;
+use transport::{Form, Framed, Next, RawStep, Wire};
 
 // What a client sends first of the padded form, obfuscated, where the first word drawn was `ef10203040506070`.
 const PADDED_START: [u8; 64] = [
@@ -134,9 +134,52 @@ fn read(alloc: Global, stream: &[u8], size: usize) -> Result<(RawStep, Octets), 
     Ok((step, text))
 }
 
+// Whether a connection is read in pieces of each of these sizes, and its packets give this text.
+fn is_read(alloc: Global, stream: &[u8], sizes: &[usize], want: &[u8]) -> Result<bool, Memory> {
+    for size in sizes {
+        let (step, text) = read(alloc, stream, *size)?;
+        if !matches!(step, RawStep::Framed(_)) || text.as_slice() != want {
+            return Ok(false);
+        }
+    }
+    Ok(true)
+}
+
+// What a client sends first, and two packets, of which the first has 504 bytes.
+fn two_sent(alloc: Global, form: Form, obfuscate: bool, second: &[u8]) -> Result<Octets, Fail> {
+    if obfuscate && form == Form::Full {
+        return Err(Fail::new("the full form isn't obfuscated"));
+    }
+    let (mut client, mut stream) = Wire::<Framed>::client(alloc, form, obfuscate, &mut drawn())?;
+    put(&mut client, alloc, form, &[3; 504], &mut stream)?;
+    put(&mut client, alloc, form, second, &mut stream)?;
+    Ok(stream)
+}
+
+// Both packets, each behind its mark.
+fn two_marked(alloc: Global, second: &[u8]) -> Result<Octets, Memory> {
+    let mut text = Octets::copy(alloc, b"packet")?;
+    text.push_all(alloc, &[3; 504])?;
+    text.push_all(alloc, b"packet")?;
+    text.push_all(alloc, second)?;
+    Ok(text)
+}
+
+// How many bytes were sent, and whether they are read in pieces of 1, 7 and 2000 bytes.
+fn sent_and_read(
+    alloc: Global,
+    form: Form,
+    obfuscate: bool,
+    second: &[u8],
+) -> Result<(usize, bool), Fail> {
+    let stream = two_sent(alloc, form, obfuscate, second)?;
+    let text = two_marked(alloc, second)?;
+    let is_read = is_read(alloc, stream.as_slice(), &[1, 7, 2000], text.as_slice())?;
+    Ok((stream.as_slice().len(), is_read))
+}
+
 #[test]
 fn each_form_in_any_pieces(rt: HostRuntime) -> Result<(), Fail> {
-    let alloc = rt.alloc();
     let short: &[u8] = &[7; 508];
     let long: &[u8] = &[7; 520];
     let rows = [
@@ -149,55 +192,110 @@ fn each_form_in_any_pieces(rt: HostRuntime) -> Result<(), Fail> {
         (Form::Full, false, short, 516 + 520),
     ];
     for (form, obfuscate, second, size) in rows {
-        if obfuscate && form == Form::Full {
-            return Err(Fail::new("the full form isn't obfuscated"));
-        }
-        let (mut client, mut stream) = Wire::<Framed>::client(
-            alloc,
-            form,
-            obfuscate,
-            &mut drawn(),
-        )?;
-        put(&mut client, alloc, form, &[3; 504], &mut stream)?;
-        put(&mut client, alloc, form, second, &mut stream)?;
-        assert_eq!(rt; stream.as_slice().len(), size);
-        let mut want = Octets::copy(alloc, b"packet")?;
-        want.push_all(alloc, &[3; 504])?;
-        want.push_all(alloc, b"packet")?;
-        want.push_all(alloc, second)?;
-        for size in [1, 7, 2000] {
-            let (step, text) = read(alloc, stream.as_slice(), size)?;
-            assert!(rt;
-                matches!(step, RawStep::Framed(_)),
-                "{form:?} in pieces of {size}"
-            );
-            assert_eq!(rt; text.as_slice(), want.as_slice());
-        }
+        assert_eq!(rt;
+            sent_and_read(rt.alloc(), form, obfuscate, second)?,
+            (size, true),
+            "{form:?}"
+        );
     }
     Ok(())
 }
 
+// The transport's error 404.
+const ERROR: &[u8; 4] = b"\x6c\xfe\xff\xff";
+
+// A client's end that has sent the error, in the padded form and obfuscated.
+fn padded(alloc: Global) -> Result<(Wire<Framed>, Octets), Memory> {
+    begun(alloc, Form::Padded, true, &mut drawn(), ERROR)
+}
+
+// What another implementation sends so.
+fn padded_up(alloc: Global) -> Result<Octets, Memory> {
+    let mut text = Octets::copy(alloc, &PADDED_START)?;
+    text.push_all(alloc, &PADDED_UP)?;
+    Ok(text)
+}
+
 #[test]
-fn both_ways_of_another_implementation(rt: HostRuntime) -> Result<(), Fail> {
-    let alloc = rt.alloc();
-    let error = b"\x6c\xfe\xff\xff";
-    let (mut client, sent) = begun(alloc, Form::Padded, true, &mut drawn(), error)?;
-    let mut want = Octets::copy(alloc, &PADDED_START)?;
-    want.push_all(alloc, &PADDED_UP)?;
-    assert_eq!(rt; sent.as_slice(), want.as_slice());
-    let RawStep::Framed(mut server) = Wire::server().feed(alloc, sent.as_slice()) else {
+fn sent_as_by_another_implementation(rt: HostRuntime) -> Result<(), Fail> {
+    let (_, sent) = padded(rt.alloc())?;
+    assert_eq!(rt; sent.as_slice(), padded_up(rt.alloc())?.as_slice());
+    Ok(())
+}
+
+// Whether a server's end reads the error and nothing behind it; and what it answers by an error of its own.
+fn answered(alloc: Global) -> Result<(bool, bool, Octets), Fail> {
+    let RawStep::Framed(mut server) = Wire::server().feed(alloc, padded_up(alloc)?.as_slice())
+    else {
         return Err(Fail::new("a start isn't read"));
     };
-    assert_eq!(rt; server.next(), Next::Packet(error));
-    assert_eq!(rt; server.next(), Next::More);
+    let first = server.next() == Next::Packet(ERROR);
+    let second = server.next() == Next::More;
     let mut answer = Octets::new(alloc);
-    server.put(alloc, error, &mut answer)?;
-    assert_eq!(rt; answer.as_slice(), PADDED_DOWN.as_slice());
-    let mut packet = Octets::new(alloc);
-    assert!(rt; !take_packet(&mut client, alloc, &PADDED_DOWN[..5], &mut packet)?);
-    assert!(rt; take_packet(&mut client, alloc, &PADDED_DOWN[5..], &mut packet)?);
-    assert_eq!(rt; packet.as_slice(), error.as_slice());
+    server.put(alloc, ERROR, &mut answer)?;
+    Ok((first, second, answer))
+}
+
+#[test]
+fn answered_as_by_another_implementation(rt: HostRuntime) -> Result<(), Fail> {
+    let (first, second, answer) = answered(rt.alloc())?;
+    assert_eq!(rt;
+        (first, second, answer.as_slice()),
+        (true, true, PADDED_DOWN.as_slice())
+    );
     Ok(())
+}
+
+// Whether the client's end takes a packet by each piece of that answer; and the packet.
+fn taken(alloc: Global) -> Result<(bool, bool, Octets), Memory> {
+    let (mut client, _) = padded(alloc)?;
+    let mut packet = Octets::new(alloc);
+    let first = take_packet(&mut client, alloc, &PADDED_DOWN[..5], &mut packet)?;
+    let second = take_packet(&mut client, alloc, &PADDED_DOWN[5..], &mut packet)?;
+    Ok((first, second, packet))
+}
+
+#[test]
+fn an_answer_is_taken_in_two_pieces(rt: HostRuntime) -> Result<(), Fail> {
+    let (first, second, packet) = taken(rt.alloc())?;
+    assert_eq!(rt;
+        (first, second, packet.as_slice()),
+        (false, true, ERROR.as_slice())
+    );
+    Ok(())
+}
+
+// A start of 64 bytes with these 8 bytes first.
+fn start(alloc: Global, first: &[u8], number: &[u8]) -> Result<Octets, Memory> {
+    let mut bytes = Octets::copy(alloc, first)?;
+    bytes.push_all(alloc, number)?;
+    bytes.push_all(alloc, &[0x5a; 56])?;
+    Ok(bytes)
+}
+
+// Whether it is read as a start that carries no tag, in pieces of 1, 7 and 64 bytes.
+fn has_no_tag(alloc: Global, start: &[u8]) -> Result<bool, Memory> {
+    for size in [1, 7, 64] {
+        let (step, _) = read(alloc, start, size)?;
+        let RawStep::Start { bytes } = step else {
+            return Ok(false);
+        };
+        if bytes.as_slice() != start {
+            return Ok(false);
+        }
+    }
+    Ok(true)
+}
+
+// Whether more bytes are awaited behind its first 63, and behind the others alone.
+fn is_awaited(alloc: Global, start: &[u8]) -> Result<bool, Memory> {
+    for cut in start.chunks(63) {
+        let (step, _) = read(alloc, cut, 64)?;
+        if !matches!(step, RawStep::Raw(_)) {
+            return Ok(false);
+        }
+    }
+    Ok(true)
 }
 
 // A start of 64 bytes that carries no tag, and its first bytes alone.
@@ -211,45 +309,46 @@ fn no_form(rt: HostRuntime) -> Result<(), Fail> {
         (b"\x01\xef\xef\xef", b"\x01\0\0\0"),
     ];
     for (first, number) in rows {
-        let mut bytes = Octets::copy(alloc, first)?;
-        bytes.push_all(alloc, number)?;
-        bytes.push_all(alloc, &[0x5a; 56])?;
-        let all = bytes.as_slice();
-        for size in [1, 7, 64] {
-            let (step, _) = read(alloc, all, size)?;
-            let RawStep::Start { bytes } = step else {
-                return Err(Fail::new("a form is read"));
-            };
-            assert_eq!(rt; bytes.as_slice(), all);
-        }
-        for cut in all.chunks(63) {
-            let (step, _) = read(alloc, cut, 64)?;
-            assert!(rt; matches!(step, RawStep::Raw(_)));
-        }
+        let start = start(alloc, first, number)?;
+        let start = start.as_slice();
+        assert_eq!(rt;
+            (has_no_tag(alloc, start)?, is_awaited(alloc, start)?),
+            (true, true)
+        );
     }
     Ok(())
 }
 
-// The first 8 bytes belong to the first frame. The check is that of zlib.
+// Two full frames. The check is that of zlib.
+const FULL: &[u8; 36] =
+    b"\x10\0\0\0\0\0\0\0\x6c\xfe\xff\xff\x0d\x2f\x41\x07\x14\0\0\0\x01\0\0\0abcdefgh\x1a\x80\xc5\x8e";
+
+// The first 8 bytes belong to the first frame.
 #[test]
 fn full_frames_are_read_from_the_first_byte(rt: HostRuntime) -> Result<(), Fail> {
-    let alloc = rt.alloc();
-    let stream =
-        b"\x10\0\0\0\0\0\0\0\x6c\xfe\xff\xff\x0d\x2f\x41\x07\x14\0\0\0\x01\0\0\0abcdefgh\x1a\x80\xc5\x8e";
-    for size in [1, 7, 8, 9, 36] {
-        let (step, text) = read(alloc, stream, size)?;
-        assert!(rt; matches!(step, RawStep::Framed(_)));
-        assert_eq!(rt;
-            text.as_slice(),
-            b"packet\x6c\xfe\xff\xffpacketabcdefgh".as_slice()
-        );
-    }
+    let text = b"packet\x6c\xfe\xff\xffpacketabcdefgh";
+    assert!(rt; is_read(rt.alloc(), FULL, &[1, 7, 8, 9, 36], text)?);
+    Ok(())
+}
+
+// What a client sends in the full form by the error and a packet of 8 bytes.
+fn full_sent(alloc: Global) -> Result<Octets, Memory> {
     let (mut client, mut sent) = Wire::<Framed>::client(alloc, Form::Full, false, &mut drawn())?;
-    client.put(alloc, b"\x6c\xfe\xff\xff", &mut sent)?;
+    client.put(alloc, ERROR, &mut sent)?;
     client.put(alloc, b"abcdefgh", &mut sent)?;
-    assert_eq!(rt; sent.as_slice(), stream.as_slice());
-    let (step, _) = read(alloc, &stream[..7], 7)?;
-    let shown = format!(in alloc; "{step:?}")?;
+    Ok(sent)
+}
+
+#[test]
+fn full_frames_are_sent(rt: HostRuntime) -> Result<(), Fail> {
+    assert_eq!(rt; full_sent(rt.alloc())?.as_slice(), FULL.as_slice());
+    Ok(())
+}
+
+#[test]
+fn an_end_is_shown_without_its_bytes(rt: HostRuntime) -> Result<(), Fail> {
+    let (step, _) = read(rt.alloc(), &FULL[..7], 7)?;
+    let shown = format!(in rt.alloc(); "{step:?}")?;
     assert_eq!(rt; shown.as_str(), "Raw(Wire { state: Raw { count: 7, .. } })");
     Ok(())
 }

@@ -1,12 +1,12 @@
 //! What a session lets go of, says once more, and tells of numbers.
 
-use crate::{DroppedReply, Standing};
 use draws::StepDraw;
 use inbox::{Mark, Outer};
 use msg_ids::Moment;
 use octets::{Memory, Octets};
 use outbox::Bytes;
 use owing::Owing;
+use standing::{DroppedReply, Standing};
 use std::alloc::Global;
 use std::test::*;
 
