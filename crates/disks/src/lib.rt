@@ -6,6 +6,7 @@
 
 mod disk;
 mod disk_act;
+mod disk_call;
 mod disk_len;
 mod disks;
 mod file_disks;
@@ -16,6 +17,7 @@ mod mem_file;
 
 pub use disk::Disk;
 pub use disk_act::DiskAct;
+pub use disk_call::DiskCall;
 pub use disk_len::DiskLen;
 pub use disks::{DiskOpen, Disks};
 pub use file_disks::{FileDisk, FileDisks};

@@ -1,42 +1,45 @@
 //! A file in memory, for tests.
 
-ghost use Rattle.std.specs.Prelude.{◌≡◌, ◌<◌, ◌≤◌, ◌+◌, [], Some, length, take, max, fold, vec_len, vec_capacity, IfOk, IfSome, IsSomeAnd};
+ghost use Rattle.std.specs.Prelude.{◌≡◌, ◌<◌, ◌≤◌, ◌+◌, [], ◌∷◌, ◌++◌, Some, length, take, max, fold, vec_len, vec_capacity, IfOk, IfSome, IsSomeAnd};
 ghost use Rattle.disks.specs.Crash.{MayLeave, after_acts, overwritten, synced_after, synced_at};
 ghost use Rattle.disks.specs.Told.{Changes, Syncs, moment, now};
 ghost use Rattle.mt_edge.specs.Faults.{one_more};
 
 use crate::disk::Disk;
 use crate::disk_act::DiskAct;
+use crate::disk_call::DiskCall;
 use crate::disk_len::DiskLen;
 use mt_edge::{Act, raised};
 use octets::{Buffer, Memory, Octets};
 use std::alloc::Global;
 
 /// A file in memory. The calls of the given numbers fail, counted together from 1, and so does each one that passes a room
-/// or an end. A write or a cut that fails by its number is noted, as one that may have been done in part, and changes
-/// nothing that a read gives. A call that finds no room isn't noted.
+/// or an end. It keeps a record of all calls that it has room for. A write or a cut that fails by its number is an act too,
+/// as one that may have been done in part, and changes nothing that a read gives.
 #[derive(Debug, Drop)]
 pub struct MemDisk {
     first: Octets,
     contents: Vec<u8>,
     bytes_room: usize,
     acts: Vec<DiskAct>,
-    acts_room: usize,
+    recorded: Vec<DiskCall>,
+    calls_room: usize,
     spare: Vec<Buffer>,
     failing: Vec<u64>,
-    calls: u64,
     faults: u64,
     place: usize,
     ghost in_room: { vec_len contents ≤ bytes_room },
     ghost bytes_taken: { bytes_room ≤ vec_capacity contents },
-    ghost acts_in_room: { vec_len acts ≤ acts_room },
-    ghost acts_taken: { acts_room ≤ vec_capacity acts },
+    ghost acts_recorded: { vec_len acts ≤ vec_len recorded },
+    ghost acts_taken: { calls_room ≤ vec_capacity acts },
+    ghost calls_in_room: { vec_len recorded ≤ calls_room },
+    ghost calls_taken: { calls_room ≤ vec_capacity recorded },
     ghost possible: { MayLeave (after_acts (synced_at first) acts.items) contents.items },
 }
 
 impl MemDisk {
     /// A file with these bytes, as it is after a sync. It has room for `bytes_room` bytes, or for these where they are more,
-    /// and notes up to `acts_room` writes, cuts and syncs; the room is taken now.
+    /// and for `calls_room` calls, the room for the bytes at each sync among it; all room is taken now.
     ///
     /// # Errors
     ///
@@ -46,7 +49,7 @@ impl MemDisk {
         contents: &[u8],
         failing: &[u64],
         bytes_room: usize,
-        acts_room: usize,
+        calls_room: usize,
     ) -> Result<MemDisk, Memory>
         ensures told { IfOk result (λ disk. ⟦<MemDisk as Disk>⟧.told disk ≡ Some (record { contents = contents.now; first = synced_at contents.now; acts = [] })) }
         ensures faults { IfOk result (λ disk. ⟦<MemDisk as Disk>⟧.faults disk ≡ 0) }
@@ -58,11 +61,11 @@ impl MemDisk {
             first: Octets::copy(alloc, contents)?,
             contents: held,
             bytes_room,
-            acts: Vec::with_capacity(alloc, acts_room)?,
-            acts_room,
-            spare: rooms(alloc, acts_room, bytes_room)?,
+            acts: Vec::with_capacity(alloc, calls_room)?,
+            recorded: Vec::with_capacity(alloc, calls_room)?,
+            calls_room,
+            spare: rooms(alloc, calls_room, bytes_room)?,
             failing: Vec::from_slice(alloc, failing)?,
-            calls: 0,
             faults: 0,
             place: 0,
         })
@@ -116,6 +119,14 @@ impl MemDisk {
         self.acts.as_slice()
     }
 
+    /// The calls so far, in order, whatever they came to: all but those that found no room in this record. A failing number
+    /// is a place in it, from 1. Takes no memory.
+    pub fn calls(&self) -> &[DiskCall]
+        ensures { IfSome (⟦<MemDisk as Disk>⟧.told self.now) (λ told. length told.acts ≤ length result.now) }
+    {
+        self.recorded.as_slice()
+    }
+
     /// What a read gives. Takes no memory.
     pub fn contents(&self) -> &[u8]
         ensures value { IfSome (⟦<MemDisk as Disk>⟧.told self.now) (λ told. result.now ≡ told.contents) }
@@ -124,18 +135,22 @@ impl MemDisk {
         self.contents.as_slice()
     }
 
-    /// Counts a call: whether its number is one that may go.
-    fn may_go(&mut self) -> bool
+    /// Records a call, where there is room for it: whether its number is one that may go.
+    fn may_go(&mut self, call: DiskCall) -> bool
+        ensures recorded { vec_len self.old.recorded < self.old.calls_room → self.new.recorded.items ≡ self.old.recorded.items ++ call ∷ [] }
+        ensures longer { vec_len self.old.recorded < self.old.calls_room → vec_len self.new.recorded ≡ vec_len self.old.recorded + 1 }
         ensures first { self.new.first ≡ self.old.first }
         ensures contents { self.new.contents ≡ self.old.contents }
         ensures bytes_room { self.new.bytes_room ≡ self.old.bytes_room }
         ensures acts { self.new.acts ≡ self.old.acts }
-        ensures acts_room { self.new.acts_room ≡ self.old.acts_room }
         ensures faults { self.new.faults ≡ self.old.faults }
         ensures place { self.new.place ≡ self.old.place }
     {
-        self.calls = self.calls.saturating_add(1);
-        !self.failing.contains(&self.calls)
+        if self.recorded.len() >= self.calls_room {
+            return false;
+        }
+        self.recorded.push(call).unwrap();
+        !self.failing.contains(&(self.recorded.len() as u64))
     }
 
     /// Counts a fault, and no more.
@@ -155,7 +170,7 @@ impl MemDisk {
     fn writes(&mut self, at: u64, bytes: &[u8])
         requires inside { at ≤ vec_len self.old.contents }
         requires room { at + length bytes.now ≤ self.old.bytes_room }
-        requires acts { vec_len self.old.acts < self.old.acts_room }
+        requires recorded { vec_len self.old.acts < vec_len self.old.recorded }
         ensures told { IfSome (⟦<MemDisk as Disk>⟧.told self.old) (λ before. IsSomeAnd (⟦<MemDisk as Disk>⟧.told self.new) (λ after.
             Changes Act.Ready (DiskAct.Write at (length bytes.now)) (overwritten at bytes.now before.contents) before after)) }
         ensures place { self.new.place ≡ self.old.place }
@@ -169,7 +184,7 @@ impl MemDisk {
     /// Notes a write that failed.
     #[tactic(auto, using(crate::proofs::Moments::written_maybe, crate::proofs::Moments::maybe_told))]
     fn may_have_written(&mut self, at: u64, bytes: &[u8])
-        requires acts { vec_len self.old.acts < self.old.acts_room }
+        requires recorded { vec_len self.old.acts < vec_len self.old.recorded }
         ensures told { IfSome (⟦<MemDisk as Disk>⟧.told self.old) (λ before. IsSomeAnd (⟦<MemDisk as Disk>⟧.told self.new) (λ after.
             Changes Act.Failed (DiskAct.Write at (length bytes.now)) (overwritten at bytes.now before.contents) before after)) }
         ensures place { self.new.place ≡ self.old.place }
@@ -185,7 +200,7 @@ impl MemDisk {
     #[tactic(auto, using(crate::proofs::Moments::cut_off, crate::proofs::Moments::cut_told))]
     fn cuts(&mut self, len: u64)
         requires inside { len ≤ vec_len self.old.contents }
-        requires acts { vec_len self.old.acts < self.old.acts_room }
+        requires recorded { vec_len self.old.acts < vec_len self.old.recorded }
         ensures told { IfSome (⟦<MemDisk as Disk>⟧.told self.old) (λ before. IsSomeAnd (⟦<MemDisk as Disk>⟧.told self.new) (λ after.
             Changes Act.Ready (DiskAct.Cut len) (take len before.contents) before after)) }
         ensures place { self.new.place ≡ self.old.place }
@@ -198,7 +213,7 @@ impl MemDisk {
     /// Notes a cut that failed.
     #[tactic(auto, using(crate::proofs::Moments::cut_maybe, crate::proofs::Moments::maybe_told))]
     fn may_have_cut(&mut self, len: u64)
-        requires acts { vec_len self.old.acts < self.old.acts_room }
+        requires recorded { vec_len self.old.acts < vec_len self.old.recorded }
         ensures told { IfSome (⟦<MemDisk as Disk>⟧.told self.old) (λ before. IsSomeAnd (⟦<MemDisk as Disk>⟧.told self.new) (λ after.
             Changes Act.Failed (DiskAct.Cut len) (take len before.contents) before after)) }
         ensures place { self.new.place ≡ self.old.place }
@@ -213,7 +228,7 @@ impl MemDisk {
     #[tactic(auto, using(crate::proofs::Moments::synced_now, crate::proofs::Moments::sync_told))]
     fn syncs(&mut self, contents: Octets)
         requires copy { contents ≡ self.old.contents.items }
-        requires acts { vec_len self.old.acts < self.old.acts_room }
+        requires recorded { vec_len self.old.acts < vec_len self.old.recorded }
         ensures told { IfSome (⟦<MemDisk as Disk>⟧.told self.old) (λ before. IsSomeAnd (⟦<MemDisk as Disk>⟧.told self.new) (λ after. Syncs Act.Ready before after)) }
         ensures place { self.new.place ≡ self.old.place }
         ensures faults { self.new.faults ≡ self.old.faults }
@@ -289,7 +304,7 @@ impl Disk for MemDisk {
     ghost faults = { λ disk. disk.faults };
 
     fn len(&mut self) -> DiskLen {
-        if self.may_go() {
+        if self.may_go(DiskCall::Len) {
             DiskLen::Len(self.contents.len() as u64)
         } else {
             self.faults = raised(self.faults);
@@ -298,23 +313,27 @@ impl Disk for MemDisk {
     }
 
     fn read(&mut self, at: u64, into: &mut [u8]) -> Act {
-        let at = at as usize;
-        let may_go = self.may_go();
-        if !may_go || at > self.contents.len() || into.len() > self.contents.len() - at {
+        let count = into.len();
+        let may_go = self.may_go(DiskCall::Read { at, count });
+        let begin = at as usize;
+        if !may_go || begin > self.contents.len() || count > self.contents.len() - begin {
             self.faults = raised(self.faults);
             return Act::Failed;
         }
-        let end = at + into.len();
-        into.copy_from_slice(&self.contents.as_slice()[at..end]);
+        let end = begin + count;
+        into.copy_from_slice(&self.contents.as_slice()[begin..end]);
         Act::Ready
     }
 
     #[tactic(auto, using(crate::proofs::Moments::none_told))]
     fn write(&mut self, at: u64, bytes: &[u8]) -> Act {
+        if self.recorded.len() >= self.calls_room {
+            return self.fails();
+        }
+        let count = bytes.len();
+        let may_go = self.may_go(DiskCall::Write { at, count });
         let begin = at as usize;
-        let may_go = self.may_go();
-        let is_inside = begin <= self.contents.len() && bytes.len() <= self.bytes_room - begin;
-        if !is_inside || self.acts.len() >= self.acts_room {
+        if begin > self.contents.len() || count > self.bytes_room - begin {
             return self.fails();
         }
         if may_go {
@@ -328,8 +347,11 @@ impl Disk for MemDisk {
 
     #[tactic(auto, using(crate::proofs::Moments::none_told))]
     fn cut(&mut self, len: u64) -> Act {
-        let may_go = self.may_go();
-        if len as usize > self.contents.len() || self.acts.len() >= self.acts_room {
+        if self.recorded.len() >= self.calls_room {
+            return self.fails();
+        }
+        let may_go = self.may_go(DiskCall::Cut { len });
+        if len as usize > self.contents.len() {
             return self.fails();
         }
         if may_go {
@@ -343,10 +365,13 @@ impl Disk for MemDisk {
 
     #[tactic(auto, using(crate::proofs::Moments::no_sync_told))]
     fn sync(&mut self) -> Act {
-        let may_go = self.may_go();
+        if self.recorded.len() >= self.calls_room {
+            return self.fails();
+        }
+        let may_go = self.may_go(DiskCall::Sync);
         let copy = fill(self.spare.pop(), self.contents.as_slice());
         match copy {
-            Some(contents) if may_go && self.acts.len() < self.acts_room => {
+            Some(contents) if may_go => {
                 self.syncs(contents);
                 Act::Ready
             }

@@ -4,7 +4,7 @@ ghost use Rattle.std.specs.Prelude.{◌≡◌, ◌++◌, IfSome, IsSomeAnd};
 ghost use Rattle.disks.specs.Crash.{synced_at};
 ghost use Rattle.disks.specs.Told.{now};
 
-use crate::{Disk, DiskLen, DiskOpen, Disks, FileDisks, MemDisk, MemDisks, MemFile};
+use crate::{Disk, DiskCall, DiskLen, DiskOpen, Disks, FileDisks, MemDisk, MemDisks, MemFile};
 use mt_edge::Act;
 use octets::Octets;
 use std::alloc::Global;
@@ -48,11 +48,18 @@ fn loses(disk: &MemDisk, alloc: Global, acts: usize, want: &[u8]) -> Result<bool
 #[test]
 fn files_in_memory(rt: HostRuntime) -> Result<(), Fail> {
     let alloc = rt.alloc();
-    let mut disk = MemDisk::new(alloc, b"ab", &[4, 8], 8, 4)?;
+    let mut disk = MemDisk::new(alloc, b"ab", &[4, 8], 8, 8)?;
     assert_eq!(rt; add(&mut disk, b"cd"), Act::Ready);
     assert_eq!(rt; add(&mut disk, b"ef"), Act::Failed);
     assert_eq!(rt; first_byte(&mut disk), Some(b'a'));
-    assert_eq!(rt; (disk.contents(), disk.faults()), (b"abcd".as_slice(), 1));
+    assert_eq!(rt;
+        (disk.contents(), disk.calls().last().copied(), disk.faults()),
+        (
+            b"abcd".as_slice(),
+            Some(DiskCall::Read { at: 0, count: 1 }),
+            1
+        )
+    );
     assert!(rt; loses(&disk, alloc, 1, b"ab")? && loses(&disk, alloc, 2, b"abcd")?);
     Ok(())
 }
@@ -61,10 +68,10 @@ fn files_in_memory(rt: HostRuntime) -> Result<(), Fail> {
 fn two_files(alloc: Global) -> Result<MemDisks, Fail> {
     let mut files = Vec::new(alloc);
     let name = Octets::copy(alloc, b"journal")?;
-    let disk = Some(MemDisk::new(alloc, b"", &[1], 8, 4)?);
+    let disk = Some(MemDisk::new(alloc, b"", &[1], 8, 8)?);
     files.push(MemFile { name, disk })?;
     let name = Octets::copy(alloc, b"other")?;
-    let disk = Some(MemDisk::new(alloc, b"ab", &[], 8, 4)?);
+    let disk = Some(MemDisk::new(alloc, b"ab", &[], 8, 8)?);
     files.push(MemFile { name, disk })?;
     Ok(MemDisks::new(alloc, files, &[], 8, 8)?)
 }
