@@ -18,3 +18,4 @@ pub mod Events
 pub mod Jobs
 pub mod Ordered
 pub mod Beginning
+pub mod Sending

@@ -78,7 +78,7 @@ module _ (w v : World) (y : Session) (counters : Counters) (replies : List Reply
   can_still (Notice number code) (inr h) = inr (h.0, forgotten number h.1)
   can_still (WrongSalt number salt) h = h
 
-  said_still : (message : Message) → IsSaid w y message → IsSaid v z message
+  pub said_still : (message : Message) → IsSaid w y message → IsSaid v z message
   said_still message h = record {
     item = h.item;
     body = h.body;
@@ -122,12 +122,14 @@ pub record Adds : Type 0 where
       → Contains ((after_all w list).servers unique).judged judged
   pub forgotten : (w : World) (list : List Move) → AreLawful w list → (unique number : ℕ) → Contains (w.servers unique).forgotten number
       → Contains ((after_all w list).servers unique).forgotten number
+  pub packets : (w : World) (list : List Move) → AreLawful w list → (packet : moves.Packet) → Contains w.downs packet → Contains (after_all w list).downs packet
 
 pub adds_of : ((w : World) (list : List Move) → AreLawful w list → Extends w (after_all w list)) → Adds
 adds_of adds = record {
   messages = λ w list lawful. (adds w list lawful).messages;
   judged = λ w list lawful. (adds w list lawful).servers.judged;
   forgotten = λ w list lawful. (adds w list lawful).servers.forgotten;
+  packets = λ w list lawful. (adds w list lawful).packets;
 }
 
 same_more : (replies : List Reply) (reply other : Reply) → HasSame replies other → HasSame (replies ++ reply ∷ []) other

@@ -2,3 +2,4 @@ pub mod Leading
 pub mod Servers
 pub mod Speaking
 pub mod Events
+pub mod Sending

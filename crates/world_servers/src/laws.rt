@@ -31,9 +31,12 @@ ghost use Rattle.world_servers.specs.Leading.{Leads};
 ghost use Rattle.salt_line.specs.Line.{Line};
 ghost use Rattle.inbox.specs.declared.judged.Judgement.{Judgement};
 ghost use Rattle.inbox.specs.declared.judged.Verdict.{Verdict};
+ghost use Rattle.packing.specs.Packing.{groups};
+ghost use Rattle.server_rules.specs.Sending.{sends};
+ghost use Rattle.world_servers.specs.Sending.{IsSpoken, MayGo};
 ghost use Rattle.world_servers.specs.Events.{AreLines, AreOpenJobs, EventStands, with_lines};
 ghost use Rattle.server_laws.specs.Order.{AreOrdered};
-ghost use Rattle.world_servers.specs.Speaking.{IsDue, IsOpen, IsWithin, SpeaksThere};
+ghost use Rattle.world_servers.specs.Speaking.{IsDue, IsOpen, IsSaid, IsWithin, SpeaksThere, with_line};
 ghost use Rattle.world_servers.specs.Servers.{AsksThere, AreNewSalts, CanSay, GoOn, HasForgotten, IsAcceptedThere, IsJobOf, IsNewSalt, IsSuch, IsUp, ServerStands, WasAnswered, WasJudged, with_history, with_replies, with_row, with_rows};
 
 use draws::Draw;
@@ -249,4 +252,20 @@ pub fn events_begin_by_moves<D: Draw>()
     ensures jobs { (w : World) (gone sessions : List Session) (jobs : Queue) → ServerStands w gone sessions jobs → AreOrdered sessions jobs → AreOpenJobs sessions jobs }
 {
     moves_go_on();
+}
+
+/// A session sends its messages by lawful moves, one for each packet: the items that the packet's messages spell go out
+/// there together. While the session has accepted nothing each packet begins with its `new_session_created`.
+pub fn messages_go_out_by_moves<D: Draw>()
+    ensures { (w : World) (gone sessions : List Session) (line : Line) (setting : Setting D) (messages : List Said) (speaker : Speaker D) → Reached w
+        → SpeaksThere w gone sessions line speaker
+        → AllByRecursion (IsSaid w (with_line line speaker.session)) messages
+        → AllByRecursion (MayGo (with_line line speaker.session)) (groups messages)
+        → Leads w (λ later. SpeaksThere later gone sessions line (sends setting messages speaker)
+        × AllByRecursion (IsSpoken later speaker.session.unique) (groups messages)) }
+{
+    moves_only_add();
+    moves_go_on();
+    numbers_are_given_once();
+    packing::laws::packets_have_all_messages();
 }
