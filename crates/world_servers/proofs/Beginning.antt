@@ -1,13 +1,11 @@
 -- The salts of an event are drawn at its beginning.
-use Rattle.std.proofs.Common.{◌≡◌, ◌≢◌, ℕ, ◌<◌, arith, List, [], ◌∷◌, ◌++◌, map, inl, inr, refl, sym, ap, subst, ◌∙◌}
-use Rattle.std.specs.Prelude.{⊤}
+use Rattle.std.proofs.Common.{◌≡◌, ◌≢◌, ℕ, List, [], ◌∷◌, ◌++◌, map, refl, sym, ap, subst, ◌∙◌}
 use Rattle.std.specs.List.{AllByRecursion, Contains, flat_map}
 use Rattle.std.proofs.lemmas.List.Elements.{Contains-append_right}
 use Rattle.salt_line.specs.Rows.{Row}
 use Rattle.salt_line.specs.Line.{Line}
 use Rattle.waits.specs.Jobs.{Queue}
 use Rattle.server_rules.specs.Server.{Name, Server, Session, name_of, with_session}
-use Rattle.server_rules.specs.Event.{Owed}
 use Rattle.server_rules.specs.Answer.{begun}
 use Rattle.session_moves.specs.World.{World}
 use Rattle.session_moves.specs.Reached.{Reached}
@@ -15,7 +13,7 @@ use Rattle.world_servers.specs.Leading.{Leads}
 use Rattle.world_servers.specs.Servers.{AreApart, AreNewSalts, IsNewSalt, ServerStands, with_row, with_rows}
 use Rattle.world_servers.specs.Speaking.{IsOwedThere, with_line}
 use Rattle.world_servers.specs.Events.{AreLines, EventStands, with_lines}
-use Rattle.world_servers.proofs.Lists.{all_of, each_of, first_or, here, later as one_later}
+use Rattle.world_servers.proofs.Lists.{all_of, each_of, here, later as one_later}
 use Rattle.world_servers.proofs.Leading.{GoOn, goes_on, leads_so, stays}
 use Rattle.world_servers.proofs.Judging.{draws_on}
 use Rattle.world_servers.proofs.Losing.{append_nothing, append_one}

@@ -1,22 +1,21 @@
 -- A session speaks in an event, or is lost in it.
 use Rattle.std.proofs.Common.{◌≡◌, ℕ, ◌<◌, arith, ◌==◌, ◌&&◌, not, Bool, true, false, Option, None, Some, List, [], ◌∷◌, ◌++◌, map, filter, inl, inr, refl, sym, ap, subst, ◌∙◌}
-use Rattle.std.specs.Prelude.{◌⊎◌}
-use Rattle.std.specs.List.{All, AllByRecursion, Contains}
+use Rattle.std.specs.List.{AllByRecursion, Contains}
 use Rattle.std.proofs.lemmas.Bool.{cases_Bool}
 use Rattle.std.proofs.lemmas.List.Elements.{All-contains}
 use Rattle.salt_line.specs.Line.{Line}
-use Rattle.waits.specs.Jobs.{Queue, without_session as without_jobs_of}
+use Rattle.waits.specs.Jobs.{without_session as without_jobs_of}
 use Rattle.server_rules.specs.Server.{Name, Session, is_named, name_of, session_named, with_session, without_session}
 use Rattle.server_rules.specs.Event.{Owed, Speaker, State, lost, speaker_in, speaks, spoken, spoken_by}
 use Rattle.server_laws.specs.Speech.{SaidFor}
 use Rattle.session_moves.specs.World.{World}
 use Rattle.session_moves.specs.Reached.{after_all}
 use Rattle.world_servers.specs.Leading.{Leads}
-use Rattle.world_servers.specs.Servers.{AreApart, ServerStands}
-use Rattle.world_servers.specs.Speaking.{IsOwedThere, IsSaid, SpeaksThere, StandsSpeaking, with_line}
+use Rattle.world_servers.specs.Servers.{ServerStands}
+use Rattle.world_servers.specs.Speaking.{IsOwedThere, SpeaksThere, with_line}
 use Rattle.world_servers.specs.Events.{EventStands, with_lines}
-use Rattle.world_servers.proofs.Lists.{all_append, all_of, each_of, first_or, from_filter, here, later as one_later, map_all}
-use Rattle.world_servers.proofs.Leading.{leads_so, stays}
+use Rattle.world_servers.proofs.Lists.{all_append, all_of, each_of, first_or, from_filter, here, later as one_later}
+use Rattle.world_servers.proofs.Leading.{stays}
 use Rattle.world_servers.proofs.Losing.{and_right, eq_true, loses, named_itself}
 use Rattle.world_servers.proofs.One.{put, with_itself}
 use Rattle.world_servers.proofs.Found.{found_in}

@@ -1,18 +1,17 @@
 -- What the definitions find: a mark, a reply, a job, a row of salts.
-use Rattle.std.proofs.Common.{◌≡◌, ℕ, ◌==◌, ◌&&◌, ◌||◌, Bool, true, false, Option, None, Some, List, [], ◌∷◌, ◌++◌, map, fold, if◌then◌else◌, inl, inr, refl, sym, ap, subst, ◌∙◌, eq-eqb}
+use Rattle.std.proofs.Common.{◌≡◌, ℕ, ◌==◌, ◌||◌, Bool, true, false, Option, None, Some, List, [], ◌∷◌, ◌++◌, fold, if◌then◌else◌, inl, inr, refl, sym, ap, subst, ◌∙◌, eq-eqb}
 use Rattle.std.specs.Prelude.{◌⊎◌}
-use Rattle.std.specs.List.{Contains, find, list_any}
+use Rattle.std.specs.List.{Contains, find}
 use Rattle.std.proofs.lemmas.Bool.{cases_Bool}
-use Rattle.std.proofs.lemmas.List.Elements.{Contains-append_left, Contains-append_right}
 use Rattle.salt_line.specs.Rows.{Row}
 use Rattle.salt_line.specs.Needed.{has_row, needed, word_in}
 use Rattle.id_window.specs.declared.mark.Mark.{Mark}
-use Rattle.id_window.specs.declared.mark.Mark.TheVariants.{Noticed as MarkNoticed, Service, Container, Waiting, Replied, Acked, Dropped}
+use Rattle.id_window.specs.declared.mark.Mark.TheVariants.{Noticed as MarkNoticed, Service, Waiting, Dropped}
 use Rattle.id_window.specs.Marks.{mark_of}
 use Rattle.id_window.specs.History.{FirstJudgement, History, Outcome, Refused, AcceptedContainer, AcceptedCall, AcceptedOther, found, is_kept}
 use Rattle.waits.specs.declared.job.Job.{Job}
 use Rattle.waits.specs.declared.job.Unfinished.{Unfinished}
-use Rattle.waits.specs.Jobs.{Queue, first_job, is_ready, ready_job}
+use Rattle.waits.specs.Jobs.{Queue, first_job}
 use Rattle.server_rules.specs.Server.{Fate, IsKept, Reply, WasAcked, WasDropped, answered_mark, is_good, mark_after, mark_by, marks_of, reply_to}
 use Rattle.world_servers.specs.Servers.{has_dropped, is_dropped}
 use Rattle.world_servers.proofs.Lists.{here, later}

@@ -1,6 +1,5 @@
 -- Jobs are answered in an event.
-use Rattle.std.proofs.Common.{◌≡◌, ℕ, zero, suc, ◌==◌, ◌&&◌, Bool, true, false, Option, None, Some, List, [], ◌∷◌, ◌++◌, map, length, if◌then◌else◌, inl, inr, refl, sym, ap, subst, ◌∙◌}
-use Rattle.std.specs.Prelude.{◌⊎◌}
+use Rattle.std.proofs.Common.{◌≡◌, ℕ, zero, suc, ◌==◌, ◌&&◌, Bool, true, false, Option, None, Some, List, [], ◌∷◌, ◌++◌, length, if◌then◌else◌, inl, inr, refl, sym, ap, subst, ◌∙◌}
 use Rattle.std.specs.List.{AllByRecursion, Contains}
 use Rattle.std.proofs.lemmas.Bool.{cases_Bool}
 use Rattle.salt_line.specs.Line.{Line}
@@ -10,7 +9,7 @@ use Rattle.waits.specs.declared.job.Job.{Job}
 use Rattle.waits.specs.declared.job.Unfinished.{Unfinished}
 use Rattle.waits.specs.Jobs.{Queue, after_answer, first_job, has_failed, is_of, is_overdue, is_ready, ready_job, settled, told as job_told, waits_for, without_first, without_ready}
 use Rattle.server_rules.specs.Server.{IsKept, Name, Reply, Session, is_named, name_of, session_named, with_session}
-use Rattle.server_rules.specs.Event.{Setting, Speaker, State, speaker_in, speaks, spoken, spoken_by}
+use Rattle.server_rules.specs.Event.{Setting, Speaker, State, speaker_in, speaks, spoken_by}
 use Rattle.server_rules.specs.Speaking.{answers, made_room, msg_wait_failed, msg_wait_timeout}
 use Rattle.server_rules.specs.Waiting.{GoesOn, InVain, Outlook, Over, after_failures, after_timeouts, all_given_up, first_given_up, given_up, gives_up, outlook, told}
 use Rattle.server_rules.specs.Answer.{finishes, runs, ticks}
@@ -18,10 +17,10 @@ use Rattle.server_laws.specs.Speech.{SaidFor}
 use Rattle.session_moves.specs.World.{World}
 use Rattle.session_moves.specs.Reached.{Reached}
 use Rattle.world_servers.specs.Leading.{Leads}
-use Rattle.world_servers.specs.Servers.{AsksThere, GoOn, IsJobOf, IsJobThere}
-use Rattle.world_servers.specs.Speaking.{IsOpen, SpeaksThere, with_line}
+use Rattle.world_servers.specs.Servers.{AsksThere, IsJobOf, IsJobThere}
+use Rattle.world_servers.specs.Speaking.{IsOpen, with_line}
 use Rattle.world_servers.specs.Events.{AreCallsApart, AreOpenJobs, AreUnanswered, EventStands, IsNoneOf, IsSameCall, with_lines}
-use Rattle.world_servers.proofs.Lists.{all_append, all_of, each_of, here, later as one_later, map_all}
+use Rattle.world_servers.proofs.Lists.{all_of, each_of, here, later as one_later, map_all}
 use Rattle.world_servers.proofs.Leading.{GoOn as MovesGoOn, goes_on, leads_so, stays}
 use Rattle.world_servers.proofs.Losing.{and_right, eq_true}
 use Rattle.world_servers.proofs.One.{put}

@@ -1,6 +1,5 @@
 -- A session draws the salts that it needs.
-use Rattle.std.proofs.Common.{◌≡◌, ◌≢◌, ℕ, List, [], ◌∷◌, ◌++◌, refl, sym, ap, subst, ◌∙◌}
-use Rattle.std.specs.Prelude.{⊤}
+use Rattle.std.proofs.Common.{◌≢◌, ℕ, List, [], ◌∷◌, refl, sym, subst}
 use Rattle.std.specs.List.{AllByRecursion, Contains}
 use Rattle.salt_line.specs.Rows.{Row}
 use Rattle.waits.specs.Jobs.{Queue}

@@ -1,7 +1,6 @@
 -- The jobs of a server in order are open.
-use Rattle.std.proofs.Common.{◌≡◌, ◌≢◌, ℕ, zero, suc, ◌<◌, arith, ◌==◌, Bool, true, false, Option, None, Some, List, [], ◌∷◌, length, filter, if◌then◌else◌, inl, inr, refl, sym, ap, subst, ◌∙◌, eq-eqb}
-use Rattle.std.specs.Prelude.{◌⊎◌}
-use Rattle.std.specs.List.{All, AllPairs, AllByRecursion, Contains, find}
+use Rattle.std.proofs.Common.{◌≡◌, ◌≢◌, zero, suc, ◌<◌, arith, Bool, true, false, Option, None, Some, List, [], ◌∷◌, length, if◌then◌else◌, inl, inr, refl, sym, ap, subst, ◌∙◌, eq-eqb}
+use Rattle.std.specs.List.{AllPairs, Contains, find}
 use Rattle.std.proofs.lemmas.Bool.{cases_Bool}
 use Rattle.std.proofs.lemmas.List.Elements.{All-contains}
 use Rattle.waits.specs.declared.job.Unfinished.{Unfinished}
@@ -10,8 +9,8 @@ use Rattle.server_rules.specs.Server.{Name, Reply, Session, is_named, name_of, s
 use Rattle.server_laws.specs.Order.{AreOrdered, IsOrderlyAt, IsUnanswered, jobs_of}
 use Rattle.world_servers.specs.Servers.{AreApart}
 use Rattle.world_servers.specs.Speaking.{IsOpen}
-use Rattle.world_servers.specs.Events.{AreCallsApart, AreOpenJobs, AreUnanswered, IsNoneOf, IsSameCall}
-use Rattle.world_servers.proofs.Lists.{all_of, each_of, first_or, kept_in}
+use Rattle.world_servers.specs.Events.{AreCallsApart, AreOpenJobs, AreUnanswered, IsSameCall}
+use Rattle.world_servers.proofs.Lists.{all_of, first_or, kept_in}
 use Rattle.world_servers.proofs.Losing.{named_itself, number_of_named}
 use Rattle.world_servers.proofs.Others.{one_of_number}
 use Rattle.world_servers.proofs.Found.{found_in}

@@ -1,28 +1,25 @@
 -- A session's messages go out.
-use Rattle.std.proofs.Common.{◌≡◌, ℕ, true, List, [], ◌∷◌, ◌++◌, fold, inl, inr, refl, sym, ap, subst, ◌∙◌}
+use Rattle.std.proofs.Common.{◌≡◌, ℕ, true, List, [], ◌∷◌, ◌++◌, fold, inl, inr, refl, sym, subst}
 use Rattle.std.specs.Prelude.{⊤, ◌⊎◌}
-use Rattle.std.specs.List.{AllByRecursion, Contains, flat_map}
+use Rattle.std.specs.List.{AllByRecursion, flat_map}
 use Rattle.salt_line.specs.Line.{Line, current_salt}
 use Rattle.service_tl.specs.declared.item.Item.{Item}
 use Rattle.service_tl.specs.declared.item.Item.TheVariants.{NewSessionCreated}
 use Rattle.service_tl.specs.declared.lists.Message.{Message}
 use Rattle.packing.specs.Packing.{after_packets, groups, packets_of}
 use Rattle.waits.specs.Jobs.{Queue}
-use Rattle.server_rules.specs.Server.{Session, has_accepted, name_of, with_session}
+use Rattle.server_rules.specs.Server.{Session, has_accepted, with_session}
 use Rattle.server_rules.specs.Event.{Owed, Setting, Speaker}
 use Rattle.server_rules.specs.Speaking.{needs_salts}
 use Rattle.server_rules.specs.Sending.{seals, sends}
-use Rattle.session_moves.specs.Table as moves
-use Rattle.session_moves.specs.Table.Item.{NewSession}
 use Rattle.session_moves.specs.Lawful.{BeginsNew}
 use Rattle.session_moves.specs.World.{World}
-use Rattle.session_moves.specs.Move.{Move}
-use Rattle.session_moves.specs.Reached.{AreLawful, Reached, after_all}
+use Rattle.session_moves.specs.Reached.{Reached, after_all}
 use Rattle.world_moves.specs.Packets.{item_there}
 use Rattle.world_servers.specs.Leading.{Leads}
-use Rattle.world_servers.specs.Servers.{CanSay, HasSalt, ServerStands}
-use Rattle.world_servers.specs.Speaking.{IsOwedThere, IsSaid, SpeaksThere, StandsSpeaking, with_line}
-use Rattle.world_servers.specs.Sending.{AreSpelt, IsFirstNew, IsSpoken, MayGo}
+use Rattle.world_servers.specs.Servers.{CanSay}
+use Rattle.world_servers.specs.Speaking.{IsSaid, SpeaksThere, StandsSpeaking, with_line}
+use Rattle.world_servers.specs.Sending.{AreSpelt, IsSpoken, MayGo}
 use Rattle.world_servers.proofs.Lists.{all_append, map_all}
 use Rattle.world_servers.proofs.Leading.{GoOn, goes_on, leads_so, stays}
 use Rattle.world_servers.proofs.Kept.{same_jobs}

@@ -1,15 +1,13 @@
 -- What a session says and answers within an event.
-use Rattle.std.proofs.Common.{◌≡◌, ◌≢◌, ℕ, Option, None, Some, List, [], ◌∷◌, ◌++◌, inl, inr, refl, sym, ap, subst, ◌∙◌}
-use Rattle.std.specs.Prelude.{⊤, ◌⊎◌}
+use Rattle.std.proofs.Common.{◌≡◌, ℕ, Option, None, Some, List, [], ◌∷◌, ◌++◌, inl, inr, refl, subst, ◌∙◌}
 use Rattle.std.specs.List.{AllByRecursion, Contains}
-use Rattle.std.proofs.lemmas.List.Elements.{Contains-append_left, Contains-append_right}
+use Rattle.std.proofs.lemmas.List.Elements.{Contains-append_left}
 use Rattle.msg_ids.specs.Counters.{Counters}
-use Rattle.service_tl.specs.declared.item.Item.{Item}
 use Rattle.service_tl.specs.declared.item.Item.TheVariants.{RpcResult}
 use Rattle.service_tl.specs.declared.lists.Message.{Message}
 use Rattle.service_tl.specs.Items.{spelling_of}
 use Rattle.waits.specs.Jobs.{Queue}
-use Rattle.server_rules.specs.Server.{IsKept, Reply, Session, name_of, with_session}
+use Rattle.server_rules.specs.Server.{IsKept, Reply, Session, with_session}
 use Rattle.server_rules.specs.Event.{Owed}
 use Rattle.session_moves.specs.Table as moves
 use Rattle.session_moves.specs.Table.Item.{NewSession, Result, Notice, WrongSalt}
@@ -19,12 +17,11 @@ use Rattle.session_moves.specs.Extends.{Extends}
 use Rattle.session_moves.specs.Reached.{AreLawful, after_all}
 use Rattle.world_moves.specs.Packets.{item_there}
 use Rattle.world_servers.specs.Leading.{Leads}
-use Rattle.world_servers.specs.Servers.{AsksThere, CanSay, GoOn, HasSame, IsJobOf, IsReplyThere, IsStanding, IsJobThere, ServerStands, WasAnswered, with_replies}
+use Rattle.world_servers.specs.Servers.{AsksThere, CanSay, GoOn, HasSame, IsJobOf, IsStanding, IsJobThere, ServerStands, with_replies}
 use Rattle.world_servers.specs.Speaking.{IsOpen, IsOwedThere, IsSaid, StandsSpeaking}
 use Rattle.world_servers.proofs.Lists.{all_append, each_of, here, later as one_later, map_all}
-use Rattle.world_servers.proofs.Leading.{leads_so, stays}
+use Rattle.world_servers.proofs.Leading.{stays}
 use Rattle.world_servers.proofs.Answering.{answers, fated, jobs_go_on, tells}
-use Rattle.world_servers.proofs.Kept.{same_jobs}
 use Rattle.world_servers.proofs.One.{changes, none_grow}
 use Rattle.world_servers.proofs.Packets.{with_among, with_twice}
 

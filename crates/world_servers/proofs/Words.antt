@@ -1,11 +1,11 @@
 -- Each row of what a session owes is said in words that it can say.
 use Rattle.std.proofs.Common.{◌≡◌, ℕ, ◌<◌, arith, ◌==◌, ◌&&◌, Bool, true, false, Option, None, Some, List, [], ◌∷◌, ◌++◌, map, fold, length, if◌then◌else◌, inl, inr, refl, sym, ap, subst, ◌∙◌, eq-eqb}
-use Rattle.std.specs.Prelude.{⊤, ◌⊎◌, min, is_some}
+use Rattle.std.specs.Prelude.{◌⊎◌, min, is_some}
 use Rattle.std.specs.List.{AllByRecursion, Contains, filter, find, list_all}
 use Rattle.std.proofs.lemmas.Bool.{cases_Bool, cond_both}
 use Rattle.std.proofs.lemmas.List.Elements.{Contains-append_cases, Contains-append_right}
 use Rattle.salt_line.specs.Rows.{Row, future_rows_max, period_at}
-use Rattle.salt_line.specs.Line.{Line, current_salt, line_after}
+use Rattle.salt_line.specs.Line.{Line, current_salt}
 use Rattle.salt_line.specs.Future.{salt_rows}
 use Rattle.salt_line.specs.Needed.{needed}
 use Rattle.service_tl.specs.declared.item.Item.{Item}
@@ -14,8 +14,8 @@ use Rattle.service_tl.specs.declared.lists.Message.{Message}
 use Rattle.service_tl.specs.Items.{spelling_of}
 use Rattle.service_tl.specs.Schema.{rpc_drop_answer}
 use Rattle.id_window.specs.declared.mark.Mark.{Mark}
-use Rattle.id_window.specs.declared.mark.Mark.TheVariants.{Noticed as MarkNoticed, Service, Container, Waiting, Replied, Acked, Dropped}
-use Rattle.id_window.specs.History.{FirstJudgement, History, Outcome, Refused}
+use Rattle.id_window.specs.declared.mark.Mark.TheVariants.{Noticed as MarkNoticed, Replied, Dropped}
+use Rattle.id_window.specs.History.{History}
 use Rattle.inbox.specs.declared.judged.Judgement.{Judgement}
 use Rattle.inbox.specs.declared.judged.Verdict.{Verdict}
 use Rattle.inbox.specs.declared.judged.Verdict.TheVariants.{Accepted, Again, Noticed}
@@ -23,7 +23,7 @@ use Rattle.inbox.specs.States.{state_byte}
 use Rattle.packing.specs.Numbering.{after_item, numbered}
 use Rattle.waits.specs.declared.job.Job.{Job}
 use Rattle.waits.specs.declared.job.Unfinished.{Unfinished}
-use Rattle.waits.specs.Jobs.{Queue, accepted, first_job, is_call, is_of, without_first}
+use Rattle.waits.specs.Jobs.{Queue, first_job, is_call, is_of, without_first}
 use Rattle.server_rules.specs.Server.{Binding, IsKept, Reply, Session, has_accepted, is_kept, kept_of, mark_in, marks_of, name_of, reply_to, with_session}
 use Rattle.server_rules.specs.Event.{BindingCall, Owed, Setting, Speaker}
 use Rattle.server_rules.specs.Speaking.{answers as answers_by, answers_in_place, bad_body, dropped, encrypted_message_invalid, has_said, made_room, message_of, needs_salts, owes_message, packed_body_refused, records, says, says_again, says_it_is_new, says_with_salt}
@@ -32,15 +32,13 @@ use Rattle.server_rules.specs.Calls.{accepts_call, becomes_job, binds, binds_by,
 use Rattle.server_rules.specs.Rows.{acked_by, accepts, acknowledges, acks_of, answers_broken, came_again, future_salt_of, kept_numbered, notices, owes, says_reply, sends_again, takes_acks, tells_salts, tells_states}
 use Rattle.server_rules.specs.Answer.{attaches, finishes, opens}
 use Rattle.server_lives.specs.Lives.{request_of}
-use Rattle.session_moves.specs.Table as moves
-use Rattle.session_moves.specs.Table.Outcome.{AcceptedCall}
 use Rattle.session_moves.specs.World.{World, WasGiven}
 use Rattle.session_moves.specs.Reached.{after_all}
 use Rattle.world_moves.specs.Packets.{item_there}
 use Rattle.world_servers.specs.Leading.{Leads}
-use Rattle.world_servers.specs.Servers.{AsksThere, CanSay, GoOn, HasForgotten, HasNoticed, HasSalt, HasSame, IsJobThere, IsJobOf, ServerStands, WasAnswered, has_dropped, with_replies}
-use Rattle.world_servers.specs.Speaking.{AreOthersOpen, IsDue, IsOpen, IsOwedThere, IsSaid, IsWithin, SpeaksThere, StandsSpeaking, with_line}
-use Rattle.world_servers.proofs.Lists.{all_of, each_of, first_or, from_filter, here, later, map_all}
+use Rattle.world_servers.specs.Servers.{AsksThere, CanSay, GoOn, HasForgotten, HasNoticed, HasSalt, HasSame, IsJobThere, IsJobOf, has_dropped, with_replies}
+use Rattle.world_servers.specs.Speaking.{AreOthersOpen, IsDue, IsOpen, IsSaid, IsWithin, SpeaksThere, StandsSpeaking, with_line}
+use Rattle.world_servers.proofs.Lists.{all_of, each_of, first_or, from_filter, here}
 use Rattle.world_servers.proofs.Leading.{leads_so, stays}
 use Rattle.world_servers.proofs.Answering.{accepts as accepts_job, forgets, jobs_go_on}
 use Rattle.world_servers.proofs.Kept.{acks_taken, all_told, first_out, one_dropped, room_made, same_jobs}

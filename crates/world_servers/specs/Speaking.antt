@@ -1,5 +1,5 @@
 -- A session that speaks within an event of a server, as it stands in a world of the law on moves.
-use Rattle.std.specs.Prelude.{◌≡◌, ◌⊎◌, ⊤, ℕ, true, Option, Some, None, List}
+use Rattle.std.specs.Prelude.{◌≡◌, ◌⊎◌, ℕ, true, List}
 use Rattle.std.specs.List.{AllByRecursion, Contains}
 use Rattle.salt_line.specs.Line.{Line}
 use Rattle.service_tl.specs.declared.item.Item.{Item}

@@ -237,6 +237,13 @@ pub fn works_are_moves<D: Draw>()
         → EventStands w gone lines state
         → ((session : Session) → session_named name state.sessions ≡ Some session → IsWithin (lines name) (attaches setting (speaker_in state session)).session)
         → Leads w (λ later. EventStands later gone lines (speaks name (attaches setting) state)) }
+    ensures work { (w : World) (gone : List Session) (lines : Name → Line) (more : Name → List Row) (setting : Setting D) (server : Server) (draw : D) (place : ℕ) (job : Job) (reply : List ℕ)
+        → Reached w → ServerStands w gone server.sessions server.jobs → AreOrdered server.sessions server.jobs → AreLines w lines more server.sessions
+        → ready_job place server.jobs ≡ Some job
+        → Leads w (λ later. EventStands later gone lines (runs setting place job reply (begun server draw))) }
+    ensures tick { (w : World) (gone : List Session) (lines : Name → Line) (more : Name → List Row) (setting : Setting D) (server : Server) (draw : D)
+        → Reached w → ServerStands w gone server.sessions server.jobs → AreOrdered server.sessions server.jobs → AreLines w lines more server.sessions
+        → Leads w (λ later. EventStands later gone lines (ticks setting (begun server draw))) }
 {
     moves_only_add();
     moves_go_on();
