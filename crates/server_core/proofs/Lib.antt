@@ -26,3 +26,6 @@ pub mod Pairs
 pub mod Remembering
 pub mod JudgeLemmas
 pub mod LeaveLemmas
+pub mod Quiet
+pub mod Shares
+pub mod FirstWords
