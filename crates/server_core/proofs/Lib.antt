@@ -26,3 +26,6 @@ pub mod Pairs
 pub mod Remembering
 pub mod JudgeLemmas
 pub mod LeaveLemmas
+pub mod Uses
+pub mod RowCases
+pub mod Settled

@@ -8,3 +8,4 @@ pub mod Working
 pub mod Among
 pub mod Others
 pub mod Hearing
+pub mod Settling
