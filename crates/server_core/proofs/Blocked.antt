@@ -14,7 +14,7 @@ use Rattle.server_core.specs.One.{AreOwnFailures, fails_all, fails_first, given_
 use Rattle.server_core.specs.Failures.{blocked_of, is_blocked}
 use Rattle.server_core.proofs.Names.{none-some}
 
-one-at_most : (so : Bool) → one_if so ≤ 1
+pub one-at_most : (so : Bool) → one_if so ≤ 1
 one-at_most true = omega arith
 one-at_most false = omega arith
 

@@ -29,3 +29,6 @@ pub mod LeaveLemmas
 pub mod Quiet
 pub mod Shares
 pub mod FirstWords
+pub mod Uses
+pub mod RowCases
+pub mod Settled

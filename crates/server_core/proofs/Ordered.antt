@@ -160,7 +160,7 @@ accepted-order {S} keeps setting name others past opened number item body speake
     (keeps.accepts setting number item body name others past opened speaker
     (λ is. subst W (sym order.same) (told.called item refl is)) order)
 
-row-order : {S : Type 0} → KeepsOrder S → (setting : Setting S) (name : Name) (others : Name → Queue) (past : History) (opened : List ℕ) (number seq : ℕ) (verdict : Verdict) (body : List ℕ)
+pub row-order : {S : Type 0} → KeepsOrder S → (setting : Setting S) (name : Name) (others : Name → Queue) (past : History) (opened : List ℕ) (number seq : ℕ) (verdict : Verdict) (body : List ℕ)
     (among : Among S) → IsAlone name among → IsTold number verdict past → IsSpeaking name others past (opens_with number verdict opened) among.speaker
     → IsInOrder name past opened (row_among setting number seq verdict body among).speaker
 row-order keeps setting name others past opened number seq (Accepted (DestroySession destroyed)) body among alone told order =

@@ -9,3 +9,4 @@ pub mod Among
 pub mod Others
 pub mod Hearing
 pub mod Ticking
+pub mod Settling

@@ -4,6 +4,7 @@ ghost use Rattle.std.specs.Prelude.{◌≡◌, List, is_some};
 ghost use Rattle.server_rules.specs.Server.{Binding};
 ghost use Rattle.owing.specs.Items.{destroyed_bytes};
 ghost use Rattle.standing.specs.Standing.{key_of, outbox_of};
+ghost use Rattle.standing.specs.Unsaid.{NoMoreUnsaid};
 ghost use Rattle.standing.specs.Says.{Keys, setting_of};
 ghost use Rattle.rows.specs.Speaks.{HasRoom, Speaks, Spends};
 ghost use Rattle.server_core.specs.Sessions.{AreKept, kept_as, without_kept};
@@ -37,6 +38,7 @@ pub(crate) fn destroys<D: Draw>(
         → AreKept now others.new (destroys_another (setting_of now D.step keys) destroyed among).others }
     ensures others { others.new ≡ without_kept (record { key = key_of standing.old; session = destroyed }) others.old }
     ensures spends { Spends now 1 destroyed_bytes 0 standing.old turn.old standing.new turn.new }
+    ensures unsaid { NoMoreUnsaid standing.old turn.old.owing standing.new turn.new.owing }
     ensures same_replies { outbox_of standing.new ≡ outbox_of standing.old }
     ensures same_job_room { jobs.new.room ≡ jobs.old.room }
 {

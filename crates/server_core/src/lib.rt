@@ -14,6 +14,7 @@ mod leaving;
 mod others;
 mod server;
 mod sessions;
+mod settling;
 mod speech;
 pub mod tick_laws;
 mod work;
