@@ -11,8 +11,6 @@ mod parts;
 mod refusal;
 mod seal;
 mod sealing;
-#[cfg(test)]
-mod tests;
 
 pub use limits::{
     BODY_BYTES_MAX, PACKET_BYTES_MAX, PACKET_BYTES_MIN, PADDING_BYTES_MAX, PADDING_BYTES_MIN,

@@ -6,4 +6,5 @@ pub mod Links
 pub mod Nets
 pub mod Files
 pub mod Kids
+pub mod Lines
 pub mod Clocks

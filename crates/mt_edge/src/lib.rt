@@ -1,20 +1,24 @@
 //! The outside as traits: what a program reads from and writes to, told or not, with a count of faults.
 //!
-//! Each trait but `Spawner` has a form in memory for tests, whose pieces and failures are chosen, and an adapter over
+//! Each trait has a form in memory for tests, whose pieces and failures are chosen, and an adapter over
 //! std. The adapters are the trusted edge: all but that of a source tell nothing of what they carry.
 #![tactic(auto)]
 
 mod act;
 mod answers;
+mod child_kids;
 mod clock;
 mod disk_files;
 mod faults;
 mod key_files;
+mod kid_call;
+mod lines;
 mod link;
 mod link_read;
 mod list_clock;
 mod mem;
 mod mem_files;
+mod mem_kids;
 mod mem_link;
 mod mem_net;
 mod net;
@@ -27,17 +31,22 @@ mod system_clock;
 mod tcp;
 mod told;
 mod whole;
+mod words;
 
 pub use act::Act;
+pub use child_kids::ChildKids;
 pub use clock::Clock;
 pub use disk_files::DiskFiles;
 pub use draws::{ChaChaDraw, Draw, Seeded, StepDraw, draw_bytes};
+pub use faults::raised;
 pub use key_files::{FileGot, KeyFiles, NamedFile};
+pub use kid_call::KidCall;
 pub use link::Link;
 pub use link_read::LinkRead;
 pub use list_clock::ListClock;
 pub use mem::{MemSink, MemSource};
 pub use mem_files::MemFiles;
+pub use mem_kids::{MemKid, MemKids};
 pub use mem_link::MemLink;
 pub use mem_net::MemNet;
 pub use net::{Linked, Net};
@@ -47,10 +56,13 @@ pub use source::{Got, Source};
 pub use spawner::{Line, Spawner};
 pub use standard::{ReadSource, WriteSink};
 pub use system_clock::SystemClock;
-pub use tcp::{TcpLink, TcpNet};
+pub use tcp::{TcpLink, TcpNet, act_of, after_act};
 pub use told::LinkTold;
 pub use whole::{ReadFault, WriteFault, read_all, write_all};
+pub use words::Words;
 
+#[cfg(test)]
+mod kid_tests;
 #[cfg(test)]
 mod link_tests;
 #[cfg(test)]

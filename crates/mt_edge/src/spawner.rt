@@ -1,11 +1,11 @@
 //! Programs that this one starts.
 
-ghost use Rattle.std.specs.Prelude.{◌≡◌, ◌≢◌, ◌≤◌, ℕ, List, Option, [], ◌∷◌, ◌++◌, map, string_bytes, IfSome, IsSome, IsSomeAnd};
+ghost use Rattle.std.specs.Prelude.{◌≡◌, ◌≤◌, ℕ, List, Option, map, string_bytes, IfSome, IsSomeAnd};
 ghost use Rattle.mt_edge.specs.Acts.{Counts as CountsAct};
-ghost use Rattle.mt_edge.specs.Kids.{Counts, KidCall};
-ghost use Rattle.mt_edge.specs.Kids.KidCall.{Started, Lined, Waited};
+ghost use Rattle.mt_edge.specs.Kids.{Counts, NotesAct, NotesLine};
 
 use crate::act::Act;
+use crate::kid_call::KidCall;
 use octets::Octets;
 use std::alloc::Global;
 
@@ -22,9 +22,11 @@ pub enum Line {
     Memory,
 }
 
-/// What starts a program, reads the lines that it writes, and waits for its end. What it tells now, it told before each
-/// call.
+/// What starts a program, reads the lines that it writes, and waits for its end. One that tells its calls goes on
+/// telling them; a call that failed may be left out of its record.
 pub trait Spawner {
+    ghost use Rattle.mt_edge.specs.declared.kid_call.KidCall.{KidCall};
+
     /// The calls in order, a start with its words, where the spawner tells them.
     ghost calls: { Self → Option (List KidCall) };
 
@@ -33,25 +35,19 @@ pub trait Spawner {
 
     /// Starts the program with these words.
     fn start(&mut self, words: &[String]) -> Act
-        ensures told { IfSome (calls self.new) (λ after. IsSomeAnd (calls self.old) (λ before. after ≡ before ++ Started (map string_bytes words.now) result ∷ [])) }
-        ensures goes_on { IsSome (calls self.old) → result ≢ Act.Failed → IsSome (calls self.new) }
-        ensures first_fault { IsSome (calls self.old) → faults self.old ≡ 0 → IsSome (calls self.new) }
+        ensures told { IfSome (calls self.old) (λ before. IsSomeAnd (calls self.new) (λ after. NotesAct result (KidCall.Start (map string_bytes words.now) result) before after)) }
         ensures never_falls { faults self.old ≤ faults self.new }
         ensures counted { CountsAct result (faults self.old) (faults self.new) };
 
     /// The next line that the program that was started last wrote.
     fn line(&mut self, alloc: Global) -> Line
-        ensures told { IfSome (calls self.new) (λ after. IsSomeAnd (calls self.old) (λ before. after ≡ before ++ Lined result ∷ [])) }
-        ensures goes_on { IsSome (calls self.old) → result ≢ Line.Failed → IsSome (calls self.new) }
-        ensures first_fault { IsSome (calls self.old) → faults self.old ≡ 0 → IsSome (calls self.new) }
+        ensures told { IfSome (calls self.old) (λ before. IsSomeAnd (calls self.new) (λ after. NotesLine result (KidCall.Line result) before after)) }
         ensures never_falls { faults self.old ≤ faults self.new }
         ensures counted { Counts result (faults self.old) (faults self.new) };
 
     /// Waits for the end of the program that was started last. It is `Ready` exactly where it ended with status 0.
     fn wait(&mut self) -> Act
-        ensures told { IfSome (calls self.new) (λ after. IsSomeAnd (calls self.old) (λ before. after ≡ before ++ Waited result ∷ [])) }
-        ensures goes_on { IsSome (calls self.old) → result ≢ Act.Failed → IsSome (calls self.new) }
-        ensures first_fault { IsSome (calls self.old) → faults self.old ≡ 0 → IsSome (calls self.new) }
+        ensures told { IfSome (calls self.old) (λ before. IsSomeAnd (calls self.new) (λ after. NotesAct result (KidCall.Wait result) before after)) }
         ensures never_falls { faults self.old ≤ faults self.new }
         ensures counted { CountsAct result (faults self.old) (faults self.new) };
 }

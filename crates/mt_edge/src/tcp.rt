@@ -71,7 +71,7 @@ fn after_attempt<L>(linked: &Linked<L>, faults: u64) -> u64
 }
 
 /// The answer of an act, by what std answered.
-pub(crate) fn act_of<T>(answer: &io::Result<T>) -> Act
+pub fn act_of<T>(answer: &io::Result<T>) -> Act
     ensures ready { IfOk answer.now (λ _. result ≡ Act.Ready) }
     ensures failed { IfErr answer.now (λ _. result ≡ Act.Failed) }
 {
@@ -82,7 +82,7 @@ pub(crate) fn act_of<T>(answer: &io::Result<T>) -> Act
 }
 
 /// The count after an act.
-pub(crate) fn after_act(act: Act, faults: u64) -> u64
+pub fn after_act(act: Act, faults: u64) -> u64
     ensures counted { CountsAct act faults result }
     ensures never_falls { faults ≤ result }
 {

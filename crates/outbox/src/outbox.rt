@@ -1,6 +1,6 @@
 //! The kept replies of a server session.
 
-ghost use Rattle.std.specs.Prelude.{◌≡◌, ◌≢◌, ◌<◌, ◌≤◌, ◌+◌, [], true, None, max, slice_get, length, IfOk, OnOk, OnErr};
+ghost use Rattle.std.specs.Prelude.{◌≡◌, ◌≢◌, ◌<◌, ◌≤◌, ◌+◌, [], true, None, max, min, slice_get, length, IfOk, OnOk, OnErr};
 ghost use Rattle.std.specs.Option.{option_copied};
 
 use crate::kept::{Kept, copies_of};
@@ -103,6 +103,20 @@ impl Outbox {
         self.calls.reserve_exact(calls - self.calls.len())?;
         self.reserved = reserved;
         Ok(())
+    }
+
+    /// For how many further replies room is reserved.
+    pub fn room(&self) -> usize
+        ensures { result ≡ self.now.room }
+    {
+        self.reserved
+    }
+
+    /// Gives reserved room back: it stays for so many replies at most. Takes no memory.
+    pub fn release(&mut self, replies: usize)
+        ensures { self.new ≡ record self.old { room = min self.old.room replies } }
+    {
+        self.reserved = self.reserved.min(replies);
     }
 
     /// Where a further reply of this many bytes doesn't fit, the oldest reply is dropped and its call is given; `None`

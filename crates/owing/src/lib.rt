@@ -13,6 +13,3 @@ mod said;
 pub use outs::{Header, Out, Outs};
 pub use owing::Owing;
 pub use packets::{Packets, packets_most};
-
-#[cfg(test)]
-mod tests;

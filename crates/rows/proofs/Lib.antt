@@ -4,3 +4,5 @@ pub mod Once
 pub mod Queries
 pub mod Accepting
 pub mod DropLemmas
+pub mod Follows
+pub mod Using

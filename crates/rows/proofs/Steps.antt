@@ -1,6 +1,7 @@
 -- Steps of a session that leave the jobs, the bindings and the entries.
-use Rattle.std.proofs.Common.{◌≡◌, ◌∙◌, ℕ, Bool, Option, Some, None, List, [], ◌∷◌, ◌++◌, ap, refl, subst, sym, inl, inr}
-use Rattle.std.specs.Prelude.{◌==◌}
+use Rattle.std.proofs.Common.{◌≡◌, ◌∙◌, ℕ, Bool, Option, Some, None, List, [], ◌∷◌, ◌++◌, ap, fold, refl, subst, sym, inl, inr}
+use Rattle.std.specs.Prelude.{◌==◌, is_some}
+use Rattle.std.specs.List.{list_all}
 use Rattle.std.proofs.lemmas.Bool.{cases_Bool}
 use Rattle.waits.specs.Jobs.{Queue}
 use Rattle.server_rules.specs.Server.{Binding, Reply}
@@ -8,7 +9,7 @@ use Rattle.server_rules.specs.Event.{Entry, Setting, Speaker}
 use Rattle.server_rules.specs.Speaking.{has_said, records}
 use Rattle.server_rules.specs.Calls.{with_binding}
 use Rattle.server_rules.specs.Waiting.{tells_of}
-use Rattle.server_rules.specs.Rows.{acknowledges, notices, says_reply}
+use Rattle.server_rules.specs.Rows.{acknowledges, kept_numbered, notices, says_reply, sends_again}
 use Rattle.owing.specs.Dues.{Dues}
 use Rattle.standing.specs.declared.standing.Standing.{Standing}
 use Rattle.standing.specs.Says.{Says}
@@ -116,4 +117,25 @@ again-rest (Some reply) speaker =
     elim (cases_Bool (has_said reply.number speaker)) [
       | inl said ↦ rw said (record { jobs = refl; bindings = refl; entries = refl })
       | inr unsaid ↦ rw unsaid (record { jobs = refl; bindings = refl; entries = refl })
+    ]
+
+both-rest : {S : Type 0} (first next last : Speaker S) → LeavesRest first next → LeavesRest next last → LeavesRest first last
+both-rest first next last one other =
+    record { jobs = other.jobs ∙ one.jobs; bindings = other.bindings ∙ one.bindings; entries = other.entries ∙ one.entries }
+
+-- the replies of numbers, one after the other
+abbrev said_numbered : {S : Type 0} → Speaker S → List ℕ → Speaker S
+said_numbered speaker numbers = fold (λ so_far number. says_reply (kept_numbered so_far.session.replies number) so_far) speaker numbers
+
+numbered-rest : {S : Type 0} (numbers : List ℕ) (speaker : Speaker S) → LeavesRest speaker (said_numbered speaker numbers)
+numbered-rest [] speaker = same speaker
+numbered-rest (number ∷ numbers) speaker =
+    let next = says_reply (kept_numbered speaker.session.replies number) speaker in
+    both-rest speaker next (said_numbered next numbers) (again-rest (kept_numbered speaker.session.replies number) speaker) (numbered-rest numbers next)
+
+pub resends-rest : {S : Type 0} (setting : Setting S) (number : ℕ) (numbers : List ℕ) (speaker : Speaker S) → LeavesRest speaker (sends_again setting number numbers speaker)
+resends-rest setting number numbers speaker =
+    elim (cases_Bool (list_all (λ other. is_some (kept_numbered speaker.session.replies other)) numbers)) [
+      | inl all ↦ rw all (numbered-rest numbers speaker)
+      | inr some ↦ rw some (record { jobs = refl; bindings = refl; entries = refl })
     ]

@@ -12,6 +12,7 @@ ghost use Rattle.answers.specs.Contents.{content_of, short_bytes_max};
 ghost use Rattle.owing.specs.Items.{result_bytes};
 ghost use Rattle.standing.specs.Standing.{replies_left};
 ghost use Rattle.standing.specs.Says.{Keys, setting_of};
+ghost use Rattle.standing.specs.Unsaid.{NoMoreUnsaid};
 ghost use Rattle.rows.specs.Rings.{AreOf};
 ghost use Rattle.rows.specs.Speaks.{HasRoom, Speaks, Spends};
 
@@ -41,6 +42,7 @@ impl Turn {
             → Speaks now standing.old self.old jobs bindings draw speaker
             → Speaks now standing.new self.new jobs bindings draw (answers (setting_of now D.step keys) call (content_of short) speaker) }
         ensures spends { Spends now 1 (result_bytes short_bytes_max) 0 standing.old self.old standing.new self.new }
+        ensures unsaid { NoMoreUnsaid standing.old self.old.owing standing.new self.new.owing }
         ensures replies_last { replies_left standing.new + 1 ≡ replies_left standing.old }
     {
         standing.answers::<D>(now, &mut self.owing, call, short.bytes());
@@ -61,6 +63,7 @@ impl Turn {
             → Speaks now standing.old self.old jobs bindings draw speaker
             → Speaks now standing.new self.new jobs bindings draw (answers_in_place (setting_of now D.step keys) call request (content_of short) speaker) }
         ensures spends { Spends now 1 (result_bytes short_bytes_max) 1 standing.old self.old standing.new self.new }
+        ensures unsaid { NoMoreUnsaid standing.old self.old.owing standing.new self.new.owing }
         ensures replies_last { replies_left standing.new + 1 ≡ replies_left standing.old }
     {
         self.answers_shortly::<D>(now, standing, call, short);
@@ -89,6 +92,7 @@ impl Turn {
             → Speaks now standing.old self.old jobs bindings draw speaker
             → Speaks now standing.new self.new jobs bindings draw (answers_broken (setting_of now D.step keys) number constructor body speaker) }
         ensures spends { Spends now 1 (result_bytes short_bytes_max) 1 standing.old self.old standing.new self.new }
+        ensures unsaid { NoMoreUnsaid standing.old self.old.owing standing.new self.new.owing }
         ensures replies_last { replies_left standing.new + 1 ≡ replies_left standing.old }
     {
         if constructor == RPC_DROP_ANSWER {
@@ -117,6 +121,7 @@ impl Turn {
             → Speaks now standing.new self.new jobs bindings.new.bindings draw (binds (setting_of now D.step keys)
             (record { number = number; perm = binding.now.perm; nonce = binding.now.nonce; expires = binding.now.expires; message = binding.now.message }) speaker) }
         ensures spends { Spends now 1 (result_bytes short_bytes_max) 0 standing.old self.old standing.new self.new }
+        ensures unsaid { NoMoreUnsaid standing.old self.old.owing standing.new self.new.owing }
         ensures replies_last { replies_left standing.new + 1 ≡ replies_left standing.old }
         ensures binding_room_lasts { bindings.old.room ≤ bindings.new.room + 1 }
     {

@@ -11,7 +11,7 @@ use std::alloc::Global;
 use std::marker::Model;
 use temp_keys::Bound;
 
-/// The bindings of temporary keys to permanent ones, at most one for each temporary key that was bound
+/// The bindings of temporary keys to permanent ones, each in place of the one that its temporary key had
 /// (core.telegram.org/api/pfs). Contracts see the list, and for how many more bindings there is room.
 #[derive(Debug, Drop)]
 pub struct Bindings {

@@ -11,20 +11,54 @@ ghost use Rattle.server_rules.specs.Waiting.{outlook};
 ghost use Rattle.server_rules.specs.Calls.{each_once, is_bound, is_in_vain, is_over, query_refusal};
 ghost use Rattle.answers.specs.Contents.{content_of};
 ghost use Rattle.standing.specs.Standing.{Stands};
+ghost use Rattle.rows.specs.Due.{call_needed};
 
 use crate::bindings::Bindings;
 use answers::{Bytes, Short};
 use auth_keys::{KeyKind, Ring};
 use byteorder::{ByteOrder, LittleEndian};
 use msg_ids::Moment;
-use octets::Memory;
+use octets::{IdList, Memory};
 use service_tl::{GZIP_PACKED, is_service};
 use standing::{Outlook, Standing};
 use std::alloc::Global;
+use std::marker::Model;
 use waits::{JOB_BYTES_MAX, JOBS_MAX, Jobs};
 
 /// The bytes of a constructor.
 const CONSTRUCTOR_BYTES: usize = 4;
+
+/// The numbers that a call waits for. Contracts see the list.
+#[derive(Debug, Drop)]
+pub struct Awaited {
+    numbers: Vec<u64>,
+}
+
+impl Model for Awaited {
+    ghost use Rattle.std.specs.Prelude.{ℕ, List};
+
+    ghost Value = { List ℕ };
+
+    ghost view = { λ awaited. awaited.numbers.items };
+}
+
+impl Awaited {
+    /// Those of these numbers that weren't answered well already.
+    pub(crate) fn keep_awaited(&mut self, standing: &Standing, jobs: &Jobs)
+        ensures { (now : ℕ) (session : Session) → Stands now standing.now session
+            → self.new ≡ filter (λ other. not (is_over (outlook session jobs.now.jobs other))) self.old }
+    {
+        leave_awaited(standing, jobs, &mut self.numbers);
+    }
+}
+
+impl From<Awaited> for IdList {
+    ghost from_gives = { λ awaited list. list ≡ awaited };
+
+    fn from(awaited: Awaited) -> IdList {
+        IdList::from(awaited.numbers)
+    }
+}
 
 /// What a call for the service needs in an event, in memory of its own.
 #[derive(Debug, Drop)]
@@ -34,7 +68,7 @@ pub struct CallDue {
     /// The query that the service is given.
     pub query: Bytes,
     /// The numbers that the call names to wait for, each once.
-    pub wait: Vec<u64>,
+    pub wait: Awaited,
 }
 
 impl CallDue {
@@ -44,20 +78,20 @@ impl CallDue {
     ///
     /// `Memory`.
     pub fn new(alloc: Global, number: u64, numbers: &[u64], query: &[u8]) -> Result<CallDue, Memory>
-        ensures number { IfOk result (λ due. due.number ≡ number) }
-        ensures query { IfOk result (λ due. due.query ≡ query.now) }
-        ensures wait { IfOk result (λ due. due.wait.items ≡ each_once numbers.now) }
+        ensures { IfOk result (λ due. due ≡ call_needed number numbers.now query.now) }
     {
         Ok(CallDue {
             number,
             query: Bytes::copy_from_slice(alloc, query)?,
-            wait: each_once(alloc, numbers)?,
+            wait: Awaited {
+                numbers: each_once(alloc, numbers)?,
+            },
         })
     }
 }
 
-// Each number of a list once, where it comes first.
-fn each_once(alloc: Global, numbers: &[u64]) -> Result<Vec<u64>, Memory>
+/// Each number of a list once, where it comes first.
+pub(crate) fn each_once(alloc: Global, numbers: &[u64]) -> Result<Vec<u64>, Memory>
     ensures { IfOk result (λ once. once.items ≡ each_once numbers.now) }
 {
     let mut once = Vec::with_capacity(alloc, numbers.len())?;
@@ -123,8 +157,8 @@ pub(crate) fn is_full(jobs: &Jobs, key: u64, session: u64, load: usize) -> bool
     count >= JOBS_MAX || load > JOB_BYTES_MAX - bytes
 }
 
-/// Of the numbers, those that weren't answered well already.
-pub(crate) fn leave_awaited(standing: &Standing, jobs: &Jobs, numbers: &mut Vec<u64>)
+// Of the numbers, those that weren't answered well already.
+fn leave_awaited(standing: &Standing, jobs: &Jobs, numbers: &mut Vec<u64>)
     ensures { (now : ℕ) (session : Session) → Stands now standing.now session
         → numbers.new.items ≡ filter (λ other. not (is_over (outlook session jobs.now.jobs other))) numbers.old.items }
 {

@@ -13,6 +13,7 @@ ghost use Rattle.owing.specs.Items.{result_bytes};
 ghost use Rattle.standing.specs.Fates.{kept_to};
 ghost use Rattle.standing.specs.Standing.{replies_left};
 ghost use Rattle.standing.specs.Says.{Keys, setting_of};
+ghost use Rattle.standing.specs.Unsaid.{NoMoreUnsaid};
 ghost use Rattle.rows.specs.Speaks.{HasRoom, Speaks, Spends};
 
 use crate::turn::Turn;
@@ -42,6 +43,7 @@ impl Turn {
             → Speaks now standing.old self.old jobs.old.jobs bindings draw speaker
             → Speaks now standing.new self.new jobs.new.jobs bindings draw (drops_answer (setting_of now D.step keys) number call speaker) }
         ensures spends { Spends now 2 (result_bytes short_bytes_max + result_bytes short_bytes_max) 1 standing.old self.old standing.new self.new }
+        ensures unsaid { NoMoreUnsaid standing.old self.old.owing standing.new self.new.owing }
         ensures replies_last { replies_left standing.old ≤ replies_left standing.new + 2 }
         ensures same_job_room { jobs.new.room ≡ jobs.old.room }
     {
@@ -64,6 +66,7 @@ impl Turn {
             → Speaks now standing.old self.old jobs bindings draw speaker
             → Speaks now standing.new self.new jobs bindings draw (drops_by (setting_of now D.step keys) number None (kept_to call speaker.session.replies) speaker) }
         ensures spends { Spends now 1 (result_bytes short_bytes_max) 0 standing.old self.old standing.new self.new }
+        ensures unsaid { NoMoreUnsaid standing.old self.old.owing standing.new self.new.owing }
         ensures replies_last { replies_left standing.new + 1 ≡ replies_left standing.old }
     {
         match standing.drops_reply(call) {

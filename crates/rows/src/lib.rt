@@ -1,22 +1,30 @@
 //! What a server owes for each judgement, over one session within an event, in room that was taken before
 //! (core.telegram.org/mtproto/service_messages, core.telegram.org/mtproto/service_messages_about_messages). A `Turn` is what
 //! a session has so far of an event; with the session, the jobs and the bindings it stands for a speaker of the definitions
-//! (`Speaks`), and each method is one row of their table.
+//! (`Speaks`). `opens` is what is owed first to a packet, `owes` is a row of their table, and `finishes` and `gives_up` are
+//! what a job that was taken out owes.
 #![tactic(auto)]
 
 mod answering;
 mod bindings;
 mod calls;
 mod dropping;
+mod due;
+mod dues;
 mod entries;
+mod opening;
+mod owes;
 mod repeating;
 mod saying;
 mod turn;
 mod waiting;
 
 pub use bindings::Bindings;
-pub use calls::CallDue;
+pub use calls::{Awaited, CallDue};
+pub use due::{Answering, Asked, Due, Telling};
+pub use dues::dues_of;
 pub use entries::{Entries, Entry};
+pub use opening::acks_of;
 pub use turn::Turn;
 pub use waiting::Run;
 

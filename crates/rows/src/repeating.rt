@@ -1,14 +1,16 @@
 //! What a session owes to messages that came again, to acknowledgements and to requests for states.
 
-ghost use Rattle.std.specs.Prelude.{◌≡◌, ◌≤◌, ℕ, List, length, max};
+ghost use Rattle.std.specs.Prelude.{◌≡◌, ◌≤◌, ℕ, List, length, true};
 ghost use Rattle.waits.specs.Jobs.{Queue};
 ghost use Rattle.server_rules.specs.Event.{Speaker};
-ghost use Rattle.server_rules.specs.Rows.{came_again, takes_acks, tells_states};
+ghost use Rattle.server_rules.specs.Rows.{came_again, sends_again, takes_acks, tells_states};
 ghost use Rattle.server_rules.specs.Server.{Binding, mark_in};
 ghost use Rattle.server_laws.specs.Order.{AreReplies};
 ghost use Rattle.owing.specs.Items.{bad_salt_bytes, ids_max, states_bytes};
-ghost use Rattle.standing.specs.Standing.{IsAt, outbox_of, reply_bytes};
+ghost use Rattle.standing.specs.Standing.{IsAt, outbox_of, replies_left};
 ghost use Rattle.standing.specs.Says.{Keys, setting_of};
+ghost use Rattle.standing.specs.Unsaid.{NoMoreUnsaid};
+ghost use Rattle.rows.specs.Spare.{HasSpare, Uses};
 ghost use Rattle.rows.specs.Speaks.{HasRoom, Speaks, Spends};
 
 use crate::turn::Turn;
@@ -23,7 +25,8 @@ const TOO_OLD: u32 = 20;
 
 impl Turn {
     /// What the session owes to a message that came again, by the mark that its number has now: its notice, its kept reply
-    /// unless that was said in this event, notice 20 where the reply was dropped, and else nothing.
+    /// unless that was said in this event, notice 20 where the reply was dropped, and else nothing. The room for a kept
+    /// reply is of that for all that weren't said.
     pub fn came_again<D: Draw>(
         &mut self,
         now: Moment,
@@ -32,11 +35,11 @@ impl Turn {
         number: u64,
         seq: u32,
     )
-        requires room { HasRoom 1 (max bad_salt_bytes (reply_bytes number standing.old)) 0 standing.old self.old }
+        requires room { HasSpare true 1 bad_salt_bytes 0 0 standing.old self.old }
         requires at { IsAt now standing.old }
         ensures speaks { (keys : Keys) (jobs : Queue) (bindings : List Binding) (speaker : Speaker D) → Speaks now standing.old self.old jobs bindings draw.old speaker
             → Speaks now standing.new self.new jobs bindings draw.new (came_again (setting_of now D.step keys) number seq (mark_in speaker.session number) speaker) }
-        ensures spends { Spends now 1 (max bad_salt_bytes (reply_bytes number standing.old)) 0 standing.old self.old standing.new self.new }
+        ensures uses { Uses true now 1 bad_salt_bytes 0 0 standing.old self.old standing.new self.new }
         ensures same_replies { outbox_of standing.new ≡ outbox_of standing.old }
     {
         match standing.mark(number) {
@@ -53,6 +56,8 @@ impl Turn {
             → AreReplies speaker.session.history speaker.session.replies speaker.session.counters.last
             → Speaks now standing.old self.now jobs bindings draw speaker → Speaks now standing.new self.now jobs bindings draw (takes_acks ids.now speaker) }
         ensures spends { (now : ℕ) → Spends now 0 0 0 standing.old self.now standing.new self.now }
+        ensures unsaid { NoMoreUnsaid standing.old self.now.owing standing.new self.now.owing }
+        ensures same_reply_room { replies_left standing.new ≡ replies_left standing.old }
     {
         standing.takes_acks::<D>(ids);
     }
@@ -70,7 +75,29 @@ impl Turn {
         ensures speaks { (keys : Keys) (jobs : Queue) (bindings : List Binding) (draw : D) (speaker : Speaker D) → Speaks now standing.old self.old jobs bindings draw speaker
             → Speaks now standing.new self.new jobs bindings draw (tells_states (setting_of now D.step keys) request ids.now speaker) }
         ensures spends { Spends now 1 (states_bytes (length ids.now)) 0 standing.old self.old standing.new self.new }
+        ensures unsaid { NoMoreUnsaid standing.old self.old.owing standing.new self.new.owing }
+        ensures same_replies { outbox_of standing.new ≡ outbox_of standing.old }
     {
         standing.tells_states::<D>(now, &mut self.owing, request, ids);
+    }
+
+    /// The session answers the request in this message for the replies of these numbers: where it keeps all of them it says
+    /// them once more, each unless it was said in this event, and else it tells how far these messages are. The room for
+    /// kept replies is of that for all that weren't said.
+    pub fn sends_again<D: Draw>(
+        &mut self,
+        now: Moment,
+        standing: &mut Standing,
+        request: u64,
+        ids: &[u64],
+    )
+        requires few { length ids.now ≤ ids_max }
+        requires room { HasSpare true 1 (states_bytes (length ids.now)) 0 0 standing.old self.old }
+        ensures speaks { (keys : Keys) (jobs : Queue) (bindings : List Binding) (draw : D) (speaker : Speaker D) → Speaks now standing.old self.old jobs bindings draw speaker
+            → Speaks now standing.new self.new jobs bindings draw (sends_again (setting_of now D.step keys) request ids.now speaker) }
+        ensures uses { Uses true now 1 (states_bytes (length ids.now)) 0 0 standing.old self.old standing.new self.new }
+        ensures same_replies { outbox_of standing.new ≡ outbox_of standing.old }
+    {
+        standing.sends_again::<D>(now, &mut self.owing, request, ids);
     }
 }

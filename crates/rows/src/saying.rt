@@ -11,6 +11,7 @@ ghost use Rattle.server_rules.specs.Rows.{acknowledges, notices, tells_salts};
 ghost use Rattle.owing.specs.Items.{acks_bytes, bad_salt_bytes, destroyed_bytes, destroyed_item, ids_max, new_session_bytes, pong_bytes, salts_bytes};
 ghost use Rattle.standing.specs.Standing.{IsAt, outbox_of};
 ghost use Rattle.standing.specs.Says.{Keys, setting_of};
+ghost use Rattle.standing.specs.Unsaid.{NoMoreUnsaid};
 ghost use Rattle.rows.specs.Speaks.{HasRoom, Speaks, Spends};
 
 use crate::turn::Turn;
@@ -26,6 +27,7 @@ impl Turn {
         ensures speaks { (keys : Keys) (jobs : Queue) (bindings : List Binding) (speaker : Speaker D) → Speaks now standing.old self.old jobs bindings draw.old speaker
             → Speaks now standing.new self.new jobs bindings draw.new (says_it_is_new (setting_of now D.step keys) speaker) }
         ensures spends { Spends now 1 new_session_bytes 0 standing.old self.old standing.new self.new }
+        ensures unsaid { NoMoreUnsaid standing.old self.old.owing standing.new self.new.owing }
         ensures same_replies { outbox_of standing.new ≡ outbox_of standing.old }
     {
         standing.says_it_is_new(now, &mut self.owing, draw);
@@ -38,6 +40,7 @@ impl Turn {
         ensures speaks { (keys : Keys) (jobs : Queue) (bindings : List Binding) (draw : D) (speaker : Speaker D) → Speaks now standing.old self.old jobs bindings draw speaker
             → Speaks now standing.new self.new jobs bindings draw (acknowledges (setting_of now D.step keys) ids.now speaker) }
         ensures spends { Spends now 1 (acks_bytes (length ids.now)) 0 standing.old self.old standing.new self.new }
+        ensures unsaid { NoMoreUnsaid standing.old self.old.owing standing.new self.new.owing }
         ensures same_replies { outbox_of standing.new ≡ outbox_of standing.old }
     {
         standing.acknowledges::<D>(now, &mut self.owing, ids);
@@ -58,6 +61,7 @@ impl Turn {
         ensures speaks { (keys : Keys) (jobs : Queue) (bindings : List Binding) (speaker : Speaker D) → Speaks now standing.old self.old jobs bindings draw.old speaker
             → Speaks now standing.new self.new jobs bindings draw.new (notices (setting_of now D.step keys) number seq code speaker) }
         ensures spends { Spends now 1 bad_salt_bytes 0 standing.old self.old standing.new self.new }
+        ensures unsaid { NoMoreUnsaid standing.old self.old.owing standing.new self.new.owing }
         ensures same_replies { outbox_of standing.new ≡ outbox_of standing.old }
     {
         standing.notices(now, &mut self.owing, draw, number, seq, code);
@@ -75,6 +79,7 @@ impl Turn {
         ensures speaks { (keys : Keys) (jobs : Queue) (bindings : List Binding) (draw : D) (speaker : Speaker D) → Speaks now standing.old self.old jobs bindings draw speaker
             → Speaks now standing.new self.new jobs bindings draw (says (setting_of now D.step keys) (Pong message ping) speaker) }
         ensures spends { Spends now 1 pong_bytes 0 standing.old self.old standing.new self.new }
+        ensures unsaid { NoMoreUnsaid standing.old self.old.owing standing.new self.new.owing }
         ensures same_replies { outbox_of standing.new ≡ outbox_of standing.old }
     {
         standing.answers_ping::<D>(now, &mut self.owing, message, ping);
@@ -92,6 +97,7 @@ impl Turn {
         ensures speaks { (keys : Keys) (jobs : Queue) (bindings : List Binding) (draw : D) (speaker : Speaker D) → Speaks now standing.old self.old jobs bindings draw speaker
             → Speaks now standing.new self.new jobs bindings draw (says (setting_of now D.step keys) (destroyed_item session ok) speaker) }
         ensures spends { Spends now 1 destroyed_bytes 0 standing.old self.old standing.new self.new }
+        ensures unsaid { NoMoreUnsaid standing.old self.old.owing standing.new self.new.owing }
         ensures same_replies { outbox_of standing.new ≡ outbox_of standing.old }
     {
         standing.says_destroyed::<D>(now, &mut self.owing, session, ok);
@@ -111,6 +117,7 @@ impl Turn {
         ensures speaks { (keys : Keys) (jobs : Queue) (bindings : List Binding) (speaker : Speaker D) → Speaks now standing.old self.old jobs bindings draw.old speaker
             → Speaks now standing.new self.new jobs bindings draw.new (tells_salts (setting_of now D.step keys) request (min count future_rows_max) speaker) }
         ensures spends { Spends now 1 (salts_bytes (min count future_rows_max)) 0 standing.old self.old standing.new self.new }
+        ensures unsaid { NoMoreUnsaid standing.old self.old.owing standing.new self.new.owing }
         ensures same_replies { outbox_of standing.new ≡ outbox_of standing.old }
     {
         standing.tells_salts(now, &mut self.owing, draw, request, count);

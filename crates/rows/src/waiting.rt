@@ -13,11 +13,12 @@ ghost use Rattle.answers.specs.Contents.{content_of, short_bytes_max};
 ghost use Rattle.owing.specs.Items.{IsContent, result_bytes};
 ghost use Rattle.standing.specs.Standing.{Stands, replies_left};
 ghost use Rattle.standing.specs.Says.{Keys, setting_of};
+ghost use Rattle.standing.specs.Unsaid.{NoMoreUnsaid};
 ghost use Rattle.rows.specs.Rings.{AreOf};
 ghost use Rattle.rows.specs.Speaks.{HasRoom, Speaks, Spends};
 
 use crate::bindings::Bindings;
-use crate::calls::{CallDue, is_full, is_unbound, leave_awaited, query_refusal, waits_in_vain};
+use crate::calls::{CallDue, is_full, is_unbound, query_refusal, waits_in_vain};
 use crate::entries::Entry;
 use crate::turn::Turn;
 use answers::{Bytes, Short};
@@ -54,11 +55,12 @@ impl Turn {
         requires room { HasRoom 1 (result_bytes short_bytes_max) 1 standing.old self.old }
         requires replies { 0 < replies_left standing.old }
         requires job_room { 0 < jobs.old.room }
-        ensures speaks { (keys : Keys) (numbers : List ℕ) (draw : D) (speaker : Speaker D) → AreOf ring.now keys → due.wait.items ≡ each_once numbers
+        ensures speaks { (keys : Keys) (numbers : List ℕ) (draw : D) (speaker : Speaker D) → AreOf ring.now keys → due.wait ≡ each_once numbers
             → IsUnanswered speaker.session.replies due.number
             → Speaks now standing.old self.old jobs.old.jobs bindings.now.bindings draw speaker
             → Speaks now standing.new self.new jobs.new.jobs bindings.now.bindings draw (accepts_call (setting_of now D.step keys) due.number numbers due.query speaker) }
         ensures spends { Spends now 1 (result_bytes short_bytes_max) 1 standing.old self.old standing.new self.new }
+        ensures unsaid { NoMoreUnsaid standing.old self.old.owing standing.new self.new.owing }
         ensures replies_last { replies_left standing.old ≤ replies_left standing.new + 1 }
         ensures job_room_lasts { jobs.old.room ≤ jobs.new.room + 1 }
     {
@@ -67,7 +69,7 @@ impl Turn {
             query,
             mut wait,
         } = due;
-        leave_awaited(standing, jobs, &mut wait);
+        wait.keep_awaited(standing, jobs);
         let job = Job {
             key: standing.key(),
             session: standing.number(),
@@ -97,6 +99,7 @@ impl Turn {
             → Speaks now standing.old self.old jobs.old.jobs bindings draw speaker
             → Speaks now standing.new self.new jobs.new.jobs bindings draw (gives_up (setting_of now D.step keys) (content_of short) job speaker) }
         ensures spends { Spends now 1 (result_bytes short_bytes_max) 1 standing.old self.old standing.new self.new }
+        ensures unsaid { NoMoreUnsaid standing.old self.old.owing standing.new self.new.owing }
         ensures replies_last { replies_left standing.new + 1 ≡ replies_left standing.old }
         ensures same_job_room { jobs.new.room ≡ jobs.old.room }
     {
@@ -121,6 +124,7 @@ impl Turn {
             → Speaks now standing.old self.old jobs.old.jobs bindings draw speaker
             → Speaks now standing.new self.new jobs.new.jobs bindings draw (finishes (setting_of now D.step keys) run.job run.reply speaker) }
         ensures spends { Spends now 1 (result_bytes (length run.reply)) 1 standing.old self.old standing.new self.new }
+        ensures unsaid { NoMoreUnsaid standing.old self.old.owing standing.new self.new.owing }
         ensures replies_last { replies_left standing.new + 1 ≡ replies_left standing.old }
         ensures same_job_room { jobs.new.room ≡ jobs.old.room }
     {

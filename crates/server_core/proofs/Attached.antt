@@ -70,7 +70,7 @@ seals-rest setting salt (message ∷ messages) speaker =
     let rest = seals-rest setting salt messages (seals setting salt speaker message) in
     record { jobs = rest.jobs; bindings = rest.bindings; entries = rest.entries }
 
-sends-rest : {S : Type 0} (setting : Setting S) (messages : List Message) (speaker : Speaker S) → SameRest S speaker (sends setting messages speaker)
+pub sends-rest : {S : Type 0} (setting : Setting S) (messages : List Message) (speaker : Speaker S) → SameRest S speaker (sends setting messages speaker)
 sends-rest setting messages speaker =
     let ready = needs_salts setting 1 speaker in
     let counters = after_packets setting.now ready.session.counters messages in
@@ -81,6 +81,9 @@ sends-rest setting messages speaker =
 sent-rest : {S : Type 0} (setting : Setting S) (messages : List Message) (speaker : Speaker S) → SameRest S speaker (sends_all setting messages speaker)
 sent-rest setting [] speaker = rest-same speaker
 sent-rest setting (message ∷ messages) speaker = sends-rest setting (message ∷ messages) speaker
+
+pub own-rest : {S : Type 0} (setting : Setting S) (speaker : Speaker S) → SameRest S speaker (says_its_own setting speaker)
+own-rest setting speaker = sent-rest setting (messages_by (name_of speaker.session) speaker.owed) speaker
 
 pub attached-rest : {S : Type 0} (setting : Setting S) (speaker : Speaker S) → SameRest S speaker (attached setting speaker)
 attached-rest {S} setting speaker =

@@ -14,7 +14,7 @@ use Rattle.server_core.specs.One.{AreOwnFailures, fails_all, fails_first, given_
 use Rattle.server_core.specs.Failures.{blocked_of, is_blocked}
 use Rattle.server_core.proofs.Names.{none-some}
 
-one-at_most : (so : Bool) → one_if so ≤ 1
+pub one-at_most : (so : Bool) → one_if so ≤ 1
 one-at_most true = omega arith
 one-at_most false = omega arith
 
@@ -64,7 +64,7 @@ settled-blocked name number ok (one ∷ jobs) =
     let rest = settled-blocked name number ok jobs in
     omega arith
 
-told-blocked : (session : Session) (outlook : Outlook) (number : ℕ) (jobs : Queue)
+pub told-blocked : (session : Session) (outlook : Outlook) (number : ℕ) (jobs : Queue)
     → blocked_of (name_of session) (told_of outlook session number jobs) ≤ blocked_of (name_of session) jobs
 told-blocked session Over number jobs = settled-blocked (name_of session) number true jobs
 told-blocked session InVain number jobs = settled-blocked (name_of session) number false jobs

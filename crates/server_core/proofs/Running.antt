@@ -15,10 +15,10 @@ use Rattle.server_core.specs.One.{AreOwnFailures, finishes_all}
 use Rattle.server_core.proofs.Names.{found-named, named}
 use Rattle.server_core.proofs.Failing.{all-by_one, outlook-own}
 
-abbrev IsUnfailed : Unfinished → Type 0
+abbrev pub IsUnfailed : Unfinished → Type 0
 IsUnfailed one = one.failed ≡ false
 
-ready-left : (P : Unfinished → Type 0) (place : ℕ) (jobs : Queue) → All P jobs → All P (without_ready place jobs)
+pub ready-left : (P : Unfinished → Type 0) (place : ℕ) (jobs : Queue) → All P jobs → All P (without_ready place jobs)
 ready-left P zero [] all = all
 ready-left P (suc place) [] all = all
 ready-left P zero (one ∷ jobs) all =
@@ -31,7 +31,7 @@ ready-left P (suc place) (one ∷ jobs) all =
     let next = cond (is_ready one) place (suc place) in
     All-cons P one (without_ready next jobs) (All-head P one jobs all) (ready-left P next jobs (All-tail P one jobs all))
 
-unfailed-own : (name : Name) (jobs : Queue) → All IsUnfailed jobs → AreOwnFailures name jobs
+pub unfailed-own : (name : Name) (jobs : Queue) → All IsUnfailed jobs → AreOwnFailures name jobs
 unfailed-own name jobs all =
     All-weaker IsUnfailed (λ one. one.failed ≡ true → is_of name.key name.session one ≡ true) (λ one not_so failed. absurd (false≢true (sym not_so ∙ failed))) jobs all
 

@@ -80,21 +80,9 @@ after-some {S} takes gives now setting bindings draw name others past start step
         order = gives setting msg_wait_failed job name others past [] rest out.order;
         own = subst D named_so (given-own setting (Some job) rest (subst O (sym named_so) own));
       };
-      left =
-          elim before.left [
-            | inl none ↦ absurd (none-some job (sym none ∙ found))
-            | inr fewer_left ↦ inr (omega arith)
-          ];
+      left = let fewer_left = before.left in omega arith;
       same = ap (fails_all setting (length done.jobs)) (sym first) ∙ (sym (fewer setting speaker (length done.jobs) (sym short)) ∙ before.same);
     }
-
--- none has failed any more
-pub after-none : {S : Type 0} (now : ℕ) (setting : Setting S) (bindings : List Binding) (draw : S) (name : Name) (others : Name → Queue) (past : History)
-    (start : Speaker S) (steps : ℕ) (standing : Standing) (turn : Turn) (jobs : Queue) (before : SoFar now setting bindings draw name others past start steps standing turn jobs)
-    → first_job has_failed before.speaker.jobs ≡ None
-    → SoFar now setting bindings draw name others past start (steps + 1) standing turn jobs
-after-none now setting bindings draw name others past start steps standing turn jobs before none =
-    record { speaker = before.speaker; speaks = before.speaks; has = before.has; left = inl none; same = before.same }
 
 -- ---- what the steps use up
 
@@ -113,9 +101,9 @@ spends-more now place standing after last turn next end one two =
       at = λ is. two.at (one.at is);
     }
 
-pub spends-none : (now place : ℕ) (standing after : Standing) (turn next : Turn) → Spends now place (place * 48) place standing turn after next
-    → Spends now (place + 1) ((place + 1) * 48) (place + 1) standing turn after next
-spends-none now place standing after turn next one =
+pub spends-few : (now place limit : ℕ) (standing after : Standing) (turn next : Turn) → place ≤ limit → Spends now place (place * 48) place standing turn after next
+    → Spends now limit (limit * 48) limit standing turn after next
+spends-few now place limit standing after turn next few one =
     record {
       places = omega (arith, one.places);
       bytes = omega (arith, one.bytes);

@@ -1,8 +1,8 @@
 -- Jobs of a session that have failed, as they are answered.
-use Rattle.std.specs.Prelude.{◌≡◌, ◌≤◌, ◌⊎◌, ℕ, ◌+◌, ◌&&◌, not, Bool, None, List, [], length}
+use Rattle.std.specs.Prelude.{◌≡◌, ◌≤◌, ℕ, ◌+◌, ◌&&◌, not, Bool, List, [], length}
 use Rattle.id_window.specs.History.{History}
 use Rattle.waits.specs.declared.job.Unfinished.{Unfinished}
-use Rattle.waits.specs.Jobs.{Queue, first_job, has_failed, is_of, is_ready, one_if, total}
+use Rattle.waits.specs.Jobs.{Queue, is_of, is_ready, one_if, total}
 use Rattle.server_rules.specs.Server.{Binding, Name, name_of}
 use Rattle.server_rules.specs.Event.{Setting, Speaker}
 use Rattle.server_laws.specs.Order.{IsSpeaking}
@@ -30,5 +30,5 @@ pub record SoFar {S : Type 0} (now : ℕ) (setting : Setting S) (bindings : List
   pub speaker : Speaker S
   pub speaks : Speaks now standing turn jobs bindings draw speaker
   pub has : HasFailures name others past speaker
-  pub left : (first_job has_failed speaker.jobs ≡ None) ⊎ (blocked_of name speaker.jobs + steps ≤ blocked_of name start.jobs)
+  pub left : blocked_of name speaker.jobs + steps ≤ blocked_of name start.jobs
   pub same : fails_all setting (length speaker.jobs) speaker ≡ fails_all setting (length start.jobs) start

@@ -4,3 +4,9 @@ pub mod Server
 pub mod Effects
 pub mod Failures
 pub mod Speech
+pub mod Working
+pub mod Among
+pub mod Others
+pub mod Hearing
+pub mod Ticking
+pub mod Settling

@@ -1,6 +1,6 @@
 //! Jobs of a session that have failed.
 
-ghost use Rattle.std.specs.Prelude.{◌≡◌, ◌≤◌, ◌+◌, ◌*◌, ℕ, List, length};
+ghost use Rattle.std.specs.Prelude.{◌≡◌, ◌≤◌, ◌+◌, ◌*◌, ℕ, Bool, List, length};
 ghost use Rattle.id_window.specs.History.{History};
 ghost use Rattle.waits.specs.Jobs.{Queue};
 ghost use Rattle.server_rules.specs.Server.{Binding, Name};
@@ -9,6 +9,7 @@ ghost use Rattle.answers.specs.Contents.{short_bytes_max};
 ghost use Rattle.owing.specs.Items.{result_bytes};
 ghost use Rattle.standing.specs.Standing.{replies_left};
 ghost use Rattle.standing.specs.Says.{Keys, setting_of};
+ghost use Rattle.rows.specs.Spare.{Uses};
 ghost use Rattle.rows.specs.Speaks.{HasRoom, Speaks, Spends};
 ghost use Rattle.server_core.specs.One.{fails_all};
 ghost use Rattle.server_core.specs.Failures.{HasFailures, blocked_of};
@@ -23,28 +24,35 @@ use waits::Jobs;
 
 /// Each job of the session that has failed is answered in place of a run, the first in order of acceptance first, and one
 /// that fails only by such an answer in its turn. So many are answered at most; there are no more where so many jobs of the
-/// session aren't ready. Takes no memory.
+/// session aren't ready. Says how many were. Takes no memory.
 pub(crate) fn answers_failed<D: Draw>(
     turn: &mut Turn,
     now: Moment,
     standing: &mut Standing,
     jobs: &mut Jobs,
     limit: usize,
-)
+) -> usize
     requires room { HasRoom limit (limit * result_bytes short_bytes_max) limit standing.old turn.old }
     requires replies { limit ≤ replies_left standing.old }
     ensures speaks { (keys : Keys) (bindings : List Binding) (draw : D) (name : Name) (others : Name → Queue) (past : History) (speaker : Speaker D)
         → Speaks now standing.old turn.old jobs.old.jobs bindings draw speaker → HasFailures name others past speaker → blocked_of name speaker.jobs ≤ limit
         → Speaks now standing.new turn.new jobs.new.jobs bindings draw (fails_all (setting_of now D.step keys) (length speaker.jobs) speaker) }
     ensures spends { Spends now limit (limit * result_bytes short_bytes_max) limit standing.old turn.old standing.new turn.new }
+    ensures few { result ≤ limit }
+    ensures fewer { (keys : Keys) (bindings : List Binding) (draw : D) (name : Name) (others : Name → Queue) (past : History) (speaker : Speaker D)
+        → Speaks now standing.old turn.old jobs.old.jobs bindings draw speaker → HasFailures name others past speaker
+        → blocked_of name jobs.new.jobs + result ≤ blocked_of name speaker.jobs }
+    ensures uses { (again : Bool) → Uses again now result (result * result_bytes short_bytes_max) result result standing.old turn.old standing.new turn.new }
     ensures replies_last { replies_left standing.old ≤ replies_left standing.new + limit }
     ensures same_job_room { jobs.new.room ≡ jobs.old.room }
 {
     taken_jobs_are_open::<D>();
     rows_keep_order::<D>();
     for place in 0..limit {
-        if let Some(job) = jobs.failed() {
-            turn.gives_up::<D>(now, standing, jobs, job, Short::MsgWaitFailed);
-        }
+        let Some(job) = jobs.failed() else {
+            return place;
+        };
+        turn.gives_up::<D>(now, standing, jobs, job, Short::MsgWaitFailed);
     }
+    limit
 }

@@ -4,13 +4,23 @@
 #![tactic(auto)]
 
 mod attaching;
+mod desk;
+mod destroying;
 mod effects;
 mod failures;
+mod hearing;
 pub mod laws;
+mod leaving;
+mod others;
 mod server;
 mod sessions;
+mod settling;
 mod speech;
+pub mod tick_laws;
+mod work;
+mod working;
 
+pub use desk::{DeskFault, Heard, Plain, Reply};
 pub use effects::Effects;
 pub use server::Server;
 pub use sessions::Sessions;

@@ -29,11 +29,11 @@ use waits::Jobs;
 /// jobs, and the bindings of temporary keys.
 #[derive(Debug, Drop)]
 pub struct Server<S: Seal> {
-    seal: S,
-    moment: Moment,
-    sessions: Sessions,
-    jobs: Jobs,
-    bindings: Bindings,
+    pub(crate) seal: S,
+    pub(crate) moment: Moment,
+    pub(crate) sessions: Sessions,
+    pub(crate) jobs: Jobs,
+    pub(crate) bindings: Bindings,
 }
 
 impl<S: Seal> Model for Server<S> {
@@ -139,8 +139,12 @@ impl<S: Seal> Server<S> {
         }
     }
 
-    // Nothing happens at this moment.
-    fn passes(&mut self, alloc: Global, moment: Moment) -> Result<Effects, Memory>
+    /// Nothing happens at this moment.
+    ///
+    /// # Errors
+    ///
+    /// `Memory`, and then the server is as it was.
+    pub(crate) fn passes(&mut self, alloc: Global, moment: Moment) -> Result<Effects, Memory>
         requires later { self.old.moment ≤ moment }
         ensures stands { (server : Rules) → Stands self.old server → OnOk result (Stands self.new (record server { now = moment })) }
         ensures nothing { IfOk result (λ effects. (effects.out.outs ≡ []) × (effects.entries.entries ≡ [])) }
@@ -184,8 +188,8 @@ impl<S: Seal> Server<S> {
     }
 }
 
-// The later of two moments.
-fn later(one: Moment, other: Moment) -> Moment
+/// The later of two moments.
+pub(crate) fn later(one: Moment, other: Moment) -> Moment
     ensures { result ≡ max one other }
 {
     if one.seconds() < other.seconds() {
@@ -195,8 +199,14 @@ fn later(one: Moment, other: Moment) -> Moment
     }
 }
 
-// The session of this name, which is at this place, is lost with its jobs where it has no room for a further event.
-fn lose_spent(sessions: &mut Sessions, jobs: &mut Jobs, key: u64, session: u64, place: usize)
+/// The session of this name, which is at this place, is lost with its jobs where it has no room for a further event.
+pub(crate) fn lose_spent(
+    sessions: &mut Sessions,
+    jobs: &mut Jobs,
+    key: u64,
+    session: u64,
+    place: usize,
+)
     requires { place < length sessions.old }
     ensures sessions { (d : Standing) → sessions.new ≡ without_kept_where (nat_lt (numbers_left (slice_index_or sessions.old place d)) room_min)
         (record { key = key; session = session }) sessions.old }

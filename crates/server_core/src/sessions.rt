@@ -1,6 +1,6 @@
 //! The sessions that a server keeps.
 
-ghost use Rattle.std.specs.Prelude.{◌≡◌, ◌<◌, ℕ, [], All, IfOk, length, nat_lt, slice_index_or, slice_set};
+ghost use Rattle.std.specs.Prelude.{◌≡◌, ◌<◌, ◌≤◌, ℕ, [], All, IfOk, OnErr, OnOk, Some, length, nat_lt, slice_index_or, slice_set, vec_capacity, vec_len};
 ghost use Rattle.std.specs.List.{position};
 ghost use Rattle.standing.specs.declared.standing.Standing.{Standing as One};
 ghost use Rattle.standing.specs.Standing.{IsAt, Stands, numbers_left};
@@ -9,29 +9,38 @@ ghost use Rattle.standing.specs.Says.{Keys, setting_of};
 ghost use Rattle.owing.specs.Outs.{AreSent};
 ghost use Rattle.server_rules.specs.Answer.{room_min};
 ghost use Rattle.server_rules.specs.Event.{Speaker};
+ghost use Rattle.server_rules.specs.Server.{Name, Session, remembered};
+ghost use Rattle.server_laws.specs.Order.{IsOrderly};
+ghost use Rattle.inbox.specs.Inbox.{message_in};
+ghost use Rattle.inbox.specs.Judging.{judgements, session_after};
+ghost use Rattle.inbox.specs.Refusals.{InEnvelope};
+ghost use Rattle.waits.specs.Jobs.{Queue};
 ghost use Rattle.server_core.specs.Sessions.{AreApart, is_kept_as, kept_as, without_kept};
 ghost use Rattle.server_core.specs.Server.{CanSpeak};
 ghost use Rattle.server_core.specs.Speech.{Begins, CanAttach, attached};
 
 use crate::attaching;
+use crate::others::Others;
 use crate::speech::Speech;
 use draws::Draw;
 use envelope::Seal;
+use inbox::{Judged, Outer};
 use msg_ids::Moment;
 use octets::Memory;
 use owing::Outs;
 use standing::Standing;
 use std::alloc::Global;
 use std::marker::Model;
+use std::mem;
 
 /// For how many further numbers a session has to have room after an event.
-const ROOM_MIN: u64 = 16_384;
+pub(crate) const ROOM_MIN: u64 = 16_384;
 
 /// The sessions that a server keeps, the one heard least recently first, and no two of one name. Contracts see the list. A
 /// search looks at names alone.
 #[derive(Debug, Drop)]
 pub struct Sessions {
-    list: Vec<Standing>,
+    pub(crate) list: Vec<Standing>,
 }
 
 impl Model for Sessions {
@@ -61,8 +70,36 @@ impl Sessions {
         ensures found { result ≡ kept_as (record { key = key; session = number }) self.old }
         ensures others { self.new ≡ without_kept (record { key = key; session = number }) self.old }
     {
-        let place = place_of(&self.list, key, number)?;
-        Some(self.list.remove(place))
+        out_of(&mut self.list, key, number)
+    }
+
+    /// Lends the session at this place, with the others, among which there is room for it. None are left here. Takes no
+    /// memory.
+    pub(crate) fn lend(&mut self, alloc: Global, place: usize) -> (Others, Standing)
+        requires { place < length self.old }
+        ensures others { (name : Name) → position (is_kept_as name) self.old ≡ Some place → result.0 ≡ without_kept name self.old }
+        ensures one { (name : Name) → position (is_kept_as name) self.old ≡ Some place → kept_as name self.old ≡ Some result.1 }
+        ensures lent { self.new ≡ [] }
+    {
+        let mut list = mem::replace(&mut self.list, Vec::new(alloc));
+        let standing = list.remove(place);
+        (Others { list }, standing)
+    }
+
+    /// Lends all sessions, with room for a further one. None are left here.
+    ///
+    /// # Errors
+    ///
+    /// `Memory`, and then none was lent.
+    pub(crate) fn lend_all(&mut self, alloc: Global) -> Result<Others, Memory>
+        ensures all { IfOk result (λ others. others ≡ self.old) }
+        ensures apart { IfOk result AreApart }
+        ensures lent { OnOk result (self.new ≡ []) }
+        ensures unchanged_on_memory { OnErr result (self.new ≡ self.old) }
+    {
+        self.list.reserve(1)?;
+        let list = mem::replace(&mut self.list, Vec::new(alloc));
+        Ok(Others { list })
     }
 
     /// The place of the session of this name; `None` where there is none.
@@ -111,6 +148,35 @@ impl Sessions {
         attaching::attaches(standing, now, speech, seal, draw)
     }
 
+    /// The session at this place judges a message that an envelope brought, and where it is accepted the messages inside it. All
+    /// memory is taken before.
+    ///
+    /// # Errors
+    ///
+    /// `Memory`, and then all are as they were.
+    pub(crate) fn judges(
+        &mut self,
+        alloc: Global,
+        place: usize,
+        now: Moment,
+        outer: &Outer,
+    ) -> Result<Judged, Memory>
+        requires place { place < length self.old }
+        requires at { All (IsAt now) self.old }
+        ensures judged { (d : One) (session : Session) → Stands now (slice_index_or self.old place d) session
+            → IfOk result (λ judged. judged ≡ judgements (InEnvelope now session.salts outer.now.salt) (remembered session) (message_in outer.now)) }
+        ensures stands { (d : One) (session : Session) (jobs : Queue) → Stands now (slice_index_or self.old place d) session
+            → IsOrderly session.history session.replies session.counters.last jobs
+            → OnOk result (Stands now (slice_index_or self.new place d) (record session { history = (session_after (InEnvelope now session.salts outer.now.salt) (remembered session) (message_in outer.now)).history })) }
+        ensures others { (d : One) → self.new ≡ slice_set self.old place (slice_index_or self.new place d) }
+        ensures apart { AreApart self.old }
+        ensures unchanged_on_memory { OnErr result (self.new ≡ self.old) }
+    {
+        let standing = &mut self.list[place];
+        let judged = standing.judges(alloc, now, outer)?;
+        Ok(judged)
+    }
+
     /// Whether the session at this place has no room for the numbers of a further event.
     pub(crate) fn is_spent(&self, place: usize) -> bool
         requires { place < length self.now }
@@ -118,6 +184,18 @@ impl Sessions {
     {
         self.list[place].numbers_left() < ROOM_MIN
     }
+}
+
+/// Takes the session of this name out of these; `None` where there is none.
+pub(crate) fn out_of(list: &mut Vec<Standing>, key: u64, number: u64) -> Option<Standing>
+    requires { AreApart list.old.items }
+    ensures found { result ≡ kept_as (record { key = key; session = number }) list.old.items }
+    ensures others { list.new.items ≡ without_kept (record { key = key; session = number }) list.old.items }
+    ensures fewer { vec_len list.new ≤ vec_len list.old }
+    ensures capacity { vec_capacity list.new ≡ vec_capacity list.old }
+{
+    let place = place_of(list, key, number)?;
+    Some(list.remove(place))
 }
 
 // The place of the first session of this name.

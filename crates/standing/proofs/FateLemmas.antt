@@ -1,8 +1,8 @@
 -- What a reply's other fate changes, and what it leaves.
-use Rattle.std.proofs.Common.{arith, zero, suc, ◌<◌, ◌+◌, length, ◌≡◌, ◌≢◌, ◌∙◌, ℕ, Bool, true, false, eqb, cond, ◌&&◌, ◌||◌, Option, Some, None, List, [], ◌∷◌, ◌++◌, map, fold, ap, sym, subst, refl, inl, inr}
+use Rattle.std.proofs.Common.{arith, suc, ◌<◌, ◌≡◌, ◌≢◌, ◌∙◌, ℕ, Bool, true, false, eqb, cond, ◌&&◌, ◌||◌, Option, Some, None, List, [], ◌∷◌, ◌++◌, map, fold, ap, sym, subst, refl, inl, inr}
 use Rattle.std.specs.Prelude.{option_map, All, AllPairs}
-use Rattle.std.specs.List.{find, filter, list_any}
-use Rattle.std.proofs.lemmas.Bool.{cases_Bool, cond-true, cond-false, cond_both, eqb-true, eqb-false, eq-eqb, ne_eqb, and_parts, and_left, and_right, and_from, or_left, or_right, or_parts, false≢true}
+use Rattle.std.specs.List.{find, list_any}
+use Rattle.std.proofs.lemmas.Bool.{cases_Bool, cond-true, cond-false, cond_both, eqb-true, eqb-false, eq-eqb, ne_eqb, and_parts, and_right, or_left, or_right, or_parts, false≢true}
 use Rattle.std.proofs.lemmas.Option.{none-some, same_Some}
 use Rattle.std.proofs.lemmas.List.Folds.{list_any-append}
 use Rattle.std.proofs.lemmas.List.Elements.{All-cons, All-head, All-tail, All-weaker}
@@ -10,14 +10,14 @@ use Rattle.std.proofs.lemmas.Grind.{fold-append}
 use Rattle.id_window.specs.declared.mark.Mark.{Mark}
 use Rattle.id_window.specs.declared.mark.Mark.TheVariants.{Replied}
 use Rattle.id_window.specs.Marks.{Marks, given, mark_of}
-use Rattle.id_window.specs.History.{History, FirstJudgement, Outcome, Refused, AcceptedContainer, AcceptedCall, AcceptedOther, found, is_kept as is_number_kept}
+use Rattle.id_window.specs.History.{History, Outcome, Refused, AcceptedContainer, AcceptedCall, AcceptedOther, found, is_kept as is_number_kept}
 use Rattle.outbox.specs.declared.kept.Kept.{Kept}
-use Rattle.outbox.specs.Replies.{by_call, by_number, call_of, without_number}
+use Rattle.outbox.specs.Replies.{call_of, without_number}
 use Rattle.server_rules.specs.Server.{Fate, IsKept, WasAcked, WasDropped, Reply, answered_mark, is_fate_kept, is_kept, kept_of, kept_replies, mark_after, marks_of, reply_to}
 use Rattle.server_laws.specs.Order.{AreReplies}
 use Rattle.server_rules.specs.Speaking.{dropped}
 use Rattle.server_rules.specs.Rows.{acked_by}
-use Rattle.standing.specs.Fates.{Apart, AreApart, kept_to, refated, refated_one, with_dropped, with_ended}
+use Rattle.standing.specs.Fates.{Apart, AreApart, refated, refated_one, with_ended}
 
 abbrev pub is_one : ℕ → Reply → Bool
 is_one number reply = is_kept reply && eqb reply.number number

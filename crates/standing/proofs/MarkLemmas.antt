@@ -1,10 +1,10 @@
 -- A call whose mark says that its reply is kept.
-use Rattle.std.proofs.Common.{◌≡◌, ◌∙◌, ℕ, eqb, cond, Bool, true, false, Option, Some, None, List, [], ◌∷◌, ◌⊎◌, ap, sym, refl, inl, inr}
+use Rattle.std.proofs.Common.{◌≡◌, ◌∙◌, ℕ, eqb, cond, Bool, true, Option, Some, None, List, [], ◌∷◌, ◌⊎◌, ap, sym, refl, inl, inr}
 use Rattle.std.proofs.lemmas.Bool.{cases_Bool, cond-true, cond-false, and_from, and_right, eqb-true}
 use Rattle.std.proofs.lemmas.Option.{none-some, same_Some}
 use Rattle.id_window.specs.declared.mark.Mark.{Mark}
 use Rattle.id_window.specs.declared.mark.Mark.TheVariants.{Noticed, Service, Container, Waiting, Replied, Acked, Dropped}
-use Rattle.id_window.specs.Marks.{Marks, mark_of}
+use Rattle.id_window.specs.Marks.{mark_of}
 use Rattle.id_window.specs.History.{History, Outcome, Refused, AcceptedContainer, AcceptedCall, AcceptedOther}
 use Rattle.server_rules.specs.Server.{Fate, IsKept, WasAcked, WasDropped, Reply, Session, answered_mark, is_fate_kept, is_good, is_kept, mark_after, mark_by, mark_in, marks_of, reply_to}
 use Rattle.standing.specs.Fates.{kept_to}

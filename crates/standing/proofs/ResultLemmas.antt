@@ -1,5 +1,5 @@
 -- Kept replies that are found.
-use Rattle.std.proofs.Common.{◌≡◌, ◌∙◌, eqb, Bool, Option, Some, List, [], ◌∷◌, ℕ, subst, sym, ap, inl, inr}
+use Rattle.std.proofs.Common.{◌≡◌, ◌∙◌, eqb, Bool, Option, Some, [], ◌∷◌, ℕ, subst, sym, ap, inl, inr}
 use Rattle.std.specs.List.{All, find}
 use Rattle.std.specs.Option.{IfSome}
 use Rattle.std.proofs.lemmas.Bool.{cases_Bool, cond-true, cond-false, eqb-true}

@@ -1,6 +1,7 @@
 pub mod Kept
 pub mod Marking
 pub mod Standing
+pub mod Rooms
 pub mod Says
 pub mod Outlooks
 pub mod Names

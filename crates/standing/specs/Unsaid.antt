@@ -1,5 +1,5 @@
 -- The kept replies that a session hasn't said in an event so far: what it may need room for, since each is said once.
-use Rattle.std.specs.Prelude.{◌≡◌, ℕ, true, if◌then◌else◌, List, length, sum_by}
+use Rattle.std.specs.Prelude.{◌≡◌, ◌≤◌, ℕ, true, if◌then◌else◌, List, length, sum_by}
 use Rattle.service_tl.specs.declared.lists.Message.{Message}
 use Rattle.outbox.specs.declared.kept.Kept.{Kept}
 use Rattle.outbox.specs.Replies.{Replies}
@@ -20,3 +20,16 @@ unsaid_bytes standing owing = unsaid_weight (λ kept. length kept.body) owing.me
 -- each number that was said stays said
 abbrev pub StaySaid : List Message → List Message → Type 0
 StaySaid before after = (number : ℕ) → has_number number before ≡ true → has_number number after ≡ true
+
+-- what may still be said of the kept replies is no more afterwards
+pub record NoMoreUnsaid (standing : Standing) (owing : Dues) (after : Standing) (left : Dues) : Type 0 where
+  pub count : unsaid_count after left ≤ unsaid_count standing owing
+  pub bytes : unsaid_bytes after left ≤ unsaid_bytes standing owing
+
+-- Scaffolding, and no promise: what the contracts of private functions cite.
+
+-- of the kept replies some stay, whatever was said and whatever each weighs
+abbrev pub FewerKept : Standing → Standing → Type 0
+FewerKept standing after =
+    (weight : Kept → ℕ) (messages : List Message)
+    → unsaid_weight weight messages after.outbox.replies ≤ unsaid_weight weight messages standing.outbox.replies

@@ -98,6 +98,7 @@ fn ends_call(inbox: &mut Inbox, call: u64, ending: Ending)
 impl Standing {
     ghost use Rattle.standing.specs.Says.{Keys, Says, setting_of};
     ghost use Rattle.standing.specs.Standing.{IsAt, Stands, key_of, number_of, numbers_left, replies_left};
+    ghost use Rattle.standing.specs.Unsaid.{FewerKept, NoMoreUnsaid};
 
     /// Drops the kept reply to a call, and tells of it; none, and nothing changes, where none is kept. Takes no memory.
     pub fn drops_reply(&mut self, call: u64) -> Option<DroppedReply>
@@ -108,6 +109,7 @@ impl Standing {
             → Stands now self.new (record session { replies = with_dropped (kept_to call session.replies) session.replies }) }
         ensures same_numbers { numbers_left self.new ≡ numbers_left self.old }
         ensures same_room { replies_left self.new ≡ replies_left self.old }
+        ensures unsaid { (owing : Dues) → NoMoreUnsaid self.old owing self.new owing }
         ensures same_key { key_of self.new ≡ key_of self.old }
         ensures same_number { number_of self.new ≡ number_of self.old }
         ensures at { (now : ℕ) → IsAt now self.old → IsAt now self.new }
@@ -144,6 +146,7 @@ impl Standing {
         ensures taken { (owing.new.places_taken ≡ owing.old.places_taken) × (owing.new.bytes_taken ≡ owing.old.bytes_taken) }
         ensures numbers_last { numbers_left self.old ≤ numbers_left self.new + 1 }
         ensures replies_last { replies_left self.new + 1 ≡ replies_left self.old }
+        ensures unsaid { NoMoreUnsaid self.old owing.old self.new owing.new }
         ensures same_key { key_of self.new ≡ key_of self.old }
         ensures same_number { number_of self.new ≡ number_of self.old }
         ensures at { IsAt now self.old → IsAt now self.new }
@@ -164,6 +167,7 @@ impl Standing {
             → Says now self.old owing draw speaker → Says now self.new owing draw (takes_acks ids.now speaker) }
         ensures same_numbers { numbers_left self.new ≡ numbers_left self.old }
         ensures same_room { replies_left self.new ≡ replies_left self.old }
+        ensures unsaid { (owing : Dues) → NoMoreUnsaid self.old owing self.new owing }
         ensures same_key { key_of self.new ≡ key_of self.old }
         ensures same_number { number_of self.new ≡ number_of self.old }
         ensures at { (now : ℕ) → IsAt now self.old → IsAt now self.new }
@@ -179,6 +183,7 @@ impl Standing {
             → Stands now self.new (record session { replies = refated (fate_of ending) number session.replies }) }
         ensures same_numbers { numbers_left self.new ≡ numbers_left self.old }
         ensures same_room { replies_left self.new ≡ replies_left self.old }
+        ensures fewer_kept { FewerKept self.old self.new }
         ensures same_key { key_of self.new ≡ key_of self.old }
         ensures same_number { number_of self.new ≡ number_of self.old }
         ensures at { (now : ℕ) → IsAt now self.old → IsAt now self.new }

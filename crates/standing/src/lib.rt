@@ -20,8 +20,3 @@ pub use contents::is_good;
 pub use dropping::DroppedReply;
 pub use outlook::Outlook;
 pub use standing::Standing;
-
-#[cfg(test)]
-mod dropping_tests;
-#[cfg(test)]
-mod tests;

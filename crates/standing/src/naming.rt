@@ -1,6 +1,6 @@
 //! Which session it is, and for how much more it has numbers and room.
 
-ghost use Rattle.std.specs.Prelude.{◌≡◌, ℕ, OnErr, OnOk, max};
+ghost use Rattle.std.specs.Prelude.{◌≡◌, ℕ, OnErr, OnOk, max, min};
 ghost use Rattle.server_rules.specs.Server.{Session, is_named, is_same};
 
 use crate::standing::Standing;
@@ -8,7 +8,8 @@ use octets::Memory;
 use std::alloc::Global;
 
 impl Standing {
-    ghost use Rattle.standing.specs.Standing.{IsAt, Stands, key_of, number_of, numbers_left, outbox_of};
+    ghost use Rattle.standing.specs.Standing.{IsAt, Stands, key_of, number_of, numbers_left, outbox_of, replies_left};
+    ghost use Rattle.standing.specs.Rooms.{with_replies_left};
     ghost use Rattle.standing.specs.Names.{name_kept};
 
     /// The identifier of the key that it is a session of.
@@ -49,6 +50,7 @@ impl Standing {
     /// `Memory`, and then it is as it was.
     pub fn reserve(&mut self, alloc: Global, answers: usize) -> Result<(), Memory>
         ensures reserved { OnOk result (outbox_of self.new ≡ record (outbox_of self.old) { room = max (outbox_of self.old).room answers }) }
+        ensures exact { OnOk result (self.new ≡ with_replies_left (max (replies_left self.old) answers) self.old) }
         ensures stands { (now : ℕ) (session : Session) → Stands now self.old session → Stands now self.new session }
         ensures unchanged_on_memory { OnErr result (self.new ≡ self.old) }
         ensures same_numbers { numbers_left self.new ≡ numbers_left self.old }
@@ -57,5 +59,19 @@ impl Standing {
         ensures at { (now : ℕ) → IsAt now self.old → IsAt now self.new }
     {
         self.outbox.reserve(alloc, answers)
+    }
+
+    /// For how many further answers memory was taken.
+    pub fn replies_left(&self) -> usize
+        ensures { result ≡ replies_left self.now }
+    {
+        self.outbox.room()
+    }
+
+    /// Lowers for how many further answers memory is promised, to so many at most. The memory itself stays. Takes no memory.
+    pub fn release(&mut self, answers: usize)
+        ensures { self.new ≡ with_replies_left (min (replies_left self.old) answers) self.old }
+    {
+        self.outbox.release(answers);
     }
 }

@@ -3,6 +3,7 @@
 ghost use Rattle.std.specs.Prelude.{◌≡◌, ◌≤◌, ◌+◌, ℕ, slice_get};
 ghost use Rattle.std.specs.Option.{option_copied};
 ghost use Rattle.outbox.specs.Replies.{kept_bytes_max, kept_replies_max};
+ghost use Rattle.owing.specs.Dues.{Dues};
 ghost use Rattle.server_rules.specs.Event.{Speaker};
 ghost use Rattle.server_rules.specs.Server.{Session, kept_replies};
 
@@ -15,10 +16,12 @@ impl Standing {
     ghost use Rattle.standing.specs.Repeats.{kept_bytes, kept_count, says_all_again};
     ghost use Rattle.standing.specs.Says.{Says};
     ghost use Rattle.standing.specs.Standing.{Stands};
+    ghost use Rattle.standing.specs.Unsaid.{unsaid_bytes, unsaid_count};
 
     /// How many replies it keeps, at most 4,096.
     pub fn kept_count(&self) -> usize
         ensures value { result ≡ kept_count self.now }
+        ensures unsaid { (owing : Dues) → unsaid_count self.now owing ≤ result }
         ensures few { result ≤ kept_replies_max }
     {
         self.outbox.len()
@@ -27,6 +30,7 @@ impl Standing {
     /// How many bytes the bodies of these have together, at most 4,194,304.
     pub fn kept_bytes(&self) -> usize
         ensures value { result ≡ kept_bytes self.now }
+        ensures unsaid { (owing : Dues) → unsaid_bytes self.now owing ≤ result }
         ensures few { result ≤ kept_bytes_max }
     {
         self.outbox.bytes()

@@ -8,12 +8,13 @@ ghost use Rattle.service_tl.specs.declared.item.Item.TheVariants.{RpcResult};
 ghost use Rattle.service_tl.specs.Items.{spelling_of};
 ghost use Rattle.packing.specs.Numbering.{numbered};
 ghost use Rattle.outbox.specs.Bodies.{head_bytes};
-ghost use Rattle.outbox.specs.Replies.{fits, kept_bytes_max};
+ghost use Rattle.outbox.specs.Replies.{by_call, fits, kept_bytes_max};
 ghost use Rattle.server_rules.specs.Event.{Speaker};
 ghost use Rattle.server_rules.specs.Server.{IsKept, Reply, Session, kept_of, mark_in, reply_to};
 ghost use Rattle.server_rules.specs.Rows.{says_reply};
 ghost use Rattle.server_rules.specs.Speaking.{answers, made_room, says, without_oldest};
 ghost use Rattle.server_laws.specs.Order.{IsUnanswered};
+ghost use Rattle.owing.specs.Dues.{has_number};
 ghost use Rattle.owing.specs.Items.{IsContent, result_bytes};
 ghost use Rattle.standing.specs.Fates.{kept_to};
 ghost use Rattle.standing.specs.Kept.{IsResult};
@@ -29,8 +30,9 @@ use owing::Owing;
 use server_rules::laws::oldest_replies_are_dropped;
 
 impl Standing {
-    ghost use Rattle.standing.specs.Standing.{IsAt, Stands, key_of, number_of, numbers_left, replies_left, reply_bytes};
+    ghost use Rattle.standing.specs.Standing.{IsAt, Stands, key_of, number_of, numbers_left, outbox_of, replies_left, reply_bytes};
     ghost use Rattle.standing.specs.Says.{Keys, Says, setting_of};
+    ghost use Rattle.standing.specs.Unsaid.{FewerKept, NoMoreUnsaid, StaySaid, unsaid_bytes, unsaid_count};
 
     // Says the result of a call. Its number and its seq.
     fn owes_result<D: Draw>(
@@ -51,6 +53,8 @@ impl Standing {
         ensures left { owing.new.room + result_bytes (length content.now) ≡ owing.old.room }
         ensures taken { (owing.new.places_taken ≡ owing.old.places_taken) × (owing.new.bytes_taken ≡ owing.old.bytes_taken) }
         ensures numbers_last { numbers_left self.old ≤ numbers_left self.new + 1 }
+        ensures stays_said { StaySaid owing.old.messages owing.new.messages }
+        ensures said { has_number result.0 owing.new.messages ≡ true }
         ensures same_outbox { self.new.outbox ≡ self.old.outbox }
         ensures same_key { key_of self.new ≡ key_of self.old }
         ensures same_number { number_of self.new ≡ number_of self.old }
@@ -70,6 +74,7 @@ impl Standing {
         ensures fits { result ≡ false → fits bytes self.new.outbox.replies ≡ true }
         ensures unchanged { result ≡ false → self.new ≡ self.old }
         ensures same_room { replies_left self.new ≡ replies_left self.old }
+        ensures fewer_kept { FewerKept self.old self.new }
         ensures same_numbers { self.new.numbers ≡ self.old.numbers }
         ensures same_key { key_of self.new ≡ key_of self.old }
         ensures same_number { number_of self.new ≡ number_of self.old }
@@ -92,6 +97,7 @@ impl Standing {
             → Stands now self.new (record session { replies = made_room bytes session.replies }) }
         ensures fits { fits bytes self.new.outbox.replies ≡ true }
         ensures same_room { replies_left self.new ≡ replies_left self.old }
+        ensures fewer_kept { FewerKept self.old self.new }
         ensures same_numbers { self.new.numbers ≡ self.old.numbers }
         ensures same_key { key_of self.new ≡ key_of self.old }
         ensures same_number { number_of self.new ≡ number_of self.old }
@@ -109,6 +115,7 @@ impl Standing {
         ensures stands { (now : ℕ) (session : Session) (reply : Reply) → Stands now self.old session → kept_of reply ≡ kept → reply.fate ≡ IsKept
             → reply_to reply.call session.replies ≡ None → Stands now self.new (record session { replies = session.replies ++ reply ∷ [] }) }
         ensures room_lasts { replies_left self.new + 1 ≡ replies_left self.old }
+        ensures kept { self.new.outbox.replies ≡ self.old.outbox.replies ++ kept ∷ [] }
         ensures same_numbers { self.new.numbers ≡ self.old.numbers }
         ensures same_key { key_of self.new ≡ key_of self.old }
         ensures same_number { number_of self.new ≡ number_of self.old }
@@ -140,6 +147,7 @@ impl Standing {
         ensures taken { (owing.new.places_taken ≡ owing.old.places_taken) × (owing.new.bytes_taken ≡ owing.old.bytes_taken) }
         ensures numbers_last { numbers_left self.old ≤ numbers_left self.new + 1 }
         ensures replies_last { replies_left self.new + 1 ≡ replies_left self.old }
+        ensures unsaid { NoMoreUnsaid self.old owing.old self.new owing.new }
         ensures same_key { key_of self.new ≡ key_of self.old }
         ensures same_number { number_of self.new ≡ number_of self.old }
         ensures same_salts { self.new.salts ≡ self.old.salts }
@@ -169,6 +177,7 @@ impl Standing {
         ensures taken { (owing.new.places_taken ≡ owing.old.places_taken) × (owing.new.bytes_taken ≡ owing.old.bytes_taken) }
         ensures numbers_last { numbers_left self.old ≤ numbers_left self.new + 1 }
         ensures replies_last { replies_left self.new + 1 ≡ replies_left self.old }
+        ensures unsaid { NoMoreUnsaid self.old owing.old self.new owing.new }
         ensures same_key { key_of self.new ≡ key_of self.old }
         ensures same_number { number_of self.new ≡ number_of self.old }
         ensures at { IsAt now self.old → IsAt now self.new }
@@ -183,18 +192,19 @@ impl Standing {
         ensures content { IfSome result (λ kept. IsContent (drop head_bytes kept.now.body)) }
         ensures bytes { IfSome result (λ kept. length kept.now.body ≡ reply_bytes call self.now) }
         ensures none { result ≡ None → reply_bytes call self.now ≡ 0 }
+        ensures found { option_copied result ≡ by_call call (outbox_of self.now).replies }
     {
         self.outbox.by_call(call)
     }
 
     /// Says the kept reply to a call once more, unless it was said in this event, or none is kept.
     pub fn says_kept<D: Draw>(&self, owing: &mut Owing, call: u64)
-        requires place { 0 < owing.old.places }
-        requires bytes { reply_bytes call self.now ≤ owing.old.room }
+        requires places { unsaid_count self.now owing.old ≤ owing.old.places }
+        requires bytes { unsaid_bytes self.now owing.old ≤ owing.old.room }
         ensures says { (now : ℕ) (draw : D) (good : Bool) (speaker : Speaker D) → mark_in speaker.session call ≡ Some (Replied good)
             → Says now self.now owing.old draw speaker → Says now self.now owing.new draw (says_reply (reply_to call speaker.session.replies) speaker) }
-        ensures places { owing.old.places ≤ owing.new.places + 1 }
-        ensures left { owing.old.room ≤ owing.new.room + reply_bytes call self.now }
+        ensures places { owing.old.places + unsaid_count self.now owing.new ≤ owing.new.places + unsaid_count self.now owing.old }
+        ensures left { owing.old.room + unsaid_bytes self.now owing.new ≤ owing.new.room + unsaid_bytes self.now owing.old }
         ensures taken { (owing.new.places_taken ≡ owing.old.places_taken) × (owing.new.bytes_taken ≡ owing.old.bytes_taken) }
     {
         if let Some(kept) = self.kept_to(call) {

@@ -72,6 +72,7 @@ pub struct Standing {
 impl Standing {
     ghost use Rattle.standing.specs.Standing.{IsAt, Stands, key_of, number_of, numbers_left, outbox_of};
     ghost use Rattle.standing.specs.Says.{Keys, Says, setting_of};
+    ghost use Rattle.standing.specs.Unsaid.{NoMoreUnsaid};
 
     /// The session of this key and this number that a message of the number `first` makes now. Its unique number is drawn,
     /// then its first salt.
@@ -213,6 +214,7 @@ impl Standing {
         ensures same_key { key_of self.new ≡ key_of self.old }
         ensures same_number { number_of self.new ≡ number_of self.old }
         ensures same_replies { outbox_of self.new ≡ outbox_of self.old }
+        ensures unsaid { NoMoreUnsaid self.old owing.old self.new owing.new }
         ensures at { IsAt now self.old → IsAt now self.new }
     {
         let salt = self.salts.current(now, draw);
@@ -234,6 +236,7 @@ impl Standing {
         ensures same_key { key_of self.new ≡ key_of self.old }
         ensures same_number { number_of self.new ≡ number_of self.old }
         ensures same_replies { outbox_of self.new ≡ outbox_of self.old }
+        ensures unsaid { NoMoreUnsaid self.old owing.old self.new owing.new }
         ensures at { IsAt now self.old → IsAt now self.new }
     {
         if !ids.is_empty() {
@@ -264,6 +267,7 @@ impl Standing {
         ensures same_key { key_of self.new ≡ key_of self.old }
         ensures same_number { number_of self.new ≡ number_of self.old }
         ensures same_replies { outbox_of self.new ≡ outbox_of self.old }
+        ensures unsaid { NoMoreUnsaid self.old owing.old self.new owing.new }
         ensures at { IsAt now self.old → IsAt now self.new }
     {
         if code == WRONG_SALT {
@@ -288,6 +292,7 @@ impl Standing {
         ensures same_key { key_of self.new ≡ key_of self.old }
         ensures same_number { number_of self.new ≡ number_of self.old }
         ensures same_replies { outbox_of self.new ≡ outbox_of self.old }
+        ensures unsaid { NoMoreUnsaid self.old owing.old self.new owing.new }
         ensures at { IsAt now self.old → IsAt now self.new }
     {
         owing.pong(now, &mut self.numbers, message, ping);
@@ -313,6 +318,7 @@ impl Standing {
         ensures same_key { key_of self.new ≡ key_of self.old }
         ensures same_number { number_of self.new ≡ number_of self.old }
         ensures same_replies { outbox_of self.new ≡ outbox_of self.old }
+        ensures unsaid { NoMoreUnsaid self.old owing.old self.new owing.new }
         ensures at { IsAt now self.old → IsAt now self.new }
     {
         owing.destroyed(now, &mut self.numbers, session, ok);
@@ -340,6 +346,7 @@ impl Standing {
         ensures same_key { key_of self.new ≡ key_of self.old }
         ensures same_number { number_of self.new ≡ number_of self.old }
         ensures same_replies { outbox_of self.new ≡ outbox_of self.old }
+        ensures unsaid { NoMoreUnsaid self.old owing.old self.new owing.new }
         ensures at { IsAt now self.old → IsAt now self.new }
     {
         let mut rows = [NO_SALT; SALT_ROWS_MAX];

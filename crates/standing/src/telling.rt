@@ -18,7 +18,7 @@ const STATES_MAX: usize = 8_192;
 impl Standing {
     ghost use Rattle.standing.specs.Says.{Keys, Says, setting_of};
     ghost use Rattle.standing.specs.Standing.{IsAt, Stands, key_of, number_of, numbers_left, outbox_of};
-    ghost use Rattle.standing.specs.Unsaid.{StaySaid};
+    ghost use Rattle.standing.specs.Unsaid.{NoMoreUnsaid, StaySaid};
 
     /// Tells how far each of these messages is, a byte for each, to the request in this message.
     pub fn tells_states<D: Draw>(
@@ -40,6 +40,7 @@ impl Standing {
         ensures numbers_last { numbers_left self.old ≤ numbers_left self.new + 1 }
         ensures same_replies { outbox_of self.new ≡ outbox_of self.old }
         ensures stays_said { StaySaid owing.old.messages owing.new.messages }
+        ensures unsaid { NoMoreUnsaid self.old owing.old self.new owing.new }
         ensures same_key { key_of self.new ≡ key_of self.old }
         ensures same_number { number_of self.new ≡ number_of self.old }
         ensures at { IsAt now self.old → IsAt now self.new }

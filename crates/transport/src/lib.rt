@@ -9,8 +9,6 @@ mod framed;
 pub mod laws;
 mod raw;
 mod start;
-#[cfg(test)]
-mod tests;
 mod wire;
 
 pub use form::Form;

@@ -94,3 +94,16 @@ ready_at (y ∷ ys) zero zero x within at marked before =
 ready_at (y ∷ ys) zero (suc k) x within at marked before = absurd (omega arith)
 ready_at (y ∷ ys) (suc i) k x within at marked before =
     ready_step y ys i k x (is_ready y) refl (λ j passed. ready_at ys i j x (omega arith) at marked passed) before
+
+-- there is none where fewer are ready
+
+none_step : (k : ℕ) (y : Unfinished) (ys : Queue) (ready : Bool) → is_ready y ≡ ready → ((j : ℕ) → ready_count ys ≤ j → ready_job j ys ≡ None) → one_if ready + ready_count ys ≤ k → ready_job k (y ∷ ys) ≡ None
+none_step zero y ys true is later few = absurd (omega arith)
+none_step zero y ys false is later few = rw is (later zero (omega arith))
+none_step (suc k) y ys true is later few = rw is (later k (omega arith))
+none_step (suc k) y ys false is later few = rw is (later (suc k) (omega arith))
+
+pub ready_none : (k : ℕ) (xs : Queue) → ready_count xs ≤ k → ready_job k xs ≡ None
+ready_none zero [] few = refl
+ready_none (suc k) [] few = refl
+ready_none k (y ∷ ys) few = none_step k y ys (is_ready y) refl (λ j fewer. ready_none j ys fewer) few

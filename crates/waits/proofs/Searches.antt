@@ -11,7 +11,7 @@ use Rattle.waits.specs.Limits.{most_jobs, most_job_bytes}
 use Rattle.waits.proofs.Totals.{total_push}
 use Rattle.waits.proofs.Counts.{total_without}
 use Rattle.waits.proofs.Limits.{limits_remove, limits_push}
-use Rattle.waits.proofs.Places.{IsNone}
+use Rattle.waits.proofs.Places.{IsNone, NoneBefore}
 
 none_so : (so : Bool) → one_if so ≡ 0 → so ≡ false
 none_so true none = absurd (omega arith)
@@ -73,6 +73,17 @@ told_nothing key session number ok x none =
 pub settles_none : (key session number : ℕ) (ok : Bool) (xs : Queue) → waiting_count key session xs ≡ 0 → settled key session number ok xs ≡ xs
 settles_none key session number ok xs none =
     changes_none (λ x. is_of key session x && is_waiting x) (after_answer key session number ok) (told_nothing key session number ok) xs none
+
+-- where no job of a session waits for a number
+told_none : (key session number : ℕ) (ok : Bool) (x : Unfinished) → waits_for key session number x ≡ false → after_answer key session number ok x ≡ x
+told_none key session number ok x none = rw none refl
+
+pub settles_nobody : (key session number : ℕ) (ok : Bool) (xs : Queue) → NoneBefore (waits_for key session number) xs (length xs) → settled key session number ok xs ≡ xs
+settles_nobody key session number ok [] none = refl
+settles_nobody key session number ok (x ∷ xs) none =
+    let here = told_none key session number ok x (none 0 x (omega arith)) in
+    let later = settles_nobody key session number ok xs (λ k d below. none (suc k) d (omega arith)) in
+    cc
 
 -- ---- none has failed, and none is overdue
 

@@ -6,7 +6,7 @@ use Rattle.std.proofs.lemmas.List.Folds.{list_any-append}
 use Rattle.std.proofs.lemmas.Map.Views.{any-filter_same}
 use Rattle.waits.specs.declared.job.Unfinished.{Unfinished}
 use Rattle.waits.specs.declared.tally.Tally.{Tally}
-use Rattle.waits.specs.Jobs.{Queue, is_of, is_waiting, one_if, load_of, total, told, waits_for, after_answer, settled, without_session, job_count, job_bytes, waiting_count}
+use Rattle.waits.specs.Jobs.{Queue, is_of, is_waiting, is_ready, one_if, load_of, total, told, waits_for, after_answer, settled, without_session, job_count, job_bytes, waiting_count, blocked_count_of}
 use Rattle.waits.specs.Tallies.{is_tally_of, no_tally, counted_in, tally_of, tally_if_any, without_tally, stored, IsRight, AreRight, Covers, IsTallied}
 use Rattle.waits.proofs.Totals.{total_push}
 use Rattle.waits.proofs.Counts.{total_without}
@@ -16,18 +16,22 @@ use Rattle.waits.proofs.Limits.{counts, weighs, same_owner}
 abbrev pub awaits : ℕ → ℕ → Unfinished → ℕ
 awaits key session one = one_if (is_of key session one && is_waiting one)
 
+-- how a job counts among those of a session that aren't ready
+abbrev pub blocks : ℕ → ℕ → Unfinished → ℕ
+blocks key session one = one_if (is_of key session one && not (is_ready one))
+
 -- ---- a session with no job
 
-zero_if : (own waits : Bool) (load : ℕ) → one_if own ≡ 0 → ((if own then load else 0) ≡ 0) × (one_if (own && waits) ≡ 0)
-zero_if true waits load none = absurd (omega arith)
-zero_if false waits load none = (refl, refl)
+zero_if : (own waits blocked : Bool) (load : ℕ) → one_if own ≡ 0 → ((if own then load else 0) ≡ 0) × (one_if (own && waits) ≡ 0) × (one_if (own && blocked) ≡ 0)
+zero_if true waits blocked load none = absurd (omega arith)
+zero_if false waits blocked load none = (refl, refl, refl)
 
-pub nothing_there : (key session : ℕ) (xs : Queue) → job_count key session xs ≡ 0 → (job_bytes key session xs ≡ 0) × (waiting_count key session xs ≡ 0)
-nothing_there key session [] none = (refl, refl)
+pub nothing_there : (key session : ℕ) (xs : Queue) → job_count key session xs ≡ 0 → (job_bytes key session xs ≡ 0) × (waiting_count key session xs ≡ 0) × (blocked_count_of key session xs ≡ 0)
+nothing_there key session [] none = (refl, refl, refl)
 nothing_there key session (x ∷ xs) none =
-    let here = zero_if (is_of key session x) (is_waiting x) (load_of x.job) (omega arith) in
+    let here = zero_if (is_of key session x) (is_waiting x) (not (is_ready x)) (load_of x.job) (omega arith) in
     let later = nothing_there key session xs (omega arith) in
-    (omega arith, omega arith)
+    (omega arith, omega arith, omega arith)
 
 -- ---- the tally that is found
 
@@ -37,6 +41,7 @@ pub record Found (queue : Queue) (key session : ℕ) (tally : Tally) : Type 0 wh
   pub count : tally.count ≡ job_count key session queue
   pub bytes : tally.bytes ≡ job_bytes key session queue
   pub waiting : tally.waiting ≡ waiting_count key session queue
+  pub blocked : tally.blocked ≡ blocked_count_of key session queue
 
 right_found : (queue : Queue) (key session : ℕ) (tally : Tally) → is_tally_of key session tally ≡ true → IsRight queue tally → Found queue key session tally
 right_found queue key session tally is right =
@@ -49,12 +54,13 @@ right_found queue key session tally is right =
       count = right.count ∙ (ap (λ (k : ℕ). job_count k tally.session queue) same_key ∙ ap (λ (s : ℕ). job_count key s queue) same_session);
       bytes = right.bytes ∙ (ap (λ (k : ℕ). job_bytes k tally.session queue) same_key ∙ ap (λ (s : ℕ). job_bytes key s queue) same_session);
       waiting = right.waiting ∙ (ap (λ (k : ℕ). waiting_count k tally.session queue) same_key ∙ ap (λ (s : ℕ). waiting_count key s queue) same_session);
+      blocked = right.blocked ∙ (ap (λ (k : ℕ). blocked_count_of k tally.session queue) same_key ∙ ap (λ (s : ℕ). blocked_count_of key s queue) same_session);
     }
 
 none_found : (queue : Queue) (key session : ℕ) → job_count key session queue ≡ 0 → Found queue key session (no_tally key session)
 none_found queue key session none =
     let rest = nothing_there key session queue none in
-    record { of_key = refl; of_session = refl; count = sym none; bytes = sym rest.0; waiting = sym rest.1 }
+    record { of_key = refl; of_session = refl; count = sym none; bytes = sym rest.0; waiting = sym rest.1; blocked = sym rest.2 }
 
 found_by : (queue : Queue) (key session : ℕ) (tally : Tally) (tallies : List Tally) (is : Bool) → is_tally_of key session tally ≡ is → IsRight queue tally → ((list_any (is_tally_of key session) tallies ≡ false → job_count key session queue ≡ 0) → Found queue key session (tally_of key session tallies)) → ((is || list_any (is_tally_of key session) tallies) ≡ false → job_count key session queue ≡ 0) → Found queue key session (tally_of key session (tally ∷ tallies))
 found_by queue key session tally tallies true is right later covers = rw is (right_found queue key session tally is right)
@@ -86,6 +92,11 @@ pub waiting_le : (key session : ℕ) (xs : Queue) → waiting_count key session 
 waiting_le key session [] = omega arith
 waiting_le key session (x ∷ xs) = let here = waiting_some (is_of key session x) (is_waiting x) in let later = waiting_le key session xs in omega arith
 
+-- no more jobs aren't ready than there are
+pub blocked_le : (key session : ℕ) (xs : Queue) → blocked_count_of key session xs ≤ job_count key session xs
+blocked_le key session [] = omega arith
+blocked_le key session (x ∷ xs) = let here = waiting_some (is_of key session x) (not (is_ready x)) in let later = blocked_le key session xs in omega arith
+
 -- ---- a tally is put in place of another
 
 -- the tally of another session is still right
@@ -93,12 +104,12 @@ abbrev pub Apart : ℕ → ℕ → ℕ → ℕ → Type 0
 Apart key session other other_session = ((key == other) && (session == other_session)) ≡ false
 
 pub record SameElsewhere (key session : ℕ) (old new : Queue) : Type 0 where
-  pub same : (other other_session : ℕ) → Apart key session other other_session → (job_count other other_session new ≡ job_count other other_session old) × (job_bytes other other_session new ≡ job_bytes other other_session old) × (waiting_count other other_session new ≡ waiting_count other other_session old)
+  pub same : (other other_session : ℕ) → Apart key session other other_session → (job_count other other_session new ≡ job_count other other_session old) × (job_bytes other other_session new ≡ job_bytes other other_session old) × (waiting_count other other_session new ≡ waiting_count other other_session old) × (blocked_count_of other other_session new ≡ blocked_count_of other other_session old)
 
 still_right : (key session : ℕ) (old new : Queue) (tally : Tally) → SameElsewhere key session old new → Apart key session tally.key tally.session → IsRight old tally → IsRight new tally
 still_right key session old new tally elsewhere apart right =
     let same = elsewhere.same tally.key tally.session apart in
-    record { count = right.count ∙ sym same.0; bytes = right.bytes ∙ sym same.1; waiting = right.waiting ∙ sym same.2 }
+    record { count = right.count ∙ sym same.0; bytes = right.bytes ∙ sym same.1; waiting = right.waiting ∙ sym same.2; blocked = right.blocked ∙ sym same.3 }
 
 eqb_turned : (a b : ℕ) (is : Bool) → (a == b) ≡ is → (b == a) ≡ is
 eqb_turned a b true here = eq-eqb b a (sym (eqb-true a b here))
@@ -195,25 +206,28 @@ room_by false left all room is none fewer within = none is
 own_of : (x : Unfinished) → is_of x.job.key x.job.session x ≡ true
 own_of x = rw (eq-eqb x.job.key x.job.key refl, eq-eqb x.job.session x.job.session refl) refl
 
-pub record Measures (key session : ℕ) (x : Unfinished) (m n k : ℕ) : Type 0 where
+pub record Measures (key session : ℕ) (x : Unfinished) (m n k j : ℕ) : Type 0 where
   pub one : counts key session x ≡ m
   pub load : weighs key session x ≡ n
   pub waits : awaits key session x ≡ k
+  pub blocked : blocks key session x ≡ j
 
-pub measures_by : (key session : ℕ) (x : Unfinished) (own : Bool) → is_of key session x ≡ own → Measures key session x (one_if own) (if own then load_of x.job else 0) (one_if (own && is_waiting x))
+pub measures_by : (key session : ℕ) (x : Unfinished) (own : Bool) → is_of key session x ≡ own → Measures key session x (one_if own) (if own then load_of x.job else 0) (one_if (own && is_waiting x)) (one_if (own && not (is_ready x)))
 measures_by key session x own is =
     record {
       one = ap one_if is;
       load = ap (λ (b : Bool). if b then load_of x.job else 0) is;
       waits = ap (λ (b : Bool). one_if (b && is_waiting x)) is;
+      blocked = ap (λ (b : Bool). one_if (b && not (is_ready x))) is;
     }
 
-right_at : (queue : Queue) (key session : ℕ) (tally : Tally) → tally.key ≡ key → tally.session ≡ session → tally.count ≡ job_count key session queue → tally.bytes ≡ job_bytes key session queue → tally.waiting ≡ waiting_count key session queue → IsRight queue tally
-right_at queue key session tally same_key same_session count bytes waiting =
+right_at : (queue : Queue) (key session : ℕ) (tally : Tally) → tally.key ≡ key → tally.session ≡ session → tally.count ≡ job_count key session queue → tally.bytes ≡ job_bytes key session queue → tally.waiting ≡ waiting_count key session queue → tally.blocked ≡ blocked_count_of key session queue → IsRight queue tally
+right_at queue key session tally same_key same_session count bytes waiting blocked =
     record {
       count = count ∙ sym (ap (λ (k : ℕ). job_count k tally.session queue) same_key ∙ ap (λ (s : ℕ). job_count key s queue) same_session);
       bytes = bytes ∙ sym (ap (λ (k : ℕ). job_bytes k tally.session queue) same_key ∙ ap (λ (s : ℕ). job_bytes key s queue) same_session);
       waiting = waiting ∙ sym (ap (λ (k : ℕ). waiting_count k tally.session queue) same_key ∙ ap (λ (s : ℕ). waiting_count key s queue) same_session);
+      blocked = blocked ∙ sym (ap (λ (k : ℕ). blocked_count_of k tally.session queue) same_key ∙ ap (λ (s : ℕ). blocked_count_of key s queue) same_session);
     }
 
 elsewhere_at : (key session : ℕ) (tally : Tally) (old new : Queue) → tally.key ≡ key → tally.session ≡ session → SameElsewhere key session old new → SameElsewhere tally.key tally.session old new
@@ -223,9 +237,9 @@ elsewhere_at key session tally old new same_key same_session there =
 pub found_at : (queue : Queue) (key session : ℕ) (tallies : List Tally) (tally : Tally) → IsTallied queue tallies → tally ≡ tally_of key session tallies → Found queue key session tally
 found_at queue key session tallies tally tallied is = subst (λ (t : Tally). Found queue key session t) (sym is) (found queue key session tallies tallied)
 
-pub tallied_put : (xs : Queue) (tallies : List Tally) (x : Unfinished) (tally : Tally) (load waits : ℕ) → IsTallied xs tallies → tally ≡ tally_of x.job.key x.job.session tallies → load ≡ load_of x.job → waits ≡ one_if (is_waiting x)
-    → IsTallied (xs ++ x ∷ []) (stored (record { key = tally.key; session = tally.session; count = tally.count + 1; bytes = tally.bytes + load; waiting = tally.waiting + waits }) tallies)
-tallied_put xs tallies x tally load waits tallied is loads waiting =
+pub tallied_put : (xs : Queue) (tallies : List Tally) (x : Unfinished) (tally : Tally) (load waits blocked : ℕ) → IsTallied xs tallies → tally ≡ tally_of x.job.key x.job.session tallies → load ≡ load_of x.job → waits ≡ one_if (is_waiting x) → blocked ≡ one_if (not (is_ready x))
+    → IsTallied (xs ++ x ∷ []) (stored (record { key = tally.key; session = tally.session; count = tally.count + 1; bytes = tally.bytes + load; waiting = tally.waiting + waits; blocked = tally.blocked + blocked }) tallies)
+tallied_put xs tallies x tally load waits blocked tallied is loads waiting blocking =
     let key = x.job.key in
     let session = x.job.session in
     let there = found_at xs key session tallies tally tallied is in
@@ -233,17 +247,19 @@ tallied_put xs tallies x tally load waits tallied is loads waiting =
     let more = total_push (counts key session) xs x in
     let heavier = total_push (weighs key session) xs x in
     let longer = total_push (awaits key session) xs x in
-    let tally' : Tally = record { key = tally.key; session = tally.session; count = tally.count + 1; bytes = tally.bytes + load; waiting = tally.waiting + waits } in
+    let slower = total_push (blocks key session) xs x in
+    let tally' : Tally = record { key = tally.key; session = tally.session; count = tally.count + 1; bytes = tally.bytes + load; waiting = tally.waiting + waits; blocked = tally.blocked + blocked } in
     let elsewhere : SameElsewhere key session xs (xs ++ x ∷ []) = record {
       same = λ other other_session apart.
           (let none = measures_by other other_session x false apart in
           let same_count = total_push (counts other other_session) xs x in
           let same_bytes = total_push (weighs other other_session) xs x in
           let same_waiting = total_push (awaits other other_session) xs x in
-          (omega (arith, none.one), omega (arith, none.load), omega (arith, none.waits)));
+          let same_blocked = total_push (blocks other other_session) xs x in
+          (omega (arith, none.one), omega (arith, none.load), omega (arith, none.waits), omega (arith, none.blocked)));
     } in
     tallied_stored xs (xs ++ x ∷ []) tallies tally' tallied
-    (right_at (xs ++ x ∷ []) key session tally' there.of_key there.of_session (omega (arith, there.count, own.one)) (omega (arith, there.bytes, own.load)) (omega (arith, there.waiting, own.waits)))
+    (right_at (xs ++ x ∷ []) key session tally' there.of_key there.of_session (omega (arith, there.count, own.one)) (omega (arith, there.bytes, own.load)) (omega (arith, there.waiting, own.waits)) (omega (arith, there.blocked, own.blocked)))
     (elsewhere_at key session tally' xs (xs ++ x ∷ []) there.of_key there.of_session elsewhere)
 
 -- its tally has what it counts
@@ -251,6 +267,7 @@ pub record Counted (x : Unfinished) (tally : Tally) : Type 0 where
   pub one : 1 ≤ tally.count
   pub load : load_of x.job ≤ tally.bytes
   pub waits : one_if (is_waiting x) ≤ tally.waiting
+  pub blocked : one_if (not (is_ready x)) ≤ tally.blocked
 
 pub counted_there : (xs : Queue) (tallies : List Tally) (i : ℕ) (x : Unfinished) (tally : Tally) → IsTallied xs tallies → i < length xs → x ≡ get_or xs i x → tally ≡ tally_of x.job.key x.job.session tallies → Counted x tally
 counted_there xs tallies i x tally tallied within at is =
@@ -261,7 +278,8 @@ counted_there xs tallies i x tally tallied within at is =
     let fewer = total_without (counts key session) xs i x within at in
     let lighter = total_without (weighs key session) xs i x within at in
     let shorter = total_without (awaits key session) xs i x within at in
-    record { one = omega (arith, there.count, own.one); load = omega (arith, there.bytes, own.load); waits = omega (arith, there.waiting, own.waits) }
+    let faster = total_without (blocks key session) xs i x within at in
+    record { one = omega (arith, there.count, own.one); load = omega (arith, there.bytes, own.load); waits = omega (arith, there.waiting, own.waits); blocked = omega (arith, there.blocked, own.blocked) }
 
 pub known_there : (xs : Queue) (tallies : List Tally) (i : ℕ) (x : Unfinished) → IsTallied xs tallies → i < length xs → x ≡ get_or xs i x → list_any (is_tally_of x.job.key x.job.session) tallies ≡ true
 known_there xs tallies i x tallied within at =
@@ -269,9 +287,9 @@ known_there xs tallies i x tallied within at =
     let fewer = total_without (counts x.job.key x.job.session) xs i x within at in
     known xs x.job.key x.job.session tallies tallied (omega (arith, own.one))
 
-pub tallied_taken : (xs : Queue) (tallies : List Tally) (i : ℕ) (x : Unfinished) (tally : Tally) (load waits : ℕ) → IsTallied xs tallies → i < length xs → x ≡ get_or xs i x → tally ≡ tally_of x.job.key x.job.session tallies → load ≡ load_of x.job → waits ≡ one_if (is_waiting x)
-    → IsTallied (remove xs i) (stored (record { key = tally.key; session = tally.session; count = tally.count - 1; bytes = tally.bytes - load; waiting = tally.waiting - waits }) tallies)
-tallied_taken xs tallies i x tally load waits tallied within at is loads waiting =
+pub tallied_taken : (xs : Queue) (tallies : List Tally) (i : ℕ) (x : Unfinished) (tally : Tally) (load waits blocked : ℕ) → IsTallied xs tallies → i < length xs → x ≡ get_or xs i x → tally ≡ tally_of x.job.key x.job.session tallies → load ≡ load_of x.job → waits ≡ one_if (is_waiting x) → blocked ≡ one_if (not (is_ready x))
+    → IsTallied (remove xs i) (stored (record { key = tally.key; session = tally.session; count = tally.count - 1; bytes = tally.bytes - load; waiting = tally.waiting - waits; blocked = tally.blocked - blocked }) tallies)
+tallied_taken xs tallies i x tally load waits blocked tallied within at is loads waiting blocking =
     let key = x.job.key in
     let session = x.job.session in
     let there = found_at xs key session tallies tally tallied is in
@@ -279,17 +297,19 @@ tallied_taken xs tallies i x tally load waits tallied within at is loads waiting
     let fewer = total_without (counts key session) xs i x within at in
     let lighter = total_without (weighs key session) xs i x within at in
     let shorter = total_without (awaits key session) xs i x within at in
-    let tally' : Tally = record { key = tally.key; session = tally.session; count = tally.count - 1; bytes = tally.bytes - load; waiting = tally.waiting - waits } in
+    let faster = total_without (blocks key session) xs i x within at in
+    let tally' : Tally = record { key = tally.key; session = tally.session; count = tally.count - 1; bytes = tally.bytes - load; waiting = tally.waiting - waits; blocked = tally.blocked - blocked } in
     let elsewhere : SameElsewhere key session xs (remove xs i) = record {
       same = λ other other_session apart.
           (let none = measures_by other other_session x false apart in
           let same_count = total_without (counts other other_session) xs i x within at in
           let same_bytes = total_without (weighs other other_session) xs i x within at in
           let same_waiting = total_without (awaits other other_session) xs i x within at in
-          (omega (arith, none.one), omega (arith, none.load), omega (arith, none.waits)));
+          let same_blocked = total_without (blocks other other_session) xs i x within at in
+          (omega (arith, none.one), omega (arith, none.load), omega (arith, none.waits), omega (arith, none.blocked)));
     } in
     tallied_stored xs (remove xs i) tallies tally' tallied
-    (right_at (remove xs i) key session tally' there.of_key there.of_session (omega (arith, there.count, own.one)) (omega (arith, there.bytes, own.load)) (omega (arith, there.waiting, own.waits)))
+    (right_at (remove xs i) key session tally' there.of_key there.of_session (omega (arith, there.count, own.one)) (omega (arith, there.bytes, own.load)) (omega (arith, there.waiting, own.waits)) (omega (arith, there.blocked, own.blocked)))
     (elsewhere_at key session tally' xs (remove xs i) there.of_key there.of_session elsewhere)
 
 -- ---- a call of a session is answered
@@ -298,6 +318,7 @@ measures_told : (key session number other other_session : ℕ) (ok : Bool) (x : 
     → (counts other other_session (if waits then told number ok x else x) ≡ counts other other_session x)
     × (weighs other other_session (if waits then told number ok x else x) ≡ weighs other other_session x)
     × (awaits other other_session (if waits then told number ok x else x) ≡ awaits other other_session x)
+    × (blocks other other_session (if waits then told number ok x else x) ≡ blocks other other_session x)
 measures_told key session number other other_session ok x true is apart =
     let own = (and_parts (is_of key session x) _ is).0 in
     let both = and_parts (x.job.key == key) (x.job.session == session) own in
@@ -306,8 +327,8 @@ measures_told key session number other other_session ok x true is apart =
     let there : is_of other other_session x ≡ false = rw (same_key, same_session) apart in
     let before = measures_by other other_session x false there in
     let after = measures_by other other_session (told number ok x) false (same_owner other other_session number true ok x ∙ there) in
-    (after.one ∙ sym before.one, after.load ∙ sym before.load, after.waits ∙ sym before.waits)
-measures_told key session number other other_session ok x false is apart = (refl, refl, refl)
+    (after.one ∙ sym before.one, after.load ∙ sym before.load, after.waits ∙ sym before.waits, after.blocked ∙ sym before.blocked)
+measures_told key session number other other_session ok x false is apart = (refl, refl, refl, refl)
 
 total_same : (measure : Unfinished → ℕ) (f : Unfinished → Unfinished) → ((x : Unfinished) → measure (f x) ≡ measure x) → (xs : Queue) → total measure (map f xs) ≡ total measure xs
 total_same measure f same [] = refl
@@ -318,12 +339,12 @@ settled_elsewhere key session number ok xs = record {
   same = λ other other_session apart.
       (let told_by = λ (x : Unfinished). measures_told key session number other other_session ok x (waits_for key session number x) refl apart in
       let f = after_answer key session number ok in
-      (total_same (counts other other_session) f (λ x. (told_by x).0) xs, total_same (weighs other other_session) f (λ x. (told_by x).1) xs, total_same (awaits other other_session) f (λ x. (told_by x).2) xs));
+      (total_same (counts other other_session) f (λ x. (told_by x).0) xs, total_same (weighs other other_session) f (λ x. (told_by x).1) xs, total_same (awaits other other_session) f (λ x. (told_by x).2) xs, total_same (blocks other other_session) f (λ x. (told_by x).3) xs));
 }
 
 pub tallied_again : (xs ys : Queue) (tallies : List Tally) (key session : ℕ) → IsTallied xs tallies → SameElsewhere key session xs ys → IsTallied ys (stored (counted_in ys key session) tallies)
 tallied_again xs ys tallies key session tallied elsewhere =
-    tallied_stored xs ys tallies (counted_in ys key session) tallied (record { count = refl; bytes = refl; waiting = refl }) elsewhere
+    tallied_stored xs ys tallies (counted_in ys key session) tallied (record { count = refl; bytes = refl; waiting = refl; blocked = refl }) elsewhere
 
 -- ---- a session is forgotten
 
@@ -351,7 +372,7 @@ forgotten_elsewhere key session xs = record {
   same = λ other other_session apart.
       (let keeps = λ (x : Unfinished). not (is_of key session x) in
       let none = λ (x : Unfinished) (own : keeps x ≡ false). measures_by other other_session x false (apart_of key session other other_session x apart own) in
-      (total_filtered (counts other other_session) keeps (λ x own. (none x own).one) xs, total_filtered (weighs other other_session) keeps (λ x own. (none x own).load) xs, total_filtered (awaits other other_session) keeps (λ x own. (none x own).waits) xs));
+      (total_filtered (counts other other_session) keeps (λ x own. (none x own).one) xs, total_filtered (weighs other other_session) keeps (λ x own. (none x own).load) xs, total_filtered (awaits other other_session) keeps (λ x own. (none x own).waits) xs, total_filtered (blocks other other_session) keeps (λ x own. (none x own).blocked) xs));
 }
 
 none_kept : (key session : ℕ) (x : Unfinished) (own : Bool) (ys : Queue) → is_of key session x ≡ own → job_count key session ys ≡ 0 → job_count key session (cond (not own) (x ∷ ys) ys) ≡ 0
@@ -371,5 +392,5 @@ tallied_without xs tallies key session tallied =
     let ys = without_session key session xs in
     let none = none_left key session xs in
     let rest = nothing_there key session ys none in
-    let kept = tallied_stored xs ys tallies (no_tally key session) tallied (record { count = sym none; bytes = sym rest.0; waiting = sym rest.1 }) (forgotten_elsewhere key session xs) in
+    let kept = tallied_stored xs ys tallies (no_tally key session) tallied (record { count = sym none; bytes = sym rest.0; waiting = sym rest.1; blocked = sym rest.2 }) (forgotten_elsewhere key session xs) in
     subst (λ (ts : List Tally). IsTallied ys ts) (append_none (without_tally key session tallies)) kept

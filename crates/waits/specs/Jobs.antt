@@ -131,6 +131,18 @@ job_count key session queue = total (λ one. one_if (is_of key session one)) que
 abbrev pub waiting_count : ℕ → ℕ → Queue → ℕ
 waiting_count key session queue = total (λ one. one_if (is_of key session one && is_waiting one)) queue
 
+-- how many of them aren't ready
+abbrev pub blocked_count_of : ℕ → ℕ → Queue → ℕ
+blocked_count_of key session queue = total (λ one. one_if (is_of key session one && not (is_ready one))) queue
+
+-- how many jobs are overdue by now
+abbrev pub overdue_count : ℕ → Queue → ℕ
+overdue_count now queue = total (λ one. one_if (is_overdue now one)) queue
+
+-- how many jobs of a session are
+abbrev pub overdue_count_of : ℕ → ℕ → ℕ → Queue → ℕ
+overdue_count_of key session now queue = total (λ one. one_if (is_of key session one && is_overdue now one)) queue
+
 -- the bytes of their loads
 abbrev pub job_bytes : ℕ → ℕ → Queue → ℕ
 job_bytes key session queue = total (λ one. if is_of key session one then load_of one.job else 0) queue

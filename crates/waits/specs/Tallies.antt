@@ -3,7 +3,7 @@
 use Rattle.std.specs.Prelude.{◌≡◌, ℕ, ◌≤◌, Bool, false, not, ◌==◌, ◌&&◌, nat_lt, if◌then◌else◌, unwrap_or, List, [], ◌∷◌, ◌++◌, length, take, find}
 use Rattle.std.specs.List.{filter, list_any}
 use Rattle.waits.specs.declared.tally.Tally.{Tally}
-use Rattle.waits.specs.Jobs.{Queue, job_count, job_bytes, waiting_count, ready_count, blocked_count, failed_count, AreWithinLimits}
+use Rattle.waits.specs.Jobs.{Queue, job_count, job_bytes, waiting_count, blocked_count_of, ready_count, blocked_count, failed_count, AreWithinLimits}
 
 -- ---- the tally of a session
 
@@ -13,7 +13,7 @@ is_tally_of key session tally = (tally.key == key) && (tally.session == session)
 
 -- that of a session with no job
 abbrev pub no_tally : ℕ → ℕ → Tally
-no_tally key session = record { key = key; session = session; count = 0; bytes = 0; waiting = 0 }
+no_tally key session = record { key = key; session = session; count = 0; bytes = 0; waiting = 0; blocked = 0 }
 
 -- that of this session among these jobs
 abbrev pub counted_in : Queue → ℕ → ℕ → Tally
@@ -24,6 +24,7 @@ counted_in queue key session =
       count = job_count key session queue;
       bytes = job_bytes key session queue;
       waiting = waiting_count key session queue;
+      blocked = blocked_count_of key session queue;
     }
 
 -- the one that stands there for this session
@@ -43,11 +44,12 @@ stored tally tallies = without_tally tally.key tally.session tallies ++ tally_if
 
 -- ---- tallies that are right
 
--- it tells how many jobs its session has, the bytes of their loads, and how many of them wait
+-- it tells how many jobs its session has, the bytes of their loads, how many of them wait, and how many aren't ready
 pub record IsRight (queue : Queue) (tally : Tally) : Type 0 where
   pub count : tally.count ≡ job_count tally.key tally.session queue
   pub bytes : tally.bytes ≡ job_bytes tally.key tally.session queue
   pub waiting : tally.waiting ≡ waiting_count tally.key tally.session queue
+  pub blocked : tally.blocked ≡ blocked_count_of tally.key tally.session queue
 
 abbrev pub AreRight : Queue → List Tally → Type 0
 AreRight queue [] = Unit {0}

@@ -1,8 +1,9 @@
 //! A call that was accepted and isn't answered yet.
 
 ghost use Rattle.std.specs.Prelude.{◌≡◌, IfOk};
-ghost use Rattle.waits.specs.Jobs.{is_of, is_ready, is_waiting, load_of, waits_for, after_answer};
+ghost use Rattle.waits.specs.Jobs.{is_of, is_ready, is_waiting, is_overdue, load_of, waits_for, after_answer};
 
+use crate::jobs::WAIT_SECONDS;
 use bytes::Bytes;
 use msg_ids::Moment;
 use octets::{IdList, Memory};
@@ -75,6 +76,13 @@ impl Unfinished {
         ensures { result ≡ is_waiting self.now }
     {
         !self.job.after.ids().is_empty()
+    }
+
+    /// Whether it has waited too long at this moment.
+    pub(crate) fn is_overdue(&self, now: Moment) -> bool
+        ensures { result ≡ is_overdue now self.now }
+    {
+        self.is_waiting() && self.job.since.seconds() + WAIT_SECONDS <= now.seconds()
     }
 
     /// Whether it waits for no call, and none was answered otherwise than well.

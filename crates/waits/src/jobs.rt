@@ -1,9 +1,10 @@
 //! The unfinished jobs of a server.
 
-ghost use Rattle.std.specs.Prelude.{◌≡◌, ◌+◌, ◌<◌, ◌≤◌, [], Some, length, max, IfOk, OnOk, OnErr};
+ghost use Rattle.std.specs.Prelude.{◌≡◌, ◌+◌, ◌<◌, ◌≤◌, [], Some, length, max, IfOk, IfNone, IfSome, OnOk, OnErr};
+ghost use Rattle.std.specs.Option.{option_copied};
 ghost use Rattle.std.specs.List.{list_any};
 ghost use Rattle.waits.specs.Limits.{most_jobs, most_job_bytes};
-ghost use Rattle.waits.specs.Jobs.{accepted, is_call, is_overdue, has_failed, ready_count, ready_job, without_ready, first_job, without_first, settled, without_session, job_count, job_bytes, waiting_count, load_of};
+ghost use Rattle.waits.specs.Jobs.{accepted, is_call, is_overdue, has_failed, ready_count, ready_job, without_ready, first_job, without_first, settled, without_session, job_count, job_bytes, waiting_count, blocked_count_of, overdue_count, overdue_count_of, load_of};
 ghost use Rattle.waits.specs.Wanted.{is_wanted};
 
 use crate::job::{Job, Unfinished};
@@ -111,6 +112,20 @@ impl Jobs {
         self.queue.len() - self.blocked
     }
 
+    /// The ready job of this place among the ready ones, from 0 in order of acceptance: the one that `take` takes out;
+    /// `None` exactly where the place isn't less than `ready()`.
+    pub fn ready_at(&self, k: usize) -> Option<&Job>
+        ensures job { option_copied result ≡ ready_job k self.now.jobs }
+        ensures there { IfSome result (λ _. k < ready_count self.now.jobs) }
+        ensures none { IfNone result (ready_count self.now.jobs ≤ k) }
+    {
+        if k >= self.ready() {
+            return None;
+        }
+        let found = queue::ready_place(&self.queue, self.passed, k);
+        Some(&self.queue[found].job)
+    }
+
     /// Takes out the ready job of this place among the ready ones, from 0 in order of acceptance. The place has to be
     /// less than `ready()`. Takes no memory.
     pub fn take(&mut self, k: usize) -> Job
@@ -135,12 +150,17 @@ impl Jobs {
     pub fn settle(&mut self, key: u64, session: u64, number: u64, ok: bool)
         ensures { self.new ≡ record self.old { jobs = settled key session number ok self.old.jobs } }
     {
-        if tally::find(&self.tallies, key, session).waiting > 0 {
-            queue::settle_counted(&mut self.queue, &mut self.tallies, key, session, number, ok);
-            self.blocked = queue::count_of(&self.queue, &Wanted::Blocked);
-            self.failing = queue::count_of(&self.queue, &Wanted::Failed);
-            self.passed = 0;
+        if tally::find(&self.tallies, key, session).waiting == 0 {
+            return;
         }
+        let waits = Wanted::Waiting(key, session, number);
+        if queue::first_place(&self.queue, &waits) == self.queue.len() {
+            return;
+        }
+        queue::settle_counted(&mut self.queue, &mut self.tallies, key, session, number, ok);
+        self.blocked = queue::count_of(&self.queue, &Wanted::Blocked);
+        self.failing = queue::count_of(&self.queue, &Wanted::Failed);
+        self.passed = 0;
     }
 
     /// Takes out the first job that has failed; `None` where none has. Takes no memory.
@@ -207,6 +227,35 @@ impl Jobs {
         ensures within { result ≤ most_jobs }
     {
         tally::find(&self.tallies, key, session).waiting
+    }
+
+    /// How many jobs of a session aren't ready: each waits for a call, or has failed.
+    pub fn blocked(&self, key: u64, session: u64) -> usize
+        ensures count { result ≡ blocked_count_of key session self.now.jobs }
+        ensures within { result ≤ most_jobs }
+    {
+        tally::find(&self.tallies, key, session).blocked
+    }
+
+    /// How many jobs wait for a call and were accepted `WAIT_SECONDS` or more before `now`. Looks at no job where all
+    /// are ready.
+    pub fn overdue(&self, now: Moment) -> usize
+        ensures count { result ≡ overdue_count now self.now.jobs }
+    {
+        if self.blocked == 0 {
+            return 0;
+        }
+        queue::count_of(&self.queue, &Wanted::Overdue(now))
+    }
+
+    /// How many of these a session has. Looks at no job where none of the session waits.
+    pub fn overdue_of(&self, key: u64, session: u64, now: Moment) -> usize
+        ensures count { result ≡ overdue_count_of key session now self.now.jobs }
+    {
+        if self.waiting(key, session) == 0 {
+            return 0;
+        }
+        queue::count_of(&self.queue, &Wanted::OverdueOf(key, session, now))
     }
 
     /// Whether an unfinished job has this number in this session.

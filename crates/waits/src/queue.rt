@@ -10,7 +10,6 @@ ghost use Rattle.waits.specs.Tallies.{is_tally_of, counted_in, IsTallied};
 ghost use Rattle.waits.specs.Wanted.{is_wanted};
 
 use crate::job::Unfinished;
-use crate::jobs::WAIT_SECONDS;
 use crate::tally::{self, Tally};
 use msg_ids::Moment;
 use octets::Memory;
@@ -26,8 +25,12 @@ pub(crate) enum Wanted {
     Failed,
     /// A job that has waited too long at this moment.
     Overdue(Moment),
+    /// Such a job of a key and a session.
+    OverdueOf(u64, u64, Moment),
     /// The call of a key, a session and a number.
     Call(u64, u64, u64),
+    /// A job of a key and a session that waits for the call of a number.
+    Waiting(u64, u64, u64),
 }
 
 /// Whether a job is what is looked for.
@@ -37,10 +40,10 @@ fn is_wanted(wanted: &Wanted, one: &Unfinished) -> bool
     match *wanted {
         Wanted::Blocked => !one.is_ready(),
         Wanted::Failed => one.failed,
-        Wanted::Overdue(now) => {
-            one.is_waiting() && one.job.since.seconds() + WAIT_SECONDS <= now.seconds()
-        }
+        Wanted::Overdue(now) => one.is_overdue(now),
+        Wanted::OverdueOf(key, session, now) => one.is_of(key, session) && one.is_overdue(now),
         Wanted::Call(key, session, number) => one.is_of(key, session) && one.job.number == number,
+        Wanted::Waiting(key, session, number) => one.waits_for(key, session, number),
     }
 }
 
@@ -94,6 +97,7 @@ pub(crate) fn put(queue: &mut VecDeque<Unfinished>, tallies: &mut Vec<Tally>, on
     counted.count += 1;
     counted.bytes += one.job.load();
     counted.waiting += one_if(one.is_waiting());
+    counted.blocked += one_if(!one.is_ready());
     tally::store(tallies, counted);
     queue.push_back_reserved(one);
 }
@@ -119,6 +123,7 @@ pub(crate) fn take_out(
     counted.count -= 1;
     counted.bytes -= one.job.load();
     counted.waiting -= one_if(one.is_waiting());
+    counted.blocked -= one_if(!one.is_ready());
     tally::store(tallies, counted);
     one
 }
@@ -176,12 +181,14 @@ fn tally_of_session(queue: &VecDeque<Unfinished>, key: u64, session: u64) -> Tal
     let mut count = 0;
     let mut bytes = 0;
     let mut waiting = 0;
+    let mut blocked = 0;
     for place in 0..queue.len() {
         let one = &queue[place];
         if one.is_of(key, session) {
             count += 1;
             bytes += one.job.load();
             waiting += one_if(one.is_waiting());
+            blocked += one_if(!one.is_ready());
         }
     }
     Tally {
@@ -190,6 +197,7 @@ fn tally_of_session(queue: &VecDeque<Unfinished>, key: u64, session: u64) -> Tal
         count,
         bytes,
         waiting,
+        blocked,
     }
 }
 

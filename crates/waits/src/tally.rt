@@ -9,7 +9,7 @@ ghost use Rattle.waits.specs.Tallies.{is_tally_of, no_tally, tally_of, without_t
 use octets::Memory;
 use std::alloc::Global;
 
-/// How many jobs a session has, the bytes of their loads, and how many of them wait for a call.
+/// How many jobs a session has, the bytes of their loads, how many of them wait for a call, and how many aren't ready.
 #[derive(Clone, Copy, Debug)]
 pub(crate) struct Tally {
     pub key: u64,
@@ -17,6 +17,7 @@ pub(crate) struct Tally {
     pub count: usize,
     pub bytes: usize,
     pub waiting: usize,
+    pub blocked: usize,
 }
 
 impl Tally {
@@ -30,6 +31,7 @@ impl Tally {
             count: 0,
             bytes: 0,
             waiting: 0,
+            blocked: 0,
         }
     }
 

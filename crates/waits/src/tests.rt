@@ -125,6 +125,22 @@ fn a_job_waits_for_thirty_seconds(rt: HostRuntime) -> Result<(), Fail> {
     Ok(())
 }
 
+// How many jobs are overdue at this moment, of all and of session 2, where one of each waits.
+fn overdue_at(alloc: Global, now: u64) -> Result<(usize, usize), Fail> {
+    let mut jobs = Jobs::new(alloc);
+    call(&mut jobs, alloc, 1, 8, &[8])?;
+    call(&mut jobs, alloc, 2, 12, &[12])?;
+    let moment = Moment::new(now);
+    Ok((jobs.overdue(moment), jobs.overdue_of(1, 2, moment)))
+}
+
+#[test]
+fn overdue_jobs_are_counted(rt: HostRuntime) -> Result<(), Fail> {
+    assert_eq!(rt; overdue_at(rt.alloc(), 129)?, (0, 0));
+    assert_eq!(rt; overdue_at(rt.alloc(), 130)?, (2, 1));
+    Ok(())
+}
+
 #[test]
 fn sessions_have_jobs_of_their_own(rt: HostRuntime) -> Result<(), Fail> {
     let alloc = rt.alloc();

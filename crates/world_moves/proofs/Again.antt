@@ -1,24 +1,25 @@
 -- A message that is sent again, under the number that it has.
-use Rattle.std.proofs.Common.{◌≡◌, ◌≢◌, ℕ, zero, suc, ◌+◌, ◌-◌, ◌≤◌, ◌<◌, ◌==◌, Bool, true, false, List, [], ◌∷◌, ◌++◌, length, map, Option, None, Some, if◌then◌else◌, inl, inr, refl, sym, ap, subst, ◌∙◌, arith, eq-eqb, ne_eqb}
-use Rattle.std.specs.Prelude.{◌⊎◌, ⊤, slice_get, option_map, IfSome}
-use Rattle.std.specs.List.{All, AllByRecursion, Contains}
+use Rattle.std.proofs.Common.{◌≡◌, ◌≢◌, ℕ, ◌-◌, ◌≤◌, List, [], ◌∷◌, Option, None, Some, inl, inr, refl, sym, ap, subst, ◌∙◌, arith}
+use Rattle.std.specs.Prelude.{slice_get, option_map, IfSome}
+use Rattle.std.specs.List.{Contains}
 use Rattle.std.proofs.lemmas.Bool.{cases_eq}
 use Rattle.service_tl.specs.declared.lists.Message.{Message}
 use Rattle.session_moves.specs.Table as moves
-use Rattle.session_moves.specs.World.{World, Owns, IsName, IsUnder, no_call}
-use Rattle.session_moves.specs.Move.Move.{Own, Send}
-use Rattle.session_moves.specs.Move.Part.{First, Again, Other, OtherAgain}
-use Rattle.session_moves.specs.After.{after, salts_of, message_of}
-use Rattle.session_moves.specs.Lawful.{IsBelow, IsNewNumber, IsNewest, WasNoCall}
+use Rattle.session_moves.specs.World.{World}
+use Rattle.session_moves.specs.Move.Move.{Send}
+use Rattle.session_moves.specs.Move.Part.{Again, OtherAgain}
+use Rattle.session_moves.specs.After.{after, message_of}
+use Rattle.session_moves.specs.Lawful.{IsNewest, WasNoCall}
 use Rattle.session_moves.specs.Reached.{Reached}
 use Rattle.call_table.specs.declared.call.CallNo.{CallNo}
 use Rattle.call_table.specs.Table.{Call, Name, State, with_salt, changed_at}
 use Rattle.call_table.specs.Table as table
-use Rattle.client_rules.specs.Client.{Client, Binding, Asked, Temporary, bound_so, calls_of, with_binding, with_call}
+use Rattle.client_rules.specs.Client.{Client, Asked, Temporary, bound_so, calls_of, with_binding, with_call}
 use Rattle.client_rules.specs.Flush.{gone_again}
-use Rattle.world_moves.specs.Clients.{LivesIn, StandsAs, AreNamesThere, IsNameThere, IsCallThere, StandsThere, IsAskedThere, IsGivenBy, client_there, state_there}
+use Rattle.world_moves.specs.Clients.{LivesIn, StandsAs, AreNamesThere, IsNameThere, IsCallThere, StandsThere, IsAskedThere, IsGivenBy, state_there}
 use Rattle.world_moves.specs.Leading.{Leads}
-use Rattle.world_moves.proofs.Basics.{Alike, Apart, all_given_alike, each_of, here, later, living_alike, names_keep}
+use Rattle.world_moves.specs.Sent.{IsBindingCall, WasSent}
+use Rattle.world_moves.proofs.Basics.{Apart, all_given_alike, each_of, here, later, living_alike, names_keep}
 use Rattle.world_moves.proofs.Leading.{moves_once}
 use Rattle.world_moves.proofs.Own.{is_made}
 use Rattle.world_moves.proofs.Quiet.{length_changed}
@@ -145,6 +146,7 @@ module _ (apart : Apart) (w : World) (number : ℕ) (client : Client) (reached :
       state = there_now.state;
       names = names_gone;
       living = salted_living client.session client.salt call.state call.names there_now.living;
+      asks = there_now.asks;
     }
 
     other_call : (q : ℕ) → q ≢ place → (found : Option Call) → StandsThere client w.ups found (w.calls (moves.call_at number q))
@@ -161,6 +163,7 @@ module _ (apart : Apart) (w : World) (number : ℕ) (client : Client) (reached :
             (apart.of_one w (moves.call_at number q) id there first.0 reached among among_now (sym session ∙ same_session) (sym is ∙ same_number)))) ∙ h.salts;
       }) h.names;
       living = living_alike client gone refl one h.living;
+      asks = h.asks;
     }
 
     calls_gone : (q : ℕ) → StandsThere gone gone_w.ups (slice_get (calls_of gone) q) (gone_w.calls (moves.call_at number q))
@@ -175,22 +178,24 @@ module _ (apart : Apart) (w : World) (number : ℕ) (client : Client) (reached :
     newest_there : IsNewest (w.calls id).names its
     newest_there = subst (λ (l : List moves.Name). IsNewest l its) (sym first.2) first.3.number
 
-    pub sends_again : Leads number w (λ later. StandsAs later number gone)
+    pub sends_again : Leads number w (λ later. StandsAs later number gone × WasSent later.ups client.session client.salt its (Some call.body))
     sends_again =
-        moves_once number w (λ later. StandsAs later number gone) (Send number (Again place its ∷ []))
-        (is_made w number client s, ((there_now.state ∙ ap state_there is_sent, newest_there), tt)) refl
-        (record {
-          made = s.made;
-          parts = s.parts;
-          submitted = s.submitted ∙ sym (length_changed place change (calls_of client));
-          calls = calls_gone;
-          given = (λ is. is_given, all_given_alike client gone (record { session = refl; last = omega arith }) w.ups s.given);
-          asked = all_asked_more m w.ups client gone refl client.temporary s.asked;
-        })
+        moves_once number w (λ later. StandsAs later number gone × WasSent later.ups client.session client.salt its (Some call.body)) (Send number (Again place its ∷ []))
+        (is_made w number client s, ((there_now.state ∙ ap state_there is_sent, newest_there), tt)) refl (
+          record {
+            made = s.made;
+            parts = s.parts;
+            submitted = s.submitted ∙ sym (length_changed place change (calls_of client));
+            calls = calls_gone;
+            given = (λ is. is_given, all_given_alike client gone (record { session = refl; last = omega arith }) w.ups s.given);
+            asked = all_asked_more m w.ups client gone refl client.temporary s.asked;
+          },
+          record { up = m; there = here m w.ups; under = present; salted = salt_there; numbered = refl; is = ap (λ (body : List ℕ). Some body) there_now.body },
+        )
 
   -- ---- the binding
 
-  module _ (message : Message) (was : WasNoCall w.ups client.session message.number) where
+  module _ (message : Message) (was : WasNoCall w.ups client.session message.number) (is_binding : IsBindingCall message.body) where
     abbrev bound : Client
     bound = with_binding (Asked message) client
 
@@ -219,22 +224,25 @@ module _ (apart : Apart) (w : World) (number : ℕ) (client : Client) (reached :
       state = h.state;
       names = names_keep w.ups (up ∷ w.ups) call.names (w.calls id).names (kept_salts id) h.names;
       living = living_alike client bound refl call h.living;
+      asks = h.asks;
     }
 
     asked_now : (temporary : Option Temporary)
         → IfSome (option_map (bound_so (Asked message)) temporary) (λ (t : Temporary). IsAskedThere (up ∷ w.ups) bound t.binding)
     asked_now None = tt
-    asked_now (Some temporary) = (was.0, later was.0 up w.ups was.1, was.2, was.3, was.4)
+    asked_now (Some temporary) = ((was.0, later was.0 up w.ups was.1, was.2, was.3, was.4), is_binding)
 
-    pub sends_binding_again : Leads number w (λ later. StandsAs later number bound)
+    pub sends_binding_again : Leads number w (λ later. StandsAs later number bound × WasSent later.ups client.session client.salt message.number None)
     sends_binding_again =
-        moves_once number w (λ later. StandsAs later number bound) (Send number (OtherAgain message.number ∷ []))
-        (is_made w number client s, ((was.0, was.1, was.2 ∙ sym present, was.3, was.4), tt)) refl
-        (record {
-          made = s.made;
-          parts = s.parts;
-          submitted = s.submitted;
-          calls = λ place. kept_place (moves.call_at number place) (slice_get (calls_of client) place) (s.calls place);
-          given = (λ is. given_number, all_given_alike client bound (record { session = refl; last = omega arith }) w.ups s.given);
-          asked = asked_now client.temporary;
-        })
+        moves_once number w (λ later. StandsAs later number bound × WasSent later.ups client.session client.salt message.number None) (Send number (OtherAgain message.number ∷ []))
+        (is_made w number client s, ((was.0, was.1, was.2 ∙ sym present, was.3, was.4), tt)) refl (
+          record {
+            made = s.made;
+            parts = s.parts;
+            submitted = s.submitted;
+            calls = λ place. kept_place (moves.call_at number place) (slice_get (calls_of client) place) (s.calls place);
+            given = (λ is. given_number, all_given_alike client bound (record { session = refl; last = omega arith }) w.ups s.given);
+            asked = asked_now client.temporary;
+          },
+          record { up = up; there = here up w.ups; under = present; salted = ap (λ (c : moves.Client). c.salt) s.parts; numbered = refl; is = refl },
+        )

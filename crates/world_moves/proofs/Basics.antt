@@ -1,14 +1,14 @@
 -- Lists of calls and of messages, and what a client's names keep.
-use Rattle.std.proofs.Common.{◌≡◌, ◌≢◌, ℕ, zero, suc, ◌≤◌, ◌<◌, List, [], ◌∷◌, ◌++◌, length, map, reverse, Option, None, Some, inl, inr, refl, sym, ap, subst, ◌∙◌, arith}
-use Rattle.std.specs.Prelude.{◌⊎◌, ⊤, slice_get, option_map, IfSome}
+use Rattle.std.proofs.Common.{◌≡◌, ◌≢◌, ℕ, zero, suc, ◌≤◌, ◌<◌, List, [], ◌∷◌, ◌++◌, length, map, None, Some, inl, inr, refl, sym, ap, subst, ◌∙◌, arith}
+use Rattle.std.specs.Prelude.{◌⊎◌, slice_get, option_map}
 use Rattle.std.specs.List.{All, AllByRecursion, Contains, slice_index_or}
 use Rattle.session_moves.specs.Table as moves
-use Rattle.session_moves.specs.World.{World, Owns, IsName, IsUnder, no_call}
+use Rattle.session_moves.specs.World.{World, Owns, IsName, IsUnder}
 use Rattle.session_moves.specs.Lawful.{IsNewSession}
 use Rattle.session_moves.specs.Reached.{Reached}
-use Rattle.call_table.specs.Table.{Call, Name, State}
-use Rattle.client_rules.specs.Client.{Client, calls_of}
-use Rattle.world_moves.specs.Clients.{LivesIn, IsNameThere, AreNamesThere, IsCallThere, StandsThere, IsGivenBy, client_there}
+use Rattle.call_table.specs.Table.{Call, Name}
+use Rattle.client_rules.specs.Client.{Client}
+use Rattle.world_moves.specs.Clients.{LivesIn, IsNameThere, AreNamesThere, IsGivenBy}
 
 -- what the law on moves promises of names
 pub record Apart : Type 0 where

@@ -1,31 +1,19 @@
 -- A client's flush, message by message.
-use Rattle.std.proofs.Common.{◌≡◌, ◌≢◌, ℕ, zero, suc, ◌+◌, ◌-◌, ◌≤◌, ◌<◌, ◌==◌, Bool, true, false, not, ◌&&◌, List, [], ◌∷◌, ◌++◌, length, map, fold, Option, None, Some, if◌then◌else◌, inl, inr, refl, sym, ap, subst, ◌∙◌, arith, eq-eqb, ne_eqb}
-use Rattle.std.specs.Prelude.{◌⊎◌, ⊤, slice_get, option_map, is_some, IfSome}
-use Rattle.std.specs.List.{All, AllByRecursion, Contains}
+use Rattle.std.proofs.Common.{◌≡◌, ◌≢◌, ℕ, suc, ◌+◌, ◌-◌, ◌<◌, Bool, true, not, List, [], ◌∷◌, length, map, Option, Some, inl, inr, refl, sym, ap, subst, ◌∙◌, arith}
+use Rattle.std.specs.Prelude.{⊤, slice_get, option_map, IfSome}
+use Rattle.std.specs.List.{AllByRecursion}
 use Rattle.std.proofs.lemmas.Bool.{cases_Bool, cases_eq}
-use Rattle.service_tl.specs.declared.lists.Message.{Message}
-use Rattle.service_tl.specs.declared.item.Item.{Item}
-use Rattle.service_tl.specs.Items.{spelling_of}
-use Rattle.packing.specs.Packing.{is_within}
 use Rattle.session_moves.specs.Table as moves
 use Rattle.session_moves.specs.World.{World}
-use Rattle.session_moves.specs.Lawful.{WasNoCall}
-use Rattle.session_moves.specs.Reached.{Reached}
 use Rattle.call_table.specs.declared.call.CallNo.{CallNo}
-use Rattle.call_table.specs.declared.call.Group.{Group}
 use Rattle.call_table.specs.declared.call.Group.TheVariants as group
-use Rattle.call_table.specs.declared.call.Fate.TheVariants as fate
 use Rattle.call_table.specs.Table.{Call, Name, State, at, call_no, changed_at, flagged, group_of, is_in, is_queued, living_name, living_name_in, places_from, sent, settled}
 use Rattle.call_table.specs.Table as table
-use Rattle.client_rules.specs.Client.{Client, Binding, Needed, Asked, Held, Bound, Refused, Temporary, Waiting, bound_so, calls_of, numbered, after_message, at_moment, with_binding, with_call}
-use Rattle.client_rules.specs.Sending.{Setting}
-use Rattle.client_rules.specs.Filling.{Filling, Turn, Goes, Waits, Never, asks_binding, body_behind, changes, empty, fills, goes, is_needed, says, says_acks, says_binding, says_call, says_call_at, says_destroyed, says_drop, says_drop_of, says_ping, says_resent, says_salts, says_states, says_told, sends_call, takes_turn, turn_of, undropped}
+use Rattle.client_rules.specs.Client.{Client, Temporary, calls_of}
 use Rattle.world_moves.specs.Clients.{StandsAs, IsAskedThere, StandsThere}
-use Rattle.world_moves.specs.Leading.{Leads}
-use Rattle.world_moves.proofs.Basics.{Alike, Apart, all_given_alike}
-use Rattle.world_moves.proofs.Leading.{GoOn, goes_on, stays}
-use Rattle.world_moves.proofs.Quiet.{OnlyFlags, asked_alike, length_changed, one_changed_there, same_there}
-use Rattle.world_moves.proofs.Sending.{get_changed, get_unchanged, gives_up, sends_first, sends_other}
+use Rattle.world_moves.proofs.Basics.{Alike, all_given_alike}
+use Rattle.world_moves.proofs.Quiet.{OnlyFlags, asked_alike, same_there}
+use Rattle.world_moves.proofs.Sending.{get_changed, get_unchanged}
 
 -- ---- a client that differs in what the law doesn't see
 

@@ -1,10 +1,8 @@
 -- A whole packet that a client hears.
-use Rattle.std.proofs.Common.{◌≡◌, ℕ, ◌++◌, Bool, true, false, List, [], ◌∷◌, fold, Option, inl, inr, refl, sym, ap, subst, ◌∙◌, if◌then◌else◌}
-use Rattle.std.specs.Prelude.{◌⊎◌, ⊤}
-use Rattle.std.specs.List.{Contains, flat_map}
-use Rattle.std.proofs.lemmas.Bool.{cases_Bool}
+use Rattle.std.proofs.Common.{◌≡◌, ℕ, ◌++◌, Bool, true, false, List, [], ◌∷◌, fold, inl, inr, refl, sym, ap, subst, ◌∙◌, if◌then◌else◌}
+use Rattle.std.specs.Prelude.{◌⊎◌}
+use Rattle.std.specs.List.{Contains}
 use Rattle.service_tl.specs.declared.lists.Message.{Message}
-use Rattle.service_tl.specs.declared.item.Item.{Item}
 use Rattle.service_tl.specs.ItemOf.{item_of}
 use Rattle.envelope.specs.declared.parts.Envelope.{Envelope}
 use Rattle.session_moves.specs.Table as moves

@@ -1,12 +1,11 @@
 -- A packet that a client hears.
-use Rattle.std.proofs.Common.{◌≡◌, ◌≢◌, ℕ, zero, suc, ◌+◌, ◌-◌, ◌≤◌, ◌<◌, ◌==◌, ◌&&◌, ◌||◌, not, Bool, true, false, List, [], ◌∷◌, ◌++◌, length, map, reverse, fold, Option, None, Some, if◌then◌else◌, inl, inr, refl, sym, ap, subst, ◌∙◌, arith, eq-eqb}
-use Rattle.std.specs.Prelude.{◌⊎◌, ⊤, slice_get, option_map, IfSome, nat_lt, nat_le}
-use Rattle.std.specs.List.{Contains, list_any, flat_map, zip}
+use Rattle.std.proofs.Common.{◌≡◌, ℕ, ◌==◌, ◌&&◌, ◌||◌, not, Bool, true, false, List, [], ◌∷◌, ◌++◌, length, reverse, fold, Option, None, Some, if◌then◌else◌, inl, inr, refl, sym, ap, subst, ◌∙◌, arith, eq-eqb}
+use Rattle.std.specs.Prelude.{◌⊎◌, slice_get, option_map, IfSome, nat_lt, nat_le}
+use Rattle.std.specs.List.{list_any, zip}
 use Rattle.std.proofs.lemmas.Bool.{cases_Bool}
 use Rattle.std.proofs.lemmas.Bool.Decides.{nat_tests}
 use Rattle.std.proofs.lemmas.List.{length-reverse}
 use Rattle.tl_codec.specs.Standard.{bool_true}
-use Rattle.service_tl.specs.declared.lists.Message.{Message}
 use Rattle.service_tl.specs.declared.item.Item.{Item}
 use Rattle.service_tl.specs.declared.item.Item.TheVariants.{AuthBindTempAuthKey, BadMsgNotification, BadServerSalt, Broken, DestroySession, DestroySessionNone, DestroySessionOk, FutureSalts, GetFutureSalts, InvokeAfterMsg, InvokeAfterMsgs, MsgContainer, MsgDetailedInfo, MsgNewDetailedInfo, MsgResendReq, MsgsAck, MsgsAllInfo, MsgsStateInfo, MsgsStateReq, NewSessionCreated, Packed, Ping, PingDelayDisconnect, Pong, RpcAnswerDropped, RpcAnswerDroppedRunning, RpcAnswerUnknown, RpcDropAnswer, RpcError, RpcResult}
 use Rattle.service_tl.specs.declared.item.Item.TheVariants as item
@@ -15,18 +14,18 @@ use Rattle.session_moves.specs.Table as moves
 use Rattle.session_moves.specs.World.{World}
 use Rattle.session_moves.specs.Move.Move.{Own}
 use Rattle.session_moves.specs.Move.OwnAct.{End}
-use Rattle.session_moves.specs.After.{LEARNT_MAX, after, after_heard, after_item, after_items, after_learnt, after_salt, after_settled, end_client, learn as learn_there, state_noticed}
+use Rattle.session_moves.specs.After.{LEARNT_MAX, after, after_item, after_learnt, after_salt, after_settled, end_client, learn as learn_there, state_noticed}
 use Rattle.call_table.specs.declared.call.CallNo.{CallNo}
 use Rattle.call_table.specs.declared.call.Fate.{Fate}
 use Rattle.call_table.specs.declared.call.Fate.TheVariants as fate
 use Rattle.call_table.specs.Table.{Call, call_no, first_from, is_number_of, living_name, owner, inner_of, state_after, changed, settled}
-use Rattle.client_rules.specs.Client.{Client, Binding, Needed, Asked, Held, Bound, Refused, StateRequest, Temporary, at_moment, bound_so, calls_of, with_binding, with_call}
+use Rattle.client_rules.specs.Client.{Client, Binding, Needed, Held, Bound, Refused, StateRequest, Temporary, bound_so, calls_of, with_binding}
 use Rattle.client_rules.specs.Asking.{alone, begins}
 use Rattle.client_rules.specs.Learning.{ended, learn, learnt_max, learns, with_clock}
-use Rattle.client_rules.specs.Taking.{Notice, acknowledges, alone_among, alone_call, alone_number, answered_by, asked_states, asks_answer, becomes, binding_answered, binding_error, binding_noticed, fate_noticed, goes_again, has_asked, is_asked_by, is_odd, noticed, noticed_by, packet_noticed, row, takes_message, takes_over, told_of, told_state, told_states, with_notice_clock, with_notice_salt}
+use Rattle.client_rules.specs.Taking.{alone_among, alone_call, alone_number, answered_by, asked_states, asks_answer, becomes, binding_answered, binding_error, binding_noticed, fate_noticed, goes_again, has_asked, is_asked_by, noticed_by, packet_noticed, row, takes_over, told_of, told_state, told_states, with_notice_clock}
 use Rattle.client_rules.specs.Filling.{numbers_max}
-use Rattle.world_moves.specs.Clients.{StandsAs, IsAskedThere, client_there, state_there}
-use Rattle.world_moves.specs.Packets.{item_there, items_there}
+use Rattle.world_moves.specs.Clients.{StandsAs, IsAskedThere, state_there}
+use Rattle.world_moves.specs.Packets.{item_there}
 use Rattle.world_moves.proofs.Basics.{Alike, all_given_alike}
 use Rattle.world_moves.proofs.Own.{ends}
 use Rattle.world_moves.proofs.Quiet.{OnlyFlags, binding_alike, same_there}

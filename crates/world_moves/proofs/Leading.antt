@@ -1,7 +1,8 @@
 -- Moves one after the other.
-use Rattle.std.proofs.Common.{◌≡◌, ℕ, zero, suc, ◌<◌, List, [], ◌∷◌, ◌++◌, length, refl, sym, subst, arith}
-use Rattle.std.specs.List.{All}
+use Rattle.std.proofs.Common.{◌≡◌, ℕ, zero, suc, List, [], ◌∷◌, ◌++◌, sym, subst, arith}
+use Rattle.std.specs.List.{All, Contains}
 use Rattle.std.proofs.lemmas.List.Elements.{All-append}
+use Rattle.session_moves.specs.Table.{Message}
 use Rattle.session_moves.specs.World.{World}
 use Rattle.session_moves.specs.Move.{Move}
 use Rattle.session_moves.specs.Extends.{IsOfClient}
@@ -40,3 +41,10 @@ goes_on on number w P Q reached first next =
       own = All-append (IsOfClient number) first.moves second.moves first.own second.own;
       gives = subst Q (sym (on.after w first.moves second.moves)) second.gives;
     }
+
+pub leads_so : (number : ℕ) (w : World) (P Q : World → Type 0) → ((later : World) → P later → Q later) → Leads number w P → Leads number w Q
+leads_so number w P Q so h = record { moves = h.moves; lawful = h.lawful; own = h.own; gives = so _ h.gives }
+
+-- what the law promises of messages: none is taken away
+abbrev pub Grows : Type 0
+Grows = (w : World) (moves : List Move) → AreLawful w moves → (message : Message) → Contains w.ups message → Contains (after_all w moves).ups message

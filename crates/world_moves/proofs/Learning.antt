@@ -1,22 +1,22 @@
 -- What a new unique number makes of a client.
-use Rattle.std.proofs.Common.{◌≡◌, ◌≢◌, ℕ, zero, suc, ◌+◌, ◌-◌, ◌≤◌, ◌<◌, ◌==◌, ◌&&◌, ◌||◌, not, Bool, true, false, List, [], ◌∷◌, ◌++◌, length, map, reverse, filter, Option, None, Some, if◌then◌else◌, inl, inr, refl, sym, ap, subst, ◌∙◌, arith, eq-eqb, ne_eqb}
-use Rattle.std.specs.Prelude.{◌⊎◌, ⊤, slice_get, option_map, IfSome, nat_lt, nat_le}
-use Rattle.std.specs.List.{AllByRecursion, Contains, list_all, list_any}
-use Rattle.std.proofs.lemmas.Bool.{cases_Bool, cases_eq, eqb-true}
-use Rattle.std.proofs.lemmas.List.{length-map, length-reverse, reverse-append}
+use Rattle.std.proofs.Common.{◌≡◌, ℕ, ◌==◌, ◌&&◌, ◌||◌, not, Bool, true, false, List, [], ◌∷◌, ◌++◌, reverse, filter, Option, None, Some, if◌then◌else◌, inl, inr, refl, sym, ap, subst, ◌∙◌, arith, eq-eqb, ne_eqb}
+use Rattle.std.specs.Prelude.{slice_get, option_map, IfSome}
+use Rattle.std.specs.List.{list_all, list_any}
+use Rattle.std.proofs.lemmas.Bool.{cases_Bool, cases_eq}
+use Rattle.std.proofs.lemmas.List.{length-map, reverse-append}
 use Rattle.std.proofs.lemmas.List.Folds.{list_any-append}
 use Rattle.session_moves.specs.Table as moves
-use Rattle.session_moves.specs.World.{World, no_call}
-use Rattle.session_moves.specs.After.{after_learnt, is_nil, is_sent, learn as learn_there, newest_salts, salts_of, state_learnt}
+use Rattle.session_moves.specs.World.{World}
+use Rattle.session_moves.specs.After.{after_learnt, is_nil, is_sent, newest_salts, state_learnt}
 use Rattle.call_table.specs.declared.call.Fate.{Fate}
 use Rattle.call_table.specs.declared.call.Fate.TheVariants as fate
 use Rattle.call_table.specs.declared.call.Cause.TheVariants as cause
-use Rattle.call_table.specs.declared.call.Under.{Under}
-use Rattle.call_table.specs.declared.call.Under.TheVariants.{Zero, One, More}
+use Rattle.call_table.specs.declared.call.Under.TheVariants.{One}
 use Rattle.call_table.specs.Table.{Call, Name, State, living_name, living_name_in, settled, state_after, under_of, under_others}
 use Rattle.call_table.specs.Table as table
+use Rattle.client_rules.specs.Asking.{begins_service}
 use Rattle.client_rules.specs.Client.{Client, Needed, Temporary, bound_so, calls_of, is_open}
-use Rattle.client_rules.specs.Learning.{each_becomes, fate_learning, fate_under, learn, learns, settled_if, with_clock}
+use Rattle.client_rules.specs.Learning.{fate_learning, fate_under, learns, settled_if, with_clock}
 use Rattle.world_moves.specs.Clients.{StandsAs, AreNamesThere, IsAskedThere, IsCallThere, LivesIn, StandsThere, state_there}
 use Rattle.world_moves.proofs.Basics.{Alike, all_given_alike, get_map}
 use Rattle.world_moves.proofs.Quiet.{same_there}
@@ -190,6 +190,7 @@ module _ (v : World) (number outer unique salt : ℕ) (client : Client) (s : Sta
         ∙ settled_state (becomes call) call;
     names = subst (λ (names : List Name). AreNamesThere v.ups names there.names) (sym (settled_names (becomes call) call)) h.names;
     living = lives_still client.session (becomes call) call h.living;
+    asks = subst (λ (body : List ℕ). begins_service body ≡ false) (sym (settled_body (becomes call) call)) h.asks;
   }
 
   place_taught : (found : Option Call) (there : moves.Call) → StandsThere client v.ups found there

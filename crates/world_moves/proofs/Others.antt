@@ -1,21 +1,22 @@
 -- What stands still while another moves.
-use Rattle.std.proofs.Common.{◌≡◌, ◌≢◌, ℕ, zero, suc, ◌==◌, ◌<◌, List, [], ◌∷◌, ◌++◌, length, Option, None, Some, inl, inr, refl, sym, ap, subst, ◌∙◌, arith, ne_eqb}
-use Rattle.std.specs.Prelude.{◌⊎◌, ⊤, slice_get, IfSome}
+use Rattle.std.proofs.Common.{◌≡◌, ◌≢◌, ℕ, zero, suc, List, [], ◌∷◌, ◌++◌, Option, None, Some, inl, refl, sym, ap, subst, ◌∙◌, arith, ne_eqb}
+use Rattle.std.specs.Prelude.{slice_get, IfSome}
 use Rattle.std.specs.List.{All, AllByRecursion, Contains}
 use Rattle.std.proofs.lemmas.List.Elements.{All-head, All-tail}
 use Rattle.session_moves.specs.Table as moves
 use Rattle.session_moves.specs.World.{World, Owns}
-use Rattle.session_moves.specs.Move.{OwnAct, Part, Move}
+use Rattle.session_moves.specs.Move.{Part, Move}
 use Rattle.session_moves.specs.Move.OwnAct.{NewClient, Renew, Submit, GiveUp, End}
 use Rattle.session_moves.specs.Move.Part.{First, Again, Other, OtherAgain}
 use Rattle.session_moves.specs.Move.Move.{Own, Send, Make, Draw, Judge, Forget, Answer, Speak, Hear, Lose}
 use Rattle.session_moves.specs.After.{after, after_part, after_parts, salts_of}
 use Rattle.session_moves.specs.Extends.{IsOfClient, IsOfServer, LeavesCalls, LeavesClients, LeavesMessages, LeavesSubmitted}
-use Rattle.session_moves.specs.Lawful.{IsLawful, WasNoCall}
+use Rattle.session_moves.specs.Lawful.{IsLawful}
 use Rattle.session_moves.specs.Reached.{AreLawful, Reached, after_all}
 use Rattle.call_table.specs.Table.{Call, Name}
 use Rattle.client_rules.specs.Client.{Client, Binding, Needed, Asked, Held, Bound, Refused, Temporary, calls_of}
-use Rattle.world_moves.specs.Clients.{StandsAs, IsAskedThere, IsCallThere, IsGivenBy, IsNameThere, StandsThere, client_there}
+use Rattle.world_moves.specs.Leading.{IsOfServers}
+use Rattle.world_moves.specs.Clients.{StandsAs, IsAskedThere, IsGivenBy, IsNameThere, StandsThere}
 use Rattle.world_moves.proofs.Basics.{Apart, later, names_keep}
 use Rattle.world_moves.proofs.Leading.{GoOn}
 use Rattle.world_moves.proofs.Sending.{unsalted}
@@ -57,7 +58,7 @@ all_append P (x ∷ xs) ys h k = (h.0, all_append P xs ys h.1 k)
 
 asked_more : (news ups : List moves.Message) (client : Client) (binding : Binding) → IsAskedThere ups client binding → IsAskedThere (news ++ ups) client binding
 asked_more news ups client Needed h = tt
-asked_more news ups client (Asked message) h = (h.0, among_more news ups h.0 h.1, h.2, h.3, h.4)
+asked_more news ups client (Asked message) h = ((h.0.0, among_more news ups h.0.0 h.0.1, h.0.2, h.0.3, h.0.4), h.1)
 asked_more news ups client Held h = tt
 asked_more news ups client Bound h = tt
 asked_more news ups client (Refused code) h = tt
@@ -96,6 +97,7 @@ module _ (apart : Apart) (w v : World) (number : ℕ) (client : Client) (news : 
     state = h.state;
     names = names_keep w.ups (news ++ w.ups) call.names (w.calls (moves.call_at number place)).names (name_still place) h.names;
     living = h.living;
+    asks = h.asks;
   }
 
   owns_present : Owns (w.clients number) client.session
@@ -225,19 +227,19 @@ of_server P make draw judge forget answer speak lose unique (Speak other items) 
 of_server P make draw judge forget answer speak lose unique (Hear client packet takes) its = absurd its
 of_server P make draw judge forget answer speak lose unique (Lose other) its = lose other
 
-pub servers_move : Apart → Leaves → GoOn → (w : World) (unique number : ℕ) (list : List Move) (client : Client) → Reached w → AreLawful w list
-    → All (IsOfServer unique) list → StandsAs w number client → StandsAs (after_all w list) number client
-servers_move apart leaves on w unique number [] client reached lawful its s = s
-servers_move apart leaves on w unique number (move ∷ list) client reached lawful its s =
-    let of = All-head (IsOfServer unique) move list its in
-    servers_move apart leaves on (after w move) unique number list client (on.reached w (move ∷ []) reached (lawful.0, tt)) lawful.1
-    (All-tail (IsOfServer unique) move list its)
+pub servers_move : Apart → Leaves → GoOn → (w : World) (number : ℕ) (list : List Move) (client : Client) → Reached w → AreLawful w list
+    → All IsOfServers list → StandsAs w number client → StandsAs (after_all w list) number client
+servers_move apart leaves on w number [] client reached lawful its s = s
+servers_move apart leaves on w number (move ∷ list) client reached lawful its s =
+    let of = All-head IsOfServers move list its in
+    servers_move apart leaves on (after w move) number list client (on.reached w (move ∷ []) reached (lawful.0, tt)) lawful.1
+    (All-tail IsOfServers move list its)
     (stands_still apart w (after w move) number client [] reached s
     (ap (λ (f : ℕ → moves.Client). f number) (leaves.clients w (move ∷ []) (just LeavesClients move
-    (of_server LeavesClients (λ _ _. tt) (λ _ _. tt) (λ _ _ _. tt) (λ _ _. tt) (λ _ _ _ _. tt) (λ _ _. tt) (λ _. tt) unique move of))))
+    (of_server LeavesClients (λ _ _. tt) (λ _ _. tt) (λ _ _ _. tt) (λ _ _. tt) (λ _ _ _ _. tt) (λ _ _. tt) (λ _. tt) of.0 move of.1))))
     (ap (λ (f : ℕ → ℕ). f number) (leaves.submitted w (move ∷ []) (just LeavesSubmitted move
-    (of_server LeavesSubmitted (λ _ _. tt) (λ _ _. tt) (λ _ _ _. tt) (λ _ _. tt) (λ _ _ _ _. tt) (λ _ _. tt) (λ _. tt) unique move of))))
+    (of_server LeavesSubmitted (λ _ _. tt) (λ _ _. tt) (λ _ _ _. tt) (λ _ _. tt) (λ _ _ _ _. tt) (λ _ _. tt) (λ _. tt) of.0 move of.1))))
     (λ place. ap (λ (f : moves.CallId → moves.Call). f (moves.call_at number place)) (leaves.calls w (move ∷ []) (just LeavesCalls move
-    (of_server LeavesCalls (λ _ _. tt) (λ _ _. tt) (λ _ _ _. tt) (λ _ _. tt) (λ _ _ _ _. tt) (λ _ _. tt) (λ _. tt) unique move of))))
+    (of_server LeavesCalls (λ _ _. tt) (λ _ _. tt) (λ _ _ _. tt) (λ _ _. tt) (λ _ _ _ _. tt) (λ _ _. tt) (λ _. tt) of.0 move of.1))))
     (leaves.messages w (move ∷ []) (just LeavesMessages move
-    (of_server LeavesMessages (λ _ _. tt) (λ _ _. tt) (λ _ _ _. tt) (λ _ _. tt) (λ _ _ _ _. tt) (λ _ _. tt) (λ _. tt) unique move of))) tt)
+    (of_server LeavesMessages (λ _ _. tt) (λ _ _. tt) (λ _ _ _. tt) (λ _ _. tt) (λ _ _ _ _. tt) (λ _ _. tt) (λ _. tt) of.0 move of.1))) tt)

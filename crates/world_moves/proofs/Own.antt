@@ -1,11 +1,9 @@
 -- What a client does by itself.
-use Rattle.std.proofs.Common.{◌≡◌, ◌≢◌, ℕ, zero, suc, ◌+◌, ◌≤◌, ◌<◌, ◌==◌, Bool, true, false, List, [], ◌∷◌, ◌++◌, length, length-append, map, reverse, Option, None, Some, if◌then◌else◌, inl, inr, refl, sym, ap, subst, ◌∙◌, arith, eq-eqb, ne_eqb}
-use Rattle.std.specs.Prelude.{◌⊎◌, ⊤, slice_get, option_map, IfSome}
-use Rattle.std.specs.List.{AllByRecursion, Contains}
-use Rattle.std.proofs.lemmas.Bool.{cases_Bool, cases_eq}
+use Rattle.std.proofs.Common.{◌≡◌, ◌≢◌, ℕ, ◌%◌, ◌==◌, not, Bool, true, false, List, [], ◌∷◌, ◌++◌, length, length-append, reverse, Option, None, Some, if◌then◌else◌, inl, inr, refl, sym, ap, subst, ◌∙◌, arith, eq-eqb, ne_eqb}
+use Rattle.std.specs.Prelude.{slice_get, option_map, IfSome, nat_le, nat_lt}
 use Rattle.std.proofs.lemmas.List.{length-map, reverse-append}
 use Rattle.session_moves.specs.Table as moves
-use Rattle.session_moves.specs.World.{World, Owns, no_call}
+use Rattle.session_moves.specs.World.{World, no_call}
 use Rattle.session_moves.specs.Move.Move.{Own}
 use Rattle.session_moves.specs.Move.OwnAct.{NewClient, Renew, Submit, End}
 use Rattle.session_moves.specs.After.{after, state_renewed, state_ended}
@@ -13,10 +11,10 @@ use Rattle.session_moves.specs.Lawful.{IsLawful, IsNewSession}
 use Rattle.session_moves.specs.Reached.{Reached}
 use Rattle.call_table.specs.declared.call.CallNo.{CallNo}
 use Rattle.call_table.specs.declared.call.Fate.{Fate}
-use Rattle.call_table.specs.Table.{Call, Name, State, new_call}
+use Rattle.call_table.specs.Table.{Call, Name, State, calls_max, new_call}
 use Rattle.call_table.specs.Table as table
 use Rattle.client_rules.specs.Client.{Client, Needed, Temporary, bound_so, calls_of, fresh_client, temporary_of}
-use Rattle.client_rules.specs.Asking.{submitted}
+use Rattle.client_rules.specs.Asking.{Fault, TooLong, NotWords, NoSuchCall, TooMany, begins_service, body_bytes_max, has_earlier, submit_fault, submitted}
 use Rattle.client_rules.specs.Learning.{ended, settled_if, fate_at_end}
 use Rattle.client_rules.specs.Events.{renewed, fate_renewed}
 use Rattle.world_moves.specs.Clients.{IsNobody, LivesIn, StandsAs, AreNamesThere, IsCallThere, StandsThere, IsAskedThere, state_there}
@@ -57,7 +55,7 @@ is_made w number client s = λ none. s.made (sym (ap (λ (c : moves.Client). c.p
 
 -- ---- a call is submitted
 
-module _ (w : World) (number : ℕ) (client : Client) (body : List ℕ) (earlier : Option CallNo) (s : StandsAs w number client) where
+module _ (w : World) (number : ℕ) (client : Client) (body : List ℕ) (earlier : Option CallNo) (plain : begins_service body ≡ false) (s : StandsAs w number client) where
   abbrev later : Client
   later = submitted body earlier client
 
@@ -73,6 +71,7 @@ module _ (w : World) (number : ℕ) (client : Client) (body : List ℕ) (earlier
     state = h.state;
     names = h.names;
     living = h.living;
+    asks = h.asks;
   }
 
   old_place : (found : Option Call) (there : moves.Call) → StandsThere client w.ups found there → StandsThere later w.ups found there
@@ -88,7 +87,7 @@ module _ (w : World) (number : ℕ) (client : Client) (body : List ℕ) (earlier
             subst (λ (found : Option Call). StandsThere client w.ups found (w.calls (moves.call_at number place)))
             (get_past (calls_of client) place (omega (arith, last.0))) (s.calls place) in
             rw (last.1, eq-eqb number number refl, eq-eqb place (w.submitted number) is, nothing)
-            (record { body = refl; state = refl; names = tt; living = tt })
+            (record { body = refl; state = refl; names = tt; living = tt; asks = plain })
         | inr other ↦
             let differs : place ≢ w.submitted number = λ is. other.0 (is ∙ s.submitted) in
             rw (other.1, eq-eqb number number refl, ne_eqb place (w.submitted number) differs)
@@ -105,9 +104,19 @@ module _ (w : World) (number : ℕ) (client : Client) (body : List ℕ) (earlier
     asked = s.asked;
   }
 
-pub submits : (w : World) (number : ℕ) (client : Client) (body : List ℕ) (earlier : Option CallNo) → StandsAs w number client
+unfaulty : (long odd service missing many : Bool) (a b c : Fault) → (if long then Some a else if odd then Some b else if service then Some c else if missing then Some NoSuchCall else if many then Some TooMany else None) ≡ None
+    → service ≡ false
+unfaulty true odd service missing many a b c is = absurd (cc)
+unfaulty false true service missing many a b c is = absurd (cc)
+unfaulty false false true missing many a b c is = absurd (cc)
+unfaulty false false false missing many a b c is = refl
+
+pub submits : (w : World) (number : ℕ) (client : Client) (body : List ℕ) (earlier : Option CallNo) → submit_fault body earlier client ≡ None → StandsAs w number client
     → StandsAs (after w (Own (Submit number body))) number (submitted body earlier client)
-submits w number client body earlier s = stands_submitted w number client body earlier s
+submits w number client body earlier unrefused s =
+    stands_submitted w number client body earlier
+    (unfaulty (nat_lt body_bytes_max (length body)) (not (length body % 4 == 0)) (begins_service body) (not (has_earlier (length (calls_of client)) earlier))
+    (nat_le calls_max (length (calls_of client))) (TooLong (length body)) (NotWords (length body)) _ unrefused) s
 
 -- ---- it goes on in another session
 
@@ -164,6 +173,7 @@ module _ (apart : Apart) (w : World) (number session : ℕ) (client : Client) (r
         h.names;
     living = unsent session (settled_if (fate_renewed call.state) call).state (settled_if (fate_renewed call.state) call).names
         (renewed_unsent call.state call refl);
+    asks = subst (λ (body : List ℕ). begins_service body ≡ false) (sym (settled_body (fate_renewed call.state) call)) h.asks;
   }
 
   place_renewed : (found : Option Call) (there : moves.Call) → StandsThere client w.ups found there
@@ -232,6 +242,7 @@ module _ (w : World) (number : ℕ) (client : Client) (s : StandsAs w number cli
         h.names;
     living = unsent over.session (settled_if (fate_at_end call.state) call).state (settled_if (fate_at_end call.state) call).names
         (ended_unsent call.state call refl);
+    asks = subst (λ (body : List ℕ). begins_service body ≡ false) (sym (settled_body (fate_at_end call.state) call)) h.asks;
   }
 
   place_ended : (found : Option Call) (there : moves.Call) → StandsThere client w.ups found there

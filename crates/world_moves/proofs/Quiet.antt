@@ -1,16 +1,16 @@
 -- Wishes and attaches.
-use Rattle.std.proofs.Common.{◌≡◌, ◌≢◌, ℕ, zero, suc, ◌+◌, ◌-◌, ◌≤◌, ◌<◌, ◌==◌, Bool, true, false, List, [], ◌∷◌, ◌++◌, length, map, Option, None, Some, if◌then◌else◌, inl, inr, refl, sym, ap, subst, ◌∙◌, arith}
-use Rattle.std.specs.Prelude.{◌⊎◌, ⊤, slice_get, option_map, IfSome}
+use Rattle.std.proofs.Common.{◌≡◌, ℕ, zero, suc, ◌-◌, true, List, [], ◌∷◌, length, Option, None, Some, inl, inr, refl, sym, ap, subst, ◌∙◌, arith}
+use Rattle.std.specs.Prelude.{slice_get, option_map, IfSome}
 use Rattle.std.proofs.lemmas.Bool.{cases_Bool}
 use Rattle.std.proofs.lemmas.List.{length-map}
 use Rattle.session_moves.specs.Table as moves
-use Rattle.session_moves.specs.World.{World, no_call}
+use Rattle.session_moves.specs.World.{World}
 use Rattle.session_moves.specs.Lawful.{WasNoCall}
 use Rattle.call_table.specs.declared.call.CallNo.{CallNo}
 use Rattle.call_table.specs.declared.call.Flags.{Flags}
-use Rattle.call_table.specs.Table.{Call, Name, State, flagged, is_sent, changed_at}
+use Rattle.call_table.specs.Table.{Call, flagged, is_sent, changed_at}
 use Rattle.client_rules.specs.Client.{Client, Binding, Asked, Needed, Held, Bound, Refused, Temporary, Waiting, calls_of, with_call}
-use Rattle.client_rules.specs.Asking.{alone, alone_if_sent, alone_if_asked, attached, can_drop, dropped, drops, is_asked, pinged, salts_asked, ticked}
+use Rattle.client_rules.specs.Asking.{alone_if_sent, alone_if_asked, attached, can_drop, dropped, drops, is_asked, pinged, salts_asked, ticked}
 use Rattle.world_moves.specs.Clients.{StandsAs, IsCallThere, StandsThere, IsAskedThere}
 use Rattle.world_moves.proofs.Basics.{Alike, get_map, living_alike, all_given_alike}
 
@@ -25,6 +25,7 @@ module _ (one other : Client) (alike : Alike one other) (ups : List moves.Messag
     state = h.state;
     names = h.names;
     living = living_alike one other alike.session call h.living;
+    asks = h.asks;
   }
 
   pub changed_there : (change : Call → Call) → OnlyFlags change → (found : Option Call) (there : moves.Call)
@@ -62,7 +63,7 @@ pub binding_alike : (one other : Client) → other.session ≡ one.session → (
     → IsAskedThere ups one binding → IsAskedThere ups other binding
 binding_alike one other session ups Needed h = tt
 binding_alike one other session ups (Asked message) h =
-    subst (λ (s : ℕ). WasNoCall ups s message.number) (sym session) h
+    (subst (λ (s : ℕ). WasNoCall ups s message.number) (sym session) h.0, h.1)
 binding_alike one other session ups Held h = tt
 binding_alike one other session ups Bound h = tt
 binding_alike one other session ups (Refused code) h = tt

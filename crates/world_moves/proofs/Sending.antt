@@ -1,17 +1,16 @@
 -- One message of a client's packet.
-use Rattle.std.proofs.Common.{◌≡◌, ◌≢◌, ℕ, zero, suc, ◌+◌, ◌-◌, ◌*◌, ◌^◌, ◌≤◌, ◌<◌, ◌==◌, Bool, true, false, List, [], ◌∷◌, ◌++◌, length, map, reverse, Option, None, Some, if◌then◌else◌, inl, inr, refl, sym, ap, subst, ◌∙◌, arith, eq-eqb, ne_eqb}
-use Rattle.std.specs.Prelude.{◌⊎◌, ⊤, slice_get, option_map, IfSome, max}
-use Rattle.std.specs.List.{All, AllByRecursion, Contains}
+use Rattle.std.proofs.Common.{◌≡◌, ◌≢◌, ℕ, zero, suc, ◌-◌, ◌≤◌, ◌<◌, Bool, true, List, [], ◌∷◌, Option, None, Some, inl, inr, refl, sym, ap, subst, ◌∙◌, arith, eq-eqb, ne_eqb}
+use Rattle.std.specs.Prelude.{slice_get, option_map, IfSome}
+use Rattle.std.specs.List.{AllByRecursion, Contains}
 use Rattle.std.proofs.lemmas.Bool.{cases_eq}
 use Rattle.msg_ids.specs.Counters.{next_number}
-use Rattle.service_tl.specs.declared.lists.Message.{Message}
 use Rattle.session_moves.specs.Table as moves
-use Rattle.session_moves.specs.World.{World, Owns, IsUnder, no_call}
+use Rattle.session_moves.specs.World.{World}
 use Rattle.session_moves.specs.Move.Move.{Own, Send}
 use Rattle.session_moves.specs.Move.OwnAct.{GiveUp}
-use Rattle.session_moves.specs.Move.Part.{First, Again, Other, OtherAgain}
+use Rattle.session_moves.specs.Move.Part.{First, Other}
 use Rattle.session_moves.specs.After.{after, salts_of, message_of}
-use Rattle.session_moves.specs.Lawful.{IsBelow, IsNewNumber, WasNoCall}
+use Rattle.session_moves.specs.Lawful.{IsBelow, IsNewNumber}
 use Rattle.session_moves.specs.Reached.{Reached}
 use Rattle.call_table.specs.declared.call.CallNo.{CallNo}
 use Rattle.call_table.specs.declared.call.Living.{Living}
@@ -19,9 +18,10 @@ use Rattle.call_table.specs.declared.call.Fate.TheVariants as fate
 use Rattle.call_table.specs.Table.{Call, Name, State, living_name, sent, settled, changed_at}
 use Rattle.call_table.specs.Table as table
 use Rattle.client_rules.specs.Client.{Client, Binding, Needed, Asked, Held, Bound, Refused, Temporary, calls_of, numbered, after_message, with_call, time_of}
-use Rattle.world_moves.specs.Clients.{StandsAs, AreNamesThere, IsNameThere, IsCallThere, StandsThere, IsAskedThere, IsGivenBy, client_there, state_there}
+use Rattle.world_moves.specs.Clients.{StandsAs, IsNameThere, IsCallThere, StandsThere, IsAskedThere, IsGivenBy, state_there}
 use Rattle.world_moves.specs.Leading.{Leads}
-use Rattle.world_moves.proofs.Basics.{Alike, Apart, all_given_alike, all_of, at_each, each_of, here, later, living_alike, names_keep}
+use Rattle.world_moves.specs.Sent.{WasSent}
+use Rattle.world_moves.proofs.Basics.{Apart, all_given_alike, all_of, at_each, each_of, here, later, living_alike, names_keep}
 use Rattle.world_moves.proofs.Leading.{moves_once}
 use Rattle.world_moves.proofs.Own.{is_made}
 use Rattle.world_moves.proofs.Quiet.{asked_alike, length_changed, same_there}
@@ -76,7 +76,7 @@ no_salts (m ∷ ups) there none = unsalted m ups there none.0 ∙ no_salts ups t
 asked_more : (m : moves.Message) (ups : List moves.Message) (client other : Client) → other.session ≡ client.session → (binding : Binding)
     → IsAskedThere ups client binding → IsAskedThere (m ∷ ups) other binding
 asked_more m ups client other session Needed h = tt
-asked_more m ups client other session (Asked message) h = (h.0, later h.0 m ups h.1, h.2 ∙ sym session, h.3, h.4)
+asked_more m ups client other session (Asked message) h = ((h.0.0, later h.0.0 m ups h.0.1, h.0.2 ∙ sym session, h.0.3, h.0.4), h.1)
 asked_more m ups client other session Held h = tt
 asked_more m ups client other session Bound h = tt
 asked_more m ups client other session (Refused code) h = tt
@@ -89,6 +89,9 @@ all_asked_more m ups client other session (Some temporary) h = asked_more m ups 
 module _ (apart : Apart) (w : World) (number : ℕ) (client : Client) (reached : Reached w) (s : StandsAs w number client) where
   present : (w.clients number).present ≡ client.session
   present = ap (λ (c : moves.Client). c.present) s.parts
+
+  salt_there : (w.clients number).salt ≡ client.salt
+  salt_there = ap (λ (c : moves.Client). c.salt) s.parts
 
   -- ---- a number above all that were given
 
@@ -126,6 +129,7 @@ module _ (apart : Apart) (w : World) (number : ℕ) (client : Client) (reached :
       state = h.state;
       names = names_keep w.ups (m ∷ w.ups) call.names (w.calls id).names (kept_salts m session is id) h.names;
       living = living_alike client other same call h.living;
+      asks = h.asks;
     }
 
     pub kept_place : (m : moves.Message) → m.session ≡ client.session → m.number ≡ new → (other : Client) → other.session ≡ client.session
@@ -137,13 +141,13 @@ module _ (apart : Apart) (w : World) (number : ℕ) (client : Client) (reached :
 
   pub sends_other : (is_content : Bool) (body : List ℕ)
       → Leads number w (λ later. StandsAs later number (after_message is_content client)
-      × WasNoCall later.ups client.session (numbered is_content body client).number)
+      × WasSent later.ups client.session client.salt (numbered is_content body client).number None)
   sends_other is_content body =
       let new : ℕ = next_number client.counters.last (time_of client) in
       let more : client.counters.last < new = above client.counters.last (time_of client) in
       let m : moves.Message = message_of (w.clients number) new None in
       let other : Client = after_message is_content client in
-      moves_once number w (λ later. StandsAs later number other × WasNoCall later.ups client.session new) (Send number (Other new ∷ []))
+      moves_once number w (λ later. StandsAs later number other × WasSent later.ups client.session client.salt new None) (Send number (Other new ∷ []))
       (is_made w number client s, (is_new new more, tt)) refl (
         record {
           made = s.made;
@@ -153,7 +157,7 @@ module _ (apart : Apart) (w : World) (number : ℕ) (client : Client) (reached :
           given = (λ is. omega arith, all_given_alike client other (record { session = refl; last = omega (arith, more) }) w.ups s.given);
           asked = all_asked_more m w.ups client other refl client.temporary s.asked;
         },
-        (m, here m w.ups, present, refl, refl),
+        record { up = m; there = here m w.ups; under = present; salted = salt_there; numbered = refl; is = refl },
       )
 
   -- ---- a call goes under a new number
@@ -209,6 +213,7 @@ module _ (apart : Apart) (w : World) (number : ℕ) (client : Client) (reached :
       state = refl;
       names = (new_name, names_keep w.ups (m ∷ w.ups) call.names (w.calls id).names (kept_salts new more m present refl id) there_now.names);
       living = refl;
+      asks = there_now.asks;
     }
 
     calls_gone : (q : ℕ) → StandsThere gone gone_w.ups (slice_get (calls_of gone) q) (gone_w.calls (moves.call_at number q))
@@ -221,18 +226,20 @@ module _ (apart : Apart) (w : World) (number : ℕ) (client : Client) (reached :
               (kept_place new more m present refl gone refl (moves.call_at number q) (slice_get (calls_of client) q) (s.calls q))
         ]
 
-    pub sends_first : Leads number w (λ later. StandsAs later number gone)
+    pub sends_first : Leads number w (λ later. StandsAs later number gone × WasSent later.ups client.session client.salt new (Some call.body))
     sends_first =
-        moves_once number w (λ later. StandsAs later number gone) (Send number (First place new ∷ []))
-        (is_made w number client s, ((there_now.state ∙ ap state_there queued, is_new new more), tt)) refl
-        (record {
-          made = s.made;
-          parts = s.parts;
-          submitted = s.submitted ∙ sym (length_changed place change (calls_of client));
-          calls = calls_gone;
-          given = (λ is. omega arith, all_given_alike client gone (record { session = refl; last = omega (arith, more) }) w.ups s.given);
-          asked = all_asked_more m w.ups client gone refl client.temporary s.asked;
-        })
+        moves_once number w (λ later. StandsAs later number gone × WasSent later.ups client.session client.salt new (Some call.body)) (Send number (First place new ∷ []))
+        (is_made w number client s, ((there_now.state ∙ ap state_there queued, is_new new more), tt)) refl (
+          record {
+            made = s.made;
+            parts = s.parts;
+            submitted = s.submitted ∙ sym (length_changed place change (calls_of client));
+            calls = calls_gone;
+            given = (λ is. omega arith, all_given_alike client gone (record { session = refl; last = omega (arith, more) }) w.ups s.given);
+            asked = all_asked_more m w.ups client gone refl client.temporary s.asked;
+          },
+          record { up = m; there = here m w.ups; under = present; salted = salt_there; numbered = refl; is = ap (λ (body : List ℕ). Some body) there_now.body },
+        )
 
     -- ---- or never goes
 
@@ -246,7 +253,7 @@ module _ (apart : Apart) (w : World) (number : ℕ) (client : Client) (reached :
     given_up_w = after w (Own (GiveUp id))
 
     call_stopped : StandsThere given_up w.ups (Some (stop call)) (record (w.calls id) { state = moves.State.Refused 0 })
-    call_stopped = record { body = there_now.body; state = refl; names = there_now.names; living = tt }
+    call_stopped = record { body = there_now.body; state = refl; names = there_now.names; living = tt; asks = there_now.asks }
 
     calls_stopped : (q : ℕ) → StandsThere given_up w.ups (slice_get (calls_of given_up) q) (given_up_w.calls (moves.call_at number q))
     calls_stopped q =

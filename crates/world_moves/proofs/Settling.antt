@@ -1,10 +1,10 @@
 -- What an item makes of a call.
-use Rattle.std.proofs.Common.{◌≡◌, ◌≢◌, ℕ, zero, suc, ◌+◌, ◌-◌, ◌≤◌, ◌<◌, ◌==◌, ◌&&◌, ◌||◌, not, Bool, true, false, List, [], ◌∷◌, ◌++◌, length, map, reverse, filter, Option, None, Some, if◌then◌else◌, inl, inr, refl, sym, ap, subst, ◌∙◌, arith, eq-eqb, ne_eqb}
-use Rattle.std.specs.Prelude.{◌⊎◌, ⊤, slice_get, option_map, IfSome}
-use Rattle.std.specs.List.{AllByRecursion, Contains, list_all, list_any}
+use Rattle.std.proofs.Common.{◌≡◌, ◌≢◌, ℕ, zero, suc, ◌+◌, ◌-◌, ◌&&◌, Bool, true, false, List, [], ◌∷◌, Option, None, Some, if◌then◌else◌, inl, inr, refl, sym, ap, subst, ◌∙◌, arith, eq-eqb}
+use Rattle.std.specs.Prelude.{slice_get, option_map}
+use Rattle.std.specs.List.{Contains}
 use Rattle.std.proofs.lemmas.Bool.{cases_Bool, cases_eq, eqb-true}
 use Rattle.session_moves.specs.Table as moves
-use Rattle.session_moves.specs.World.{World, no_call}
+use Rattle.session_moves.specs.World.{World}
 use Rattle.session_moves.specs.After.{after_settled, is_newest, is_sent}
 use Rattle.call_table.specs.declared.call.CallNo.{CallNo}
 use Rattle.call_table.specs.declared.call.Fate.{Fate}
@@ -153,6 +153,7 @@ module _ (v : World) (number about : ℕ) (client : Client) (s : StandsAs v numb
     state = rw (tests call there h ∙ is) (sym same);
     names = h.names;
     living = never_sent client.session fate call.names;
+    asks = h.asks;
   }
 
   module _ (fate : Fate) (state : moves.State) (same : state_there (state_after fate) ≡ state) (place : ℕ)

@@ -1,16 +1,18 @@
 -- How a client of the definitions stands in a world of the law on moves. A client there has a number, and its calls have
 -- their places from 0.
-use Rattle.std.specs.Prelude.{◌≡◌, ◌≢◌, ◌≤◌, ⊤, ℕ, Option, Some, None, IfSome, List, [], ◌∷◌, length, reverse, slice_get}
+use Rattle.std.specs.Prelude.{◌≡◌, ◌≢◌, ◌≤◌, ⊤, false, ℕ, Option, Some, None, IfSome, List, [], ◌∷◌, length, reverse, slice_get}
 use Rattle.std.specs.List.{AllByRecursion}
 use Rattle.session_moves.specs.Table as moves
-use Rattle.session_moves.specs.World.{World, Owns, no_call, no_client}
+use Rattle.session_moves.specs.World.{World, no_call, no_client}
 use Rattle.session_moves.specs.After.{salts_of}
 use Rattle.session_moves.specs.Lawful.{WasNoCall}
 use Rattle.call_table.specs.declared.call.Cause.{Cause}
 use Rattle.call_table.specs.declared.call.Cause.TheVariants as cause
 use Rattle.call_table.specs.Table.{Call, Name, State}
 use Rattle.call_table.specs.Table as table
-use Rattle.client_rules.specs.Client.{Client, Binding, Asked, Temporary, calls_of}
+use Rattle.client_rules.specs.Client.{Client, Binding, Asked, calls_of}
+use Rattle.client_rules.specs.Asking.{begins_service}
+use Rattle.world_moves.specs.Sent.{IsBindingCall}
 
 -- ---- states
 
@@ -65,12 +67,13 @@ LivesIn session table.Sent [] = ⊥
 LivesIn session table.Sent (name ∷ names) = name.session ≡ session
 LivesIn session _ names = ⊤
 
--- the call stands there, with its body, its state and its names
+-- the call stands there, with its body, its state and its names; no service constructor begins its body
 pub record IsCallThere (client : Client) (ups : List moves.Message) (call : Call) (there : moves.Call) : Type 0 where
   pub body : there.body ≡ call.body
   pub state : there.state ≡ state_there call.state
   pub names : AreNamesThere ups call.names there.names
   pub living : LivesIn client.session call.state call.names
+  pub asks : begins_service call.body ≡ false
 
 -- what stands in the place of a call, where there is one
 abbrev pub StandsThere : Client → List moves.Message → Option Call → moves.Call → Type 0
@@ -79,9 +82,9 @@ StandsThere client ups (Some call) there = IsCallThere client ups call there
 
 -- ---- a client
 
--- the message that asked for the client's binding is no call
+-- the message that asked for the client's binding is no call, and has a binding call's body
 abbrev pub IsAskedThere : List moves.Message → Client → Binding → Type 0
-IsAskedThere ups client (Asked message) = WasNoCall ups client.session message.number
+IsAskedThere ups client (Asked message) = WasNoCall ups client.session message.number × IsBindingCall message.body
 IsAskedThere ups client _ = ⊤
 
 -- The client of this number is this one. All that it gave under its present session number is at most its last number.

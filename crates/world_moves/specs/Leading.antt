@@ -1,10 +1,14 @@
--- What a client's moves lead to.
+-- What moves of one end lead to.
 use Rattle.std.specs.Prelude.{ℕ, List}
 use Rattle.std.specs.List.{All}
 use Rattle.session_moves.specs.World.{World}
 use Rattle.session_moves.specs.Move.{Move}
-use Rattle.session_moves.specs.Extends.{IsOfClient}
+use Rattle.session_moves.specs.Extends.{IsOfClient, IsOfServer}
 use Rattle.session_moves.specs.Reached.{AreLawful, after_all}
+
+-- the move is one of some server session
+abbrev pub IsOfServers : Move → Type 0
+IsOfServers move = (unique : ℕ) × IsOfServer unique move
 
 -- some list of moves of this client, lawful from this world on, leads to such a one
 pub record Leads (number : ℕ) (w : World) (P : World → Type 0) : Type 0 where

@@ -7,7 +7,7 @@ ghost use Rattle.session_moves.specs.Table.{Packet};
 ghost use Rattle.session_moves.specs.World.{World};
 ghost use Rattle.session_moves.specs.Move.{Move};
 ghost use Rattle.session_moves.specs.Move.Move.{Own};
-ghost use Rattle.session_moves.specs.Extends.{IsOfClient, IsOfServer};
+ghost use Rattle.session_moves.specs.Extends.{IsOfClient};
 ghost use Rattle.session_moves.specs.Move.OwnAct.{End, NewClient, Renew, Submit};
 ghost use Rattle.session_moves.specs.After.{after};
 ghost use Rattle.session_moves.specs.Lawful.{IsLawful, IsNewSession};
@@ -21,11 +21,14 @@ ghost use Rattle.client_rules.specs.Flush.{flush};
 ghost use Rattle.client_rules.specs.Sending.{Setting};
 ghost use Rattle.client_rules.specs.Taking.{is_for, take};
 ghost use Rattle.world_moves.specs.Clients.{IsNobody, StandsAs};
-ghost use Rattle.world_moves.specs.Leading.{Leads};
+ghost use Rattle.world_moves.specs.Leading.{IsOfServers, Leads};
 ghost use Rattle.world_moves.specs.Packets.{packet_items};
+ghost use Rattle.world_moves.specs.Sent.{IsAnswerSent};
 
 use draws::Draw;
-use session_moves::laws::{moves_go_on, moves_leave, names_are_apart, numbers_are_given_once};
+use session_moves::laws::{
+    moves_go_on, moves_leave, moves_only_add, names_are_apart, numbers_are_given_once,
+};
 
 /// A client that is made joins by a lawful move, where nobody has its number and its session number is a new one.
 pub fn clients_join()
@@ -39,11 +42,11 @@ pub fn clients_join()
     numbers_are_given_once();
 }
 
-/// A call is submitted by a lawful move.
+/// A call that isn't refused is submitted by a lawful move.
 pub fn clients_submit()
     ensures lawful { (w : World) (number : ℕ) (client : Client) (body : List ℕ) → StandsAs w number client → IsLawful w (Own (Submit number body)) }
-    ensures stands { (w : World) (number : ℕ) (client : Client) (body : List ℕ) (earlier : Option CallNo) → StandsAs w number client
-        → StandsAs (after w (Own (Submit number body))) number (submitted body earlier client) }
+    ensures stands { (w : World) (number : ℕ) (client : Client) (body : List ℕ) (earlier : Option CallNo) → submit_fault body earlier client ≡ None
+        → StandsAs w number client → StandsAs (after w (Own (Submit number body))) number (submitted body earlier client) }
 {}
 
 /// Wishes and attaches are no moves: the client stands as it stood.
@@ -67,14 +70,17 @@ pub fn clients_renew_and_end()
     numbers_are_given_once();
 }
 
-/// A flush is a list of lawful moves of the client, after which the client that flushed stands there.
+/// A flush is a list of lawful moves of the client, after which the client that flushed stands there, and each message of its
+/// packet was sent: with the packet's session number and salt, its number, and the call that its body asks for, if any.
 pub fn clients_flush<D: Draw>()
     ensures { (w : World) (setting : Setting D) (number now : ℕ) (client : Client) (draw : D) → Reached w → StandsAs w number client
-        → Leads number w (λ later. StandsAs later number (flush setting now client draw).client) }
+        → Leads number w (λ later. StandsAs later number (flush setting now client draw).client
+        × IsAnswerSent later.ups (flush setting now client draw).answer) }
 {
     names_are_apart();
     numbers_are_given_once();
     moves_go_on();
+    moves_only_add();
 }
 
 /// A packet that a client takes, and that is a packet of the law's world with the same items, made by a server session of the
@@ -91,12 +97,12 @@ pub fn clients_hear()
     numbers_are_given_once();
 }
 
-/// A client stands still while another client moves, and while a server session does.
+/// A client stands still while another client moves, and while server sessions do.
 pub fn others_stand_still()
     ensures clients { (w : World) (mover number : ℕ) (moves : List Move) (client : Client) → Reached w → AreLawful w moves
         → All (IsOfClient mover) moves → number ≢ mover → StandsAs w number client → StandsAs (after_all w moves) number client }
-    ensures servers { (w : World) (unique number : ℕ) (moves : List Move) (client : Client) → Reached w → AreLawful w moves
-        → All (IsOfServer unique) moves → StandsAs w number client → StandsAs (after_all w moves) number client }
+    ensures servers { (w : World) (number : ℕ) (moves : List Move) (client : Client) → Reached w → AreLawful w moves
+        → All IsOfServers moves → StandsAs w number client → StandsAs (after_all w moves) number client }
 {
     names_are_apart();
     numbers_are_given_once();

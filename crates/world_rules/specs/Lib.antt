@@ -8,3 +8,4 @@ pub mod Report
 pub mod Load
 pub mod Premises
 pub mod Witness
+pub mod Orders

@@ -9,6 +9,7 @@ ghost use Rattle.world_rules.specs.Run.{step, step_any};
 ghost use Rattle.world_rules.specs.Setting.{Setting};
 ghost use Rattle.world_rules.specs.World.{World};
 ghost use Rattle.world_rules.specs.Witness as shown;
+ghost use Rattle.world_rules.specs.Orders as order;
 
 use draws::Draw;
 
@@ -42,6 +43,29 @@ pub fn other_runs()
     ensures packed { shown.told shown.packed ≡ codes "call 1 1 done error 400 PACKED_BODY_REFUSED\nanswer 1 1 12 error 400 PACKED_BODY_REFUSED\n" }
     ensures ended { shown.told shown.ends ≡ codes "call 1 1 unknown ended\ncall 1 2 refused 0\n" }
     ensures in_order { shown.told shown.works_twice ≡ codes "call 1 1 sent\ncall 1 2 sent\nrun 1 1 20 5\nrun 1 1 24 12\n" }
+{}
+
+/// Of two calls of which the second waits for the first, both run, in order. Where the first is refused, or the second waits
+/// too long, the second never runs.
+pub fn calls_in_order()
+    ensures both { order.told order.both ≡ codes "call 1 1 done 5\ncall 1 2 done 12\nrun 1 1 20 5\nrun 1 1 24 12\n" }
+    ensures first_is_refused { order.told order.first_is_refused ≡ codes "call 1 1 done error 400 BAD_REQUEST\ncall 1 2 done error 400 MSG_WAIT_FAILED\nrun 1 1 20 error 400 BAD_REQUEST\nanswer 1 1 24 error 400 MSG_WAIT_FAILED\n" }
+    ensures second_waits_too_long { order.told order.second_waits_too_long ≡ codes "call 1 1 done 5\ncall 1 2 done error 400 MSG_WAIT_TIMEOUT\nanswer 1 1 24 error 400 MSG_WAIT_TIMEOUT\nrun 1 1 20 5\n" }
+{}
+
+/// A call whose answer is dropped before it runs never runs, nor does one that waits for it.
+pub fn dropped_answers()
+    ensures dropped { order.told order.dropped ≡ codes "call 1 1 done dropped\nanswer 1 1 12 dropped\n" }
+    ensures never_runs { order.refused order.dropped (line.Work 1) ≡ Some (NoJob 1) }
+    ensures dropped_first { order.told order.dropped_first ≡ codes "call 1 1 done dropped\ncall 1 2 done error 400 MSG_WAIT_FAILED\nanswer 1 1 20 dropped\nanswer 1 1 24 error 400 MSG_WAIT_FAILED\n" }
+{}
+
+/// A client under a temporary key binds it before its call goes. A packet under an expired key isn't answered.
+pub fn temporary_keys()
+    ensures bound_first { order.told order.bound_first ≡ codes "call 1 1 done 5\nrun 1 1 24 5\n" }
+    ensures expired { order.told (order.begun_at 7200) ≡ codes "call 1 1 sent\n" }
+    ensures expired_packets { order.packets_of (order.begun_at 7200) ≡ 1 }
+    ensures good { order.packets_of (order.begun_at 7199) ≡ 2 }
 {}
 
 /// Bytes that don't open change nothing that is told, and such as open are refused.

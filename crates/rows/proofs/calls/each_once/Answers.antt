@@ -1,4 +1,4 @@
-use Rattle.std.proofs.Common.{◌≡◌, ◌∙◌, ℕ, List, Vec, Global, false, true, take, get_or, vec_len, vec_capacity, arith, rules, ap, sym}
+use Rattle.std.proofs.Common.{◌∙◌, ℕ, Vec, Global, get_or, vec_len, vec_capacity, arith, ap, sym}
 use Rattle.std.proofs.lemmas.List.{take_all}
 use Rattle.server_rules.specs.Calls.{each_once}
 use Rattle.rows.proofs.Once.{among, passed-absent, passed-there}

@@ -1,6 +1,5 @@
-use Rattle.std.proofs.Common.{◌≡◌, ◌∙◌, ℕ, Bool, true, false, sym, refl}
+use Rattle.std.proofs.Common.{◌∙◌, ℕ, sym}
 use Rattle.std.proofs.lemmas.List.Folds.{list_any_at, list_any_more}
-use Rattle.std.proofs.lemmas.List.{take_all}
 use Rattle.server_rules.specs.Waiting.{outlook}
 use Rattle.server_rules.specs.Calls.{is_in_vain}
 use Rattle.rows.proofs.calls.waits_in_vain.Goals as goal

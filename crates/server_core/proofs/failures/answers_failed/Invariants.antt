@@ -1,4 +1,4 @@
-use Rattle.std.proofs.Common.{◌≡◌, ◌≤◌, ◌+◌, ◌*◌, ℕ, List}
+use Rattle.std.proofs.Common.{◌≡◌, ◌≤◌, ◌+◌, ◌*◌, ℕ, Bool, List}
 use Rattle.id_window.specs.History.{History}
 use Rattle.waits.specs.Jobs.{Queue}
 use Rattle.server_rules.specs.Server.{Binding, Name}
@@ -7,6 +7,7 @@ use Rattle.answers.specs.Contents.{short_bytes_max}
 use Rattle.owing.specs.Items.{result_bytes}
 use Rattle.standing.specs.Standing.{replies_left}
 use Rattle.standing.specs.Says.{Keys, setting_of}
+use Rattle.rows.specs.Spare.{Uses}
 use Rattle.rows.specs.Speaks.{Speaks, Spends}
 use Rattle.server_core.specs.Failures.{HasFailures, SoFar}
 use Rattle.server_core.proofs.failures.answers_failed.Given as goal
@@ -18,6 +19,7 @@ invariant-loop-place g l = record {
       → Speaks l.now l.fn.standing l.fn.turn l.fn.jobs.jobs bindings draw start → HasFailures name others past start
       → SoFar l.now (setting_of l.now g.D.Draw.step keys) bindings draw name others past start l.place l.standing l.turn l.jobs.jobs;
   spends : Spends l.now l.place (l.place * result_bytes short_bytes_max) l.place l.fn.standing l.fn.turn l.standing l.turn;
+  uses : (again : Bool) → Uses again l.now l.place (l.place * result_bytes short_bytes_max) l.place l.place l.fn.standing l.fn.turn l.standing l.turn;
   replies : replies_left l.fn.standing ≤ replies_left l.standing + l.place;
   same_job_room : l.jobs.room ≡ l.fn.jobs.room;
 }

@@ -2,7 +2,7 @@ use Rattle.std.proofs.Common.{◌≡◌, ◌∙◌, Bool, true, false, not, get_
 use Rattle.std.specs.Option.{OnSome}
 use Rattle.std.specs.List.{list_any}
 use Rattle.waits.specs.declared.job.Unfinished.{Unfinished}
-use Rattle.waits.specs.Jobs.{Queue, is_waiting, one_if}
+use Rattle.waits.specs.Jobs.{Queue, is_ready, is_waiting, one_if}
 use Rattle.waits.specs.Tallies.{is_tally_of, IsTallied}
 use Rattle.waits.proofs.Tallies.{tallied_taken, counted_there, known_there, found_at}
 use Rattle.waits.proofs.queue.take_out.Goals as goal
@@ -31,6 +31,15 @@ overflow_sub-counted-3 c =
     let waits : c.one_if.result ≡ one_if (is_waiting x) = c.one_if.ensures ∙ ap one_if c.is_waiting.ensures in
     omega (arith, there.waits, waits)
 
+pub overflow_sub-counted-4 : goal.overflow_sub-counted-4
+overflow_sub-counted-4 c =
+    let xs = c.args.queue.now.items in
+    let x = c.unwrap-one.result in
+    let at : x ≡ get_or xs c.args.place x = cc (c.unwrap-one.ensures, c.remove.ensures.succeeds x (omega (arith, c.args.queue.now.ok.0, c.requires.within))) in
+    let there = counted_there xs c.args.tallies.now.items c.args.place x c.find-counted.result c.requires.tallied c.requires.within at c.find-counted.ensures in
+    let blocked : c.one_if-2.result ≡ one_if (not (is_ready x)) = c.one_if-2.ensures ∙ ap (λ (b : Bool). one_if (not b)) c.is_ready.ensures in
+    omega (arith, there.blocked, blocked)
+
 pub store-requires : goal.store-requires
 store-requires c none =
     let xs = c.args.queue.now.items in
@@ -50,7 +59,8 @@ returns-clause-tallied c =
     let at : x ≡ get_or xs c.args.place x = cc (c.unwrap-one.ensures, c.remove.ensures.succeeds x (omega (arith, c.args.queue.now.ok.0, c.requires.within))) in
     let left : c.remove.new.self.items ≡ remove xs c.args.place = subst (λ (taken : Option Unfinished). OnSome taken (c.remove.new.self.items ≡ remove xs c.args.place)) c.unwrap-one.ensures c.remove.ensures.items in
     let waits : c.one_if.result ≡ one_if (is_waiting x) = c.one_if.ensures ∙ ap one_if c.is_waiting.ensures in
-    let taken = tallied_taken xs c.args.tallies.now.items c.args.place x c.find-counted.result c.load.result c.one_if.result c.requires.tallied c.requires.within at c.find-counted.ensures c.load.ensures waits in
+    let blocked : c.one_if-2.result ≡ one_if (not (is_ready x)) = c.one_if-2.ensures ∙ ap (λ (b : Bool). one_if (not b)) c.is_ready.ensures in
+    let taken = tallied_taken xs c.args.tallies.now.items c.args.place x c.find-counted.result c.load.result c.one_if.result c.one_if-2.result c.requires.tallied c.requires.within at c.find-counted.ensures c.load.ensures waits blocked in
     subst (λ (queue : Queue). IsTallied queue c.store.new.tallies.items) (sym left) (rw c.store.ensures.items taken)
 
 pub returns-clause-tallies_len : goal.returns-clause-tallies_len

@@ -1,4 +1,4 @@
-use Rattle.std.proofs.Common.{refl, ap}
+use Rattle.std.proofs.Common.{refl}
 use Rattle.rows.proofs.Steps.{spoken}
 use Rattle.rows.proofs.turn.Turn.answers_shortly.Goals as goal
 

@@ -1,4 +1,4 @@
-use Rattle.std.proofs.Common.{◌≡◌, ◌∙◌, ℕ, ap, subst, sym, Some, None}
+use Rattle.std.proofs.Common.{◌≡◌, ℕ, subst, Some, None}
 use Rattle.temp_keys.specs.Checking.{Binds, IsFaultOf, call_of}
 use Rattle.server_rules.specs.Event.{BindingCall}
 use Rattle.server_rules.specs.Server.{name_of}

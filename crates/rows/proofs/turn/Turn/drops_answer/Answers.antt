@@ -1,10 +1,9 @@
-use Rattle.std.proofs.Common.{◌≡◌, ◌∙◌, ℕ, List, Option, Some, None, ap, subst, sym, refl}
+use Rattle.std.proofs.Common.{◌≡◌, ◌∙◌, Option, Some, None, ap, sym}
 use Rattle.std.proofs.lemmas.List.Elements.{All-head}
 use Rattle.waits.specs.declared.job.Job.{Job}
 use Rattle.waits.specs.Held.{Held}
-use Rattle.waits.specs.Jobs.{Queue, first_job, is_call, without_first}
+use Rattle.waits.specs.Jobs.{first_job, is_call, without_first}
 use Rattle.server_rules.specs.Calls.{dropped_running, drops_by}
-use Rattle.server_rules.specs.Event.{Speaker}
 use Rattle.server_rules.specs.Speaking.{answers}
 use Rattle.server_laws.specs.Order.{IsUnanswered}
 use Rattle.standing.specs.Fates.{kept_to}

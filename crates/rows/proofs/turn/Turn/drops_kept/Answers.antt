@@ -1,17 +1,17 @@
-use Rattle.std.proofs.Common.{◌≡◌, ◌∙◌, List, Option, Some, None, ap, subst, sym, refl}
+use Rattle.std.proofs.Common.{Option, Some, None, ap, subst}
 use Rattle.service_tl.specs.declared.item.Item.TheVariants.{RpcAnswerDropped}
 use Rattle.service_tl.specs.Items.{spelling_of}
 use Rattle.server_rules.specs.Calls.{drops_by}
-use Rattle.server_rules.specs.Event.{Speaker}
 use Rattle.server_rules.specs.Server.{Reply}
 use Rattle.server_rules.specs.Speaking.{answers}
 use Rattle.standing.specs.declared.dropping.DroppedReply.{DroppedReply}
-use Rattle.standing.specs.Fates.{kept_to, told_of, with_dropped}
+use Rattle.standing.specs.Fates.{kept_to, with_dropped}
 use Rattle.standing.specs.Says.{Says, setting_of}
 use Rattle.standing.specs.Standing.{Stands}
 use Rattle.rows.specs.Speaks.{Speaks}
 use Rattle.rows.proofs.Steps.{spoken-as}
 use Rattle.rows.proofs.DropLemmas.{kept-none, kept-some, still-unanswered}
+use Rattle.rows.proofs.Using.{both-unsaid}
 use Rattle.rows.proofs.turn.Turn.drops_kept.Goals as goal
 
 pub returns-in-Some-clause-speaks : goal.returns-in-Some-clause-speaks
@@ -44,3 +44,11 @@ returns-in-None-clause-speaks g c = λ keys jobs bindings draw speaker are none 
     let kept : Speaks c.args.now c.drops_reply.new.self c.args.self.now jobs bindings draw speaker = record { says = record { stands = stands; owed = speaks.says.owed; draws = speaks.says.draws }; jobs = speaks.jobs; bindings = speaks.bindings; entries = speaks.entries } in
     spoken-as _ _ _ _ _ _ _ _ (ap (λ (reply : Option Reply). drops_by setting c.args.number None reply speaker) gone)
     (c.answers_shortly.ensures.speaks keys jobs bindings draw speaker none kept)
+
+pub returns-in-Some-clause-unsaid : goal.returns-in-Some-clause-unsaid
+returns-in-Some-clause-unsaid g c =
+    both-unsaid c.args.standing.now c.drops_reply.new.self _ c.args.self.now.owing c.args.self.now.owing _ (c.in-Some.ensures.unsaid c.args.self.now.owing) c.answers_dropped.ensures.unsaid
+
+pub returns-in-None-clause-unsaid : goal.returns-in-None-clause-unsaid
+returns-in-None-clause-unsaid g c =
+    both-unsaid c.args.standing.now c.drops_reply.new.self _ c.args.self.now.owing c.args.self.now.owing _ (c.in-None.ensures.unsaid c.args.self.now.owing) c.answers_shortly.ensures.unsaid

@@ -1,49 +1,11 @@
-use Rattle.std.proofs.Common.{◌≡◌, ◌∙◌, ℕ, ◌<◌, ◌≤◌, Option, Some, None, List, length, get_or, remove, ap, sym, subst, arith}
-use Rattle.std.specs.List.{position, position_or_len}
+use Rattle.std.proofs.Common.{sym, subst, not}
 use Rattle.server_rules.specs.Server.{Name}
-use Rattle.standing.specs.declared.standing.Standing.{Standing}
-use Rattle.server_core.specs.Sessions.{AreApart, is_kept_as, kept_as, without_kept}
-use Rattle.server_core.proofs.Lists.{first-at, no-first, none-out, no-place, place-is}
-use Rattle.server_core.proofs.Taking.{one-out}
+use Rattle.server_core.specs.Sessions.{AreApart, HaveOtherNames, is_kept_as}
+use Rattle.server_core.proofs.Pairs.{pairs-filter}
 use Rattle.server_core.proofs.sessions.Sessions.take_out.Goals as goal
 
-pub returns-in_err-place-clause-found : goal.returns-in_err-place-clause-found
-returns-in_err-place-clause-found c =
+pub invariant_of-self : goal.invariant_of-self
+invariant_of-self c =
     let name : Name = record { key = c.args.key; session = c.args.number } in
-    let seen = c.self.view_is in
-    let same : c.deref.result.now ≡ c.args.self.now = cc (c.deref.ensures.value) in
-    let none = no-first (is_kept_as name) c.deref.result.now (no-place (is_kept_as name) c.deref.result.now c.in_err-place.ensures) in
-    rw c.from_residual.ensures (sym none ∙ ap (kept_as name) same)
-
-pub returns-in_err-place-clause-others : goal.returns-in_err-place-clause-others
-returns-in_err-place-clause-others c =
-    let name : Name = record { key = c.args.key; session = c.args.number } in
-    let seen = c.self.view_is in
-    let same : c.deref.result.now ≡ c.args.self.now = cc (c.deref.ensures.value) in
-    let none = none-out (is_kept_as name) c.deref.result.now (no-place (is_kept_as name) c.deref.result.now c.in_err-place.ensures) in
-    sym same ∙ (sym none ∙ ap (without_kept name) same)
-
-pub returns-clause-found : goal.returns-clause-found
-returns-clause-found c =
-    let name : Name = record { key = c.args.key; session = c.args.number } in
-    let test = is_kept_as name in
-    let items = c.self.inside.list.items in
-    let list : c.deref.result.now ≡ items = c.deref.ensures.value in
-    let placed : Some c.in_ok-place.place ≡ position test items = c.in_ok-place.ensures ∙ ap (position test) list in
-    let at = place-is test items c.in_ok-place.place placed in
-    let found = first-at test items c.remove.result (omega (arith, at.0, at.1)) in
-    let value : c.remove.result ≡ get_or items c.in_ok-place.place c.remove.result = c.remove.ensures.value in
-    let same : get_or items (position_or_len test items) c.remove.result ≡ c.remove.result =
-    ap (λ (n : ℕ). get_or items n c.remove.result) at.0 ∙ sym value in
-    sym (ap (λ (standing : Standing). Some standing) same) ∙ (sym found ∙ ap (kept_as name) c.self.view_is)
-
-pub returns-clause-others : goal.returns-clause-others
-returns-clause-others c =
-    let name : Name = record { key = c.args.key; session = c.args.number } in
-    let test = is_kept_as name in
-    let items = c.self.inside.list.items in
-    let list : c.deref.result.now ≡ items = c.deref.ensures.value in
-    let placed : Some c.in_ok-place.place ≡ position test items = c.in_ok-place.ensures ∙ ap (position test) list in
-    let at = place-is test items c.in_ok-place.place placed in
-    let out = one-out name items c.self.invariant (omega (arith, at.0, at.1)) in
-    c.remove.ensures.items ∙ (ap (remove items) (sym at.0) ∙ (sym out ∙ ap (without_kept name) c.self.view_is))
+    subst AreApart (sym c.out_of.ensures.others)
+    (pairs-filter HaveOtherNames (λ standing. not (is_kept_as name standing)) c.self.inside.list.items c.self.invariant)

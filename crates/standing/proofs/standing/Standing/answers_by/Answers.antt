@@ -10,6 +10,7 @@ use Rattle.server_laws.specs.Order.{reply_made}
 use Rattle.standing.specs.Standing.{Stands}
 use Rattle.standing.specs.Says.{Says, setting_of}
 use Rattle.standing.proofs.OldestLemmas.{none-found, room-unanswered}
+use Rattle.standing.proofs.UnsaidLemmas.{none-more-answered}
 use Rattle.standing.proofs.standing.Standing.answers_by.Goals as goal
 
 pub returns-clause-says : goal.returns-clause-says
@@ -43,3 +44,10 @@ returns-clause-says g c = λ keys draw speaker none says_before.
       owed = said.owed;
       draws = said.draws;
     }
+
+pub returns-clause-unsaid : goal.returns-clause-unsaid
+returns-clause-unsaid g c =
+    let owes = c.owes_result-number in
+    none-more-answered c.args.self.now owes.new.self c.makes_room.new.self _ c.args.owing.now _
+    (record { call = c.args.call; number = owes.result.0; seq = owes.result.1; body = c.args.body })
+    owes.ensures.same_outbox owes.ensures.stays_said owes.ensures.said c.makes_room.ensures.fewer_kept c.keeps_reply.ensures.kept

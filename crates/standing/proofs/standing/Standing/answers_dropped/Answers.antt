@@ -1,4 +1,4 @@
-use Rattle.std.proofs.Common.{◌≡◌, ◌∙◌, ℕ, List, drop, ap, arith, refl, subst, sym}
+use Rattle.std.proofs.Common.{◌∙◌, ℕ, List, drop, ap, arith, refl, subst, sym}
 use Rattle.tl_codec.specs.Spelling as tl
 use Rattle.service_tl.specs.declared.item.Item.TheVariants.{RpcAnswerDropped, RpcResult}
 use Rattle.service_tl.specs.Items.{spelling_of}

@@ -7,6 +7,7 @@ use Rattle.inbox.specs.Inbox.{Stands as InboxStands}
 use Rattle.outbox.specs.Replies.{Contents, Replies, call_of, dropped_for, fits}
 use Rattle.server_rules.specs.Server.{kept_replies, marks_of}
 use Rattle.standing.proofs.OldestLemmas.{marks-oldest}
+use Rattle.standing.proofs.UnsaidLemmas.{fewer-with-room}
 use Rattle.standing.proofs.standing.Standing.drops_oldest.Goals as goal
 
 -- a call that is given is that of the oldest reply, since a further one didn't fit
@@ -39,3 +40,9 @@ returns-in-Some-clause-stands g c = λ now session dropped stands.
           ∙ (ap (λ (replies : Replies). drop 1 replies) stands.outbox ∙ sym (c.oldest_replies_are_dropped.ensures.oldest session.replies)));
       counters = stands.counters;
     }
+
+pub returns-in-Some-clause-fewer_kept : goal.returns-in-Some-clause-fewer_kept
+returns-in-Some-clause-fewer_kept g c = fewer-with-room c.args.bytes c.args.self.now.outbox.replies c.make_room.new.self.replies (ap (λ (contents : Contents). contents.replies) c.make_room.ensures.after)
+
+pub returns-in-None-clause-fewer_kept : goal.returns-in-None-clause-fewer_kept
+returns-in-None-clause-fewer_kept g c = fewer-with-room c.args.bytes c.args.self.now.outbox.replies c.make_room.new.self.replies (ap (λ (contents : Contents). contents.replies) c.make_room.ensures.after)

@@ -1,15 +1,15 @@
-use Rattle.std.proofs.Common.{◌≡◌, ◌∙◌, ℕ, eqb, Option, Some, None, List, ap, sym, subst, refl, length, arith}
+use Rattle.std.proofs.Common.{◌≡◌, ◌∙◌, ℕ, eqb, Option, Some, List, ap, sym, subst, length, arith}
 use Rattle.std.specs.Prelude.{option_map}
 use Rattle.std.proofs.lemmas.List.{length-drop}
 use Rattle.outbox.specs.Bodies.{head_bytes}
 use Rattle.outbox.specs.declared.kept.Kept.{Kept}
 use Rattle.outbox.specs.Replies.{Replies, by_call, call_of}
-use Rattle.server_rules.specs.Server.{Reply, Session, WasDropped, kept_of, kept_replies}
-use Rattle.standing.specs.declared.dropping.DroppedReply.{DroppedReply}
+use Rattle.server_rules.specs.Server.{Reply, WasDropped, kept_of, kept_replies}
 use Rattle.standing.specs.Fates.{kept_to, refated, told_of, with_dropped}
 use Rattle.standing.specs.Kept.{IsResult}
 use Rattle.standing.specs.Standing.{Stands}
 use Rattle.standing.proofs.FateLemmas.{are-apart, drops-refates, found-holds, found-kept, told-kept, told-none}
+use Rattle.standing.proofs.UnsaidLemmas.{no-more-kept}
 use Rattle.standing.proofs.standing.Standing.drops_reply.Goals as goal
 
 -- what an outbox tells of the reply to a call
@@ -53,3 +53,6 @@ overflow_cast-dropped c =
     let left = length-drop head_bytes kept.body in
     let value = c.len.ensures.value in
     omega arith
+
+pub returns-clause-unsaid : goal.returns-clause-unsaid
+returns-clause-unsaid c = λ owing. no-more-kept c.args.self.now _ owing c.ends_reply.ensures.fewer_kept

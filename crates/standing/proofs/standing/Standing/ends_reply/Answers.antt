@@ -1,17 +1,17 @@
-use Rattle.std.proofs.Common.{◌≡◌, ◌∙◌, ℕ, eqb, Option, Some, None, false, true, ap, sym, subst, refl}
+use Rattle.std.proofs.Common.{◌≡◌, ◌∙◌, ℕ, eqb, false, ap, sym, subst, refl}
 use Rattle.std.specs.Prelude.{option_map, All}
 use Rattle.std.specs.List.{find}
-use Rattle.id_window.specs.Marks.{Marks, mark_of}
-use Rattle.id_window.specs.History.{found, is_kept as is_number_kept}
+use Rattle.id_window.specs.History.{found}
 use Rattle.inbox.specs.Inbox.{Stands as InboxStands}
 use Rattle.outbox.specs.declared.kept.Kept.{Kept}
 use Rattle.outbox.specs.Replies.{Replies, by_number, call_of, without_number}
-use Rattle.server_rules.specs.Server.{Reply, is_fate_kept, kept_of, kept_replies, marks_of}
+use Rattle.server_rules.specs.Server.{is_fate_kept, kept_of, kept_replies, marks_of}
 use Rattle.standing.specs.declared.dropping.Ending.{Ending}
 use Rattle.standing.specs.declared.dropping.Ending.TheVariants.{Acked, Dropped}
 use Rattle.standing.specs.Fates.{fate_of, refated, with_ended}
 use Rattle.standing.specs.Kept.{IsResult}
 use Rattle.standing.proofs.FateLemmas.{all-left, found-kept, is_one, kept-left, marks-ended, none-found, told-call, told-none}
+use Rattle.standing.proofs.UnsaidLemmas.{fewer-taken}
 use Rattle.standing.proofs.standing.Standing.ends_reply.Goals as goal
 
 ends : (ending : Ending) → is_fate_kept (fate_of ending) ≡ false
@@ -80,3 +80,9 @@ invariant_of-self c =
 pub invariant_of-self-in_default : goal.invariant_of-self-in_default
 invariant_of-self-in_default c =
     record { contents = subst (All IsResult) (sym (ap (λ box. box.replies) c.ack.ensures.after)) (all-left IsResult c.args.number c.args.self.now.outbox.replies c.args.self.now.contents) }
+
+pub returns-in-Some-clause-fewer_kept : goal.returns-in-Some-clause-fewer_kept
+returns-in-Some-clause-fewer_kept c = fewer-taken c.args.number _ _ (ap (λ box. box.replies) c.ack.ensures.after)
+
+pub returns-in_default-clause-fewer_kept : goal.returns-in_default-clause-fewer_kept
+returns-in_default-clause-fewer_kept c = fewer-taken c.args.number _ _ (ap (λ box. box.replies) c.ack.ensures.after)

@@ -1,11 +1,8 @@
-use Rattle.std.proofs.Common.{◌≡◌, ◌∙◌, eqb, Bool, Option, Some, None, List, [], ◌∷◌, drop, ap, subst, sym, inl, inr, Bor}
-use Rattle.std.specs.List.{All, find}
+use Rattle.std.proofs.Common.{◌∙◌, eqb, Option, Some, None, drop, ap, subst, sym, Bor}
 use Rattle.std.specs.Option.{IfSome, option_copied}
-use Rattle.std.proofs.lemmas.Bool.{cases_Bool, cond-true, cond-false}
-use Rattle.std.proofs.lemmas.List.Elements.{All-head, All-tail}
 use Rattle.outbox.specs.declared.kept.Kept.{Kept}
 use Rattle.outbox.specs.Bodies.{head_bytes}
-use Rattle.outbox.specs.Replies.{Replies, by_call}
+use Rattle.outbox.specs.Replies.{by_call}
 use Rattle.owing.specs.Items.{IsContent}
 use Rattle.standing.specs.Kept.{IsResult}
 use Rattle.standing.proofs.FateLemmas.{found-kept}

@@ -1,10 +1,22 @@
-use Rattle.std.proofs.Common.{◌≡◌, ◌∙◌, List, true, false, ap, subst, sym}
+use Rattle.std.proofs.Common.{◌≡◌, ◌∙◌, List, true, false, ap, subst, sym, refl, arith}
 use Rattle.outbox.specs.Replies.{fits}
 use Rattle.server_rules.specs.Server.{Reply, kept_replies}
 use Rattle.server_rules.specs.Speaking.{made_room, without_oldest}
 use Rattle.standing.specs.declared.standing.Standing.{Standing}
 use Rattle.standing.specs.Standing.{Stands}
 use Rattle.standing.proofs.standing.Standing.makes_room.Goals as goal
+
+pub drops-init : goal.drops-init
+drops-init g c =
+    record {
+      stands = λ now session stands. (session.replies, stands, refl);
+      fewer = λ weight messages. omega arith;
+      same_room = refl;
+      same_numbers = refl;
+      same_key = refl;
+      same_number = refl;
+      same_salts = refl;
+    }
 
 pub drops-preserved : goal.drops-preserved
 drops-preserved g c =
@@ -18,6 +30,7 @@ drops-preserved g c =
           let here : Stands now c.drops.self (record session { replies = before.0 }) = before.1 in
           let full : fits c.args.bytes (kept_replies before.0) ≡ false = ap (fits c.args.bytes) (sym here.outbox) ∙ step.did_not_fit dropped in
           (without_oldest before.0, step.stands now (record session { replies = before.0 }) dropped here, sym (law.more c.args.bytes before.0 full) ∙ before.2);
+      fewer = λ weight messages. omega (arith, step.fewer_kept weight messages, so_far.fewer weight messages);
       same_room = step.same_room ∙ so_far.same_room;
       same_numbers = step.same_numbers ∙ so_far.same_numbers;
       same_key = step.same_key ∙ so_far.same_key;
@@ -35,3 +48,6 @@ returns-clause-stands g c = λ now session stands.
     let fit : fits c.args.bytes (kept_replies before.0) ≡ true = ap (fits c.args.bytes) (sym here.outbox) ∙ step.fits over in
     let made : before.0 ≡ made_room c.args.bytes session.replies = sym (c.oldest_replies_are_dropped.ensures.there c.args.bytes before.0 fit) ∙ before.2 in
     subst (λ (replies : List Reply). Stands now c.drops_oldest.new.self (record session { replies = replies })) made here
+
+pub returns-clause-fewer_kept : goal.returns-clause-fewer_kept
+returns-clause-fewer_kept g c = λ weight messages. omega (arith, c.drops_oldest.ensures.fewer_kept weight messages, c.drops.invariant.fewer weight messages)

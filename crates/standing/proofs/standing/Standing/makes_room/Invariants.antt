@@ -2,6 +2,7 @@ use Rattle.std.proofs.Common.{◌≡◌, ℕ, List, length}
 use Rattle.server_rules.specs.Server.{Reply, Session}
 use Rattle.server_rules.specs.Speaking.{made_room}
 use Rattle.standing.specs.Standing.{Stands, key_of, number_of, replies_left}
+use Rattle.standing.specs.Unsaid.{FewerKept}
 use Rattle.standing.proofs.standing.Standing.makes_room.Given as goal
 
 -- the replies so far give the same, where room is made from there on
@@ -10,6 +11,7 @@ invariant-drops g l = record {
   stands : (now : ℕ) (session : Session) → Stands now l.fn.self session
       → (replies : List Reply) × Stands now l.self (record session { replies = replies })
       × (made_room l.bytes replies ≡ made_room l.bytes session.replies);
+  fewer : FewerKept l.fn.self l.self;
   same_room : replies_left l.self ≡ replies_left l.fn.self;
   same_numbers : l.self.numbers ≡ l.fn.self.numbers;
   same_key : key_of l.self ≡ key_of l.fn.self;

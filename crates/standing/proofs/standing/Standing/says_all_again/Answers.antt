@@ -1,4 +1,4 @@
-use Rattle.std.proofs.Common.{◌≡◌, ◌∙◌, ◌+◌, ◌≤◌, ℕ, Some, None, ap, sym, subst, refl, arith, drop, get_or}
+use Rattle.std.proofs.Common.{◌∙◌, ◌+◌, sym, subst, refl, arith, drop, get_or}
 use Rattle.std.proofs.lemmas.Option.{get_or_from_slice_get, slice_get_within, none-some, slice_get-get_or}
 use Rattle.outbox.specs.declared.kept.Kept.{Kept}
 use Rattle.outbox.specs.Bodies.{head_bytes}

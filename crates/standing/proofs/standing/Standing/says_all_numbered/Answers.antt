@@ -1,4 +1,4 @@
-use Rattle.std.proofs.Common.{◌≡◌, ◌∙◌, ◌≤◌, ◌+◌, ℕ, List, get_or, length, take, ap, subst, sym, refl, arith}
+use Rattle.std.proofs.Common.{◌∙◌, ℕ, List, take, subst, sym, refl, arith}
 use Rattle.std.proofs.lemmas.List.{take_all}
 use Rattle.server_rules.specs.Event.{Speaker}
 use Rattle.standing.specs.Says.{Says}

@@ -1,24 +1,24 @@
-use Rattle.std.proofs.Common.{◌≡◌, ◌∙◌, ◌≤◌, ◌<◌, ℕ, eqb, Option, Some, None, drop, length, ap, subst, sym, refl, arith}
+use Rattle.std.proofs.Common.{◌≡◌, ◌∙◌, ◌≤◌, ℕ, eqb, Bool, Option, Some, None, drop, length, ap, subst, sym, refl, arith}
 use Rattle.std.specs.Prelude.{option_map}
 use Rattle.service_tl.specs.declared.item.Item.TheVariants.{RpcResult}
 use Rattle.service_tl.specs.Items.{spelling_of}
 use Rattle.service_tl.specs.declared.lists.Message.{Message}
 use Rattle.outbox.specs.declared.kept.Kept.{Kept}
 use Rattle.outbox.specs.Bodies.{head_bytes}
-use Rattle.outbox.specs.Replies.{Replies, by_number, call_of}
+use Rattle.outbox.specs.Replies.{by_number, call_of}
 use Rattle.owing.specs.Dues.{Dues}
 use Rattle.server_rules.specs.Server.{Reply, kept_of}
 use Rattle.server_rules.specs.Rows.{kept_numbered, says_reply}
 use Rattle.standing.specs.Says.{Says}
 use Rattle.standing.specs.Unsaid.{unsaid_bytes, unsaid_count}
 use Rattle.standing.proofs.FateLemmas.{found-kept, told-kept, told-none}
-use Rattle.standing.proofs.ResultLemmas.{is-result, numbered}
+use Rattle.standing.proofs.ResultLemmas.{is-result}
 use Rattle.standing.proofs.UnsaidLemmas.{unsaid-one, unsaid-spent}
 use Rattle.standing.proofs.standing.Standing.says_numbered.Goals as goal
 
--- found by its own number
-own : (number : ℕ) (replies : Replies) (kept : Kept) → by_number number replies ≡ Some kept → by_number kept.number replies ≡ Some kept
-own number replies kept found = ap (λ (number : ℕ). by_number number replies) (numbered number replies kept found) ∙ found
+-- how it was found
+abbrev is_it : ℕ → Kept → Bool
+is_it number kept = eqb kept.number number
 
 -- what is owed for it
 abbrev again : Kept → Message
@@ -32,7 +32,7 @@ pub says_again-requires-clause-place : goal.says_again-requires-clause-place
 says_again-requires-clause-place g c = λ unsaid.
     let replies = c.args.self.now.outbox.replies in
     let kept = c.in-Some.kept.now in
-    let one : 1 ≤ unsaid_count c.args.self.now c.args.owing.now = unsaid-one (λ kept. 1) c.args.owing.now.messages replies kept (own c.args.number replies kept (sym c.in-Some.ensures)) unsaid in
+    let one : 1 ≤ unsaid_count c.args.self.now c.args.owing.now = unsaid-one (λ kept. 1) c.args.owing.now.messages replies kept (is_it c.args.number) (sym c.in-Some.ensures) unsaid in
     omega (arith, c.requires.places)
 
 pub says_again-requires-clause-bytes : goal.says_again-requires-clause-bytes
@@ -40,7 +40,7 @@ says_again-requires-clause-bytes g c = λ unsaid.
     let replies = c.args.self.now.outbox.replies in
     let kept = c.in-Some.kept.now in
     let bytes : length kept.body ≤ unsaid_bytes c.args.self.now c.args.owing.now =
-    unsaid-one (λ kept. length kept.body) c.args.owing.now.messages replies kept (own c.args.number replies kept (sym c.in-Some.ensures)) unsaid in
+    unsaid-one (λ kept. length kept.body) c.args.owing.now.messages replies kept (is_it c.args.number) (sym c.in-Some.ensures) unsaid in
     omega (arith, c.requires.bytes)
 
 pub returns-in-Some-clause-says : goal.returns-in-Some-clause-says
@@ -58,8 +58,8 @@ returns-in-Some-clause-places g c =
     let replies = c.args.self.now.outbox.replies in
     let kept = c.in-Some.kept.now in
     let step = c.says_again.ensures in
-    unsaid-spent (λ kept. 1) c.args.owing.now.messages c.says_again.new.owing.messages (again kept) replies kept c.args.owing.now.places c.says_again.new.owing.places refl
-    (own c.args.number replies kept (sym c.in-Some.ensures)) step.said
+    unsaid-spent (λ kept. 1) c.args.owing.now.messages c.says_again.new.owing.messages (again kept) replies kept c.args.owing.now.places c.says_again.new.owing.places (is_it c.args.number) refl
+    (sym c.in-Some.ensures) step.said
     (λ was. (ap (λ (owing : Dues). owing.messages) (step.unchanged_where_said was), ap (λ (owing : Dues). owing.places) (step.unchanged_where_said was))) step.places
 
 pub returns-in-Some-clause-left : goal.returns-in-Some-clause-left
@@ -67,8 +67,8 @@ returns-in-Some-clause-left g c =
     let replies = c.args.self.now.outbox.replies in
     let kept = c.in-Some.kept.now in
     let step = c.says_again.ensures in
-    unsaid-spent (λ kept. length kept.body) c.args.owing.now.messages c.says_again.new.owing.messages (again kept) replies kept c.args.owing.now.room c.says_again.new.owing.room refl
-    (own c.args.number replies kept (sym c.in-Some.ensures)) step.said
+    unsaid-spent (λ kept. length kept.body) c.args.owing.now.messages c.says_again.new.owing.messages (again kept) replies kept c.args.owing.now.room c.says_again.new.owing.room (is_it c.args.number) refl
+    (sym c.in-Some.ensures) step.said
     (λ was. (ap (λ (owing : Dues). owing.messages) (step.unchanged_where_said was), ap (λ (owing : Dues). owing.room) (step.unchanged_where_said was))) step.left
 
 pub returns-in_default-clause-says : goal.returns-in_default-clause-says

@@ -1,8 +1,8 @@
-use Rattle.std.proofs.Common.{◌≡◌, ◌∙◌, ◌++◌, ◌∷◌, ◌+◌, [], ℕ, List, ap, sym, refl, map, take, length, get_or, arith}
+use Rattle.std.proofs.Common.{◌≡◌, ◌∙◌, ◌++◌, ◌∷◌, ◌+◌, [], ℕ, List, ap, sym, refl, map, take, length, arith}
 use Rattle.std.proofs.lemmas.List.{map_more, take_all}
 use Rattle.std.proofs.lemmas.Grind.{take-set_at}
 use Rattle.inbox.specs.States.{state_byte}
-use Rattle.server_rules.specs.Server.{Session, marks_of}
+use Rattle.server_rules.specs.Server.{marks_of}
 use Rattle.standing.proofs.standing.Standing.states.Goals as goal
 
 pub loop-place-preserved : goal.loop-place-preserved

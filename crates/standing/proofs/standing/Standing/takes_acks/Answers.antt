@@ -1,10 +1,10 @@
-use Rattle.std.proofs.Common.{◌≡◌, ◌∙◌, ◌++◌, ◌∷◌, [], ℕ, List, ap, sym, subst, refl, map, take, length, get_or, arith}
+use Rattle.std.proofs.Common.{◌∙◌, ℕ, List, ap, sym, subst, refl, map, take, get_or, arith}
 use Rattle.std.proofs.lemmas.List.{take_more, take_all}
 use Rattle.server_rules.specs.Rows.{acked_by}
-use Rattle.server_rules.specs.Server.{Session, Reply, WasAcked}
-use Rattle.standing.specs.Fates.{refated}
+use Rattle.server_rules.specs.Server.{Reply}
 use Rattle.standing.specs.Standing.{Stands}
 use Rattle.standing.proofs.FateLemmas.{acked-in-turn, acked-apart, are-apart, none-acked}
+use Rattle.standing.proofs.UnsaidLemmas.{no-more-kept}
 use Rattle.standing.proofs.standing.Standing.takes_acks.Goals as goal
 
 pub loop-place-init : goal.loop-place-init
@@ -16,6 +16,7 @@ loop-place-init g c = (
   refl,
   λ now is. is,
   refl,
+  λ weight messages. omega arith,
 )
 
 pub loop-place-preserved : goal.loop-place-preserved
@@ -33,6 +34,7 @@ loop-place-preserved g c =
       c.ends_reply.ensures.same_room ∙ c.loop-place.invariant.3,
       λ now is. c.ends_reply.ensures.at now (c.loop-place.invariant.4 now is),
       c.ends_reply.ensures.same_number ∙ c.loop-place.invariant.5,
+      λ weight messages. omega (arith, c.ends_reply.ensures.fewer_kept weight messages, c.loop-place.invariant.6 weight messages),
     )
 
 pub returns-clause-says : goal.returns-clause-says
@@ -61,3 +63,6 @@ returns-clause-same_room g c = c.loop-place.invariant.3
 
 pub returns-clause-same_number : goal.returns-clause-same_number
 returns-clause-same_number g c = c.loop-place.invariant.5
+
+pub returns-clause-unsaid : goal.returns-clause-unsaid
+returns-clause-unsaid g c = λ owing. no-more-kept c.args.self.now _ owing c.loop-place.invariant.6

@@ -3,6 +3,7 @@ use Rattle.server_rules.specs.Rows.{acked_by}
 use Rattle.server_rules.specs.Server.{Session}
 use Rattle.standing.specs.Fates.{AreApart}
 use Rattle.standing.specs.Standing.{IsAt, Stands, key_of, number_of, numbers_left, replies_left}
+use Rattle.standing.specs.Unsaid.{FewerKept}
 use Rattle.standing.proofs.standing.Standing.takes_acks.Given as goal
 
 -- the numbers so far are acknowledged
@@ -13,3 +14,4 @@ invariant-loop-place g l =
     × (numbers_left l.self ≡ numbers_left l.initial.self) × (key_of l.self ≡ key_of l.initial.self)
     × (replies_left l.self ≡ replies_left l.initial.self)
     × ((now : ℕ) → IsAt now l.initial.self → IsAt now l.self) × (number_of l.self ≡ number_of l.initial.self)
+    × FewerKept l.initial.self l.self

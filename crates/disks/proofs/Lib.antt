@@ -1,0 +1,4 @@
+pub mod Moments
+pub mod CrashLemmas
+pub mod LostLemmas
+pub mod HeldLemmas

@@ -1,0 +1,4 @@
+pub mod Crash
+pub mod Told
+pub mod Named
+pub mod Held

@@ -1,0 +1,120 @@
+//! Programs of this machine. They tell nothing.
+
+ghost use Rattle.std.specs.Prelude.{◌≡◌, ◌≢◌, None, Some, pos, IfOk, IfErr};
+ghost use Rattle.std.specs.Process.{exit_code};
+
+use crate::act::Act;
+use crate::lines::read_line;
+use crate::mem_kids::after_line;
+use crate::spawner::{Line, Spawner};
+use crate::tcp::{act_of, after_act};
+use std::alloc::Global;
+use std::io::{self, ErrorKind};
+use std::process::{Child, Command, ExitStatus, Processes, Stdio};
+
+/// The most bytes that a line of a child may have.
+const LINE_BYTES_MAX: usize = 65_536;
+
+/// One program of this machine, which is started with words of the caller's choice. Its standard input is empty, and its
+/// standard error is that of this process. A start that finds no memory has failed, since the library takes memory for
+/// it; a line of 65,536 bytes or more can't be read.
+#[derive(Drop)]
+pub struct ChildKids<R: Processes + Drop> {
+    processes: R,
+    program: String,
+    child: Option<Child<R::Started>>,
+    faults: u64,
+}
+
+impl<R: Processes + Drop> ChildKids<R> {
+    /// Starts of the program of this name, none of them made yet.
+    pub fn new(processes: R, program: String) -> ChildKids<R>
+        ensures { ⟦<ChildKids<R> as Spawner>⟧.faults result ≡ 0 }
+    {
+        ChildKids {
+            processes,
+            program,
+            child: None,
+            faults: 0,
+        }
+    }
+
+    /// What std answers to a start with these words.
+    fn spawn(&self, words: &[String]) -> io::Result<Child<R::Started>> {
+        let alloc = *self.program.allocator();
+        let mut command = Command::new(alloc, self.program.as_str())?;
+        for word in words {
+            command.arg(word.as_str())?;
+        }
+        command.stdin(Stdio::null());
+        command.stdout(Stdio::piped());
+        command.spawn(&self.processes)
+    }
+
+    /// The next line of the child.
+    fn next_line(&mut self, alloc: Global) -> Line
+        ensures faults { self.new.faults ≡ self.old.faults }
+    {
+        match &mut self.child {
+            Some(child) => match &mut child.stdout {
+                Some(output) => read_line(alloc, output, LINE_BYTES_MAX),
+                None => Line::Failed,
+            },
+            None => Line::Failed,
+        }
+    }
+
+    /// What std answers to a wait for the child.
+    fn status(&mut self) -> io::Result<ExitStatus>
+        ensures faults { self.new.faults ≡ self.old.faults }
+    {
+        match &mut self.child {
+            Some(child) => child.wait(),
+            None => Err(io::Error::from(ErrorKind::NotFound)),
+        }
+    }
+}
+
+/// The answer of a wait, by what std answered.
+fn act_of_status(answer: io::Result<ExitStatus>) -> Act
+    ensures ready { IfOk answer (λ status. exit_code status ≡ Some (pos 0) → result ≡ Act.Ready) }
+    ensures other { IfOk answer (λ status. exit_code status ≢ Some (pos 0) → result ≡ Act.Failed) }
+    ensures failed { IfErr answer (λ _. result ≡ Act.Failed) }
+{
+    match answer {
+        Ok(status) => {
+            if status.success() {
+                Act::Ready
+            } else {
+                Act::Failed
+            }
+        }
+        Err(_) => Act::Failed,
+    }
+}
+
+impl<R: Processes + Drop> Spawner for ChildKids<R> {
+    ghost calls = { λ _. None };
+
+    ghost faults = { λ kids. kids.faults };
+
+    fn start(&mut self, words: &[String]) -> Act {
+        let child = self.spawn(words);
+        let answer = act_of(&child);
+        self.child = child.ok();
+        self.faults = after_act(answer, self.faults);
+        answer
+    }
+
+    fn line(&mut self, alloc: Global) -> Line {
+        let answer = self.next_line(alloc);
+        self.faults = after_line(&answer, self.faults);
+        answer
+    }
+
+    fn wait(&mut self) -> Act {
+        let answer = act_of_status(self.status());
+        self.faults = after_act(answer, self.faults);
+        answer
+    }
+}

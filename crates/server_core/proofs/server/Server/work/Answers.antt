@@ -1,0 +1,37 @@
+use Rattle.std.proofs.Common.{◌≡◌, ◌∙◌, ◌≤◌, ℕ, Option, Some, None, List, max, ap, sym, subst, refl}
+use Rattle.std.specs.Prelude.{IfOk, OnOk}
+use Rattle.waits.specs.declared.job.Job.{Job}
+use Rattle.waits.specs.Jobs.{ready_job}
+use Rattle.server_rules.specs.Server.{Name, Server as Rules, session_named}
+use Rattle.server_rules.specs.Answer.{after_run, after_work}
+use Rattle.standing.specs.Says.{setting_of}
+use Rattle.server_core.specs.Effects.{Gives}
+use Rattle.server_core.specs.Sessions.{is_kept_as}
+use Rattle.server_core.specs.Server.{Kept, Stands}
+use Rattle.server_core.proofs.Lists.{no-place}
+use Rattle.server_core.proofs.Names.{some-same}
+use Rattle.server_core.proofs.Speaking.{none-at}
+use Rattle.server_core.proofs.Worked.{ready-stands}
+use Rattle.server_core.proofs.server.Server.work.Goals as goal
+
+pub returns-in-None-clause-given : goal.returns-in-None-clause-given
+returns-in-None-clause-given g c = λ keys server stands order.
+    let K : Type 0 = Kept g.row.S.Denot in
+    let job : Job = c.ready_at-job.result.now in
+    let name : Name = record { key = job.key; session = job.session } in
+    let inside = subst (λ (kept : K). Stands kept server) (sym c.self.view_is) stands in
+    let standings = c.self.inside.sessions in
+    let none = none-at c.sessions_stand_later.ensures.name c.self.inside.moment name standings server.sessions inside.sessions
+    (no-place (is_kept_as name) standings c.in-None.ensures) in
+    absurd (ready-stands server c.args.k job order (ap (ready_job c.args.k) (sym inside.jobs) ∙ c.ready_at-job.ensures) none)
+
+pub returns-in-None-clause-served : goal.returns-in-None-clause-served
+returns-in-None-clause-served g c = λ keys server stands order.
+    let K : Type 0 = Kept g.row.S.Denot in
+    let job : Job = c.ready_at-job.result.now in
+    let name : Name = record { key = job.key; session = job.session } in
+    let inside = subst (λ (kept : K). Stands kept server) (sym c.self.view_is) stands in
+    let standings = c.self.inside.sessions in
+    let none = none-at c.sessions_stand_later.ensures.name c.self.inside.moment name standings server.sessions inside.sessions
+    (no-place (is_kept_as name) standings c.in-None.ensures) in
+    absurd (ready-stands server c.args.k job order (ap (ready_job c.args.k) (sym inside.jobs) ∙ c.ready_at-job.ensures) none)

@@ -1,0 +1,74 @@
+use Rattle.std.proofs.Common.{◌≡◌, ◌≤◌, ◌+◌, ℕ, arith}
+use Rattle.server_rules.specs.Event.{Setting}
+use Rattle.server_rules.specs.Server.{Name}
+use Rattle.server_rules.specs.Waiting.{tells_of}
+use Rattle.server_laws.specs.Order.{jobs_of}
+use Rattle.standing.specs.Says.{setting_of}
+use Rattle.server_core.specs.Among.{Among, row_among}
+use Rattle.server_core.proofs.Ordered.{KeepsOrder}
+use Rattle.server_core.proofs.Settled.{is-rowed, told-speaks}
+use Rattle.server_core.proofs.settling.settles.Goals as goal
+
+pub returns-clause-settled : goal.returns-clause-settled
+returns-clause-settled g c = λ keys name past seq verdict body opened among are due is few begins.
+    let D : Type 0 = g.row.D.Denot in
+    let setting : Setting D = setting_of c.args.now g.D.Draw.step keys in
+    let number = c.args.number in
+    let speech = c.speech_keeps_order.ensures in
+    let rows = c.rows_keep_order.ensures in
+    let keeps : KeepsOrder D = record {
+      says = speech.says;
+      notices = speech.notices;
+      again = speech.came_again;
+      left = speech.left;
+      tells = speech.tells;
+      accepts = rows.accepts;
+      new = speech.new;
+      acknowledges = speech.acknowledges;
+      gives = rows.gives_up;
+      takes = c.taken_jobs_are_open.ensures.first;
+    } in
+    let rowed : Among D = row_among setting number seq verdict body among in
+    let bindings = c.row.new.bindings.bindings in
+    let draw = c.row.new.draw in
+    let at = c.row.ensures.owed keys name past seq verdict body opened among are due is begins in
+    let done = is-rowed {S = D} keeps c.sessions_speak_for_themselves.ensures.owes setting name past number seq verdict body opened among is in
+    let later = c.tells_of.ensures.told c.args.now rowed.speaker at.speaks.says.stands at.speaks.jobs in
+    let told = told-speaks {S = D} c.args.now number c.row.new.standing c.row.new.turn c.row.new.jobs.jobs c.tells_of.new.jobs.jobs bindings draw rowed.speaker at.speaks later in
+    let others = λ (one : Name). jobs_of one rowed.speaker.jobs in
+    let blocked = done.few in
+    record {
+      others = at.others;
+      speaks = c.answers_failed.ensures.speaks keys bindings draw name others past (tells_of number rowed.speaker) told done.has (omega arith);
+    }
+
+pub returns-clause-fewer : goal.returns-clause-fewer
+returns-clause-fewer g c = λ keys name past seq verdict body opened among are due is begins.
+    let D : Type 0 = g.row.D.Denot in
+    let setting : Setting D = setting_of c.args.now g.D.Draw.step keys in
+    let number = c.args.number in
+    let speech = c.speech_keeps_order.ensures in
+    let rows = c.rows_keep_order.ensures in
+    let keeps : KeepsOrder D = record {
+      says = speech.says;
+      notices = speech.notices;
+      again = speech.came_again;
+      left = speech.left;
+      tells = speech.tells;
+      accepts = rows.accepts;
+      new = speech.new;
+      acknowledges = speech.acknowledges;
+      gives = rows.gives_up;
+      takes = c.taken_jobs_are_open.ensures.first;
+    } in
+    let rowed : Among D = row_among setting number seq verdict body among in
+    let bindings = c.row.new.bindings.bindings in
+    let draw = c.row.new.draw in
+    let at = c.row.ensures.owed keys name past seq verdict body opened among are due is begins in
+    let done = is-rowed {S = D} keeps c.sessions_speak_for_themselves.ensures.owes setting name past number seq verdict body opened among is in
+    let later = c.tells_of.ensures.told c.args.now rowed.speaker at.speaks.says.stands at.speaks.jobs in
+    let told = told-speaks {S = D} c.args.now number c.row.new.standing c.row.new.turn c.row.new.jobs.jobs c.tells_of.new.jobs.jobs bindings draw rowed.speaker at.speaks later in
+    let others = λ (one : Name). jobs_of one rowed.speaker.jobs in
+    let blocked = done.few in
+    let fewer = c.answers_failed.ensures.fewer keys bindings draw name others past (tells_of number rowed.speaker) told done.has in
+    omega arith

@@ -1,0 +1,74 @@
+//! What a server tells those that bring it packets.
+
+ghost use Rattle.std.specs.Prelude.{◌≡◌};
+ghost use Rattle.server_core.specs.declared.desk.DeskFault.TheVariants as faults;
+
+use crate::server::Server;
+use draws::Draw;
+use envelope::{Refusal, Seal};
+use octets::Memory;
+use owing::Outs;
+use rows::Entries;
+use thiserror::Error;
+
+/// What a server heard of a packet.
+#[derive(Clone, Copy, Debug, PartialEq, Eq)]
+pub enum Heard {
+    /// The packet doesn't open, for this cause.
+    NotOpened(Refusal),
+    /// It opens, and this session judged its messages.
+    Judged {
+        /// The identifier of the session's key.
+        key: u64,
+        /// The session's number.
+        session: u64,
+    },
+}
+
+/// What a packet gives.
+#[derive(Debug, Drop)]
+pub struct Reply {
+    /// What the server heard.
+    pub heard: Heard,
+    /// The packets that go out, in order.
+    pub out: Outs,
+    /// The answers to calls of the service, in order.
+    pub entries: Entries,
+}
+
+/// Why a desk does nothing.
+#[derive(Clone, Copy, Debug, PartialEq, Eq, Error)]
+pub enum DeskFault {
+    /// An earlier call came to a fault of the disk; nothing is done any more.
+    #[error("the journal is closed")]
+    Closed,
+    /// What this call writes would make the journal longer than it may be.
+    #[error("the journal is full with {len} bytes")]
+    Full {
+        /// Its length in bytes.
+        len: u64,
+    },
+    /// The disk failed.
+    #[error("the disk failed")]
+    Disk,
+    /// Memory ran out, and nothing was done.
+    #[error("out of memory")]
+    Memory,
+}
+
+impl From<Memory> for DeskFault {
+    ghost from_gives = { λ _ fault. fault ≡ faults.Memory };
+
+    fn from(_memory: Memory) -> DeskFault {
+        DeskFault::Memory
+    }
+}
+
+/// A server that keeps nothing beside itself, with what it draws from.
+#[derive(Debug, Drop)]
+pub struct Plain<'a, S: Seal, D: Draw> {
+    /// The server.
+    pub server: &'a mut Server<S>,
+    /// What it draws from.
+    pub draw: &'a mut D,
+}

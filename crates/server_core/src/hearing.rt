@@ -1,0 +1,110 @@
+//! The session of a packet is heard, and is the one heard last from then on.
+
+ghost use Rattle.std.specs.Prelude.{◌≡◌, ◌≢◌, ◌<◌, ℕ, [], All, IfOk, OnErr, OnOk, Some, length};
+ghost use Rattle.std.specs.List.{position};
+ghost use Rattle.inbox.specs.Inbox.{message_in};
+ghost use Rattle.inbox.specs.Judging.{judgements, session_after};
+ghost use Rattle.inbox.specs.Refusals.{InEnvelope};
+ghost use Rattle.server_laws.specs.Order.{IsOrderly, jobs_of};
+ghost use Rattle.server_rules.specs.Server.{Name, Server as Rules, Session, remembered, session_named};
+ghost use Rattle.server_rules.specs.Event.{Envelope, Setting, State};
+ghost use Rattle.server_rules.specs.Answer.{begun, name_in, with_place as place_made};
+ghost use Rattle.standing.specs.Names.{name_kept};
+ghost use Rattle.standing.specs.Standing.{IsAt};
+ghost use Rattle.server_core.specs.Sessions.{AreKept, is_kept_as};
+ghost use Rattle.server_core.specs.Among.{heard_among, with_history};
+ghost use Rattle.server_core.specs.Hearing.{IsHeard};
+ghost use Rattle.server_core.specs.Others.{first_lost, with_place, without_lost};
+
+use crate::others::Others;
+use crate::sessions::Sessions;
+use draws::Draw;
+use inbox::{Judged, Outer};
+use msg_ids::Moment;
+use octets::Memory;
+use standing::Standing;
+use standing::laws::sessions_stand_later;
+use std::alloc::Global;
+use waits::Jobs;
+
+/// The session at this place judges what an envelope brought, and remembers it. All memory is taken before.
+///
+/// # Errors
+///
+/// `Memory`, and then all are as they were.
+pub(crate) fn judges_known(
+    sessions: &mut Sessions,
+    alloc: Global,
+    place: usize,
+    now: Moment,
+    outer: &Outer,
+) -> Result<Judged, Memory>
+    requires place { place < length sessions.old }
+    requires at { All (IsAt now) sessions.old }
+    ensures judged { (name : Name) (server : Rules) (session : Session) → AreKept now sessions.old server.sessions
+        → position (is_kept_as name) sessions.old ≡ Some place → session_named name server.sessions ≡ Some session
+        → IfOk result (λ judged. judged ≡ judgements (InEnvelope now session.salts outer.now.salt) (remembered session) (message_in outer.now)) }
+    ensures kept { (name : Name) (server : Rules) (session : Session) → AreKept now sessions.old server.sessions
+        → position (is_kept_as name) sessions.old ≡ Some place → session_named name server.sessions ≡ Some session
+        → IsOrderly session.history session.replies session.counters.last (jobs_of name server.jobs)
+        → OnOk result (AreKept now sessions.new
+        (with_history session (session_after (InEnvelope now session.salts outer.now.salt) (remembered session) (message_in outer.now)).history server).sessions) }
+    ensures unchanged_on_memory { OnErr result (sessions.new ≡ sessions.old) }
+{
+    sessions_stand_later();
+    let judged = sessions.judges(alloc, place, now, outer)?;
+    Ok(judged)
+}
+
+/// The session at this place is heard, and speaks among the others. Takes no memory.
+pub(crate) fn hears_known<D: Draw>(
+    sessions: &mut Sessions,
+    alloc: Global,
+    place: usize,
+) -> (Others, Standing)
+    requires place { place < length sessions.old }
+    ensures heard { (setting : Setting D) (envelope : Envelope) (server : Rules) (draw : D) → AreKept setting.now sessions.old server.sessions
+        → position (is_kept_as (name_in envelope)) sessions.old ≡ Some place
+        → IsHeard setting.now result.0 result.1 server.jobs server.bindings draw (heard_among setting envelope (begun server draw)) }
+    ensures named { (name : Name) → position (is_kept_as name) sessions.old ≡ Some place → name_kept result.1 ≡ name }
+    ensures apart { (name : Name) → position (is_kept_as name) sessions.old ≡ Some place → All (λ other. name_kept other ≢ name) result.0 }
+    ensures lent { sessions.new ≡ [] }
+{
+    sessions_stand_later();
+    sessions.lend(alloc, place)
+}
+
+/// All sessions, among which there is room for a further one: where all places are taken, the one heard least recently is lost
+/// with its jobs.
+///
+/// # Errors
+///
+/// `Memory`, and then none is lost.
+pub(crate) fn makes_place<D: Draw>(
+    sessions: &mut Sessions,
+    jobs: &mut Jobs,
+    alloc: Global,
+) -> Result<Others, Memory>
+    ensures placed { (now : ℕ) (state : State D) → AreKept now sessions.old state.sessions → IfOk result (λ others. AreKept now others (place_made state).sessions) }
+    ensures jobs { (now : ℕ) (state : State D) → AreKept now sessions.old state.sessions → jobs.old.jobs ≡ state.jobs
+        → OnOk result (jobs.new.jobs ≡ (place_made state).jobs) }
+    ensures same_job_room { jobs.new.room ≡ jobs.old.room }
+    ensures lent { OnOk result (sessions.new ≡ []) }
+    ensures unchanged_on_memory { OnErr result ((sessions.new ≡ sessions.old) × (jobs.new ≡ jobs.old)) }
+{
+    sessions_stand_later();
+    let mut others = sessions.lend_all(alloc)?;
+    loses_first(&mut others, jobs);
+    Ok(others)
+}
+
+// Where all places are taken, the session heard least recently is lost with its jobs.
+fn loses_first(others: &mut Others, jobs: &mut Jobs)
+    ensures others { others.new ≡ with_place others.old }
+    ensures jobs { jobs.new.jobs ≡ without_lost (first_lost others.old) jobs.old.jobs }
+    ensures same_room { jobs.new.room ≡ jobs.old.room }
+{
+    if let Some(lost) = others.make_place() {
+        jobs.forget(lost.key(), lost.number());
+    }
+}

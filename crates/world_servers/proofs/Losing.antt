@@ -1,0 +1,260 @@
+-- A session is lost.
+use Rattle.std.proofs.Common.{◌≡◌, ◌≢◌, ℕ, ◌==◌, ◌&&◌, not, Bool, true, false, List, [], ◌∷◌, ◌++◌, filter, inl, inr, refl, sym, ap, subst, ◌∙◌, eq-eqb, ne_eqb}
+use Rattle.std.specs.Prelude.{◌⊎◌}
+use Rattle.std.specs.List.{AllByRecursion, Contains}
+use Rattle.std.proofs.lemmas.Bool.{cases_Bool, cases_eq}
+use Rattle.std.proofs.lemmas.List.Elements.{Contains-append_cases, Contains-append_left, Contains-append_right}
+use Rattle.waits.specs.Jobs.{Queue, without_session as without_jobs_of}
+use Rattle.server_rules.specs.Server.{Name, Session, is_named, name_of, without_session}
+use Rattle.session_moves.specs.Table as moves
+use Rattle.session_moves.specs.Table.Status.{Unmade, Standing, Lost}
+use Rattle.session_moves.specs.World.{World}
+use Rattle.session_moves.specs.Move.Move.{Lose}
+use Rattle.session_moves.specs.After.{after}
+use Rattle.session_moves.specs.Reached.{Reached}
+use Rattle.world_servers.specs.Leading.{Leads}
+use Rattle.world_servers.specs.Servers.{AreApart, IsJobThere, IsLost, IsOneOf, IsReplyThere, IsStanding, ServerStands, WasAnswered}
+use Rattle.world_servers.proofs.Lists.{all_append, all_of, each_of, filtered_in, filtered_out, from_filter, here, kept_in, later, map_all}
+use Rattle.world_servers.proofs.Leading.{GoOn, goes_on, leads_so, moves_once, stays}
+use Rattle.world_servers.proofs.Others.{job_left, lost_left, one_of_number, standing_left, two_uniques}
+
+pub append_nothing : {X : Type 0} (xs : List X) → xs ++ [] ≡ xs
+append_nothing [] = refl
+append_nothing (x ∷ xs) = ap (λ (l : List _). x ∷ l) (append_nothing xs)
+
+pub append_one : {X : Type 0} (xs : List X) (x : X) (ys : List X) → (xs ++ x ∷ []) ++ ys ≡ xs ++ x ∷ ys
+append_one [] x ys = refl
+append_one (y ∷ xs) x ys = ap (λ (l : List _). y ∷ l) (append_one xs x ys)
+
+-- ---- names
+
+pub and_right : (a b : Bool) → (a && b) ≡ true → b ≡ true
+and_right true b is = is
+and_right false b is = absurd (cc)
+
+pub eq_true : (a b : ℕ) → (a == b) ≡ true → a ≡ b
+eq_true a b is =
+    elim (cases_eq a b) [
+      | inl same ↦ same
+      | inr differs ↦ let e : false ≡ true = sym (ne_eqb a b differs) ∙ is in absurd (cc)
+    ]
+
+pub number_of_named : (name : Name) (session : Session) → is_named name session ≡ true → name.session ≡ session.number
+number_of_named name session is = eq_true name.session session.number (and_right (name.key == session.key) (name.session == session.number) is)
+
+not_true : (b : Bool) → not b ≡ true → b ≡ false
+not_true true is = absurd (cc)
+not_true false is = refl
+
+-- one of these has the name, or none
+find_named : (name : Name) (sessions : List Session)
+    → AllByRecursion (λ (s : Session). is_named name s ≡ false) sessions ⊎ ((x : Session) × Contains sessions x × (is_named name x ≡ true))
+find_named name [] = inl tt
+find_named name (s ∷ sessions) =
+    elim (cases_Bool (is_named name s)) [
+      | inl is ↦ inr (s, here s sessions, is)
+      | inr not ↦
+          elim (find_named name sessions) [
+            | inl none ↦ inl (not, none)
+            | inr some ↦ inr (some.0, later some.0 s sessions some.1, some.2)
+          ]
+    ]
+
+filter_apart : (test : Session → Bool) (sessions : List Session) → AreApart sessions → AreApart (filter test sessions)
+filter_apart test [] h = tt
+filter_apart test (s ∷ sessions) h =
+    elim (cases_Bool (test s)) [
+      | inl is ↦
+          rw is (
+            all_of (λ (o : Session). o.number ≢ s.number) (filter test sessions)
+                (λ o among. each_of (λ (o : Session). o.number ≢ s.number) sessions h.0 o (from_filter test sessions o among).0),
+            filter_apart test sessions h.1,
+          )
+      | inr not ↦ rw not (filter_apart test sessions h.1)
+    ]
+
+pub standing_is_not_lost : (at : ℕ) → Lost at ≡ Standing → ⊥
+standing_is_not_lost at is = cc
+
+module _ (w : World) (lost sessions : List Session) (jobs : Queue) (name : Name) (s : ServerStands w lost sessions jobs) where
+  abbrev pub WithoutIt : World → Type 0
+  WithoutIt later =
+      ServerStands later (lost ++ filter (is_named name) sessions) (without_session name sessions) (without_jobs_of name.key name.session jobs)
+
+  -- all others are left
+  module _ (v : World) (same : (x : Session) → Contains sessions x → is_named name x ≡ false → v.servers x.unique ≡ w.servers x.unique)
+      (entries : v.entries ≡ w.entries) (ups : v.ups ≡ w.ups)
+      (gone : AllByRecursion (IsLost v) lost) (now : (x : Session) → Contains sessions x → is_named name x ≡ true → IsLost v x)
+      (made : (unique : ℕ) → (v.servers unique).status ≢ Unmade → (w.servers unique).status ≢ Unmade) where
+    replies_left : (x : Session) → IsStanding w x → AllByRecursion (IsReplyThere v x) x.replies
+    replies_left x h = map_all (IsReplyThere w x) (IsReplyThere v x) x.replies (λ reply among r. rw (entries, ups) r) h.replies
+
+    stands_left : (x : Session) → Contains sessions x → is_named name x ≡ false → IsStanding v x
+    stands_left x among not =
+        let h : IsStanding w x = each_of (IsStanding w) sessions s.standing x among in
+        standing_left w v x (same x among not) (replies_left x h)
+        (subst (λ (l : List moves.Entry). AllByRecursion (λ (entry : moves.Entry). entry.server ≡ x.unique → WasAnswered entry.number x.replies) l) (sym entries) h.entries) h
+
+    works_left : (x : Session) → Contains sessions x → is_named name x ≡ false → AllByRecursion (IsJobThere v x) (without_jobs_of name.key name.session jobs)
+    works_left x among not =
+        let its : AllByRecursion (IsJobThere w x) jobs = each_of (λ (x : Session). AllByRecursion (IsJobThere w x) jobs) sessions s.working x among in
+        all_of (IsJobThere v x) (without_jobs_of name.key name.session jobs)
+        (λ one is. job_left w v x (same x among not) one
+        (each_of (IsJobThere w x) jobs its one (from_filter _ jobs one is).0))
+
+    stay : (x : Session) → Contains (without_session name sessions) x → Contains sessions x × (is_named name x ≡ false)
+    stay x among = let f = from_filter (λ (x : Session). not (is_named name x)) sessions x among in (f.0, not_true (is_named name x) f.1)
+
+    only_left : (unique : ℕ) → IsOneOf unique (lost ++ sessions) → IsOneOf unique ((lost ++ filter (is_named name) sessions) ++ without_session name sessions)
+    only_left unique one =
+        elim (Contains-append_cases lost sessions one.0 one.1) [
+          | inl was ↦ (
+            one.0,
+            Contains-append_left (lost ++ filter (is_named name) sessions) (without_session name sessions) one.0
+                (Contains-append_left lost (filter (is_named name) sessions) one.0 was),
+            one.2,
+          )
+          | inr among ↦
+              elim (cases_Bool (is_named name one.0)) [
+                | inl is ↦ (
+                  one.0,
+                  Contains-append_left (lost ++ filter (is_named name) sessions) (without_session name sessions) one.0
+                      (Contains-append_right lost (filter (is_named name) sessions) one.0 (kept_in (is_named name) sessions one.0 among is)),
+                  one.2,
+                )
+                | inr not_so ↦ (
+                  one.0,
+                  Contains-append_right (lost ++ filter (is_named name) sessions) (without_session name sessions) one.0
+                      (kept_in (λ (x : Session). not (is_named name x)) sessions one.0 among (ap not not_so)),
+                  one.2,
+                )
+              ]
+        ]
+
+    without_it : WithoutIt v
+    without_it = record {
+      standing = all_of (IsStanding v) (without_session name sessions) (λ x among. let f = stay x among in stands_left x f.0 f.1);
+      working = all_of (λ (x : Session). AllByRecursion (IsJobThere v x) (without_jobs_of name.key name.session jobs)) (without_session name sessions)
+          (λ x among. let f = stay x among in works_left x f.0 f.1);
+      gone = all_append (IsLost v) lost (filter (is_named name) sessions) gone
+          (all_of (IsLost v) (filter (is_named name) sessions) (λ x among. let f = from_filter (is_named name) sessions x among in now x f.0 f.1));
+      apart = filter_apart (λ (x : Session). not (is_named name x)) sessions s.apart;
+      only = λ unique is. only_left unique (s.only unique (made unique is));
+      entered = subst (λ (l : List moves.Entry). AllByRecursion (λ (entry : moves.Entry). IsOneOf entry.server ((lost ++ filter (is_named name) sessions) ++ without_session name sessions)) l) (sym entries)
+          (map_all (λ (entry : moves.Entry). IsOneOf entry.server (lost ++ sessions)) (λ (entry : moves.Entry). IsOneOf entry.server ((lost ++ filter (is_named name) sessions) ++ without_session name sessions)) w.entries
+          (λ entry among one. only_left entry.server one) s.entered);
+    }
+
+  -- one has the name
+  module _ (x : Session) (among : Contains sessions x) (is : is_named name x ≡ true) where
+    abbrev v : World
+    v = after w (Lose x.unique)
+
+    its : IsStanding w x
+    its = each_of (IsStanding w) sessions s.standing x among
+
+    other_left : (other : ℕ) → other ≢ x.unique → v.servers other ≡ w.servers other
+    other_left other differs = rw (ne_eqb other x.unique differs) refl
+
+    others_differ : (o : Session) → Contains sessions o → is_named name o ≡ false → o.unique ≢ x.unique
+    others_differ o among_too not_so =
+        two_uniques w o x (each_of (IsStanding w) sessions s.standing o among_too).made its.made
+        (λ same. let one : o ≡ x = one_of_number sessions s.apart o x among_too among same in
+        let e : false ≡ true = sym not_so ∙ ap (λ (z : Session). is_named name z) one ∙ is in absurd (cc))
+
+    lost_differ : (o : Session) → IsLost w o → o.unique ≢ x.unique
+    lost_differ o h same = standing_is_not_lost h.at (sym h.lost ∙ ap (λ (unique : ℕ). (w.servers unique).status) same ∙ its.stands)
+
+    is_lost : IsLost v x
+    is_lost = record {
+      made = record { number = its.made.number; salts = its.made.salts; forgotten = its.made.forgotten };
+      at = w.time;
+      lost = rw (eq-eqb x.unique x.unique refl) refl;
+    }
+
+    lost_now : (o : Session) → Contains sessions o → is_named name o ≡ true → IsLost v o
+    lost_now o among_too also =
+        subst (λ (z : Session). IsLost v z)
+        (sym (one_of_number sessions s.apart o x among_too among (sym (number_of_named name o also) ∙ number_of_named name x is))) is_lost
+
+    was_made : (unique : ℕ) → (v.servers unique).status ≢ Unmade → (w.servers unique).status ≢ Unmade
+    was_made unique h none =
+        elim (cases_eq unique x.unique) [
+          | inl same ↦
+              let e : Unmade ≡ Standing = sym none ∙ ap (λ (unique : ℕ). (w.servers unique).status) same ∙ its.stands in absurd (cc)
+          | inr differs ↦ h (ap (λ (one : moves.ServerSession). one.status) (other_left unique differs) ∙ none)
+        ]
+
+    loses_it : Leads w WithoutIt
+    loses_it =
+        moves_once w WithoutIt x.unique (Lose x.unique) its.stands refl
+        (without_it v (λ o among_too not_so. other_left o.unique (others_differ o among_too not_so)) refl refl
+        (map_all (IsLost w) (IsLost v) lost (λ o among_too h. lost_left w v o (other_left o.unique (lost_differ o h)) h) s.gone)
+        lost_now was_made)
+
+  -- none has
+  loses_none : AllByRecursion (λ (x : Session). is_named name x ≡ false) sessions → Leads w WithoutIt
+  loses_none none =
+      stays w WithoutIt (without_it w (λ x among not_so. refl) refl refl s.gone
+      (λ x among is. let e : false ≡ true = sym (each_of (λ (x : Session). is_named name x ≡ false) sessions none x among) ∙ is in absurd (cc))
+      (λ unique h. h))
+
+  pub loses : Leads w WithoutIt
+  loses =
+      elim (find_named name sessions) [
+        | inl none ↦ loses_none none
+        | inr some ↦ loses_it some.0 some.1 some.2
+      ]
+
+-- ---- all are lost
+
+pub named_itself : (x : Session) → is_named (name_of x) x ≡ true
+named_itself x = rw (eq-eqb x.key x.key refl, eq-eqb x.number x.number refl) refl
+
+pub named_no_other : (x o : Session) → o.number ≢ x.number → is_named (name_of x) o ≡ false
+named_no_other x o differs =
+    elim (cases_Bool (is_named (name_of x) o)) [
+      | inl is ↦ absurd (differs (sym (number_of_named (name_of x) o is)))
+      | inr not_so ↦ not_so
+    ]
+
+first_named : (x : Session) (sessions : List Session) → AllByRecursion (λ (o : Session). o.number ≢ x.number) sessions
+    → filter (is_named (name_of x)) (x ∷ sessions) ≡ x ∷ []
+first_named x sessions h =
+    rw (named_itself x)
+    (ap (λ (l : List Session). x ∷ l) (filtered_out (is_named (name_of x)) sessions
+    (map_all (λ (o : Session). o.number ≢ x.number) (λ (o : Session). is_named (name_of x) o ≡ false) sessions (λ o among differs. named_no_other x o differs) h)))
+
+others_named : (x : Session) (sessions : List Session) → AllByRecursion (λ (o : Session). o.number ≢ x.number) sessions
+    → without_session (name_of x) (x ∷ sessions) ≡ sessions
+others_named x sessions h =
+    rw (named_itself x)
+    (filtered_in (λ (o : Session). not (is_named (name_of x) o)) sessions
+    (map_all (λ (o : Session). o.number ≢ x.number) (λ (o : Session). not (is_named (name_of x) o) ≡ true) sessions
+    (λ o among differs. ap not (named_no_other x o differs)) h))
+
+pub loses_all : GoOn → (w : World) (lost sessions : List Session) (jobs : Queue) → Reached w → ServerStands w lost sessions jobs
+    → Leads w (λ later. ServerStands later (lost ++ sessions) [] [])
+loses_all on w lost [] jobs reached s =
+    stays w (λ later. ServerStands later (lost ++ []) [] [])
+    (record {
+      standing = tt;
+      working = tt;
+      gone = subst (λ (l : List Session). AllByRecursion (IsLost w) l) (sym (append_nothing lost)) s.gone;
+      apart = tt;
+      only = λ unique is. subst (λ (l : List Session). IsOneOf unique l) (sym (append_nothing (lost ++ []))) (s.only unique is);
+      entered = subst (λ (l : List Session). AllByRecursion (λ (entry : moves.Entry). IsOneOf entry.server l) w.entries) (sym (append_nothing (lost ++ []))) s.entered;
+    })
+loses_all on w lost (x ∷ sessions) jobs reached s =
+    let jobs_left : Queue = without_jobs_of x.key x.number jobs in
+    goes_on on w (λ later. ServerStands later (lost ++ filter (is_named (name_of x)) (x ∷ sessions)) (without_session (name_of x) (x ∷ sessions)) jobs_left)
+    (λ later. ServerStands later (lost ++ x ∷ sessions) [] []) reached
+    (loses w lost (x ∷ sessions) jobs (name_of x) s)
+    (λ later reached h.
+    let one : ServerStands later (lost ++ x ∷ []) (without_session (name_of x) (x ∷ sessions)) jobs_left =
+    subst (λ (l : List Session). ServerStands later (lost ++ l) (without_session (name_of x) (x ∷ sessions)) jobs_left) (first_named x sessions s.apart.0) h in
+    let other : ServerStands later (lost ++ x ∷ []) sessions jobs_left =
+    subst (λ (l : List Session). ServerStands later (lost ++ x ∷ []) l jobs_left) (others_named x sessions s.apart.0) one in
+    leads_so later (λ last. ServerStands last ((lost ++ x ∷ []) ++ sessions) [] []) (λ last. ServerStands last (lost ++ x ∷ sessions) [] [])
+    (λ last h. subst (λ (l : List Session). ServerStands last l [] []) (append_one lost x sessions) h)
+    (loses_all on later (lost ++ x ∷ []) sessions jobs_left reached other))

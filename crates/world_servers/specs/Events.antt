@@ -1,0 +1,53 @@
+-- An event of a server as it is so far, as it stands in a world of the law on moves.
+use Rattle.std.specs.Prelude.{◌≡◌, ⊤, true, List, [], ◌∷◌, ◌++◌, map}
+use Rattle.std.specs.List.{AllByRecursion, flat_map}
+use Rattle.salt_line.specs.Rows.{Row}
+use Rattle.salt_line.specs.Line.{Line}
+use Rattle.waits.specs.declared.job.Job.{Job}
+use Rattle.waits.specs.declared.job.Unfinished.{Unfinished}
+use Rattle.waits.specs.Jobs.{Queue, is_of}
+use Rattle.server_rules.specs.Server.{Name, Session, name_of}
+use Rattle.server_rules.specs.Event.{State}
+use Rattle.session_moves.specs.World.{World}
+use Rattle.world_servers.specs.Servers.{AreNewSalts, ServerStands}
+use Rattle.world_servers.specs.Speaking.{IsOpen, IsOwedThere, with_line}
+
+-- each session with the line of salts that it has, by its name, at the event's end
+abbrev pub with_lines : (Name → Line) → List Session → List Session
+with_lines lines sessions = map (λ session. with_line (lines (name_of session)) session) sessions
+
+-- The server stands there with the sessions and jobs that the event has so far, and each session can say what it owes.
+pub record EventStands {S : Type 0} (w : World) (gone : List Session) (lines : Name → Line) (state : State S) : Type 0 where
+  pub stands : ServerStands w gone (with_lines lines state.sessions) state.jobs
+  pub owed : AllByRecursion (λ session. AllByRecursion (IsOwedThere w session) state.owed) (with_lines lines state.sessions)
+
+-- ---- jobs
+
+-- each job of the session's has no reply
+abbrev pub AreUnanswered : Queue → Session → Type 0
+AreUnanswered jobs session =
+    AllByRecursion (λ (one : Unfinished). is_of session.key session.number one ≡ true → IsOpen one.job.number session.replies) jobs
+
+-- a job is the same call as another
+abbrev pub IsSameCall : Job → Unfinished → Type 0
+IsSameCall job other = (job.key ≡ other.job.key) × (job.session ≡ other.job.session) × (job.number ≡ other.job.number)
+
+abbrev pub IsNoneOf : Queue → Job → Type 0
+IsNoneOf jobs job = AllByRecursion (λ other. IsSameCall job other → ⊥) jobs
+
+abbrev pub AreCallsApart : Queue → Type 0
+AreCallsApart [] = ⊤
+AreCallsApart (one ∷ jobs) = IsNoneOf jobs one.job × AreCallsApart jobs
+
+-- no job is answered, and no two are one call
+pub record AreOpenJobs (sessions : List Session) (jobs : Queue) : Type 0 where
+  pub unanswered : AllByRecursion (AreUnanswered jobs) sessions
+  pub apart : AreCallsApart jobs
+
+-- ---- salts
+
+-- What each session draws in an event, by its name: its line has these rows more at the event's end. All their words are
+-- new ones, and differ.
+pub record AreLines (w : World) (lines : Name → Line) (more : Name → List Row) (sessions : List Session) : Type 0 where
+  pub ahead : AllByRecursion (λ session. lines (name_of session) ≡ record session.salts { rows = session.salts.rows ++ more (name_of session) }) sessions
+  pub new : AreNewSalts w (flat_map (λ session. more (name_of session)) sessions)

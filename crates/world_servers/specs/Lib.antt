@@ -1,0 +1,5 @@
+pub mod Leading
+pub mod Servers
+pub mod Speaking
+pub mod Events
+pub mod Sending

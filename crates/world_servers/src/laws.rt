@@ -1,0 +1,278 @@
+//! Laws of a server's events and moves, each the contract of a function that does nothing.
+
+ghost use Rattle.std.specs.Prelude.{Bool, ◌==◌, if◌then◌else◌, filter_map, map, ◌++◌, ◌≡◌, ◌≢◌, ◌∷◌, ◌⊎◌, ℕ, false, true, List, [], Some, filter};
+ghost use Rattle.std.specs.List.{All, AllByRecursion, Contains, zip};
+ghost use Rattle.salt_line.specs.Rows.{Row};
+ghost use Rattle.service_tl.specs.declared.lists.Message.{Message as Said};
+ghost use Rattle.id_window.specs.History.{EachOnce, History, Outcome, noted};
+ghost use Rattle.inbox.specs.Refusals.{InEnvelope};
+ghost use Rattle.inbox.specs.Judging.{judgements, session_after};
+ghost use Rattle.waits.specs.declared.job.Job.{Job};
+ghost use Rattle.waits.specs.declared.job.Unfinished.{Unfinished};
+ghost use Rattle.waits.specs.Jobs.{Queue, ready_job, accepted, is_of, without_first, without_ready, without_session as without_jobs_of};
+ghost use Rattle.server_rules.specs.Server.{Name, Reply, Server, Session, has_accepted, is_named, remembered, session_named, with_session, without_session};
+ghost use Rattle.server_rules.specs.Event.{Setting, Speaker, State, lost, speaker_in, speaks};
+ghost use Rattle.server_laws.specs.Speech.{SaidFor};
+ghost use Rattle.server_rules.specs.Rows.{acked_by, owes};
+ghost use Rattle.server_rules.specs.Speaking.{dropped, made_room};
+ghost use Rattle.server_rules.specs.Waiting.{Outlook, gives_up, told};
+ghost use Rattle.server_rules.specs.Answer.{after_loss, after_restart, attaches, begun, finishes, messages_judged, opens, runs, ticks};
+ghost use Rattle.server_lives.specs.Lives.{acceptance_of};
+ghost use Rattle.session_moves.specs.Table as moves;
+ghost use Rattle.session_moves.specs.Table.{Message};
+ghost use Rattle.session_moves.specs.Table.Outcome.{AcceptedCall};
+ghost use Rattle.session_moves.specs.Table.Status.{Unmade};
+ghost use Rattle.session_moves.specs.Lawful.{BeginsNew, MayDecide, WasNoCall};
+ghost use Rattle.session_moves.specs.World.{Owns, WasGiven, World};
+ghost use Rattle.session_moves.specs.Move.{Move};
+ghost use Rattle.session_moves.specs.Extends.{IsOfClient};
+ghost use Rattle.session_moves.specs.Reached.{AreLawful, Reached, after_all};
+ghost use Rattle.world_servers.specs.Leading.{Leads};
+ghost use Rattle.salt_line.specs.Line.{Line};
+ghost use Rattle.inbox.specs.declared.judged.Judgement.{Judgement};
+ghost use Rattle.inbox.specs.declared.judged.Verdict.{Verdict};
+ghost use Rattle.packing.specs.Packing.{groups};
+ghost use Rattle.server_rules.specs.Sending.{sends};
+ghost use Rattle.world_servers.specs.Sending.{IsSpoken, MayGo};
+ghost use Rattle.world_servers.specs.Events.{AreLines, AreOpenJobs, EventStands, with_lines};
+ghost use Rattle.server_laws.specs.Order.{AreOrdered};
+ghost use Rattle.world_servers.specs.Speaking.{IsDue, IsOpen, IsSaid, IsWithin, SpeaksThere, with_line};
+ghost use Rattle.world_servers.specs.Servers.{AsksThere, AreNewSalts, CanSay, GoOn, HasForgotten, IsAcceptedThere, IsJobOf, IsNewSalt, IsSuch, IsUp, ServerStands, WasAnswered, WasJudged, with_history, with_replies, with_row, with_rows};
+
+use draws::Draw;
+use id_window::laws::others_are_not_above_the_floor;
+use server_laws::laws::{floors_never_fall, marks_are_of_replies};
+use session_moves::laws::{
+    moves_go_on, moves_leave, moves_only_add, numbers_are_given_once, what_was_not_made_is_blank,
+};
+
+/// The session of a name is lost with its jobs by a lawful move, where there is one, and all are by a restart.
+pub fn sessions_are_lost()
+    ensures one { (w : World) (lost sessions : List Session) (jobs : Queue) (name : Name) → ServerStands w lost sessions jobs
+        → Leads w (λ later. ServerStands later (lost ++ filter (is_named name) sessions) (without_session name sessions) (without_jobs_of name.key name.session jobs)) }
+    ensures loss { (w : World) (lost : List Session) (server : Server) (name : Name) → ServerStands w lost server.sessions server.jobs
+        → Leads w (λ later. ServerStands later (lost ++ filter (is_named name) server.sessions) (after_loss name server).sessions (after_loss name server).jobs) }
+    ensures restart { (w : World) (lost : List Session) (server : Server) → Reached w → ServerStands w lost server.sessions server.jobs
+        → Leads w (λ later. ServerStands later (lost ++ server.sessions) (after_restart server).sessions (after_restart server).jobs) }
+    ensures all { (w : World) (lost sessions : List Session) (jobs : Queue) → Reached w → ServerStands w lost sessions jobs
+        → Leads w (λ later. ServerStands later (lost ++ sessions) [] []) }
+{
+    moves_go_on();
+}
+
+/// A server stands still while a client moves.
+pub fn servers_stand_still()
+    ensures { (w : World) (client : ℕ) (list : List Move) (lost sessions : List Session) (jobs : Queue) → AreLawful w list
+        → All (IsOfClient client) list → ServerStands w lost sessions jobs → ServerStands (after_all w list) lost sessions jobs }
+{
+    moves_leave();
+    moves_only_add();
+}
+
+/// A session that needs further rows of salts draws their words by lawful moves, where they are new ones.
+pub fn salts_are_drawn_by_moves()
+    ensures all { (w : World) (lost sessions : List Session) (jobs : Queue) (session : Session) (rows : List Row) → Reached w → ServerStands w lost sessions jobs
+        → Contains sessions session → AreNewSalts w rows → Leads w (λ later. ServerStands later lost (with_session (with_rows rows session) sessions) jobs) }
+    ensures one { (w : World) (lost sessions : List Session) (jobs : Queue) (session : Session) (row : Row) → ServerStands w lost sessions jobs
+        → Contains sessions session → IsNewSalt w row.word → Leads w (λ later. ServerStands later lost (with_session (with_row row session) sessions) jobs) }
+{
+    moves_go_on();
+}
+
+/// A number that wasn't judged is judged by a lawful move, where a message of that number was sent under the session's number
+/// and may have that outcome.
+pub fn messages_are_judged_by_moves()
+    ensures { (w : World) (lost sessions : List Session) (jobs : Queue) (session : Session) (number seq : ℕ) (outcome : Outcome) (message : Message) (there : moves.Outcome)
+        → ServerStands w lost sessions jobs → Contains sessions session
+        → Contains w.ups message → message.session ≡ session.number → message.number ≡ number → (WasJudged number session.history → ⊥)
+        → IsSuch outcome there → MayDecide (w.servers session.unique) message there
+        → Leads w (λ later. ServerStands later lost (with_session (with_history (noted number seq outcome session.history) session) sessions) jobs
+        × Contains (later.servers session.unique).judged (record { number = number; outcome = there })) }
+{
+    floors_never_fall();
+}
+
+/// A session is made by lawful moves under a new unique number, for a session number of some client under which none stands,
+/// and draws its first salt.
+pub fn sessions_are_made_by_moves()
+    ensures { (w : World) (lost sessions : List Session) (jobs : Queue) (session : Session) (row : Row) → Reached w → ServerStands w lost sessions jobs
+        → session.salts.rows ≡ [] → session.history ≡ [] → session.replies ≡ []
+        → session.unique ≢ 0 → (w.servers session.unique).status ≡ Unmade → IsNewSalt w row.word
+        → ((client : ℕ) × Owns (w.clients client) session.number)
+        → AllByRecursion (λ other. other.number ≢ session.number) sessions
+        → AllByRecursion (λ one. is_of session.key session.number one ≡ false) jobs
+        → Leads w (λ later. ServerStands later lost (sessions ++ with_row row session ∷ []) jobs) }
+{
+    moves_go_on();
+    what_was_not_made_is_blank();
+}
+
+/// A call that was accepted and has no reply is answered by a lawful move, which makes its entry; the reply to a message that
+/// is no call is no move, and nor is what becomes of replies and jobs later.
+pub fn calls_are_answered_by_moves()
+    ensures called { (w : World) (lost sessions : List Session) (jobs : Queue) (session : Session) (reply : Reply) (request : List ℕ)
+        → ServerStands w lost sessions jobs → Contains sessions session
+        → Contains (w.servers session.unique).judged (record { number = reply.call; outcome = AcceptedCall request })
+        → (WasAnswered reply.call session.replies → ⊥)
+        → Leads w (λ later. ServerStands later lost (with_session (with_replies (session.replies ++ reply ∷ []) session) sessions) jobs) }
+    ensures uncalled { (w : World) (lost sessions : List Session) (jobs : Queue) (session : Session) (reply : Reply)
+        → ServerStands w lost sessions jobs → Contains sessions session → WasNoCall w.ups session.number reply.call
+        → ServerStands w lost (with_session (with_replies (session.replies ++ reply ∷ []) session) sessions) jobs }
+    ensures fated { (w : World) (lost sessions : List Session) (jobs : Queue) (session : Session) (replies : List Reply)
+        → ServerStands w lost sessions jobs → Contains sessions session → GoOn session.replies replies
+        → ServerStands w lost (with_session (with_replies replies session) sessions) jobs }
+    ensures accepted { (w : World) (lost sessions : List Session) (jobs : Queue) (session : Session) (job : Job)
+        → ServerStands w lost sessions jobs → Contains sessions session → job.session ≡ session.number
+        → Contains (w.servers session.unique).judged (record { number = job.number; outcome = AcceptedCall job.request })
+        → ServerStands w lost sessions (accepted job jobs) }
+    ensures jobs { (w : World) (lost sessions : List Session) (jobs later : Queue) → ServerStands w lost sessions jobs
+        → AllByRecursion (IsJobOf jobs) later → ServerStands w lost sessions later }
+{}
+
+/// A number that a session has forgotten, for it isn't above the floor or its reply was dropped, is forgotten by a lawful
+/// move, where it isn't above all that were given under the session's number.
+pub fn numbers_are_forgotten_by_moves()
+    ensures { (w : World) (lost sessions : List Session) (jobs : Queue) (session : Session) (number : ℕ)
+        → ServerStands w lost sessions jobs → Contains sessions session → WasGiven w.ups session.number number → HasForgotten number session
+        → Leads w (λ later. ServerStands later lost sessions jobs × Contains (later.servers session.unique).forgotten number) }
+{}
+
+/// A session speaks by a lawful move: it says what it can by its own salts, replies and judgements, and while it has accepted
+/// nothing its `new_session_created` first.
+pub fn sessions_speak_by_moves()
+    ensures { (w : World) (lost sessions : List Session) (jobs : Queue) (session : Session) (items : List moves.Item) → Reached w
+        → ServerStands w lost sessions jobs → Contains sessions session → AllByRecursion (CanSay w session) items
+        → (has_accepted session ≡ true) ⊎ BeginsNew items
+        → Leads w (λ later. ServerStands later lost sessions jobs × Contains later.downs (record { server = session.unique; items = items })) }
+{
+    numbers_are_given_once();
+}
+
+/// A packet's messages are judged by lawful moves of its session, where each was sent under the packet's session number and
+/// salt, as the call that its body asks for, or as none. What is accepted is that call there, or no call.
+pub fn packets_are_judged_by_moves()
+    ensures { (w : World) (lost sessions : List Session) (jobs : Queue) (session : Session) (now salt : ℕ) (message : Said) → Reached w
+        → ServerStands w lost sessions jobs → Contains sessions session → EachOnce session.history
+        → AllByRecursion (IsUp w.ups session.number salt) (messages_judged (InEnvelope now session.salts salt) session message)
+        → Leads w (λ later. ServerStands later lost
+        (with_session (with_history (session_after (InEnvelope now session.salts salt) (remembered session) message).history session) sessions) jobs
+        × AllByRecursion (IsAcceptedThere later session) (filter_map acceptance_of
+        (zip (judgements (InEnvelope now session.salts salt) (remembered session) message)
+        (map (λ one. one.body) (messages_judged (InEnvelope now session.salts salt) session message))))) }
+{
+    floors_never_fall();
+    marks_are_of_replies();
+    others_are_not_above_the_floor();
+    moves_go_on();
+    moves_only_add();
+}
+
+/// What becomes of replies in an event leaves each what it is: room is made, receipts are taken, one is dropped.
+pub fn replies_go_on()
+    ensures room { (bytes : ℕ) (replies : List Reply) → GoOn replies (made_room bytes replies) }
+    ensures acked { (numbers : List ℕ) (replies : List Reply) → GoOn replies (map (acked_by numbers) replies) }
+    ensures dropped { (number : ℕ) (replies : List Reply) → GoOn replies (map (λ other. if other.number == number then dropped other else other) replies) }
+{}
+
+/// What becomes of jobs in an event leaves each the call that it is: one is taken out, they are told of a number, those of a
+/// session go.
+pub fn jobs_go_on()
+    ensures first { (test : Unfinished → Bool) (jobs : Queue) → AllByRecursion (IsJobOf jobs) (without_first test jobs) }
+    ensures ready { (place : ℕ) (jobs : Queue) → AllByRecursion (IsJobOf jobs) (without_ready place jobs) }
+    ensures told { (outlook : Outlook) (session : Session) (number : ℕ) (jobs : Queue) → AllByRecursion (IsJobOf jobs) (told outlook session number jobs) }
+    ensures session { (key number : ℕ) (jobs : Queue) → AllByRecursion (IsJobOf jobs) (without_jobs_of key number jobs) }
+{}
+
+/// What a session says and answers within an event is said and answered by lawful moves, and all that it owes then it can
+/// say: the row of a judgement, a job that has run or is given up, an attach, and what a packet opens with.
+pub fn rows_are_moves<D: Draw>()
+    ensures row { (w : World) (lost sessions : List Session) (line : Line) (setting : Setting D) (number seq : ℕ) (verdict : Verdict) (body : List ℕ) (speaker : Speaker D)
+        → SpeaksThere w lost sessions line speaker → IsDue w speaker.session speaker.jobs number verdict body
+        → IsWithin line (owes setting number seq verdict body speaker).session
+        → Leads w (λ later. SpeaksThere later lost sessions line (owes setting number seq verdict body speaker)) }
+    ensures finishes { (w : World) (lost sessions : List Session) (line : Line) (setting : Setting D) (job : Job) (reply : List ℕ) (speaker : Speaker D)
+        → SpeaksThere w lost sessions line speaker → AsksThere w speaker.session job.number (Some job.request) → IsOpen job.number speaker.session.replies
+        → Leads w (λ later. SpeaksThere later lost sessions line (finishes setting job reply speaker)) }
+    ensures gives_up { (w : World) (lost sessions : List Session) (line : Line) (setting : Setting D) (content : List ℕ) (job : Job) (speaker : Speaker D)
+        → SpeaksThere w lost sessions line speaker → AsksThere w speaker.session job.number (Some job.request) → IsOpen job.number speaker.session.replies
+        → Leads w (λ later. SpeaksThere later lost sessions line (gives_up setting content job speaker)) }
+    ensures attaches { (w : World) (lost sessions : List Session) (line : Line) (setting : Setting D) (speaker : Speaker D)
+        → SpeaksThere w lost sessions line speaker → IsWithin line (attaches setting speaker).session
+        → SpeaksThere w lost sessions line (attaches setting speaker) }
+    ensures opens { (w : World) (lost sessions : List Session) (line : Line) (setting : Setting D) (history : History) (judged : List Judgement) (speaker : Speaker D)
+        → SpeaksThere w lost sessions line (record speaker { session = record speaker.session { history = history } })
+        → IsWithin line (opens setting history judged speaker).session
+        → SpeaksThere w lost sessions line (opens setting history judged speaker) }
+{
+    moves_only_add();
+}
+
+/// Where the session of a name speaks by lawful moves, and for itself alone, an event in which it speaks so goes on by them,
+/// and each session can say what it owes then. One in which a session is lost goes on by a lawful move.
+pub fn events_go_on_by_moves<D: Draw>()
+    ensures speaks { (w : World) (gone : List Session) (lines : Name → Line) (state : State D) (name : Name) (speak : Speaker D → Speaker D) → EventStands w gone lines state
+        → ((session : Session) → session_named name state.sessions ≡ Some session
+        → SaidFor D (speaker_in state session) (speak (speaker_in state session))
+        × (SpeaksThere w gone (with_lines lines state.sessions) (lines name) (speaker_in state session)
+        → Leads w (λ later. SpeaksThere later gone (with_lines lines state.sessions) (lines name) (speak (speaker_in state session)))))
+        → Leads w (λ later. EventStands later gone lines (speaks name speak state)) }
+    ensures lost { (w : World) (gone : List Session) (lines : Name → Line) (state : State D) (name : Name) → EventStands w gone lines state
+        → Leads w (λ later. EventStands later (gone ++ filter (is_named name) (with_lines lines state.sessions)) lines (lost name state)) }
+{
+    moves_only_add();
+}
+
+/// What an event does before it sends, it does by lawful moves, and each session can say what it owes then: a job has run
+/// and those that fail by that are answered, a tick answers those that have waited too long, a connection is opened. No job
+/// is answered twice.
+pub fn works_are_moves<D: Draw>()
+    ensures runs { (w : World) (gone : List Session) (lines : Name → Line) (setting : Setting D) (state : State D) (place : ℕ) (job : Job) (reply : List ℕ) → Reached w
+        → EventStands w gone lines state → AreOpenJobs state.sessions state.jobs → ready_job place state.jobs ≡ Some job
+        → Leads w (λ later. EventStands later gone lines (runs setting place job reply state)
+        × AreOpenJobs (runs setting place job reply state).sessions (runs setting place job reply state).jobs) }
+    ensures ticks { (w : World) (gone : List Session) (lines : Name → Line) (setting : Setting D) (state : State D) → Reached w
+        → EventStands w gone lines state → AreOpenJobs state.sessions state.jobs
+        → Leads w (λ later. EventStands later gone lines (ticks setting state) × AreOpenJobs (ticks setting state).sessions (ticks setting state).jobs) }
+    ensures attaches { (w : World) (gone : List Session) (lines : Name → Line) (setting : Setting D) (state : State D) (name : Name)
+        → EventStands w gone lines state
+        → ((session : Session) → session_named name state.sessions ≡ Some session → IsWithin (lines name) (attaches setting (speaker_in state session)).session)
+        → Leads w (λ later. EventStands later gone lines (speaks name (attaches setting) state)) }
+    ensures work { (w : World) (gone : List Session) (lines : Name → Line) (more : Name → List Row) (setting : Setting D) (server : Server) (draw : D) (place : ℕ) (job : Job) (reply : List ℕ)
+        → Reached w → ServerStands w gone server.sessions server.jobs → AreOrdered server.sessions server.jobs → AreLines w lines more server.sessions
+        → ready_job place server.jobs ≡ Some job
+        → Leads w (λ later. EventStands later gone lines (runs setting place job reply (begun server draw))) }
+    ensures tick { (w : World) (gone : List Session) (lines : Name → Line) (more : Name → List Row) (setting : Setting D) (server : Server) (draw : D)
+        → Reached w → ServerStands w gone server.sessions server.jobs → AreOrdered server.sessions server.jobs → AreLines w lines more server.sessions
+        → Leads w (λ later. EventStands later gone lines (ticks setting (begun server draw))) }
+{
+    moves_only_add();
+    moves_go_on();
+    server_laws::laws::sessions_speak_for_themselves::<D>();
+}
+
+/// An event begins by drawing all the salts that it will draw, each by a lawful move, where their words are new. Where the
+/// server is in order, none of its jobs is answered.
+pub fn events_begin_by_moves<D: Draw>()
+    ensures salts { (w : World) (gone : List Session) (lines : Name → Line) (more : Name → List Row) (server : Server) (draw : D) → Reached w
+        → ServerStands w gone server.sessions server.jobs → AreLines w lines more server.sessions
+        → Leads w (λ later. EventStands later gone lines (begun server draw)) }
+    ensures jobs { (w : World) (gone sessions : List Session) (jobs : Queue) → ServerStands w gone sessions jobs → AreOrdered sessions jobs → AreOpenJobs sessions jobs }
+{
+    moves_go_on();
+}
+
+/// A session sends its messages by lawful moves, one for each packet: the items that the packet's messages spell go out
+/// there together. While the session has accepted nothing each packet begins with its `new_session_created`.
+pub fn messages_go_out_by_moves<D: Draw>()
+    ensures { (w : World) (gone sessions : List Session) (line : Line) (setting : Setting D) (messages : List Said) (speaker : Speaker D) → Reached w
+        → SpeaksThere w gone sessions line speaker
+        → AllByRecursion (IsSaid w (with_line line speaker.session)) messages
+        → AllByRecursion (MayGo (with_line line speaker.session)) (groups messages)
+        → Leads w (λ later. SpeaksThere later gone sessions line (sends setting messages speaker)
+        × AllByRecursion (IsSpoken later speaker.session.unique) (groups messages)) }
+{
+    moves_only_add();
+    moves_go_on();
+    numbers_are_given_once();
+    packing::laws::packets_have_all_messages();
+}
