@@ -1,6 +1,6 @@
 -- A binding is asked for, in a packet.
-use Rattle.std.proofs.Common.{◌≡◌, ◌∙◌, ℕ, Bool, true, false, List, [], ◌∷◌, ◌++◌, Option, Some, None, length, ap, refl, sym, subst, inl, inr, arith}
-use Rattle.std.specs.Prelude.{◌≢◌, ◌&&◌, if◌then◌else◌, option_map, IfSome}
+use Rattle.std.proofs.Common.{◌≡◌, ◌∙◌, ℕ, ◌≤◌, Bool, true, false, List, [], ◌∷◌, ◌++◌, Option, Some, None, length, ap, refl, sym, subst, inl, inr, arith}
+use Rattle.std.specs.Prelude.{◌≢◌, ◌&&◌, if◌then◌else◌, option_map, IfSome, IsSome}
 use Rattle.std.proofs.lemmas.Bool.{cases_Bool, true≢false}
 use Rattle.draws.specs.Draws.{draw_after, next_bytes, word_after}
 use Rattle.service_tl.specs.declared.lists.Message.{Message}
@@ -48,6 +48,11 @@ message_at setting temporary filling =
 abbrev goes_so_far : {S : Type 0} → Setting S → Temporary → Filling S → Filling S
 goes_so_far setting temporary filling =
     goes (message_at setting temporary filling) (asks_binding setting (message_at setting temporary filling)) filling
+
+-- a client that isn't open asks for none
+pub unopened : {S : Type 0} (setting : Setting S) (own : Option Temporary) (filling : Filling S) → is_open filling.client ≡ false → says_binding setting own filling ≡ filling
+unopened setting None filling closed = refl
+unopened setting (Some temporary) filling closed = both_closed (is_needed temporary.binding) (is_open filling.client) (goes_so_far setting temporary filling) filling closed
 
 some_not_none : {X : Type 0} (x : X) → Some x ≡ None → ⊥
 some_not_none x is = grind (arith, is)
@@ -136,3 +141,24 @@ pub unasked_draw : {S : Type 0} (core : Contents) (draft : Draft) (filling : Fil
     → Goes core draft filling → length message.body ≡ size → enters size draft ≡ false
     → (goes message leaves filling).draw ≡ filling.draw
 unasked_draw core draft filling message leaves size is sized fits = goes_out_keeps (λ (own : Filling _). own.draw) core draft filling message leaves size is sized fits refl
+
+-- the message that asks for a binding fits into a packet
+entry_short : {S : Type 0} (step : S → ℕ × S) (keys : List RingKey) (client : Client) (needed : Needed) (draw : S)
+    → ((key : List ℕ) (at : ℕ) (one : Client) (own : Needed) (first : S) → length (asked_message step key at one own first).body ≡ 132)
+    → (entry : Option RingKey) → entry_of needed.perm keys ≡ entry → IsSome entry → length (asking_message (setting_of step keys) client needed draw).body ≤ 1000000
+entry_short step keys client needed draw sizes None is there = absurd (true≢false (sym there))
+entry_short step keys client needed draw sizes (Some ring) is there =
+    omega (arith, ap (λ (own : Message). length own.body) (under_key step keys client needed draw ring.key ring.kind is), sizes ring.key (time_of client) client needed draw)
+
+if_short : (b : Bool) (needed : Needed) (P : Needed → Type 0) → P needed → IfSome (if b then Some needed else None) P
+if_short true needed P h = h
+if_short false needed P h = tt
+
+pub asked_short : {S : Type 0} (step : S → ℕ × S) (keys : List RingKey) (client : Client) (draw : S)
+    → ((key : List ℕ) (at : ℕ) (one : Client) (own : Needed) (first : S) → length (asked_message step key at one own first).body ≡ 132)
+    → (own : Option Temporary) → IfSome own (λ temporary. IsSome (entry_of temporary.perm keys))
+    → IfSome (needed_of own) (λ needed. length (asking_message (setting_of step keys) client needed draw).body ≤ 1000000)
+asked_short step keys client draw sizes None perm = tt
+asked_short step keys client draw sizes (Some temporary) perm =
+    if_short (is_needed temporary.binding) (needs temporary) (λ needed. length (asking_message (setting_of step keys) client needed draw).body ≤ 1000000)
+    (entry_short step keys client (needs temporary) draw sizes (entry_of temporary.perm keys) refl perm)

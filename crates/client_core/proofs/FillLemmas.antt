@@ -105,7 +105,7 @@ salts_keep tells stays None filling = refl
 salts_keep tells stays (Some count) filling =
     says_keeps tells true (GetFutureSalts count) (λ client. record client { waiting = record client.waiting { salts = None } }) filling stays
 
-keeps_if : {X Y : Type 0} (tells : X → Y) (b : Bool) (gone stays : X) → tells gone ≡ tells stays → tells (if b then gone else stays) ≡ tells stays
+pub keeps_if : {X Y : Type 0} (tells : X → Y) (b : Bool) (gone stays : X) → tells gone ≡ tells stays → tells (if b then gone else stays) ≡ tells stays
 keeps_if tells true gone stays left = left
 keeps_if tells false gone stays left = refl
 
@@ -247,7 +247,7 @@ call_at_draw : {S : Type 0} (call : CallNo) (own : Option Call) (filling : Filli
 call_at_draw call None filling = refl
 call_at_draw call (Some one) filling = turn_draw call one.body (turn_of filling.client one) filling
 
-stays_if : {X Y : Type 0} (tells : X → Y) (b : Bool) (stays gone : X) → tells gone ≡ tells stays → tells (if b then stays else gone) ≡ tells stays
+pub stays_if : {X Y : Type 0} (tells : X → Y) (b : Bool) (stays gone : X) → tells gone ≡ tells stays → tells (if b then stays else gone) ≡ tells stays
 stays_if tells true stays gone left = refl
 stays_if tells false stays gone left = left
 
@@ -256,7 +256,7 @@ call_draw filling call =
     let own = at call (calls_of filling.client) in
     stays_if (λ other. other.draw) filling.is_full filling (says_call_at call own filling) (call_at_draw call own filling)
 
-calls_draw : {S : Type 0} (filling : Filling S) (calls : List CallNo) → (fold says_call filling calls).draw ≡ filling.draw
+pub calls_draw : {S : Type 0} (filling : Filling S) (calls : List CallNo) → (fold says_call filling calls).draw ≡ filling.draw
 calls_draw filling [] = refl
 calls_draw filling (call ∷ calls) = calls_draw (says_call filling call) calls ∙ call_draw filling call
 

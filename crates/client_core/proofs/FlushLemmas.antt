@@ -9,7 +9,8 @@ use Rattle.service_tl.specs.declared.lists.Message.{Message}
 use Rattle.packing.specs.Packing.{packed}
 use Rattle.containers.specs.Container.{container_of}
 use Rattle.client_rules.specs.Client.{Asked, Client, after_message, at_moment, calls_of, numbered, with_binding, with_call}
-use Rattle.client_rules.specs.Filling.{Filling, fills}
+use Rattle.client_rules.specs.Filling.{Filling, empty, fills}
+use Rattle.client_core.specs.Draft.{Draft, Goes, nothing_yet}
 use Rattle.client_rules.specs.Sending.{Setting, draw_after_packet, packet_of}
 use Rattle.client_rules.specs.Flush.{Answer, Nothing, Spent, Sends, Flushed, Marked, again, binding_alone, filled, first_marked, flush, gone_again, has_any, is_due, remembers, remembers_lone, room_min, sends, unless_binding, unless_call}
 use Rattle.client_core.specs.Flushed.{Flushes, IsSealed, Sent, TellsFlush}
@@ -20,7 +21,7 @@ use Rattle.client_core.specs.Kept.{Contents, Stands}
 
 -- ---- which of the three
 
-abbrev picks : {S : Type 0} → Setting S → ℕ → Client → S → Filling S → Bool → Bool → Flushed S
+abbrev pub picks : {S : Type 0} → Setting S → ℕ → Client → S → Filling S → Bool → Bool → Flushed S
 picks setting now client draw filling any few =
     if any
     then (if few then record { answer = Spent; client = client; draw = draw } else sends setting filling.messages filling)
@@ -152,5 +153,55 @@ alone_sent setting lock keys now client after before message inner bytes core dr
     record {
       told = subst (λ own. TellsFlush lock keys own.answer (told.Packet bytes)) (sym same) sealed;
       leaves = subst (λ own. Stands core own.client × (draw ≡ own.draw)) (sym same) (stands, drawn);
+      cause = (due, few);
+    }
+
+-- ---- what waits and the queued calls
+
+-- nothing is in the packet yet
+pub begins : {S : Type 0} (core : Contents) (draft : Draft) (client : Client) (draw : S) → draft ≡ nothing_yet → Stands core client → Goes core draft (empty client draw)
+begins core draft client draw is stands =
+    subst (λ own. Goes core own (empty client draw)) (sym is)
+    (record {
+      client = stands;
+      messages = record { rows = refl; size = omega arith; count = refl; last = λ one same. grind (arith, same) };
+      inner = refl;
+      is_full = refl;
+    })
+
+-- nothing is due
+pub rest_nothing : {S : Type 0} (setting : Setting S) (lock : Lock) (keys : List RingKey) (now : ℕ) (client : Client) (before : S) (own : Filling S) (core : Contents)
+    → filled setting (at_moment now client) before ≡ own → is_due setting (at_moment now client) before ≡ false → Stands core own.client → own.draw ≡ before
+    → Flushes setting lock keys now client before told.Nothing core before
+rest_nothing setting lock keys now client before own core is due stands drawn =
+    let same = flush_nothing setting now client before due ∙ ap (sends setting []) is in
+    record {
+      told = subst (λ (it : Flushed _). TellsFlush lock keys it.answer told.Nothing) (sym same) tt;
+      leaves = subst (λ (it : Flushed _). Stands core it.client × (before ≡ it.draw)) (sym same) (stands, sym drawn);
+      cause = due;
+    }
+
+-- no numbers are left for it
+pub rest_spent : {S : Type 0} (setting : Setting S) (lock : Lock) (keys : List RingKey) (now : ℕ) (client : Client) (before : S) (core : Contents)
+    → is_due setting (at_moment now client) before ≡ true → nat_lt (room client.counters) room_min ≡ true → Stands core client
+    → Flushes setting lock keys now client before told.Spent core before
+rest_spent setting lock keys now client before core due few stands =
+    let same = flush_spent setting now client before due few in
+    record {
+      told = subst (λ own. TellsFlush lock keys own.answer told.Spent) (sym same) tt;
+      leaves = subst (λ own. Stands core own.client × (before ≡ own.draw)) (sym same) (stands, refl);
+      cause = (due, few);
+    }
+
+-- it goes
+pub rest_sent : {S : Type 0} (setting : Setting S) (lock : Lock) (keys : List RingKey) (now : ℕ) (client : Client) (before : S) (own : Filling S) (bytes : List ℕ) (core : Contents) (draw : S)
+    → filled setting (at_moment now client) before ≡ own → is_due setting (at_moment now client) before ≡ true → nat_lt (room client.counters) room_min ≡ false
+    → Sent lock keys (sends setting own.messages own) bytes core draw
+    → Flushes setting lock keys now client before (told.Packet bytes) core draw
+rest_sent setting lock keys now client before own bytes core draw is due few sent =
+    let same = flush_sends setting now client before due few ∙ ap (λ (it : Filling _). sends setting it.messages it) is in
+    record {
+      told = subst (λ it. TellsFlush lock keys it.answer (told.Packet bytes)) (sym same) sent.answer;
+      leaves = subst (λ it. Stands core it.client × (draw ≡ it.draw)) (sym same) (sent.client, sent.drawn);
       cause = (due, few);
     }

@@ -3,9 +3,12 @@ pub mod BindSizes
 pub mod BoundLemmas
 pub mod CallLemmas
 pub mod DropLemmas
+pub mod DueLemmas
 pub mod FillLemmas
 pub mod FlushLemmas
+pub mod GivingLemmas
 pub mod GoesLemmas
+pub mod KeyLemmas
 pub mod ListLemmas
 pub mod MarkLemmas
 pub mod TestLemmas
@@ -21,6 +24,8 @@ pub mod RuleLemmas
 pub mod NumberLemmas
 pub mod PacketLemmas
 pub mod QueueLemmas
+pub mod QuietLemmas
+pub mod SayLemmas
 pub mod SizeLemmas
 pub mod SoundLemmas
 pub mod TurnLemmas

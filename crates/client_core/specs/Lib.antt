@@ -1,6 +1,7 @@
 pub mod Asked
 pub mod Calling
 pub mod Draft
+pub mod Due
 pub mod Filled
 pub mod Flushed
 pub mod Kept

@@ -1,6 +1,37 @@
 //! What a client sends next.
 
-use octets::Octets;
+ghost use Rattle.std.specs.Prelude.{◌≡◌, ◌≤◌, [], None, IfOk, IfSome, IsSome, min, nat_lt, false, true, OnOk, option_map, vec_len, vec_capacity, length};
+ghost use Rattle.auth_keys.specs.Rings.{entry_of};
+ghost use Rattle.call_table.specs.Table.{group_of};
+ghost use Rattle.call_table.specs.Kept.{numbers_in};
+ghost use Rattle.call_table.specs.declared.call.Group.TheVariants.{Alone};
+ghost use Rattle.containers.specs.Container.{bytes_max, messages_max};
+ghost use Rattle.envelope.specs.Packet.{sealed_size};
+ghost use Rattle.msg_ids.specs.Counters.{room as numbers_left};
+ghost use Rattle.client_rules.specs.Client.{Client, at_moment, calls_of};
+ghost use Rattle.client_rules.specs.Filling.{fills, numbers_max};
+ghost use Rattle.client_rules.specs.Flush.{binding_alone, first_marked, has_any, room_min, sends};
+ghost use Rattle.client_core.specs.Asked.{HasRoom};
+ghost use Rattle.client_core.specs.Draft.{nothing_yet};
+ghost use Rattle.client_core.specs.Due.{is_due_beside};
+ghost use Rattle.client_core.specs.Flushed.{Flushes, Sent, setting_of};
+ghost use Rattle.client_core.specs.Kept.{Stands};
+
+use crate::asking::BindRoom;
+use crate::calling::call_alone;
+use crate::core_client::Core;
+use crate::filling::Draft;
+use crate::lone::binding_alone;
+use crate::open::OpenClient;
+use crate::opening::OpeningClient;
+use crate::says::NUMBERS_MAX;
+use containers::laws::container_sizes;
+use containers::{CONTAINER_BYTES_MAX, CONTAINER_MESSAGES_MAX};
+use draws::Draw;
+use envelope::{Seal, packet_bytes};
+use msg_ids::Moment;
+use octets::{Buffer, Memory, Octets};
+use std::alloc::Global;
 
 /// What a flush gives.
 #[derive(Debug, Drop)]
@@ -13,4 +44,230 @@ pub enum Flush {
     Spent,
     /// Memory ran out.
     Memory,
+}
+
+/// Room for a packet: for lists of the acknowledgements and of the numbers of calls, a binding call, the messages, the
+/// packet's body and the packet.
+#[derive(Debug, Drop)]
+pub(crate) struct PacketRoom {
+    acks: Vec<u64>,
+    states: Vec<u64>,
+    binding: BindRoom,
+    draft: Draft,
+    body: Buffer,
+    packet: Buffer,
+}
+
+impl PacketRoom {
+    /// Room for a packet, and for so many acknowledgements.
+    fn new(alloc: Global, acks: usize) -> Result<PacketRoom, Memory>
+        ensures no_acks { IfOk result (λ room. (room.acks.items ≡ []) × (vec_len room.acks ≡ 0)) }
+        ensures acks { IfOk result (λ room. acks ≤ vec_capacity room.acks) }
+        ensures no_states { IfOk result (λ room. (room.states.items ≡ []) × (vec_len room.states ≡ 0)) }
+        ensures states { IfOk result (λ room. numbers_max ≤ vec_capacity room.states) }
+        ensures binding { IfOk result (λ room. HasRoom room.binding) }
+        ensures draft { IfOk result (λ room. room.draft ≡ nothing_yet) }
+        ensures no_body { IfOk result (λ room. room.body.bytes ≡ []) }
+        ensures body { IfOk result (λ room. bytes_max ≤ room.body.room) }
+        ensures no_packet { IfOk result (λ room. room.packet.bytes ≡ []) }
+        ensures packet { IfOk result (λ room. sealed_size bytes_max ≤ room.packet.room) }
+    {
+        container_sizes();
+        Ok(PacketRoom {
+            acks: Vec::with_capacity(alloc, acks)?,
+            states: Vec::with_capacity(alloc, NUMBERS_MAX)?,
+            binding: BindRoom::new(alloc)?,
+            draft: Draft::new(alloc)?,
+            body: Buffer::new(alloc, CONTAINER_BYTES_MAX)?,
+            packet: Buffer::new(alloc, packet_bytes(CONTAINER_BYTES_MAX))?,
+        })
+    }
+}
+
+impl Core {
+    /// Fills a packet and sends it, where it has a message.
+    fn send_fresh<S: Seal, D: Draw>(
+        &mut self,
+        now: Moment,
+        room: PacketRoom,
+        seal: &S,
+        draw: &mut D,
+    ) -> Octets
+        requires key { IsSome (entry_of self.old.rest.key (S.keys seal.now)) }
+        requires perm { IfSome self.old.rest.temporary (λ temporary. IsSome (entry_of temporary.perm (S.keys seal.now))) }
+        requires numbers { nat_lt (numbers_left self.old.rest.counters) room_min ≡ false }
+        requires reserved { messages_max ≤ self.old.calls.room }
+        requires no_acks { (room.acks.items ≡ []) × (vec_len room.acks ≡ 0) }
+        requires acks { length self.old.calls.acks ≤ vec_capacity room.acks }
+        requires no_states { (room.states.items ≡ []) × (vec_len room.states ≡ 0) }
+        requires states { numbers_max ≤ vec_capacity room.states }
+        requires binding { HasRoom room.binding }
+        requires draft { room.draft ≡ nothing_yet }
+        requires no_body { room.body.bytes ≡ [] }
+        requires body { bytes_max ≤ room.body.room }
+        requires no_packet { room.packet.bytes ≡ [] }
+        requires packet { sealed_size bytes_max ≤ room.packet.room }
+        ensures sent { (client : Client) → Stands self.old client
+            → has_any (fills (setting_of D.step (S.keys seal.now)) (at_moment now client) draw.old).messages ≡ true
+            → Sent S.lock (S.keys seal.now) (sends (setting_of D.step (S.keys seal.now)) (fills (setting_of D.step (S.keys seal.now)) (at_moment now client) draw.old).messages
+            (fills (setting_of D.step (S.keys seal.now)) (at_moment now client) draw.old)) result self.new draw.new }
+        ensures learnt { self.new.rest.learnt ≡ self.old.rest.learnt }
+    {
+        let PacketRoom {
+            acks,
+            states,
+            binding,
+            mut draft,
+            body,
+            packet,
+        } = room;
+        self.at(now);
+        self.fills(&mut draft, acks, states, binding, seal, draw);
+        self.send_draft(draft, body, packet, seal, draw)
+    }
+
+    /// Takes room for a packet and sends it, where it has a message.
+    fn flush_due<S: Seal, D: Draw>(
+        &mut self,
+        alloc: Global,
+        now: Moment,
+        seal: &S,
+        draw: &mut D,
+    ) -> Flush
+        requires key { IsSome (entry_of self.old.rest.key (S.keys seal.now)) }
+        requires perm { IfSome self.old.rest.temporary (λ temporary. IsSome (entry_of temporary.perm (S.keys seal.now))) }
+        requires numbers { nat_lt (numbers_left self.old.rest.counters) room_min ≡ false }
+        ensures flushes { (client : Client) → Stands self.old client → binding_alone client.temporary ≡ None
+            → first_marked (calls_of client) (group_of Alone (calls_of client)) ≡ None
+            → has_any (fills (setting_of D.step (S.keys seal.now)) (at_moment now client) draw.old).messages ≡ true
+            → nat_lt (numbers_left client.counters) room_min ≡ false
+            → Flushes (setting_of D.step (S.keys seal.now)) S.lock (S.keys seal.now) now client draw.old result self.new draw.new }
+        ensures learnt { self.new.rest.learnt ≡ self.old.rest.learnt }
+    {
+        match PacketRoom::new(alloc, self.calls.acks()) {
+            Err(Memory) => Flush::Memory,
+            Ok(room) => match self.reserve_calls(alloc) {
+                Err(Memory) => Flush::Memory,
+                Ok(()) => Flush::Packet(self.send_fresh(now, room, seal, draw)),
+            },
+        }
+    }
+
+    /// Takes room for the calls of a packet.
+    ///
+    /// # Errors
+    ///
+    /// `Memory`: memory ran out, and the client is as it was.
+    fn reserve_calls(&mut self, alloc: Global) -> Result<(), Memory>
+        ensures reserved { OnOk result (messages_max ≤ self.new.calls.room) }
+        ensures stands { (client : Client) → Stands self.old client → Stands self.new client }
+        ensures rest { self.new.rest ≡ self.old.rest }
+        ensures acks { self.new.calls.acks ≡ self.old.calls.acks }
+    {
+        container_sizes();
+        self.calls.reserve(alloc, CONTAINER_MESSAGES_MAX)
+    }
+
+    /// Sends what waits and the queued calls, where nothing goes alone.
+    fn flush_rest<S: Seal, D: Draw>(
+        &mut self,
+        alloc: Global,
+        now: Moment,
+        seal: &S,
+        draw: &mut D,
+    ) -> Flush
+        requires key { IsSome (entry_of self.old.rest.key (S.keys seal.now)) }
+        requires perm { IfSome self.old.rest.temporary (λ temporary. IsSome (entry_of temporary.perm (S.keys seal.now))) }
+        ensures flushes { (client : Client) → Stands self.old client → binding_alone client.temporary ≡ None
+            → first_marked (calls_of client) (group_of Alone (calls_of client)) ≡ None
+            → Flushes (setting_of D.step (S.keys seal.now)) S.lock (S.keys seal.now) now client draw.old result self.new draw.new }
+        ensures learnt { self.new.rest.learnt ≡ self.old.rest.learnt }
+    {
+        self.due_tells::<S, D>(seal);
+        if !self.is_due_beside() {
+            self.at(now);
+            self.gives_up::<D>();
+            return Flush::Nothing;
+        }
+        if self.is_spent() {
+            return Flush::Spent;
+        }
+        self.flush_due(alloc, now, seal, draw)
+    }
+
+    /// What is sent next: a binding that is to go again, alone; else the first call that is, alone; else what waits and
+    /// the queued calls.
+    pub(crate) fn flush<S: Seal, D: Draw>(
+        &mut self,
+        alloc: Global,
+        now: Moment,
+        seal: &S,
+        draw: &mut D,
+    ) -> Flush
+        requires key { IsSome (entry_of self.old.rest.key (S.keys seal.now)) }
+        requires perm { IfSome self.old.rest.temporary (λ temporary. IsSome (entry_of temporary.perm (S.keys seal.now))) }
+        ensures flushes { (client : Client) → Stands self.old client
+            → Flushes (setting_of D.step (S.keys seal.now)) S.lock (S.keys seal.now) now client draw.old result self.new draw.new }
+        ensures learnt { self.new.rest.learnt ≡ self.old.rest.learnt }
+    {
+        match binding_alone(alloc, &self.temporary) {
+            Err(Memory) => Flush::Memory,
+            Ok(Some(message)) => self.flush_binding(alloc, now, message, seal, draw),
+            Ok(None) => match call_alone(alloc, &self.calls) {
+                Err(Memory) => Flush::Memory,
+                Ok(Some(marked)) => self.flush_call(alloc, now, marked, seal, draw),
+                Ok(None) => self.flush_rest(alloc, now, seal, draw),
+            },
+        }
+    }
+}
+
+impl OpeningClient {
+    /// What is sent next, at a moment: a binding that is to go again, alone; else the first call that is, alone; else what
+    /// waits and the queued calls, in order, as far as they fit into one packet. `Nothing` comes exactly where nothing is
+    /// to be sent; queued calls whose turn came may have been refused with code 0 by then. `Spent` comes exactly where
+    /// something is and there are fewer than 2,048 further numbers, and changes nothing. By `Memory` the client is as it
+    /// was, and so is the draw.
+    pub fn flush<S: Seal, D: Draw>(
+        &mut self,
+        alloc: Global,
+        now: Moment,
+        seal: &S,
+        draw: &mut D,
+    ) -> Flush
+        requires key { IsSome (entry_of self.old.rest.key (S.keys seal.now)) }
+        requires perm { IfSome self.old.rest.temporary (λ temporary. IsSome (entry_of temporary.perm (S.keys seal.now))) }
+        ensures flushes { (client : Client) → Stands self.old client
+            → Flushes (setting_of D.step (S.keys seal.now)) S.lock (S.keys seal.now) now client draw.old result self.new draw.new }
+        ensures key { (client : Client) → Stands self.old client → self.new.rest.key ≡ self.old.rest.key }
+        ensures perm { (client : Client) → Stands self.old client
+            → option_map (λ temporary. temporary.perm) self.new.rest.temporary ≡ option_map (λ temporary. temporary.perm) self.old.rest.temporary }
+    {
+        self.core.flush(alloc, now, seal, draw)
+    }
+}
+
+impl OpenClient {
+    /// What is sent next, at a moment: a binding that is to go again, alone; else the first call that is, alone; else what
+    /// waits and the queued calls, in order, as far as they fit into one packet. `Nothing` comes exactly where nothing is
+    /// to be sent; queued calls whose turn came may have been refused with code 0 by then. `Spent` comes exactly where
+    /// something is and there are fewer than 2,048 further numbers, and changes nothing. By `Memory` the client is as it
+    /// was, and so is the draw.
+    pub fn flush<S: Seal, D: Draw>(
+        &mut self,
+        alloc: Global,
+        now: Moment,
+        seal: &S,
+        draw: &mut D,
+    ) -> Flush
+        requires key { IsSome (entry_of self.old.rest.key (S.keys seal.now)) }
+        requires perm { IfSome self.old.rest.temporary (λ temporary. IsSome (entry_of temporary.perm (S.keys seal.now))) }
+        ensures flushes { (client : Client) → Stands self.old client
+            → Flushes (setting_of D.step (S.keys seal.now)) S.lock (S.keys seal.now) now client draw.old result self.new draw.new }
+        ensures key { (client : Client) → Stands self.old client → self.new.rest.key ≡ self.old.rest.key }
+        ensures perm { (client : Client) → Stands self.old client
+            → option_map (λ temporary. temporary.perm) self.new.rest.temporary ≡ option_map (λ temporary. temporary.perm) self.old.rest.temporary }
+    {
+        self.core.flush(alloc, now, seal, draw)
+    }
 }

@@ -95,6 +95,7 @@ impl Core {
         ensures key { self.new.rest.key ≡ self.old.rest.key }
         ensures temporary { self.new.rest.temporary ≡ self.old.rest.temporary }
         ensures learnt { self.new.rest.learnt ≡ self.old.rest.learnt }
+        ensures counters { self.new.rest.counters ≡ self.old.rest.counters }
         ensures calls { self.new.calls ≡ self.old.calls }
     {
         self.moment = self.moment.max(now);

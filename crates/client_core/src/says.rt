@@ -33,7 +33,7 @@ use octets::IdList;
 use temp_keys::Inner;
 
 /// The most numbers in a request for states.
-const NUMBERS_MAX: usize = 8_192;
+pub(crate) const NUMBERS_MAX: usize = 8_192;
 
 impl Core {
     /// The server's time, as far as the client knows.

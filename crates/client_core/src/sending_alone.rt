@@ -30,7 +30,7 @@ const ROOM_MIN: u64 = 2_048;
 
 impl Core {
     /// Whether there may be too few numbers for a packet.
-    fn is_spent(&self) -> bool
+    pub(crate) fn is_spent(&self) -> bool
         ensures kept { result ≡ nat_lt (room self.now.rest.counters) room_min }
         ensures client { (client : Client) → Stands self.now client → nat_lt (room client.counters) room_min ≡ result }
     {
@@ -38,7 +38,7 @@ impl Core {
     }
 
     /// Sends a binding again, alone, where there are numbers left.
-    fn flush_binding<S: Seal, D: Draw>(
+    pub(crate) fn flush_binding<S: Seal, D: Draw>(
         &mut self,
         alloc: Global,
         now: Moment,
@@ -63,7 +63,7 @@ impl Core {
     }
 
     /// Sends a call again, alone, where there are numbers left.
-    fn flush_call<S: Seal, D: Draw>(
+    pub(crate) fn flush_call<S: Seal, D: Draw>(
         &mut self,
         alloc: Global,
         now: Moment,

@@ -91,7 +91,7 @@ fn turn_under(binding: &Binding, turn: Turn) -> Turn
 
 impl Core {
     /// The turn of a call.
-    fn turn(&self, call: CallNo) -> Turn
+    pub(crate) fn turn(&self, call: CallNo) -> Turn
         requires given { IsGiven call self.now.calls.rows }
         ensures { (client : Client) → Stands self.now client → IfSome (at call (calls_of client)) (λ one. turn_in result ≡ turn_of client one) }
     {
