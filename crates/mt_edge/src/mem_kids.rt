@@ -151,9 +151,12 @@ fn pop_line(alloc: Global, lines: &mut Vec<Octets>) -> (Line, Line)
         None => return (Line::End, Line::End),
         Some(line) => Octets::copy(alloc, line.as_slice()),
     };
-    match (copy, lines.pop()) {
-        (Ok(copy), Some(line)) => two_texts(line, copy),
-        _ => (Line::Memory, Line::Memory),
+    let Ok(copy) = copy else {
+        return (Line::Memory, Line::Memory);
+    };
+    match lines.pop() {
+        Some(line) => two_texts(line, copy),
+        None => (Line::End, Line::End),
     }
 }
 
