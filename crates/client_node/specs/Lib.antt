@@ -1,0 +1,4 @@
+pub mod Course
+pub mod Kinds
+pub mod Standing
+pub mod Writes
