@@ -89,7 +89,7 @@ changed_one f k [] = refl
 changed_one f zero (x ∷ xs) = refl
 changed_one f (suc k) (x ∷ xs) = changed_one f k xs
 
-changed_count : {X : Type 0} (f : X → X) (k : ℕ) (xs : List X) → length (changed_at k f xs) ≡ length xs
+pub changed_count : {X : Type 0} (f : X → X) (k : ℕ) (xs : List X) → length (changed_at k f xs) ≡ length xs
 changed_count f k [] = refl
 changed_count f zero (x ∷ xs) = refl
 changed_count f (suc k) (x ∷ xs) = omega (arith, changed_count f k xs)
