@@ -1,6 +1,6 @@
 -- A flush leaves a client's keys, its session and how many calls there are as they were.
-use Rattle.std.proofs.Common.{◌≡◌, ◌∙◌, ℕ, Bool, true, false, List, [], ◌∷◌, ◌++◌, Option, Some, None, ap, refl, sym}
-use Rattle.std.specs.Prelude.{◌&&◌, if◌then◌else◌, is_some, nat_lt, option_map, fold}
+use Rattle.std.proofs.Common.{◌≡◌, ◌∙◌, ℕ, Bool, true, false, List, [], ◌∷◌, Option, Some, None, ap, refl, sym}
+use Rattle.std.specs.Prelude.{◌&&◌, if◌then◌else◌, is_some, nat_lt, fold}
 use Rattle.service_tl.specs.declared.lists.Message.{Message}
 use Rattle.service_tl.specs.declared.item.Item.TheVariants.{RpcDropAnswer}
 use Rattle.msg_ids.specs.Counters.{room}
@@ -8,10 +8,10 @@ use Rattle.call_table.specs.declared.call.CallNo.{CallNo}
 use Rattle.call_table.specs.declared.call.Fate.TheVariants as fate
 use Rattle.call_table.specs.declared.call.Group.TheVariants.{Alone}
 use Rattle.call_table.specs.Table.{Call, at, group_of, owner, settled}
-use Rattle.client_rules.specs.Client.{Asked, Binding, Client, Temporary, after_message, at_moment, bound_so, calls_of, is_open, numbered, with_binding, with_call}
+use Rattle.client_rules.specs.Client.{Asked, Client, Temporary, after_message, at_moment, calls_of, is_open, numbered, with_call}
 use Rattle.client_rules.specs.Sending.{Setting, binding_body}
 use Rattle.client_rules.specs.Filling.{Filling, Turn, Goes as Going, Waits, Never, asks_binding, body_behind, empty, fills, goes, is_needed, number_of, says_binding, says_call, says_call_at, says_drop, says_drop_of, sends_call, takes_turn, turn_of, undropped}
-use Rattle.client_rules.specs.Flush.{Flushed, Marked, binding_alone, filled, first_marked, flush, gone_again, has_any, remembers, remembers_lone, room_min, sends, unless_binding, unless_call}
+use Rattle.client_rules.specs.Flush.{Flushed, Marked, binding_alone, filled, first_marked, flush, gone_again, has_any, remembers, room_min, sends, unless_binding, unless_call}
 use Rattle.client_core.specs.Draft.{drops, queue}
 use Rattle.client_core.specs.Filled.{own_binding, own_drops, waiting_said}
 use Rattle.client_core.specs.Flushed.{Leaves}

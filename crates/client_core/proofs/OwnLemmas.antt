@@ -1,33 +1,31 @@
 -- What an event leaves as it was: a client's keys, its session and how many calls it has.
 use Rattle.std.proofs.Common.{◌≡◌, ◌∙◌, ℕ, suc, ◌-◌, Bool, true, false, List, [], ◌∷◌, length, map, fold, Option, Some, None, ap, refl, sym, arith}
-use Rattle.std.specs.Prelude.{◌==◌, ◌&&◌, ◌||◌, if◌then◌else◌, nat_le, nat_lt, not, option_map, IfSome, IsSome, OnErr, OnOk, Result, Ok, Err}
+use Rattle.std.specs.Prelude.{◌==◌, ◌||◌, if◌then◌else◌, nat_le, nat_lt, not, option_map, IfSome, IsSome, OnErr, OnOk, Result, Ok, Err}
 use Rattle.std.specs.List.{AllZip, list_any, zip}
 use Rattle.std.proofs.lemmas.List.{length-map}
 use Rattle.auth_keys.specs.declared.ring.RingKey.{RingKey}
 use Rattle.auth_keys.specs.Rings.{entry_of}
 use Rattle.octets.specs.declared.memory.Memory.{Memory}
-use Rattle.service_tl.specs.declared.lists.Message.{Message}
 use Rattle.envelope.specs.declared.parts.Envelope.{Envelope}
 use Rattle.call_table.specs.declared.call.CallNo.{CallNo}
 use Rattle.call_table.specs.declared.call.Fate.{Fate}
-use Rattle.call_table.specs.declared.call.Fate.TheVariants as fate
 use Rattle.call_table.specs.Kept.{IsRowOf}
-use Rattle.call_table.specs.Table.{Call, acknowledged, inner_of, living_name, no_calls, owner}
+use Rattle.call_table.specs.Table.{Call, inner_of, living_name, owner}
 use Rattle.client_rules.specs.Asking.{alone, alone_if_asked, alone_if_sent, attached, can_drop, dropped, drops, is_asked, submitted}
 use Rattle.client_rules.specs.Client.{Binding, Client, Needed, StateRequest, Temporary, at_moment, bound_so, calls_of, is_open, with_binding, with_call, with_calls}
 use Rattle.client_rules.specs.Events.{fate_renewed, renewed}
 use Rattle.client_rules.specs.Filling.{numbers_max}
 use Rattle.client_rules.specs.Learning.{each_becomes, ended, fate_at_end, fate_learning, learn, learnt_max, learns, settled_if, with_clock}
-use Rattle.client_rules.specs.Taking.{Notice, alone_among, alone_call, alone_number, asks_answer, becomes, binding_noticed, fate_noticed, goes_again, has_asked, is_asked_by, is_for, is_odd, message_in, messages_of, noticed, noticed_by, packet_noticed, take, takes_message, takes_over, told_of, told_state, told_states, with_notice_clock, with_notice_salt, without_idle_wish}
+use Rattle.client_rules.specs.Taking.{Notice, alone_among, alone_call, alone_number, asks_answer, binding_noticed, goes_again, has_asked, is_asked_by, is_for, is_odd, message_in, messages_of, noticed_by, packet_noticed, take, takes_message, takes_over, told_of, told_state, told_states, with_notice_clock, with_notice_salt, without_idle_wish}
 use Rattle.client_core.specs.declared.brought.Brought.{Brought}
 use Rattle.client_core.specs.declared.brought.Brought.TheVariants as brought
 use Rattle.client_core.specs.declared.brought.Lesson.{Lesson}
-use Rattle.client_core.specs.Brought.{acknowledges_number, answered, answered_as, binding_by, lesson_of, row_of, takes_lesson, tells, wished}
-use Rattle.client_core.specs.Keys.{BoundTo, HasKeys, Keys, bound_to_of, keys_in, keys_of}
+use Rattle.client_core.specs.Brought.{acknowledges_number, answered_as, binding_by, lesson_of, row_of, takes_lesson}
+use Rattle.client_core.specs.Keys.{BoundTo, Keys, bound_to_of, keys_of}
 use Rattle.client_core.specs.Kept.{Contents, Stands, at_end}
 use Rattle.client_core.specs.One.{StandsForOne}
 use Rattle.client_core.specs.Own.{Came, Own, own_in, own_of}
-use Rattle.client_core.specs.Took.{Took, TookBy}
+use Rattle.client_core.specs.Took.{TookBy}
 use Rattle.client_core.proofs.AloneLemmas.{changed_count}
 use Rattle.client_core.proofs.TakingLemmas.{messages_same}
 

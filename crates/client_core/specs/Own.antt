@@ -4,7 +4,7 @@ use Rattle.std.specs.Prelude.{◌≡◌, ℕ, Bool, Result, length}
 use Rattle.octets.specs.declared.memory.Memory.{Memory}
 use Rattle.client_rules.specs.Client.{Client, calls_of}
 use Rattle.client_core.specs.Keys.{Keys, keys_in, keys_of}
-use Rattle.client_core.specs.Kept.{Contents, Stands}
+use Rattle.client_core.specs.Kept.{Contents}
 use Rattle.client_core.specs.Took.{TookBy}
 
 -- its keys, its session, and how many calls there are

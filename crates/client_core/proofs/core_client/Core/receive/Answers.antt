@@ -1,4 +1,4 @@
-use Rattle.std.proofs.Common.{◌≡◌, ◌∙◌, ap, false, max, refl, sym}
+use Rattle.std.proofs.Common.{◌≡◌, ◌∙◌, ap, false, max, refl}
 use Rattle.client_rules.specs.Client.{Client, at_moment}
 use Rattle.client_rules.specs.Taking.{take}
 use Rattle.client_core.proofs.OwnLemmas.{take_own}

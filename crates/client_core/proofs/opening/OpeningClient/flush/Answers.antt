@@ -1,6 +1,5 @@
-use Rattle.std.proofs.Common.{◌≡◌, ◌∙◌, ap, sym}
+use Rattle.std.proofs.Common.{◌∙◌, ap}
 use Rattle.client_core.specs.Flushed.{setting_of}
-use Rattle.client_core.specs.Kept.{Contents}
 use Rattle.client_core.specs.Own.{Own, own_in}
 use Rattle.client_core.proofs.KeyLemmas.{flush_own, flush_stands}
 use Rattle.client_core.proofs.OwnLemmas.{perm_known}
