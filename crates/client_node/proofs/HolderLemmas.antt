@@ -1,26 +1,26 @@
 -- What the calls of a client in one state make of its course.
-use Rattle.std.proofs.Common.{◌≡◌, ℕ, max, Bool, true, false, Option, Some, None, option_map, IfSome, IsSome, Result, Ok, Err, List, refl, ap, sym, subst, ◌∙◌}
+use Rattle.std.proofs.Common.{◌≡◌, ℕ, max, Bool, true, false, Option, Some, None, Result, Ok, Err, List, refl, ap, sym, subst, ◌∙◌}
 use Rattle.octets.specs.declared.memory.Memory.{Memory}
 use Rattle.auth_keys.specs.declared.ring.RingKey.{RingKey}
-use Rattle.auth_keys.specs.Rings.{entry_of}
 use Rattle.draws.specs.Draws.{draw_after, word_after}
 use Rattle.envelope.specs.declared.parts.Envelope.{Envelope}
 use Rattle.envelope.specs.declared.parts.Dir.TheVariants.{Down}
 use Rattle.envelope.specs.Opening.{Opens}
 use Rattle.envelope.specs.Packet.{Lock}
-use Rattle.client_rules.specs.Client.{Client, Temporary, at_moment}
+use Rattle.client_rules.specs.Client.{Client, at_moment}
 use Rattle.client_rules.specs.Events.{renewed, takes}
 use Rattle.client_rules.specs.Taking.{take}
 use Rattle.client_rules.specs.Flush.{flush}
 use Rattle.client_rules.specs.Sending.{Setting}
 use Rattle.client_core.specs.Flushed.{Flushes, Leaves, TellsFlush}
+use Rattle.client_core.specs.Keys.{HasKeys as HasKeysOf, Keys}
 use Rattle.client_core.specs.Kept.{Contents, Stands}
 use Rattle.client_core.specs.declared.flush.Flush.{Flush}
 use Rattle.client_core.specs.declared.flush.Flush.TheVariants as told
 use Rattle.client_core.specs.declared.holder.Holder.{Holder}
 use Rattle.client_core.specs.declared.holder.Holder.TheVariants as holder
 use Rattle.client_node.specs.Course.{Course, Phase, Opening, Open, Ended, Reading, flushed_in, heard_in, hears, is_decided, must_renew, phase_after, renews, renews_if, renews_unless, takes_packet}
-use Rattle.client_node.specs.Standing.{FlushedAs, HasKeysOf, HeardAs, IsOpened, IsReading, StandsAs, StandsFor, kept_of, phase_of}
+use Rattle.client_node.specs.Standing.{FlushedAs, HeardAs, IsOpened, IsReading, StandsAs, StandsFor, kept_of, phase_of}
 
 -- ---- a flush
 
@@ -92,25 +92,8 @@ heard_so reading now course packet kept draw same phase client = record { phase 
 
 -- ---- keys
 
-perm_to : (keys : List RingKey) (one : Option Temporary) → IfSome one (λ temporary. IsSome (entry_of temporary.perm keys))
-    → IfSome (option_map (λ temporary. temporary.perm) one) (λ perm. IsSome (entry_of perm keys))
-perm_to keys None has = tt
-perm_to keys (Some temporary) has = has
-
-perm_from : (keys : List RingKey) (one : Option Temporary) → IfSome (option_map (λ temporary. temporary.perm) one) (λ perm. IsSome (entry_of perm keys))
-    → IfSome one (λ temporary. IsSome (entry_of temporary.perm keys))
-perm_from keys None has = tt
-perm_from keys (Some temporary) has = has
-
-pub keys_kept : (keys : List RingKey) (before after : Contents) → HasKeysOf keys before → after.rest.key ≡ before.rest.key
-    → option_map (λ temporary. temporary.perm) after.rest.temporary ≡ option_map (λ temporary. temporary.perm) before.rest.temporary
-    → HasKeysOf keys after
-keys_kept keys before after has key perm =
-    record {
-      key = subst (λ (id : ℕ). IsSome (entry_of id keys)) (sym key) has.key;
-      perm = perm_from keys after.rest.temporary
-          (subst (λ (one : Option ℕ). IfSome one (λ id. IsSome (entry_of id keys))) (sym perm) (perm_to keys before.rest.temporary has.perm));
-    }
+pub keys_kept : (ring : List RingKey) (before after : Keys) → HasKeysOf ring before → after ≡ before → HasKeysOf ring after
+keys_kept ring before after has same = subst (λ (keys : Keys). HasKeysOf ring keys) (sym same) has
 
 -- by what a packet opens to
 pub by_opened : (P : Client → Type 0) (lock : Lock) (keys : List RingKey) (at now : ℕ) (packet : List ℕ) (whole : Client) (opened : Option Envelope)

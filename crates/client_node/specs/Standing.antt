@@ -1,7 +1,6 @@
 -- A client as it is kept, and the course that it stands for.
-use Rattle.std.specs.Prelude.{◌≡◌, ℕ, IfSome, IsSome, Option, Some, None, Result, Ok, Err, List}
+use Rattle.std.specs.Prelude.{◌≡◌, ℕ, Option, Some, None, Result, Ok, Err, List}
 use Rattle.auth_keys.specs.declared.ring.RingKey.{RingKey}
-use Rattle.auth_keys.specs.Rings.{entry_of}
 use Rattle.octets.specs.declared.memory.Memory.{Memory}
 use Rattle.envelope.specs.declared.parts.Envelope.{Envelope}
 use Rattle.envelope.specs.declared.parts.Dir.TheVariants.{Down}
@@ -9,6 +8,7 @@ use Rattle.envelope.specs.Opening.{Opens}
 use Rattle.envelope.specs.Packet.{Lock}
 use Rattle.client_rules.specs.Client.{Client}
 use Rattle.client_rules.specs.Sending.{Setting}
+use Rattle.client_core.specs.Keys.{HasKeys as HasKeysOf, keys_in}
 use Rattle.client_core.specs.Kept.{Contents, Stands}
 use Rattle.client_core.specs.Flushed.{Leaves, TellsFlush}
 use Rattle.client_core.specs.declared.flush.Flush.{Flush}
@@ -36,15 +36,10 @@ pub record StandsAs {S : Type 0} (kept : Holder) (drawn : S) (course : Course S)
   pub client : StandsFor kept course.client
   pub draw : drawn ≡ course.draw
 
--- the ring has the key of what is kept, and the permanent key where there is one
-pub record HasKeysOf (keys : List RingKey) (kept : Contents) : Type 0 where
-  pub key : IsSome (entry_of kept.rest.key keys)
-  pub perm : IfSome kept.rest.temporary (λ temporary. IsSome (entry_of temporary.perm keys))
-
--- an ended client needs none
+-- the ring has the client's key, and the permanent one to which that is to be bound; an ended client needs none
 abbrev pub HasKeys : List RingKey → Holder → Type 0
-HasKeys keys (holder.Opening kept) = HasKeysOf keys kept
-HasKeys keys (holder.Open kept) = HasKeysOf keys kept
+HasKeys keys (holder.Opening kept) = HasKeysOf keys (keys_in kept)
+HasKeys keys (holder.Open kept) = HasKeysOf keys (keys_in kept)
 HasKeys keys (holder.Ended kept) = Unit {0}
 
 -- ---- what a call of the client tells

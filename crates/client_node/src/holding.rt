@@ -41,7 +41,7 @@ pub(crate) fn flush<S: Seal, D: Draw>(
     requires keys { HasKeys (S.keys seal.now) client.old }
     ensures flushes { (course : Course D) → StandsAs client.old draw.old course
         → FlushedAs (setting_of D.step (S.keys seal.now)) S.lock (S.keys seal.now) now course result client.new draw.new }
-    ensures keys { (whole : Client) → StandsFor client.old whole → HasKeys (S.keys seal.now) client.new }
+    ensures keys { HasKeys (S.keys seal.now) client.new }
 {
     match client {
         Holder::Opening(client) => client.flush(alloc, now, seal, draw),

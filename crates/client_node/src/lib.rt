@@ -5,6 +5,8 @@
 
 mod calls;
 mod end;
+mod flushing;
+mod hearing;
 mod holding;
 mod plan;
 mod sending;
