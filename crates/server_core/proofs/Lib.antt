@@ -32,3 +32,13 @@ pub mod FirstWords
 pub mod Uses
 pub mod RowCases
 pub mod Settled
+pub mod Due
+pub mod TickSteps
+pub mod SendSteps
+pub mod VoiceSteps
+pub mod LoseLemmas
+pub mod Lent
+pub mod TickStart
+pub mod TickLoops
+pub mod ReserveLemmas
+pub mod FreshLemmas

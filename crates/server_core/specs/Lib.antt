@@ -10,3 +10,7 @@ pub mod Others
 pub mod Hearing
 pub mod Ticking
 pub mod Settling
+pub mod Answering
+pub mod Outgoing
+pub mod Losing
+pub mod Reserving

@@ -11,12 +11,17 @@ mod failures;
 mod hearing;
 pub mod laws;
 mod leaving;
+mod losing;
 mod others;
+mod outgoing;
+mod reserving;
 mod server;
 mod sessions;
 mod settling;
 mod speech;
 pub mod tick_laws;
+mod ticking;
+mod voices;
 mod work;
 mod working;
 
