@@ -1,12 +1,12 @@
 -- How many answers a session gives in a tick, where a job that is due is taken out and answered.
-use Rattle.std.proofs.Common.{◌≡◌, ◌≢◌, ◌∙◌, ℕ, zero, suc, ◌≤◌, ◌+◌, Bool, true, false, not, Option, Some, None, List, [], ◌∷◌, length, ap, sym, subst, refl, arith, inl, inr}
+use Rattle.std.proofs.Common.{◌≡◌, ◌≢◌, ◌∙◌, ℕ, ◌≤◌, ◌+◌, Bool, true, false, not, Some, List, [], ◌∷◌, ap, sym, subst, refl, arith, inl, inr}
 use Rattle.std.specs.Prelude.{◌&&◌, ◌||◌, ◌==◌}
 use Rattle.std.specs.List.{All, list_any}
 use Rattle.std.proofs.lemmas.Bool.{cases_Bool, cond-true, cond-false, and_parts, false≢true}
 use Rattle.std.proofs.lemmas.List.Elements.{All-filter, All-head, All-tail}
 use Rattle.waits.specs.declared.job.Job.{Job}
 use Rattle.waits.specs.declared.job.Unfinished.{Unfinished}
-use Rattle.waits.specs.Jobs.{Queue, after_answer, blocked_count, blocked_count_of, first_job, has_failed, is_empty, is_of, is_overdue, is_ready, one_if, overdue_count, overdue_count_of, settled, told, waits_for, without_first}
+use Rattle.waits.specs.Jobs.{Queue, after_answer, blocked_count, blocked_count_of, first_job, has_failed, is_empty, is_overdue, is_ready, one_if, overdue_count, overdue_count_of, settled, told, waits_for, without_first}
 use Rattle.server_rules.specs.Server.{Name, Session, name_of}
 use Rattle.server_rules.specs.Event.{Setting, Speaker}
 use Rattle.server_rules.specs.Speaking.{answers_in_place}

@@ -1,5 +1,5 @@
 -- Sessions without room for a further event are lost one by one.
-use Rattle.std.proofs.Common.{◌≡◌, ◌≢◌, ◌∙◌, ℕ, zero, suc, ◌<◌, ◌≤◌, ◌+◌, Bool, true, false, not, Option, Some, None, List, [], ◌∷◌, length, get_or, ap, sym, subst, refl, arith, inl, inr, one-add}
+use Rattle.std.proofs.Common.{◌≡◌, ◌≢◌, ◌∙◌, ℕ, zero, suc, ◌<◌, ◌≤◌, true, false, not, Some, List, [], ◌∷◌, length, get_or, ap, sym, subst, refl, arith, inl, inr, one-add}
 use Rattle.std.specs.Prelude.{fold, nat_lt}
 use Rattle.std.specs.List.{All, AllPairs, filter, find, position_or_len}
 use Rattle.std.proofs.lemmas.Bool.{cases_Bool, cond-true, cond-false, ltb-false}
@@ -15,7 +15,7 @@ use Rattle.standing.specs.Names.{name_kept}
 use Rattle.server_core.specs.Losing.{is_spent_kept}
 use Rattle.server_core.specs.Sessions.{AreApart, AreKept, is_kept_as, without_kept}
 use Rattle.server_core.proofs.Lists.{pairs-head, pairs-tail}
-use Rattle.server_core.proofs.Names.{apart-names, find-first, find-other, named, names-same, none-some, some-same}
+use Rattle.server_core.proofs.Names.{apart-names, find-first, find-other, names-same, none-some, some-same}
 use Rattle.server_core.proofs.Spent.{AreOthers}
 use Rattle.server_core.proofs.Speaking.{HasItsRoom, sessions-apart}
 use Rattle.server_core.proofs.Standing.{HasItsName, others-kept}

@@ -1,8 +1,8 @@
 -- Room for answers that is reserved in one session after the other, or given back.
-use Rattle.std.proofs.Common.{◌≡◌, ◌∙◌, ℕ, zero, suc, ◌<◌, ◌≤◌, ◌+◌, Bool, true, false, Result, Ok, Err, List, [], ◌∷◌, length, get_or, set, max, ap, sym, subst, refl, arith, inl, inr}
+use Rattle.std.proofs.Common.{◌≡◌, ◌∙◌, ℕ, zero, suc, ◌<◌, ◌≤◌, ◌+◌, true, false, Result, Ok, Err, List, [], ◌∷◌, length, get_or, set, max, ap, sym, subst, refl, arith, inl, inr}
 use Rattle.std.specs.Prelude.{◌==◌, is_err, min, nat_lt, OnErr, OnOk}
 use Rattle.std.proofs.lemmas.Bool.{cases_Bool, eqb-true, eq-eqb, false≢true, ltb-true, ltb-false}
-use Rattle.std.proofs.lemmas.List.{get_or_default, get_or-set_same, get_or-set_other, length-set, set-get_or}
+use Rattle.std.proofs.lemmas.List.{get_or-set_same, get_or-set_other, length-set, set-get_or}
 use Rattle.standing.specs.declared.standing.Standing.{Standing}
 use Rattle.standing.specs.Rooms.{with_replies_left}
 use Rattle.standing.specs.Standing.{replies_left}

@@ -1,23 +1,22 @@
 -- One step of what goes out in a tick: a session sends what it owes.
-use Rattle.std.proofs.Common.{◌≡◌, ◌≢◌, ◌∙◌, ℕ, zero, suc, ◌<◌, ◌≤◌, ◌+◌, Bool, true, false, not, Option, Some, None, List, [], ◌∷◌, length, map, get_or, set, ap, sym, subst, refl, arith, inl, inr, one-add}
+use Rattle.std.proofs.Common.{◌≡◌, ◌≢◌, ◌∙◌, ℕ, zero, suc, ◌<◌, true, false, not, Option, List, [], ◌∷◌, length, map, get_or, set, ap, sym, subst, refl, arith, inl, inr, one-add}
 use Rattle.std.specs.Prelude.{◌==◌, fold, IsSome}
 use Rattle.std.specs.List.{All, AllPairs, filter, position_or_len}
-use Rattle.std.proofs.lemmas.Bool.{cases_Bool, cond-false, eqb-true, eq-eqb, false≢true}
+use Rattle.std.proofs.lemmas.Bool.{cases_Bool, eqb-true, eq-eqb, false≢true}
 use Rattle.std.proofs.Math.Seq.{map-set_same}
 use Rattle.std.proofs.lemmas.List.{get_or_default, get_or-map, get_or-set_same, get_or-set_other, length-map, length-set}
-use Rattle.std.proofs.lemmas.List.Elements.{All-cons, All-head, All-nil, All-tail}
+use Rattle.std.proofs.lemmas.List.Elements.{All-cons, All-nil, All-tail}
 use Rattle.auth_keys.specs.declared.ring.RingKey.{RingKey}
 use Rattle.envelope.specs.Packet.{Lock}
 use Rattle.owing.specs.declared.outs.Out.{Out}
-use Rattle.owing.specs.Dues.{Dues}
 use Rattle.owing.specs.Outs.{AreSent}
 use Rattle.service_tl.specs.declared.lists.Message.{Message}
 use Rattle.salt_line.specs.Line.{current_salt}
 use Rattle.packing.specs.Packing.{packets_of, after_packets}
-use Rattle.server_rules.specs.Server.{Name, Session, is_same, name_of, session_named, with_session}
+use Rattle.server_rules.specs.Server.{Name, Session, is_same, name_of, with_session}
 use Rattle.server_rules.specs.Event.{Owed, Setting, Speaker, State, speaker_in, speaks, spoken, spoken_by}
 use Rattle.server_rules.specs.Speaking.{needs_salts}
-use Rattle.server_rules.specs.Sending.{all_sent, messages_by, names_in, seals, sends}
+use Rattle.server_rules.specs.Sending.{messages_by, names_in, seals, sends}
 use Rattle.standing.specs.declared.standing.Standing.{Standing}
 use Rattle.standing.specs.Standing.{Stands}
 use Rattle.standing.specs.Names.{name_kept}
@@ -28,7 +27,7 @@ use Rattle.server_core.specs.Outgoing.{IsSending, sent_by}
 use Rattle.server_core.specs.Sessions.{AreApart, AreKept, HaveOtherNames, is_kept_as}
 use Rattle.server_core.proofs.Attached.{sends-rest}
 use Rattle.server_core.proofs.Lists.{pairs-cons, pairs-head, pairs-nil, pairs-tail}
-use Rattle.server_core.proofs.Names.{apart-names, found-named, names-same, same-names}
+use Rattle.server_core.proofs.Names.{apart-names, found-named, names-same}
 use Rattle.server_core.proofs.One.{sends-name}
 use Rattle.server_core.proofs.Pairs.{pairs-filter}
 use Rattle.server_core.proofs.Places.{names-set, one-of}

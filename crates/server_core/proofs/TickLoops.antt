@@ -1,5 +1,5 @@
 -- Jobs are answered one by one, so many times.
-use Rattle.std.proofs.Common.{◌≡◌, ◌∙◌, ℕ, zero, suc, ◌<◌, ◌≤◌, ◌+◌, Option, None, List, ap, sym, subst, refl, arith}
+use Rattle.std.proofs.Common.{◌≡◌, ◌∙◌, ℕ, zero, suc, ◌<◌, ◌≤◌, ◌+◌, None, List, ap, sym, subst, arith}
 use Rattle.waits.specs.Jobs.{Queue, first_job}
 use Rattle.server_rules.specs.Server.{Binding}
 use Rattle.server_rules.specs.Event.{Entry, Setting, State}

@@ -1,27 +1,24 @@
 -- A tick as it begins, as its answers go out, and as it ends.
-use Rattle.std.proofs.Common.{◌≡◌, ◌≢◌, ◌∙◌, ℕ, zero, suc, ◌<◌, ◌≤◌, ◌+◌, ◌*◌, Bool, true, false, cond, not, Option, Some, None, List, [], ◌∷◌, length, map, get_or, set, max, ap, sym, subst, refl, arith, inl, inr}
-use Rattle.std.specs.Prelude.{◌||◌, fold, IfSome, IsSome, sum_by}
-use Rattle.std.specs.List.{All, AllPairs, filter}
-use Rattle.std.proofs.lemmas.Bool.{cases_Bool, cond-true, cond-false}
+use Rattle.std.proofs.Common.{◌≡◌, ◌∙◌, ℕ, suc, ◌<◌, ◌≤◌, ◌*◌, Bool, true, false, not, List, [], ◌∷◌, length, map, get_or, ap, sym, subst, refl, arith}
+use Rattle.std.specs.Prelude.{◌||◌, fold, IfSome, sum_by}
+use Rattle.std.specs.List.{All, filter}
 use Rattle.std.proofs.lemmas.List.{get_or-map, length-map}
 use Rattle.std.proofs.lemmas.List.Elements.{All-cons, All-filter, All-nil, All-weaker}
 use Rattle.std.proofs.lemmas.List.Sums.{sum_by-cons}
 use Rattle.auth_keys.specs.declared.ring.RingKey.{RingKey}
-use Rattle.auth_keys.specs.Rings.{entry_of}
 use Rattle.envelope.specs.Packet.{Lock}
-use Rattle.owing.specs.Batch.{Batch, packets_most}
+use Rattle.owing.specs.Batch.{packets_most}
 use Rattle.owing.specs.Dues.{Dues}
 use Rattle.owing.specs.declared.outs.Out.{Out}
 use Rattle.owing.specs.Outs.{AreSent}
 use Rattle.waits.specs.Jobs.{Queue, one_if}
-use Rattle.service_tl.specs.declared.lists.Message.{Message}
 use Rattle.server_rules.specs.Server.{Binding, Name, Server as Rules, Session, is_same, name_of}
 use Rattle.server_rules.specs.Event.{Entry, Owed, Sent, Setting, State, lost}
-use Rattle.server_rules.specs.Sending.{all_sent, names_in}
+use Rattle.server_rules.specs.Sending.{names_in}
 use Rattle.server_rules.specs.Answer.{begun, is_spent, room_min, without_spent}
 use Rattle.server_laws.specs.Order.{AreOrdered}
 use Rattle.standing.specs.declared.standing.Standing.{Standing}
-use Rattle.standing.specs.Standing.{IsAt, Stands, key_of, numbers_left, replies_left}
+use Rattle.standing.specs.Standing.{Stands, numbers_left, replies_left}
 use Rattle.standing.specs.Names.{name_kept}
 use Rattle.standing.specs.Rooms.{with_replies_left}
 use Rattle.server_core.specs.declared.voices.Voice.{Voice}

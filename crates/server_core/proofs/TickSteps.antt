@@ -1,7 +1,7 @@
 -- One step of a tick: a session answers a job that is due.
-use Rattle.std.proofs.Common.{◌≡◌, ◌≢◌, ◌∙◌, ℕ, zero, suc, ◌<◌, ◌≤◌, ◌+◌, Bool, true, false, cond, not, Option, Some, None, List, [], ◌∷◌, ◌++◌, length, map, get_or, set, ap, sym, subst, refl, arith, inl, inr}
+use Rattle.std.proofs.Common.{◌≡◌, ◌≢◌, ◌∙◌, ℕ, ◌<◌, ◌≤◌, ◌+◌, Bool, true, false, cond, Option, Some, None, List, [], ◌∷◌, ◌++◌, length, map, get_or, set, ap, sym, subst, refl, arith, inl, inr}
 use Rattle.std.specs.Prelude.{◌||◌, ◌==◌, nat_lt}
-use Rattle.std.specs.List.{All, filter, find, list_any, position, position_or_len}
+use Rattle.std.specs.List.{find, list_any, position, position_or_len}
 use Rattle.std.proofs.lemmas.Bool.{cases_Bool, cond-true, cond-false, eqb-true, eq-eqb, false≢true, ltb-true, ltb-false}
 use Rattle.std.proofs.Math.Seq.{map-set_same}
 use Rattle.std.proofs.lemmas.List.{get_or_default, get_or-map, get_or-set_same, get_or-set_other, length-set}
@@ -28,7 +28,7 @@ use Rattle.server_core.specs.Ticking.{has_spoken, with_name}
 use Rattle.server_core.proofs.Due.{other-left, own-left}
 use Rattle.server_core.proofs.FirstWords.{first-words}
 use Rattle.server_core.proofs.Lists.{pairs-nil, place-is}
-use Rattle.server_core.proofs.Names.{apart-names, find-first, find-other, found-named, named, names-same, none-some, same-names, with-own}
+use Rattle.server_core.proofs.Names.{apart-names, find-first, find-other, found-named, names-same, none-some, same-names, with-own}
 use Rattle.server_core.proofs.Places.{names-set, one-of}
 use Rattle.server_core.proofs.Shares.{filter-push_off, owner, taken-own}
 use Rattle.server_core.proofs.Speaking.{found-at, kept-set}

@@ -9,7 +9,7 @@ use Rattle.rows.specs.Entries.{Held}
 use Rattle.rows.specs.declared.turn.Turn.{Turn}
 use Rattle.server_rules.specs.Event.{Entry, Setting, State}
 use Rattle.server_rules.specs.Sending.{messages_by, names_in}
-use Rattle.server_rules.specs.Server.{Binding, Name, Session, session_named}
+use Rattle.server_rules.specs.Server.{Binding, Name, session_named}
 use Rattle.server_rules.specs.Speaking.{msg_wait_failed, msg_wait_timeout}
 use Rattle.server_rules.specs.Waiting.{all_given_up}
 use Rattle.server_laws.specs.Order.{IsOrderlyAt, jobs_of}

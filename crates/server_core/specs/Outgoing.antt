@@ -1,5 +1,5 @@
 -- Scaffolding, and no promise: a tick as it is kept, while what is owed goes out.
-use Rattle.std.specs.Prelude.{◌≡◌, ◌≢◌, ◌≤◌, ◌<◌, ℕ, Option, List, [], ◌∷◌, fold, length, map, slice_index_or, All, AllPairs, IsSome, IfSome}
+use Rattle.std.specs.Prelude.{◌≡◌, ◌≢◌, ◌≤◌, ◌<◌, ℕ, List, fold, length, map, slice_index_or, All, AllPairs, IsSome, IfSome}
 use Rattle.auth_keys.specs.declared.ring.RingKey.{RingKey}
 use Rattle.auth_keys.specs.Rings.{entry_of}
 use Rattle.envelope.specs.Packet.{Lock}

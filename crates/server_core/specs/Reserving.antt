@@ -1,5 +1,5 @@
 -- Scaffolding, and no promise: the room that was taken for a tick.
-use Rattle.std.specs.Prelude.{◌≡◌, ◌≤◌, ◌<◌, ℕ, ◌*◌, false, Option, List, [], length, slice_index_or, All, IfSome, IsSome}
+use Rattle.std.specs.Prelude.{◌≡◌, ◌≤◌, ◌<◌, ℕ, ◌*◌, false, List, [], length, slice_index_or, All, IfSome, IsSome}
 use Rattle.waits.specs.Jobs.{Queue}
 use Rattle.owing.specs.Batch.{packets_most}
 use Rattle.standing.specs.declared.standing.Standing.{Standing}

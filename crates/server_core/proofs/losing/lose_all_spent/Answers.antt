@@ -1,12 +1,11 @@
-use Rattle.std.proofs.Common.{◌≡◌, ◌∙◌, ◌<◌, ◌≤◌, ◌+◌, not, ℕ, List, length, get_or, ap, sym, subst, arith}
-use Rattle.std.specs.List.{All, position_or_len}
+use Rattle.std.proofs.Common.{◌≡◌, ◌∙◌, not, List, length, get_or, ap, sym, subst, arith}
+use Rattle.std.specs.List.{All}
 use Rattle.std.proofs.lemmas.List.Elements.{All-filter}
-use Rattle.waits.specs.Jobs.{Queue, without_session}
+use Rattle.waits.specs.Jobs.{Queue}
 use Rattle.server_rules.specs.Answer.{without_spent}
 use Rattle.server_rules.specs.Event.{State}
 use Rattle.standing.specs.declared.standing.Standing.{Standing}
 use Rattle.standing.specs.Names.{name_kept}
-use Rattle.standing.specs.Standing.{key_of, number_of}
 use Rattle.server_core.specs.Losing.{IsHere, is_spent_kept}
 use Rattle.server_core.specs.Sessions.{AreKept, is_kept_as, without_kept}
 use Rattle.server_core.proofs.Lists.{no-place, place-is}

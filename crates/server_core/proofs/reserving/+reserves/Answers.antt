@@ -1,10 +1,10 @@
-use Rattle.std.proofs.Common.{◌≡◌, ◌∙◌, ◌<◌, ◌≤◌, ◌+◌, ℕ, List, length, get_or, set, ap, sym, subst, arith}
+use Rattle.std.proofs.Common.{◌≡◌, ◌∙◌, ◌<◌, ◌+◌, List, length, get_or, ap, sym, arith}
 use Rattle.std.proofs.lemmas.List.{get_or_default, length-set}
 use Rattle.standing.specs.declared.standing.Standing.{Standing}
 use Rattle.server_core.specs.declared.voices.Voice.{Voice}
 use Rattle.server_core.specs.Reserving.{AreReserved}
 use Rattle.server_core.proofs.Places.{one-of}
-use Rattle.server_core.proofs.ReserveLemmas.{back-so, err-so, none-reserved, ok-so, reserved, reserved-more}
+use Rattle.server_core.proofs.ReserveLemmas.{back-so, err-so, ok-so, reserved, reserved-more}
 use Rattle.server_core.proofs.reserving.+reserves.Goals as goal
 
 pub reserves-requires : goal.reserves-requires

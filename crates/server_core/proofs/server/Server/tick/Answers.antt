@@ -1,6 +1,5 @@
-use Rattle.std.proofs.Common.{◌≡◌, ◌∙◌, ◌≤◌, ℕ, Result, Ok, Err, List, [], max, ap, sym, subst, refl}
+use Rattle.std.proofs.Common.{◌≡◌, ◌∙◌, ℕ, Result, Ok, Err, [], max, ap, sym, subst, refl}
 use Rattle.std.specs.Prelude.{IfOk, OnOk}
-use Rattle.octets.specs.declared.memory.Memory.{Memory}
 use Rattle.waits.specs.Jobs.{overdue_count}
 use Rattle.server_rules.specs.Event.{Setting}
 use Rattle.server_rules.specs.Answer.{Answer, after_tick, begun}

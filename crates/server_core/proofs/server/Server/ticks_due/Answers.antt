@@ -1,6 +1,5 @@
-use Rattle.std.proofs.Common.{◌≡◌, ◌∙◌, ◌<◌, ◌≤◌, ◌+◌, ◌*◌, ℕ, List, [], length, get_or, ap, sym, subst, refl, arith}
+use Rattle.std.proofs.Common.{◌≡◌, ◌∙◌, ◌≤◌, ℕ, List, [], ap, sym, subst, refl, arith}
 use Rattle.std.specs.Prelude.{sum_by}
-use Rattle.std.specs.List.{All}
 use Rattle.auth_keys.specs.declared.ring.RingKey.{RingKey}
 use Rattle.owing.specs.Outs.{AreSent, Going}
 use Rattle.rows.specs.Entries.{Held}
@@ -8,7 +7,6 @@ use Rattle.waits.specs.Jobs.{Queue}
 use Rattle.server_rules.specs.Event.{Sent, Setting, State}
 use Rattle.server_rules.specs.Sending.{all_sent}
 use Rattle.server_rules.specs.Answer.{Answer, after_tick, begun, ticks, without_spent}
-use Rattle.standing.specs.declared.standing.Standing.{Standing}
 use Rattle.standing.specs.Says.{setting_of}
 use Rattle.server_core.specs.declared.effects.Effects.{Effects}
 use Rattle.server_core.specs.declared.voices.Voice.{Voice}
@@ -16,10 +14,8 @@ use Rattle.server_core.specs.Answering.{AreVoices, IsInTick}
 use Rattle.server_core.specs.Effects.{Gives}
 use Rattle.server_core.specs.Losing.{IsHere}
 use Rattle.server_core.specs.One.{answer_of}
-use Rattle.server_core.specs.Outgoing.{IsSending}
 use Rattle.server_core.specs.Reserving.{AreFresh, AreReserved}
-use Rattle.server_core.specs.Server.{IsSound, Kept, Stands}
-use Rattle.server_core.specs.Sessions.{AreKept}
+use Rattle.server_core.specs.Server.{Kept, Stands}
 use Rattle.server_core.proofs.Speaking.{kept-later}
 use Rattle.server_core.proofs.TickStart.{can-here, here-speaking, here-with, reserved-all, sending-starts, speaking-here, spent-rest, tick-room, tick-starts}
 use Rattle.server_core.proofs.VoiceSteps.{can-send}

@@ -1,8 +1,7 @@
-use Rattle.std.proofs.Common.{◌≡◌, sym, subst, ap}
+use Rattle.std.proofs.Common.{sym, subst}
 use Rattle.answers.specs.Contents.{content_of}
 use Rattle.rows.specs.Entries.{Held}
 use Rattle.rows.specs.Speaks.{HasRoom, Speaks}
-use Rattle.rows.specs.declared.turn.Turn.{Turn}
 use Rattle.server_rules.specs.Event.{Speaker}
 use Rattle.server_rules.specs.Waiting.{gives_up}
 use Rattle.standing.specs.Says.{setting_of}

@@ -1,19 +1,17 @@
-use Rattle.std.proofs.Common.{◌≡◌, ◌∙◌, ◌<◌, ◌≤◌, ◌+◌, ◌-◌, ◌++◌, ◌∷◌, [], ℕ, Bool, true, cond, Some, List, length, get_or, set, ap, sym, subst, refl, arith}
-use Rattle.std.specs.List.{All, position, position_or_len}
+use Rattle.std.proofs.Common.{◌≡◌, ◌∙◌, ◌<◌, ◌≤◌, ◌+◌, ◌-◌, ◌++◌, ◌∷◌, [], ℕ, true, cond, Some, List, length, get_or, set, ap, sym, subst, arith}
+use Rattle.std.specs.List.{All, position_or_len}
 use Rattle.std.proofs.lemmas.List.{get_or_default, length-set}
 use Rattle.std.proofs.lemmas.List.Sums.{passes_at_first}
 use Rattle.answers.specs.Contents.{content_of}
-use Rattle.rows.specs.Entries.{Held}
 use Rattle.rows.specs.Speaks.{Speaks}
 use Rattle.rows.specs.declared.turn.Turn.{Turn}
 use Rattle.waits.specs.Jobs.{Queue, without_first}
-use Rattle.server_rules.specs.Event.{Setting, Speaker, State}
+use Rattle.server_rules.specs.Event.{Setting, State}
 use Rattle.server_rules.specs.Server.{Name}
-use Rattle.server_rules.specs.Waiting.{given_up, gives_up}
+use Rattle.server_rules.specs.Waiting.{given_up}
 use Rattle.standing.specs.declared.standing.Standing.{Standing}
 use Rattle.standing.specs.Names.{name_kept}
 use Rattle.standing.specs.Says.{setting_of}
-use Rattle.standing.specs.Standing.{replies_left}
 use Rattle.server_core.specs.declared.voices.Voice.{Voice}
 use Rattle.server_core.specs.Answering.{AreVoices, IsInTick, IsVoice, answers_left, turn_with}
 use Rattle.server_core.specs.Losing.{IsHere}
@@ -23,7 +21,7 @@ use Rattle.server_core.proofs.Lists.{place-is}
 use Rattle.server_core.proofs.Names.{named, same-names}
 use Rattle.server_core.proofs.Places.{one-of}
 use Rattle.server_core.proofs.TickSteps.{tick-step}
-use Rattle.server_core.proofs.VoiceSteps.{IsStep, entries-room, has-room, has-turn, here-set, is-step, silent-room, voices-step}
+use Rattle.server_core.proofs.VoiceSteps.{IsStep, entries-room, has-room, has-turn, here-set, is-step, voices-step}
 use Rattle.server_core.proofs.voices.Voices.answers.Goals as goal
 
 pub gives_up-requires-clause-room : goal.gives_up-requires-clause-room

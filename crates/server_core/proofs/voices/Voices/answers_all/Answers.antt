@@ -1,4 +1,4 @@
-use Rattle.std.proofs.Common.{◌≡◌, ℕ, List, length, sym, subst}
+use Rattle.std.proofs.Common.{length, subst}
 use Rattle.waits.specs.Jobs.{Queue}
 use Rattle.server_rules.specs.Event.{Setting, State}
 use Rattle.server_rules.specs.Speaking.{msg_wait_failed, msg_wait_timeout}

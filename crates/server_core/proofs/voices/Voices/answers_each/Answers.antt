@@ -1,4 +1,4 @@
-use Rattle.std.proofs.Common.{◌≡◌, ◌∙◌, ◌<◌, ◌≤◌, ◌+◌, ℕ, None, List, length, refl, arith}
+use Rattle.std.proofs.Common.{◌≡◌, ◌∙◌, None, length, refl, arith}
 use Rattle.waits.specs.Jobs.{first_job}
 use Rattle.server_rules.specs.Event.{Setting}
 use Rattle.standing.specs.Says.{setting_of}

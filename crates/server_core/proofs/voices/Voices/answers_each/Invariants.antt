@@ -1,4 +1,4 @@
-use Rattle.std.proofs.Common.{◌≡◌, ◌≤◌, ℕ, List, length, vec_capacity}
+use Rattle.std.proofs.Common.{◌≡◌, ◌≤◌, List, length, vec_capacity}
 use Rattle.std.specs.List.{All}
 use Rattle.auth_keys.specs.declared.ring.RingKey.{RingKey}
 use Rattle.server_rules.specs.Server.{Binding}

@@ -1,6 +1,5 @@
-use Rattle.std.proofs.Common.{◌≡◌, ◌∙◌, ◌<◌, ◌≤◌, ◌+◌, ◌*◌, ◌∷◌, [], ℕ, List, length, get_or, drop, ap, sym, subst, refl, arith, Vec, Global}
+use Rattle.std.proofs.Common.{◌≡◌, ◌∙◌, ◌<◌, ◌+◌, ◌∷◌, [], ℕ, List, length, get_or, drop, ap, sym, subst, arith, Vec, Global}
 use Rattle.std.proofs.lemmas.List.{drop_all, drop_more}
-use Rattle.server_rules.specs.Event.{State}
 use Rattle.standing.specs.Says.{setting_of}
 use Rattle.server_core.specs.Outgoing.{IsSending}
 use Rattle.server_core.proofs.voices.Voices.sends.Goals as goal

@@ -1,4 +1,4 @@
-use Rattle.std.proofs.Common.{◌≡◌, ◌≤◌, ◌+◌, ◌*◌, ℕ, List, length, drop}
+use Rattle.std.proofs.Common.{◌≡◌, ◌≤◌, ◌+◌, ◌*◌, length, drop}
 use Rattle.server_rules.specs.Event.{State}
 use Rattle.standing.specs.Says.{Keys, setting_of}
 use Rattle.server_core.specs.Outgoing.{CanSend, IsSending}

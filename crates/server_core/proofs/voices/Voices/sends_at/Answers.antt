@@ -1,20 +1,16 @@
-use Rattle.std.proofs.Common.{◌≡◌, ◌∙◌, ◌<◌, ◌≤◌, ◌+◌, ℕ, Option, Some, None, List, ◌∷◌, length, get_or, set, ap, sym, subst, refl, arith}
+use Rattle.std.proofs.Common.{◌≡◌, ◌∙◌, ◌<◌, ℕ, List, length, get_or, set, ap, sym, subst, arith}
 use Rattle.std.specs.Prelude.{IsSome}
-use Rattle.std.specs.List.{All}
 use Rattle.std.proofs.lemmas.List.{get_or_default, length-set}
-use Rattle.std.proofs.lemmas.List.Elements.{All-head}
 use Rattle.auth_keys.specs.Rings.{entry_of}
-use Rattle.owing.specs.Batch.{Batch, packets_most}
 use Rattle.owing.specs.Outs.{AreSent}
-use Rattle.server_rules.specs.Event.{Setting, Speaker}
+use Rattle.server_rules.specs.Event.{Setting}
 use Rattle.server_rules.specs.Server.{Name}
 use Rattle.standing.specs.declared.standing.Standing.{Standing}
-use Rattle.standing.specs.Standing.{IsAt, Stands, key_of, numbers_left}
-use Rattle.standing.specs.Names.{name_kept}
+use Rattle.standing.specs.Standing.{Stands, numbers_left}
 use Rattle.standing.specs.Says.{Says, setting_of}
 use Rattle.server_rules.specs.Sending.{sends}
 use Rattle.server_core.specs.declared.voices.Voice.{Voice}
-use Rattle.server_core.specs.Outgoing.{CanGoOut, CanSend, IsSendable, IsSending}
+use Rattle.server_core.specs.Outgoing.{CanGoOut, CanSend, IsSending}
 use Rattle.server_core.proofs.Places.{one-of}
 use Rattle.server_core.proofs.SendSteps.{send-step}
 use Rattle.server_core.proofs.VoiceSteps.{sent-step, some-sendable}
