@@ -19,3 +19,4 @@ pub mod Jobs
 pub mod Ordered
 pub mod Beginning
 pub mod Sending
+pub mod Ending
