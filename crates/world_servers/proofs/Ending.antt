@@ -38,7 +38,7 @@ use Rattle.world_servers.proofs.Events.{IsItsOwn, all_mapped, and_first, lines_p
 abbrev named : ℕ → ℕ → Name
 named key session = record { key = key; session = session }
 
-same_name : (one other : Name) → is_same one other ≡ true → other ≡ one
+pub same_name : (one other : Name) → is_same one other ≡ true → other ≡ one
 same_name one other is =
     let key : one.key ≡ other.key = eq_true one.key other.key (and_first (one.key == other.key) (one.session == other.session) is) in
     let session : one.session ≡ other.session = eq_true one.session other.session (and_right (one.key == other.key) (one.session == other.session) is) in
@@ -88,8 +88,7 @@ sealed_out setting salt w owed counters (group ∷ lists) speaker there spoken a
     let outer : Message = outer_of setting.now counters group in
     let next = seals setting salt speaker outer in
     sealed_out setting salt w owed (after_outer setting.now counters group) lists next there spoken.1 among.1
-    (all_append (λ (sent : Sent). WentOut w owed sent.envelope) speaker.sent _ h
-    (
+    (all_append (λ (sent : Sent). WentOut w owed sent.envelope) speaker.sent _ h (
       record {
         unique = speaker.session.unique;
         group = group;

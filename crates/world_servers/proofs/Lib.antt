@@ -20,3 +20,5 @@ pub mod Ordered
 pub mod Beginning
 pub mod Sending
 pub mod Ending
+pub mod HeardOwe
+pub mod WorksEnd

@@ -291,3 +291,27 @@ pub fn events_end_by_moves<D: Draw>()
     numbers_are_given_once();
     packing::laws::packets_have_all_messages();
 }
+
+/// A run, a tick and the opening of a connection are lawful moves to their ends: what they owe goes out.
+pub fn works_end_by_moves<D: Draw>()
+    ensures run { (w : World) (gone : List Session) (lines : Name → Line) (more : Name → List Row) (setting : Setting D) (server : Server) (draw : D) (place : ℕ) (job : Job) (reply : List ℕ)
+        → Reached w → ServerStands w gone server.sessions server.jobs → AreOrdered server.sessions server.jobs → AreLines w lines more server.sessions
+        → ready_job place server.jobs ≡ Some job
+        → Leads w (λ later. EventEnds later lines (runs setting place job reply (begun server draw)).owed
+        (without_spent (all_sent setting (runs setting place job reply (begun server draw))))) }
+    ensures tick { (w : World) (gone : List Session) (lines : Name → Line) (more : Name → List Row) (setting : Setting D) (server : Server) (draw : D)
+        → Reached w → ServerStands w gone server.sessions server.jobs → AreOrdered server.sessions server.jobs → AreLines w lines more server.sessions
+        → Leads w (λ later. EventEnds later lines (ticks setting (begun server draw)).owed (without_spent (all_sent setting (ticks setting (begun server draw))))) }
+    ensures attach { (w : World) (gone : List Session) (lines : Name → Line) (more : Name → List Row) (setting : Setting D) (server : Server) (draw : D) (name : Name)
+        → Reached w → ServerStands w gone server.sessions server.jobs → AreOrdered server.sessions server.jobs → AreLines w lines more server.sessions
+        → ((session : Session) → session_named name server.sessions ≡ Some session → IsWithin (lines name) (attaches setting (speaker_in (begun server draw) session)).session)
+        → Leads w (λ later. EventEnds later lines (speaks name (attaches setting) (begun server draw)).owed
+        (without_spent (all_sent setting (speaks name (attaches setting) (begun server draw))))) }
+{
+    moves_only_add();
+    moves_go_on();
+    numbers_are_given_once();
+    packing::laws::packets_have_all_messages();
+    server_laws::laws::sessions_speak_for_themselves::<D>();
+    server_laws::laws::new_sessions_say_so::<D>();
+}
