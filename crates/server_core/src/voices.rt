@@ -68,7 +68,7 @@ impl Cause {
 pub(crate) struct Voice {
     /// What it owes. Its entries are none: those of a tick are kept together.
     pub(crate) turn: Turn,
-    /// The room for its packets; none once they went out.
+    /// The room for its packets; none where it gives no answer, and once they went out.
     pub(crate) packets: Option<Packets>,
     /// How many more answers it gives at most.
     pub(crate) left: usize,
