@@ -42,3 +42,4 @@ pub mod TickStart
 pub mod TickLoops
 pub mod ReserveLemmas
 pub mod FreshLemmas
+pub mod OverdueLemmas

@@ -1,12 +1,13 @@
 //! The room for all that the sessions of a server say in a tick.
 
 ghost use Rattle.std.specs.Prelude.{◌≡◌, ◌≤◌, ◌<◌, [], All, IfOk, OnErr, OnOk, length, slice_index_or, slice_set, sum_by, max, min, vec_capacity, false};
+ghost use Rattle.waits.specs.Jobs.{overdue_count_of};
 ghost use Rattle.waits.specs.Limits.{most_jobs};
 ghost use Rattle.server_rules.specs.Server.{sessions_max};
 ghost use Rattle.standing.specs.declared.standing.Standing.{Standing as One};
 ghost use Rattle.standing.specs.Names.{name_kept};
 ghost use Rattle.standing.specs.Rooms.{with_replies_left};
-ghost use Rattle.standing.specs.Standing.{replies_left};
+ghost use Rattle.standing.specs.Standing.{key_of, number_of, replies_left};
 ghost use Rattle.server_core.specs.Answering.{answers_left};
 ghost use Rattle.server_core.specs.Reserving.{AreFresh, AreReserved, IsFresh};
 ghost use Rattle.server_core.specs.Sessions.{AreApart};
@@ -48,17 +49,26 @@ impl Voice {
 }
 
 impl Sessions {
-    // How many answers the session at this place gives at most in a tick at this moment: none where no job of it is overdue.
-    fn most_answers(&self, place: usize, jobs: &Jobs, now: Moment) -> usize
+    // How many answers the session at this place gives at most in a tick at this moment, none where no job of it is overdue; and
+    // how many are. Where none of all is left to be found, none is looked for.
+    fn most_answers(&self, place: usize, jobs: &Jobs, now: Moment, left: usize) -> (usize, usize)
         requires place { place < length self.now }
-        ensures enough { (d : One) → All (λ one. one.failed ≡ false) jobs.now.jobs → answers_left now jobs.now.jobs (name_kept (slice_index_or self.now place d)) ≤ result }
-        ensures few { result ≤ most_jobs }
+        ensures enough { (d : One) → All (λ one. one.failed ≡ false) jobs.now.jobs
+            → (left ≡ 0 → overdue_count_of (key_of (slice_index_or self.now place d)) (number_of (slice_index_or self.now place d)) now jobs.now.jobs ≡ 0)
+            → answers_left now jobs.now.jobs (name_kept (slice_index_or self.now place d)) ≤ result.0 }
+        ensures few { result.0 ≤ most_jobs }
+        ensures found { (d : One) → result.1 ≤ overdue_count_of (key_of (slice_index_or self.now place d)) (number_of (slice_index_or self.now place d)) now jobs.now.jobs }
+        ensures apart { AreApart self.now }
     {
         let standing = &self.list[place];
-        if jobs.overdue_of(standing.key(), standing.number(), now) == 0 {
-            return 0;
+        if left == 0 {
+            return (0, 0);
         }
-        jobs.blocked(standing.key(), standing.number())
+        let overdue = jobs.overdue_of(standing.key(), standing.number(), now);
+        if overdue == 0 {
+            return (0, 0);
+        }
+        (jobs.blocked(standing.key(), standing.number()), overdue)
     }
 
     // Takes the memory that the session at this place needs for so many answers. Its room for answers before.
@@ -104,8 +114,10 @@ pub(crate) fn fresh_voices(
     let count = sessions.count();
     let mut list = Vec::with_capacity(alloc, count)?;
     let mut total = 0;
+    let mut left = jobs.overdue(now);
     for place in 0..count {
-        let most = sessions.most_answers(place, jobs, now);
+        let (most, overdue) = sessions.most_answers(place, jobs, now, left);
+        left = left.saturating_sub(overdue);
         list.push_reserved(Voice::new(alloc, most)?);
         total += most;
     }

@@ -7,8 +7,13 @@ use Rattle.server_core.proofs.Due.{few-left, none-left}
 use Rattle.server_core.proofs.Lent.{lent-at}
 use Rattle.server_core.proofs.sessions.Sessions.most_answers.Goals as goal
 
-pub returns-then-overdue_of-eq0-clause-enough : goal.returns-then-overdue_of-eq0-clause-enough
-returns-then-overdue_of-eq0-clause-enough c = λ d unfailed.
+pub returns-then-left-eq0-clause-enough : goal.returns-then-left-eq0-clause-enough
+returns-then-left-eq0-clause-enough c = λ d unfailed none.
+    let none_left = none-left c.args.now c.args.jobs.now.jobs (name_kept (get_or c.args.self.now c.args.place d)) unfailed (none c.if-left-eq0.true) in
+    omega arith
+
+pub returns-then-overdue-eq0-clause-enough : goal.returns-then-overdue-eq0-clause-enough
+returns-then-overdue-eq0-clause-enough c = λ d unfailed _.
     let items = c.self.inside.list.items in
     let place = c.args.place in
     let now = c.args.now in
@@ -16,7 +21,7 @@ returns-then-overdue_of-eq0-clause-enough c = λ d unfailed.
     let lent : Standing = c.index-standing.result.now in
     let within : place < length items = subst (λ (standings : List Standing). place < length standings) (sym c.self.view_is) c.requires.place in
     let here : lent ≡ get_or c.args.self.now place d = lent-at items c.args.self.now place lent d c.self.view_is c.index-standing.ensures within in
-    let count : overdue_count_of c.key.result c.number.result now jobs ≡ 0 = sym c.overdue_of.ensures.count ∙ c.if-overdue_of-eq0.true in
+    let count : overdue_count_of c.key.result c.number.result now jobs ≡ 0 = sym c.overdue_of-overdue.ensures.count ∙ c.if-overdue-eq0.true in
     let count_lent : overdue_count_of (key_of lent) (number_of lent) now jobs ≡ 0 =
     ap (λ (key : ℕ). overdue_count_of key (number_of lent) now jobs) (sym c.key.ensures.value)
     ∙ (ap (λ (number : ℕ). overdue_count_of c.key.result number now jobs) (sym c.number.ensures.value) ∙ count) in
@@ -25,7 +30,7 @@ returns-then-overdue_of-eq0-clause-enough c = λ d unfailed.
     omega arith
 
 pub returns-clause-enough : goal.returns-clause-enough
-returns-clause-enough c = λ d unfailed.
+returns-clause-enough c = λ d unfailed _.
     let items = c.self.inside.list.items in
     let place = c.args.place in
     let now = c.args.now in
