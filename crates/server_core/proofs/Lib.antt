@@ -32,3 +32,4 @@ pub mod FirstWords
 pub mod Uses
 pub mod RowCases
 pub mod Settled
+pub mod AllSettled

@@ -15,6 +15,7 @@ mod others;
 mod server;
 mod sessions;
 mod settling;
+mod settling_all;
 mod speech;
 pub mod tick_laws;
 mod work;
