@@ -33,3 +33,6 @@ pub mod Uses
 pub mod RowCases
 pub mod Settled
 pub mod AllSettled
+pub mod Left
+pub mod PacketDues
+pub mod BeginsSettling
