@@ -43,3 +43,7 @@ pub mod TickLoops
 pub mod ReserveLemmas
 pub mod FreshLemmas
 pub mod OverdueLemmas
+pub mod AllSettled
+pub mod Left
+pub mod PacketDues
+pub mod BeginsSettling

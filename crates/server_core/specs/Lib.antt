@@ -14,3 +14,4 @@ pub mod Answering
 pub mod Outgoing
 pub mod Losing
 pub mod Reserving
+pub mod SettlingAll

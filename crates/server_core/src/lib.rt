@@ -18,6 +18,7 @@ mod reserving;
 mod server;
 mod sessions;
 mod settling;
+mod settling_all;
 mod speech;
 pub mod tick_laws;
 mod ticking;
