@@ -32,3 +32,5 @@ pub mod FirstWords
 pub mod Uses
 pub mod RowCases
 pub mod Settled
+pub mod Fresh
+pub mod PacketRoom

@@ -10,3 +10,5 @@ pub mod Others
 pub mod Hearing
 pub mod Ticking
 pub mod Settling
+pub mod SettlingAll
+pub mod Room

@@ -3,6 +3,7 @@
 //! the definitions (`Stands`), and each event makes it stand for what the definitions say of that event.
 #![tactic(auto)]
 
+mod again;
 mod attaching;
 mod desk;
 mod destroying;
@@ -12,6 +13,7 @@ mod hearing;
 pub mod laws;
 mod leaving;
 mod others;
+mod room;
 mod server;
 mod sessions;
 mod settling;
