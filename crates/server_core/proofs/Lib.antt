@@ -34,3 +34,4 @@ pub mod RowCases
 pub mod Settled
 pub mod Fresh
 pub mod PacketRoom
+pub mod AllSettled

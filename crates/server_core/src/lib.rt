@@ -17,6 +17,7 @@ mod room;
 mod server;
 mod sessions;
 mod settling;
+mod settling_all;
 mod speech;
 pub mod tick_laws;
 mod work;
