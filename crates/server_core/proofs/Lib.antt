@@ -35,3 +35,8 @@ pub mod Settled
 pub mod Fresh
 pub mod PacketRoom
 pub mod AllSettled
+pub mod Left
+pub mod Taken
+pub mod HeardLemmas
+pub mod PacketDues
+pub mod BeginsSettling

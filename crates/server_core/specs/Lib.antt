@@ -12,3 +12,4 @@ pub mod Ticking
 pub mod Settling
 pub mod SettlingAll
 pub mod Room
+pub mod Packets

@@ -13,6 +13,8 @@ mod hearing;
 pub mod laws;
 mod leaving;
 mod others;
+mod packet_answers;
+mod packets;
 mod room;
 mod server;
 mod sessions;
