@@ -8,13 +8,13 @@ use Rattle.inbox.specs.declared.judged.Judgement.{Judgement}
 use Rattle.inbox.specs.Judging.{judgements, session_after}
 use Rattle.inbox.specs.Refusals.{InEnvelope, Way}
 use Rattle.waits.specs.Jobs.{Queue}
-use Rattle.server_rules.specs.Server.{Name, Server, Session, has_accepted, name_of, remembered, session_named}
+use Rattle.server_rules.specs.Server.{Server, Session, has_accepted, remembered, session_named}
 use Rattle.server_rules.specs.Event.{Envelope, Setting, Speaker}
 use Rattle.server_rules.specs.Speaking.{says_it_is_new}
 use Rattle.server_rules.specs.Rows.{acknowledges, acks_of}
 use Rattle.server_rules.specs.Answer.{begun, is_spent, message_in, messages_judged, name_in, opens}
 use Rattle.server_laws.specs.Order.{AreOrdered, IsMidway, IsOrderly, IsTold, jobs_of, opens_of}
-use Rattle.server_core.specs.Among.{Among, IsAlone, IsInOrder, heard_among, speaks_among, takes_among}
+use Rattle.server_core.specs.Among.{Among, IsAlone, heard_among, speaks_among, takes_among}
 use Rattle.server_core.specs.Failures.{blocked_of}
 use Rattle.server_core.specs.SettlingAll.{AreSettling, all_settled}
 use Rattle.server_core.proofs.Among.{heard_by-alone, opened-alone}

@@ -1,5 +1,5 @@
 -- What the messages of a packet need, as they were judged.
-use Rattle.std.proofs.Common.{◌≡◌, ℕ, ◌+◌, ◌≤◌, ◌==◌, ◌&&◌, List, [], ◌∷◌, Option, Some, None, length, map, refl, arith}
+use Rattle.std.proofs.Common.{◌≡◌, ℕ, ◌≤◌, ◌&&◌, List, [], ◌∷◌, Option, Some, None, length, map, refl, arith}
 use Rattle.std.proofs.lemmas.Bool.{cond_both}
 use Rattle.service_tl.specs.declared.lists.Message.{Message}
 use Rattle.id_window.specs.declared.mark.Mark.{Mark}
@@ -9,7 +9,6 @@ use Rattle.inbox.specs.Kinds.{inner_messages, item_told, kind_of}
 use Rattle.inbox.specs.Judging.{Session, inner_judgements, is_container, is_uncontained, judge, judged_session, judgements, unfolded, verdict_by}
 use Rattle.inbox.specs.Refusals.{Way, InContainer, refusal}
 use Rattle.id_window.specs.History.{found}
-use Rattle.rows.specs.declared.due.Due.{Due}
 use Rattle.rows.specs.Due.{due_by, due_of, needed_of}
 use Rattle.server_core.specs.SettlingAll.{AreDue}
 

@@ -1,4 +1,4 @@
-use Rattle.std.proofs.Common.{◌≡◌, ◌∙◌, ℕ, ◌+◌, ◌-◌, ◌≤◌, Bool, true, List, ◌∷◌, length, ap, sym, subst, arith, inl, inr}
+use Rattle.std.proofs.Common.{◌≡◌, ◌∙◌, ◌+◌, ◌-◌, ◌≤◌, List, ◌∷◌, length, ap, sym, subst, arith, inl, inr}
 use Rattle.std.specs.Iterator.Adapters.{zip_first, zip_second}
 use Rattle.std.specs.Slice.Iter.{iter_rest}
 use Rattle.std.specs.Vec.Iter.{into_iter_items}
@@ -6,12 +6,9 @@ use Rattle.inbox.specs.declared.judged.Judgement.{Judgement}
 use Rattle.server_rules.specs.Event.{Setting}
 use Rattle.standing.specs.Says.{setting_of}
 use Rattle.rows.specs.declared.due.Due.{Due}
-use Rattle.server_core.specs.Among.{Among}
 use Rattle.server_core.specs.SettlingAll.{all_settled, some_repeats}
 use Rattle.server_core.proofs.AllSettled.{HasUsed, all-begin, ends, goes-on, nothing-yet, repeats-first, repeats-next, spare-first, uses-all, uses-first}
 use Rattle.server_core.proofs.Left.{left-all, left-then}
-use Rattle.server_core.proofs.PacketDues.{are-due, enough-dues}
-use Rattle.server_core.proofs.BeginsSettling.{all-told, begins-settling, takes-all}
 use Rattle.server_core.proofs.settling_all.settles_all.Goals as goal
 
 pub loop-judgement-init : goal.loop-judgement-init
