@@ -47,5 +47,7 @@ pub mod Fresh
 pub mod PacketRoom
 pub mod AllSettled
 pub mod Left
+pub mod Taken
+pub mod HeardLemmas
 pub mod PacketDues
 pub mod BeginsSettling

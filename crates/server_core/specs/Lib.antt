@@ -16,3 +16,4 @@ pub mod Losing
 pub mod Reserving
 pub mod SettlingAll
 pub mod Room
+pub mod Packets

@@ -15,6 +15,8 @@ mod leaving;
 mod losing;
 mod others;
 mod outgoing;
+mod packet_answers;
+mod packets;
 mod reserving;
 mod room;
 mod server;
