@@ -11,6 +11,7 @@ ghost use Rattle.standing.specs.Says.{Keys, setting_of};
 ghost use Rattle.rows.specs.Rings.{AreOf};
 ghost use Rattle.rows.specs.Spare.{HasSpare, Uses};
 ghost use Rattle.server_core.specs.Among.{Among};
+ghost use Rattle.server_core.specs.Others.{AreLeft};
 ghost use Rattle.server_core.specs.Settling.{SpeaksAmong};
 ghost use Rattle.server_core.specs.SettlingAll.{AreDue, AreSettling, all_settled, due_most, some_repeats};
 
@@ -52,6 +53,7 @@ pub(crate) fn settles_all<D: Draw>(
         → SpeaksAmong now others.new standing.new turn.new jobs.new.jobs bindings.new.bindings draw.new (all_settled (setting_of now D.step keys) judged.now bodies among) }
     ensures uses { (again : Bool) → (some_repeats judged.now dues.items ≡ true → again ≡ true)
         → Uses again now (2 * length dues.items + limit) (sum_by due_most dues.items + limit * result_bytes short_bytes_max) (length dues.items + limit) (2 * length dues.items + limit) standing.old turn.old standing.new turn.new }
+    ensures left { AreLeft others.old others.new }
 {
     one_session_stays_alone::<D>();
     one_session_stays_in_order::<D>();

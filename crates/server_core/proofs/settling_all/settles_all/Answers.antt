@@ -1,4 +1,4 @@
-use Rattle.std.proofs.Common.{◌≡◌, ◌∙◌, ℕ, ◌+◌, ◌-◌, ◌≤◌, Bool, true, List, ◌∷◌, length, ap, sym, subst, arith, inl, inr}
+use Rattle.std.proofs.Common.{◌≡◌, ◌∙◌, ◌+◌, ◌-◌, ◌≤◌, List, ◌∷◌, length, ap, sym, subst, arith, inl, inr}
 use Rattle.std.specs.Iterator.Adapters.{zip_first, zip_second}
 use Rattle.std.specs.Slice.Iter.{iter_rest}
 use Rattle.std.specs.Vec.Iter.{into_iter_items}
@@ -6,9 +6,9 @@ use Rattle.inbox.specs.declared.judged.Judgement.{Judgement}
 use Rattle.server_rules.specs.Event.{Setting}
 use Rattle.standing.specs.Says.{setting_of}
 use Rattle.rows.specs.declared.due.Due.{Due}
-use Rattle.server_core.specs.Among.{Among}
 use Rattle.server_core.specs.SettlingAll.{all_settled, some_repeats}
 use Rattle.server_core.proofs.AllSettled.{HasUsed, all-begin, ends, goes-on, nothing-yet, repeats-first, repeats-next, spare-first, uses-all, uses-first}
+use Rattle.server_core.proofs.Left.{left-all, left-then}
 use Rattle.server_core.proofs.settling_all.settles_all.Goals as goal
 
 pub loop-judgement-init : goal.loop-judgement-init
@@ -32,6 +32,7 @@ loop-judgement-init g c =
           (nothing-yet c.args.now c.args.limit repeats dues c.args.standing.now c.args.turn.now);
       job_room = subst (λ (left : List Judgement). length left ≤ c.args.jobs.now.room) (sym first_is) c.requires.job_room;
       binding_room = subst (λ (left : List Judgement). length left ≤ c.args.bindings.now.room) (sym first_is) c.requires.binding_room;
+      others = left-all c.args.others.now;
       under = λ keys name past bodies among ring are is speaks.
           all-begin {S = D} c.args.now (setting_of c.args.now g.D.Draw.step keys) name past c.args.limit judged first dues second c.args.others.now c.args.standing.now c.args.turn.now
           c.args.jobs.now.jobs c.args.bindings.now.bindings c.args.draw.now bodies among first_is second_is are is speaks;
@@ -83,6 +84,7 @@ loop-judgement-preserved g c =
           c.judged-due.ensures so_far.used due_is again together promised.uses;
       job_room = omega (arith, so_far.job_room, promised.job_room_lasts, long);
       binding_room = omega (arith, so_far.binding_room, promised.binding_room_lasts, long);
+      others = left-then c.args.others.now c.loop-judgement.others after.others so_far.others promised.left;
       under = λ keys name past bodies among ring are is speaks.
           let setting : Setting D = setting_of now g.D.Draw.step keys in
           goes-on {S = D} c.one_session_stays_alone.ensures.settles c.one_session_stays_in_order.ensures.settles now setting name past left answered (left - answered)
@@ -117,3 +119,6 @@ pub returns-clause-uses : goal.returns-clause-uses
 returns-clause-uses g c = λ again implied.
     uses-all c.args.now c.args.limit (some_repeats c.args.judged.now c.args.dues.items) c.args.dues.items (into_iter_items (zip_second c.loop-judgement.judgement-iterator)) c.loop-judgement.left
     c.args.standing.now c.args.turn.now c.loop-judgement.standing c.loop-judgement.turn c.loop-judgement.invariant.used again implied
+
+pub returns-clause-left : goal.returns-clause-left
+returns-clause-left g c = c.loop-judgement.invariant.others

@@ -1,4 +1,4 @@
-use Rattle.std.proofs.Common.{◌≡◌, ◌≤◌, ℕ, Bool, true, List, length}
+use Rattle.std.proofs.Common.{◌≡◌, ◌≤◌, ℕ, true, List, length}
 use Rattle.std.specs.Iterator.Adapters.{zip_first, zip_second}
 use Rattle.std.specs.Slice.Iter.{iter_rest}
 use Rattle.std.specs.Vec.Iter.{into_iter_items}
@@ -7,6 +7,7 @@ use Rattle.server_rules.specs.Server.{Name}
 use Rattle.standing.specs.Says.{Keys, setting_of}
 use Rattle.rows.specs.Rings.{AreOf}
 use Rattle.server_core.specs.Among.{Among}
+use Rattle.server_core.specs.Others.{AreLeft}
 use Rattle.server_core.specs.Settling.{SpeaksAmong}
 use Rattle.server_core.specs.SettlingAll.{AreDue, AreSettling, all_settled, some_repeats}
 use Rattle.server_core.proofs.AllSettled.{HasUsed, IsUnderWay}
@@ -22,6 +23,7 @@ invariant-loop-judgement g l = record {
   used : HasUsed l.now l.limit (some_repeats l.judged l.fn.dues.items) l.fn.dues.items (into_iter_items (zip_second l.judgement-iterator)) l.left l.fn.standing l.fn.turn l.standing l.turn;
   job_room : length (iter_rest (zip_first l.judgement-iterator)) ≤ l.jobs.room;
   binding_room : length (iter_rest (zip_first l.judgement-iterator)) ≤ l.bindings.room;
+  others : AreLeft l.fn.others l.others;
   under : (keys : Keys) (name : Name) (past : History) (bodies : List (List ℕ)) (among : Among g.row.D.Denot) → AreOf l.ring keys → AreDue l.judged bodies l.fn.dues.items
       → AreSettling name past l.limit l.judged among
       → SpeaksAmong l.now l.fn.others l.fn.standing l.fn.turn l.fn.jobs.jobs l.fn.bindings.bindings l.fn.draw among
