@@ -43,6 +43,8 @@ pub mod TickLoops
 pub mod ReserveLemmas
 pub mod FreshLemmas
 pub mod OverdueLemmas
+pub mod Fresh
+pub mod PacketRoom
 pub mod AllSettled
 pub mod Left
 pub mod PacketDues

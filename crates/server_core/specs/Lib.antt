@@ -15,3 +15,4 @@ pub mod Outgoing
 pub mod Losing
 pub mod Reserving
 pub mod SettlingAll
+pub mod Room

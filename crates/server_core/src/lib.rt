@@ -3,6 +3,7 @@
 //! the definitions (`Stands`), and each event makes it stand for what the definitions say of that event.
 #![tactic(auto)]
 
+mod again;
 mod attaching;
 mod desk;
 mod destroying;
@@ -15,6 +16,7 @@ mod losing;
 mod others;
 mod outgoing;
 mod reserving;
+mod room;
 mod server;
 mod sessions;
 mod settling;
