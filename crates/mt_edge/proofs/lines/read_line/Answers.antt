@@ -1,4 +1,4 @@
-use Rattle.std.proofs.Common.{◌≡◌, ◌≢◌, ◌+◌, ℕ, suc, List, [], ◌∷◌, ◌++◌, length, Option, None, Some, IfSome, IsSomeAnd, arith, ap, subst, sym, length-append}
+use Rattle.std.proofs.Common.{◌≡◌, ◌≢◌, ℕ, List, [], ◌∷◌, ◌++◌, length, Option, None, Some, IfSome, IsSomeAnd, arith, ap, subst, length-append}
 use Rattle.std.proofs.lemmas.Grind.{common_steps}
 use Rattle.std.proofs.lemmas.List.Elements.{All-push}
 use Rattle.std.specs.List.{All}
@@ -16,7 +16,7 @@ here left rest text byte (Some after) one other e h = (
     one = All-push (λ b. b ≢ 10) text byte one other;
     front = grind (arith, common_steps, e, h);
   },
-  λ nothing. omega (arith, ap length nothing, ap length e, length-append text rest, ap length h)
+  λ nothing. omega (arith, ap length nothing, ap length e, length-append text rest, ap length h),
 )
 
 lost_here : (first old new : Option (List ℕ)) (text : List ℕ) (byte : ℕ) → All (λ b. b ≢ 10) text → byte ≢ 10
