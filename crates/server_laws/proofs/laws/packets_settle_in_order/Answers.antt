@@ -1,0 +1,26 @@
+use Rattle.std.proofs.Common.{refl}
+use Rattle.server_rules.specs.Answer.{begun, name_in}
+use Rattle.server_rules.specs.Server.{session_named}
+use Rattle.server_laws.proofs.Judged.{Known}
+use Rattle.server_laws.proofs.Service.{service-called}
+use Rattle.server_laws.proofs.Events.{begun-goes, hears-stand, only-own, opened-goes, settles-go, with-own-past}
+use Rattle.server_laws.proofs.laws.packets_settle_in_order.Goals as goal
+
+pub returns-clause-hears : goal.returns-clause-hears
+returns-clause-hears g c = λ setting envelope server draw are.
+    let stand = hears-stand setting envelope (begun server draw) (session_named (name_in envelope) server.sessions) refl (record { names = are.names; each = are.each }) in
+    begun-goes _ _ stand
+
+pub returns-clause-opens : goal.returns-clause-opens
+returns-clause-opens g c = λ setting way message state session found on.
+    let known : Known = record { new = c.numbers_are_judged_once.ensures.new; noted = c.marks_follow_history.ensures.noted } in
+    opened-goes known service-called setting way message state session found on
+
+pub returns-clause-settles : goal.returns-clause-settles
+returns-clause-settles g c = λ setting name judgement body past numbers state told on. settles-go setting name judgement body past numbers state told on
+
+pub returns-clause-own_past : goal.returns-clause-own_past
+returns-clause-own_past g c = λ name history past. with-own-past name history past
+
+pub returns-clause-own_open : goal.returns-clause-own_open
+returns-clause-own_open g c = λ name numbers. only-own name numbers
