@@ -153,7 +153,7 @@ row-by setting name number seq verdict body past numbers state told on =
     only-goes name past (open_by verdict number numbers) numbers (owes setting number seq verdict body) state
     (λ others speaker s. owes-keeps setting number seq verdict body name (past name) numbers others speaker told s) on
 
-row-goes : {S : Type 0} (setting : Setting S) (name : Name) (number seq : ℕ) (verdict : Verdict) (body : List ℕ) (past : IsPast) (numbers : List ℕ) (state : State S)
+pub row-goes : {S : Type 0} (setting : Setting S) (name : Name) (number seq : ℕ) (verdict : Verdict) (body : List ℕ) (past : IsPast) (numbers : List ℕ) (state : State S)
     → IsTold number verdict (past name)
     → IsGoingOn past (open_only name (open_by verdict number numbers)) state.sessions state.jobs
     → IsGoingOn past (open_only name numbers) (row setting name number seq verdict body state).sessions (row setting name number seq verdict body state).jobs
@@ -163,16 +163,19 @@ row-goes setting name number seq (Accepted item) body past numbers state told on
 row-goes setting name number seq (Again mark) body past numbers state told on = row-by setting name number seq (Again mark) body past numbers state told on
 row-goes setting name number seq (Noticed code) body past numbers state told on = row-by setting name number seq (Noticed code) body past numbers state told on
 
-pub settles-go : {S : Type 0} (setting : Setting S) (name : Name) (judgement : Judgement) (body : List ℕ) (past : IsPast) (numbers : List ℕ) (state : State S)
+pub tells-go : {S : Type 0} (name : Name) (number : ℕ) (past : IsPast) (numbers : List ℕ) (state : State S) → IsGoingOn past (open_only name numbers) state.sessions state.jobs
+    → IsGoingOn past (open_only name numbers) (speaks name (tells_of number) state).sessions (speaks name (tells_of number) state).jobs
+tells-go name number past numbers state on =
+    only-goes name past numbers numbers (tells_of number) state (λ others speaker s. tells-keeps number name others (past name) numbers speaker s) on
+
+settles-go : {S : Type 0} (setting : Setting S) (name : Name) (judgement : Judgement) (body : List ℕ) (past : IsPast) (numbers : List ℕ) (state : State S)
     → IsTold judgement.number judgement.verdict (past name)
     → IsGoingOn past (open_only name (open_by judgement.verdict judgement.number numbers)) state.sessions state.jobs
     → IsGoingOn past (open_only name numbers) (settles setting name state (judgement, body)).sessions (settles setting name state (judgement, body)).jobs
 settles-go setting name judgement body past numbers state told on =
     let done = row setting name judgement.number judgement.seq judgement.verdict body state in
     failures-go setting past (open_only name numbers) (speaks name (tells_of judgement.number) done)
-    (only-goes name past numbers numbers (tells_of judgement.number) done
-    (λ others speaker s. tells-keeps judgement.number name others (past name) numbers speaker s)
-    (row-goes setting name judgement.number judgement.seq judgement.verdict body past numbers state told on))
+    (tells-go name judgement.number past numbers done (row-goes setting name judgement.number judgement.seq judgement.verdict body past numbers state told on))
 
 -- all of them, with their bodies
 all-settle : {S : Type 0} (setting : Setting S) (name : Name) (judged : List Judgement) (bodies : List (List ℕ)) (past : IsPast) (state : State S)

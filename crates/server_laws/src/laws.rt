@@ -18,7 +18,7 @@ ghost use Rattle.server_rules.specs.Server.{Name, Server, Session, Reply, has_ac
 ghost use Rattle.server_rules.specs.Event.{Envelope, Owed, Sent, Setting, Speaker, State, BindingCall, speaker_in, speaks};
 ghost use Rattle.server_rules.specs.Events.{Event, Course, course_of, after_event};
 ghost use Rattle.server_rules.specs.Speaking.{says, says_again, says_it_is_new, answers, answers_in_place, made_room};
-ghost use Rattle.server_rules.specs.Waiting.{gives_up, tells_of};
+ghost use Rattle.server_rules.specs.Waiting.{after_failures, gives_up, tells_of};
 ghost use Rattle.server_rules.specs.Calls.{accepts_call, binds, drops_answer};
 ghost use Rattle.server_rules.specs.Rows.{accepts, acknowledges, answers_broken, came_again, notices, sends_again, takes_acks, tells_salts, tells_states};
 ghost use Rattle.server_rules.specs.Answer.{after_attach, attaches, begun, finishes, hears, opens};
@@ -29,7 +29,7 @@ ghost use Rattle.msg_ids.specs.Counters.{Counters, room};
 ghost use Rattle.packing.specs.Packing.{packets_of};
 ghost use Rattle.server_laws.specs.Start.{BeginsWith, SaysItIsNew, new_owed};
 ghost use Rattle.inbox.specs.declared.judged.Verdict.{Verdict};
-ghost use Rattle.server_rules.specs.Rows.{owes, settles};
+ghost use Rattle.server_rules.specs.Rows.{owes, row};
 ghost use Rattle.server_laws.specs.Speech.{SaidFor};
 ghost use Rattle.server_laws.specs.Witness as shown;
 ghost use Rattle.server_laws.specs.Going.{none_open, open_by, open_only, past_in, past_with};
@@ -73,8 +73,8 @@ pub fn packets_are_judged()
     server_rules::laws::marks_follow_history();
 }
 
-/// The event of a packet keeps all in order: its session is heard, opens with what it judged, whose accepted numbers are open
-/// then, and settles each of these judgements, of which a number that was accepted is open before and not after.
+/// The event of a packet keeps all in order: its session is heard, and opens with what it judged, whose accepted numbers are
+/// open then; the row of a judgement answers its number, or leaves it, and then jobs are told and those that fail answered.
 pub fn packets_settle_in_order<D: Draw>()
     ensures hears { (setting : Setting D) (envelope : Envelope) (server : Server) (draw : D) → AreOrdered server.sessions server.jobs
         → IsGoingOn (past_in (hears setting envelope (begun server draw)).sessions) none_open
@@ -85,10 +85,15 @@ pub fn packets_settle_in_order<D: Draw>()
         (open_only (name_of session) (opens_of (judgements way (remembered session) message)))
         (speaks (name_of session) (opens setting (session_after way (remembered session) message).history (judgements way (remembered session) message)) state).sessions
         (speaks (name_of session) (opens setting (session_after way (remembered session) message).history (judgements way (remembered session) message)) state).jobs }
-    ensures settles { (setting : Setting D) (name : Name) (judgement : Judgement) (body : List ℕ) (past : Name → History) (numbers : List ℕ) (state : State D)
-        → IsTold judgement.number judgement.verdict (past name)
-        → IsGoingOn past (open_only name (open_by judgement.verdict judgement.number numbers)) state.sessions state.jobs
-        → IsGoingOn past (open_only name numbers) (settles setting name state (judgement, body)).sessions (settles setting name state (judgement, body)).jobs }
+    ensures row { (setting : Setting D) (name : Name) (number seq : ℕ) (verdict : Verdict) (body : List ℕ) (past : Name → History) (numbers : List ℕ) (state : State D)
+        → IsTold number verdict (past name)
+        → IsGoingOn past (open_only name (open_by verdict number numbers)) state.sessions state.jobs
+        → IsGoingOn past (open_only name numbers) (row setting name number seq verdict body state).sessions (row setting name number seq verdict body state).jobs }
+    ensures tells { (name : Name) (number : ℕ) (past : Name → History) (numbers : List ℕ) (state : State D)
+        → IsGoingOn past (open_only name numbers) state.sessions state.jobs
+        → IsGoingOn past (open_only name numbers) (speaks name (tells_of number) state).sessions (speaks name (tells_of number) state).jobs }
+    ensures failures { (setting : Setting D) (past : Name → History) (opened : Name → List ℕ) (state : State D) → IsGoingOn past opened state.sessions state.jobs
+        → IsGoingOn past opened (after_failures setting state).sessions (after_failures setting state).jobs }
     ensures own_past { (name : Name) (history : History) (past : Name → History) → past_with name history past name ≡ history }
     ensures own_open { (name : Name) (numbers : List ℕ) → open_only name numbers name ≡ numbers }
 {

@@ -216,7 +216,7 @@ ordered_heard sessions jobs apart h = record {
       all_of (λ (one : Unfinished). is_of o.key o.number one ≡ true → has_accepted o ≡ true) jobs
       (λ one is of.
       let called : WasCalled one.job.number o.history =
-      All-contains (λ (one : Unfinished). WasCalled one.job.number o.history) (jobs_of (name_of o) jobs) one (orderly sessions jobs apart h o there).unfinished.called (kept_in (is_of o.key o.number) jobs one is of) in
+      All-contains (λ (one : Unfinished). WasCalled one.job.number o.history) (jobs_of (name_of o) jobs) one (orderly sessions jobs apart h.each o there).unfinished.called (kept_in (is_of o.key o.number) jobs one is of) in
       any_of o.history called.0 called.1 (ap was_accepted called.3)));
 }
 

@@ -22,3 +22,6 @@ pub mod Sending
 pub mod Ending
 pub mod HeardOwe
 pub mod WorksEnd
+pub mod Growing
+pub mod Named
+pub mod Settling

@@ -148,17 +148,19 @@ pub fn sessions_speak_by_moves()
     numbers_are_given_once();
 }
 
-/// A packet's messages are judged by lawful moves of its session, where each was sent under the packet's session number and
-/// salt, as the call that its body asks for, or as none. What is accepted is that call there, or no call.
+/// A packet's messages are judged by lawful moves of its session, by salts that are some of its own, where each was sent under
+/// the packet's session number and salt, as the call that its body asks for, or as none. What is accepted is that call there,
+/// or no call.
 pub fn packets_are_judged_by_moves()
-    ensures { (w : World) (lost sessions : List Session) (jobs : Queue) (session : Session) (now salt : ℕ) (message : Said) → Reached w
+    ensures { (w : World) (lost sessions : List Session) (jobs : Queue) (session : Session) (line : Line) (now salt : ℕ) (message : Said) → Reached w
         → ServerStands w lost sessions jobs → Contains sessions session → EachOnce session.history
-        → AllByRecursion (IsUp w.ups session.number salt) (messages_judged (InEnvelope now session.salts salt) session message)
+        → IsWithin session.salts (with_line line session)
+        → AllByRecursion (IsUp w.ups session.number salt) (messages_judged (InEnvelope now line salt) session message)
         → Leads w (λ later. ServerStands later lost
-        (with_session (with_history (session_after (InEnvelope now session.salts salt) (remembered session) message).history session) sessions) jobs
+        (with_session (with_history (session_after (InEnvelope now line salt) (remembered session) message).history session) sessions) jobs
         × AllByRecursion (IsAcceptedThere later session) (filter_map acceptance_of
-        (zip (judgements (InEnvelope now session.salts salt) (remembered session) message)
-        (map (λ one. one.body) (messages_judged (InEnvelope now session.salts salt) session message))))) }
+        (zip (judgements (InEnvelope now line salt) (remembered session) message)
+        (map (λ one. one.body) (messages_judged (InEnvelope now line salt) session message))))) }
 {
     floors_never_fall();
     marks_are_of_replies();
