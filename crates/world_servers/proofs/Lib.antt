@@ -25,3 +25,4 @@ pub mod WorksEnd
 pub mod Growing
 pub mod Named
 pub mod Settling
+pub mod Noticing
