@@ -26,3 +26,4 @@ pub mod Growing
 pub mod Named
 pub mod Settling
 pub mod Noticing
+pub mod Taking

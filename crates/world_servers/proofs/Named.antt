@@ -52,10 +52,10 @@ found_without name other differs (o ∷ sessions) =
 
 -- ---- speeches
 
-none_all : {X : Type 0} (P : X → Type 0) → All P []
+pub none_all : {X : Type 0} (P : X → Type 0) → All P []
 none_all P = λ k d below. absurd (omega arith)
 
-one_all : {X : Type 0} (P : X → Type 0) (x : X) → P x → All P (x ∷ [])
+pub one_all : {X : Type 0} (P : X → Type 0) (x : X) → P x → All P (x ∷ [])
 one_all P x holds zero d below = holds
 one_all P x holds (suc k) d below = absurd (omega arith)
 

@@ -68,7 +68,6 @@ not_33 is = omega (arith, is)
 not_64 : Differs 64
 not_64 is = omega (arith, is)
 
-
 or_not : (one other : Option ℕ) → Not20 one → Not20 other → Not20 (option_or one other)
 or_not None other first second = second
 or_not (Some n) other first second = first

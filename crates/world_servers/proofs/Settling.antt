@@ -90,7 +90,7 @@ module _ {S : Type 0} (adds : Adds) (on : MovesGoOn) (alone : GivesUpAlone S) (o
 
   -- ---- what a judgement stands on, which lasts
 
-  abbrev Asks : World → ℕ → Option (List ℕ) → Type 0
+  abbrev pub Asks : World → ℕ → Option (List ℕ) → Type 0
   Asks w number (Some request) = Contains (w.servers unique).judged (record { number = number; outcome = AcceptedCall request })
   Asks w number None = WasNoCall w.ups name.session number
 
@@ -123,7 +123,7 @@ module _ {S : Type 0} (adds : Adds) (on : MovesGoOn) (alone : GivesUpAlone S) (o
     judged_still number (Again mark) body h = given_still number h
     judged_still number (Accepted item) body h = asks_still number (request_of item body) h
 
-    all_still : (judged : List Judgement) (bodies : List (List ℕ)) → AreJudged w judged bodies → AreJudged later judged bodies
+    pub all_still : (judged : List Judgement) (bodies : List (List ℕ)) → AreJudged w judged bodies → AreJudged later judged bodies
     all_still [] bodies h = tt
     all_still (judgement ∷ judged) [] h = tt
     all_still (judgement ∷ judged) (body ∷ bodies) h = (judged_still judgement.number judgement.verdict body h.0, all_still judged bodies h.1)
@@ -298,7 +298,7 @@ module _ {S : Type 0} (adds : Adds) (on : MovesGoOn) (alone : GivesUpAlone S) (o
       before (tells_of judgement.number) done (λ y found. said_told judgement.number (speaker_in done y)) (λ y found. grown_itself y)
       (failures_before said name unique (lines name) alone setting (speaks name (tells_of judgement.number) done) h)
 
-  all_within : (judged : List Judgement) (bodies : List (List ℕ)) (state : State S) → WithinIt (fold (settles setting name) state (zip judged bodies)) → WithinIt state
+  pub all_within : (judged : List Judgement) (bodies : List (List ℕ)) (state : State S) → WithinIt (fold (settles setting name) state (zip judged bodies)) → WithinIt state
   all_within [] bodies state h = h
   all_within (judgement ∷ judged) [] state h = h
   all_within (judgement ∷ judged) (body ∷ bodies) state h =
