@@ -10,13 +10,15 @@ ghost use Rattle.inbox.specs.Judging.{judgements, session_after};
 ghost use Rattle.waits.specs.declared.job.Job.{Job};
 ghost use Rattle.waits.specs.declared.job.Unfinished.{Unfinished};
 ghost use Rattle.waits.specs.Jobs.{Queue, ready_job, accepted, is_of, without_first, without_ready, without_session as without_jobs_of};
-ghost use Rattle.server_rules.specs.Server.{Name, Reply, Server, Session, has_accepted, is_named, remembered, session_named, with_session, without_session};
-ghost use Rattle.server_rules.specs.Event.{Setting, Speaker, State, lost, speaker_in, speaks};
+ghost use Rattle.server_rules.specs.Server.{Name, Reply, Server, Session, has_accepted, is_named, name_of, remembered, session_named, with_session, without_session};
+ghost use Rattle.inbox.specs.declared.judged.Verdict.TheVariants.{Noticed};
+ghost use Rattle.server_laws.specs.Going.{none_open, past_in};
+ghost use Rattle.server_rules.specs.Event.{Envelope, Setting, Speaker, State, lost, speaker_in, speaks};
 ghost use Rattle.server_laws.specs.Speech.{SaidFor};
 ghost use Rattle.server_rules.specs.Rows.{acked_by, owes};
 ghost use Rattle.server_rules.specs.Speaking.{dropped, made_room};
 ghost use Rattle.server_rules.specs.Waiting.{Outlook, gives_up, told};
-ghost use Rattle.server_rules.specs.Answer.{after_loss, after_restart, attaches, begun, finishes, messages_judged, opens, runs, ticks, without_spent};
+ghost use Rattle.server_rules.specs.Answer.{after_loss, after_restart, attaches, begun, finishes, message_in, messages_judged, opens, runs, takes_by, ticks, without_spent};
 ghost use Rattle.server_lives.specs.Lives.{acceptance_of};
 ghost use Rattle.session_moves.specs.Table as moves;
 ghost use Rattle.session_moves.specs.Table.{Message};
@@ -35,7 +37,7 @@ ghost use Rattle.packing.specs.Packing.{groups};
 ghost use Rattle.server_rules.specs.Sending.{all_sent, sends};
 ghost use Rattle.world_servers.specs.Sending.{EventEnds, IsSpoken, MayAllGo, MayGo, WentOut};
 ghost use Rattle.world_servers.specs.Events.{AreLines, AreOpenJobs, EventStands, with_lines};
-ghost use Rattle.server_laws.specs.Order.{AreOrdered};
+ghost use Rattle.server_laws.specs.Order.{AreOrdered, IsGoingOn};
 ghost use Rattle.world_servers.specs.Speaking.{IsDue, IsOpen, IsSaid, IsWithin, SpeaksThere, with_line};
 ghost use Rattle.world_servers.specs.Servers.{AsksThere, AreNewSalts, CanSay, GoOn, HasForgotten, IsAcceptedThere, IsJobOf, IsNewSalt, IsSuch, IsUp, ServerStands, WasAnswered, WasJudged, with_history, with_replies, with_row, with_rows};
 
@@ -316,4 +318,27 @@ pub fn works_end_by_moves<D: Draw>()
     packing::laws::packets_have_all_messages();
     server_laws::laws::sessions_speak_for_themselves::<D>();
     server_laws::laws::new_sessions_say_so::<D>();
+}
+
+/// A session that was heard takes its packet by lawful moves: its messages are judged, and each judgement is settled, where
+/// each of these messages was sent under the packet's session number and salt, and none is noticed as an unlawful repeat
+/// (19). The line of salts that it has in the end has those that it had before.
+pub fn packets_are_taken_by_moves<D: Draw>()
+    ensures { (w : World) (gone : List Session) (lines : Name → Line) (setting : Setting D) (envelope : Envelope) (heard : State D) (session : Session) → Reached w
+        → EventStands w gone lines heard → heard.owed ≡ [] → heard.sent ≡ [] → IsGoingOn (past_in heard.sessions) none_open heard.sessions heard.jobs
+        → session_named (name_of session) heard.sessions ≡ Some session → IsWithin (lines (name_of session)) session
+        → AllByRecursion (IsUp w.ups session.number envelope.salt) (messages_judged (InEnvelope setting.now session.salts envelope.salt) session (message_in envelope))
+        → AllByRecursion (λ judgement. judgement.verdict ≡ Noticed 19 → ⊥) (judgements (InEnvelope setting.now session.salts envelope.salt) (remembered session) (message_in envelope))
+        → ((later : Session) → session_named (name_of session) (takes_by setting envelope (Some session) heard).sessions ≡ Some later → IsWithin (lines (name_of session)) later)
+        → Leads w (λ later. (lost : List Session) × EventStands later lost lines (takes_by setting envelope (Some session) heard)) }
+{
+    moves_only_add();
+    moves_go_on();
+    floors_never_fall();
+    marks_are_of_replies();
+    others_are_not_above_the_floor();
+    server_laws::laws::sessions_speak::<D>();
+    server_laws::laws::sessions_speak_for_themselves::<D>();
+    server_laws::laws::packets_settle_in_order::<D>();
+    server_laws::laws::packets_are_judged();
 }
