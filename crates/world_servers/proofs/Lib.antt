@@ -27,3 +27,4 @@ pub mod Named
 pub mod Settling
 pub mod Noticing
 pub mod Taking
+pub mod PacketEnd

@@ -47,14 +47,14 @@ use Rattle.world_servers.proofs.Named.{IsThere, Said, Speaks, Within, before_los
 
 -- ---- lists
 
-apart_lines : (lines : Name → Line) (sessions : List Session) → AreApart (with_lines lines sessions) → AreApart sessions
+pub apart_lines : (lines : Name → Line) (sessions : List Session) → AreApart (with_lines lines sessions) → AreApart sessions
 apart_lines lines [] h = tt
 apart_lines lines (x ∷ sessions) h = (differ sessions h.0, apart_lines lines sessions h.1) where
   differ : (list : List Session) → AllByRecursion (λ (o : Session). o.number ≢ x.number) (with_lines lines list) → AllByRecursion (λ (o : Session). o.number ≢ x.number) list
   differ [] h = tt
   differ (o ∷ list) h = (h.0, differ list h.1)
 
-ended_at : (past : History) (opened : List ℕ) (found : Option Session) (jobs : Queue) → IsMidwayAt past opened found jobs → IsOrderlyAt found jobs
+pub ended_at : (past : History) (opened : List ℕ) (found : Option Session) (jobs : Queue) → IsMidwayAt past opened found jobs → IsOrderlyAt found jobs
 ended_at past opened None jobs h = h
 ended_at past opened (Some x) jobs h = h.1.order
 
