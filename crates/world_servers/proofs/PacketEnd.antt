@@ -46,7 +46,7 @@ apart_head x xs y h c = let below : c.0 < length xs = c.1 in subst (λ (z : Sess
 apart_tail : (x : Session) (xs : List Session) → AllPairs Apart (x ∷ xs) → AllPairs Apart xs
 apart_tail x xs h = λ i j d lt within. h (suc i) (suc j) d (omega (arith, lt)) (omega (arith, within))
 
-found_itself : (sessions : List Session) → AllPairs Apart sessions → (o : Session) → Contains sessions o → session_named (name_of o) sessions ≡ Some o
+pub found_itself : (sessions : List Session) → AllPairs Apart sessions → (o : Session) → Contains sessions o → session_named (name_of o) sessions ≡ Some o
 found_itself [] h o there = let below : there.0 < 0 = there.1 in absurd (omega (arith, below))
 found_itself (first ∷ sessions) h o there =
     elim (first_or o first sessions there) [

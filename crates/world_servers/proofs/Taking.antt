@@ -3,8 +3,8 @@ use Rattle.std.proofs.Common.{◌≡◌, ◌≢◌, ℕ, zero, suc, ◌≤◌, B
 use Rattle.std.specs.Prelude.{⊤, ◌⊎◌}
 use Rattle.std.specs.List.{All, AllByRecursion, Contains, cons_option, filter_map, zip}
 use Rattle.std.proofs.lemmas.Bool.{cases_Bool, cond_both}
-use Rattle.std.proofs.lemmas.List.Elements.{All-head, All-tail}
-use Rattle.salt_line.specs.Line.{Line}
+use Rattle.std.proofs.lemmas.List.Elements.{All-contains, All-head, All-tail}
+use Rattle.salt_line.specs.Line.{Line, current_salt}
 use Rattle.salt_line.specs.Rows.{Row}
 use Rattle.service_tl.specs.declared.lists.Message.{Message}
 use Rattle.id_window.specs.Marks.{mark_of}
@@ -16,7 +16,14 @@ use Rattle.inbox.specs.Refusals.{Way, InEnvelope}
 use Rattle.inbox.specs.Judging.{judgements, session_after}
 use Rattle.server_rules.specs.Server.{Name, Reply, Session, has_accepted, is_named, mark_after, marks_of, name_of, remembered, session_named, with_session}
 use Rattle.server_rules.specs.Event.{Entry, Envelope, Owed, Setting, Speaker, State, speaker_in, speaks, spoken, spoken_by}
-use Rattle.server_rules.specs.Speaking.{says_it_is_new}
+use Rattle.server_rules.specs.Speaking.{needs_salts, says_it_is_new}
+use Rattle.server_rules.specs.Sending.{messages_by}
+use Rattle.service_tl.specs.declared.item.Item.TheVariants.{NewSessionCreated}
+use Rattle.service_tl.specs.Items.{spelling_of}
+use Rattle.inbox.specs.Inbox.{was_heard}
+use Rattle.packing.specs.Packing.{groups}
+use Rattle.server_laws.specs.Start.{new_owed}
+use Rattle.world_servers.specs.Sending.{IsFirstNew, MayAllGo, MayGo}
 use Rattle.server_rules.specs.Rows.{acknowledges, acks_of, settles}
 use Rattle.server_rules.specs.Answer.{message_in, messages_judged, opens, takes_by}
 use Rattle.waits.specs.Jobs.{Queue}
@@ -26,11 +33,11 @@ use Rattle.session_moves.specs.Table.Outcome.{AcceptedCall}
 use Rattle.server_laws.specs.Order.{IsGoingOn, IsMidwayAt, IsOrderly, IsTold, jobs_of, opens_of}
 use Rattle.server_laws.specs.Going.{none_open, open_only, past_in, past_with}
 use Rattle.server_laws.specs.Speech.{SaidFor}
-use Rattle.server_lives.specs.Lives.{Acceptance, acceptance_by, acceptance_of, request_of}
+use Rattle.server_lives.specs.Lives.{Acceptance, acceptance_by, acceptance_of, history_by, request_of}
 use Rattle.session_moves.specs.World.{World, WasGiven}
 use Rattle.session_moves.specs.Reached.{Reached, after_all}
 use Rattle.world_servers.specs.Leading.{Leads}
-use Rattle.world_servers.specs.Servers.{AsksThere, IsAcceptedThere, IsUp, ServerStands, with_history}
+use Rattle.world_servers.specs.Servers.{AsksThere, HasSalt, IsAcceptedThere, IsUp, ServerStands, with_history}
 use Rattle.world_servers.specs.Speaking.{IsOwedThere, IsWithin, SpeaksThere, with_line}
 use Rattle.world_servers.specs.Events.{EventStands, with_lines}
 use Rattle.world_servers.proofs.Lists.{all_of, each_of, map_all}
@@ -39,12 +46,15 @@ use Rattle.world_servers.proofs.Losing.{append_nothing, named_itself}
 use Rattle.world_servers.proofs.One.{put}
 use Rattle.world_servers.proofs.Packets.{Lasts, judged_packet, marked, with_twice}
 use Rattle.world_servers.proofs.Speech.{Adds}
-use Rattle.world_servers.proofs.Words.{opens_it}
+use Rattle.world_servers.proofs.Words.{current, opens_it}
 use Rattle.world_servers.proofs.Found.{found_in, some_same}
-use Rattle.world_servers.proofs.Events.{IsItsOwn, lines_put, mapped_in, own_of, speaks_with}
+use Rattle.world_servers.proofs.Events.{IsItsOwn, all_mapped, lines_put, mapped_in, name_is, own_of, speaks_with}
 use Rattle.world_servers.proofs.Jobs.{GivesUpAlone}
 use Rattle.world_servers.proofs.Named.{Speaks, Within, none_all, one_all}
 use Rattle.world_servers.proofs.Noticing.{AreNoticed, NoticedIn, packet_noticed}
+use Rattle.world_servers.proofs.PacketEnd.{Begins, ByName, OthersHeard, OwesSo, begins_fold, found_itself, others_fold}
+use Rattle.world_servers.proofs.HeardOwe.{OwesHeard, heard_may_go}
+use Rattle.world_servers.proofs.WorksEnd.{same_itself}
 use Rattle.world_servers.proofs.Settling.{AreJudged, Asks, Going, IsJudged, Orders, OwesAlone, all_settle, all_still, all_within}
 
 -- ---- what a packet opens with
@@ -175,7 +185,7 @@ pub record Opens (S : Type 0) : Type 0 where
   pub told : (way : Way) (session : Session) (message : Message) (jobs : Queue) → IsOrderly session.history session.replies session.counters.last jobs
       → All (λ judgement. IsTold judgement.number judgement.verdict (session_after way (remembered session) message).history) (judgements way (remembered session) message)
 
-module _ {S : Type 0} (adds : Adds) (on : MovesGoOn) (alone : GivesUpAlone S) (owing : OwesAlone S) (said : Speaks S) (orders : Orders S) (judges : Judges) (opening : Opens S)
+module _ {S : Type 0} (adds : Adds) (on : MovesGoOn) (alone : GivesUpAlone S) (owing : OwesAlone S) (said : Speaks S) (orders : Orders S) (judges : Judges) (opening : Opens S) (by_names : ByName S)
     (setting : Setting S) (envelope : Envelope) (heard : State S) (gone : List Session) (lines : Name → Line) (x : Session) (found : session_named (name_of x) heard.sessions ≡ Some x)
     (none_owed : heard.owed ≡ []) (none_sent : heard.sent ≡ []) (order : IsGoingOn (past_in heard.sessions) none_open heard.sessions heard.jobs) where
   abbrev name : Name
@@ -316,3 +326,116 @@ module _ {S : Type 0} (adds : Adds) (on : MovesGoOn) (alone : GivesUpAlone S) (o
         gives = (m.gives, all_still adds on alone owing said orders setting lines name x.unique past later m.moves m.lawful judged bodies k.1);
       })
       (λ last reached n. all_settle adds on alone owing said orders setting lines name x.unique past judged bodies last opened reached (going last n.0) told n.1 within))
+
+  -- ---- what may go then
+
+  abbrev told_speaker : Speaker S
+  told_speaker = speaker_in state_told told_x
+
+  acks_salts : (numbers : List ℕ) → (acknowledges setting numbers (says_it_is_new setting told_speaker)).session.salts ≡ (needs_salts setting 1 (speaker_in heard x)).session.salts
+  acks_salts [] = refl
+  acks_salts (number ∷ numbers) = refl
+
+  opens_salts : has_accepted told_x ≡ false → b.session.salts ≡ (needs_salts setting 1 (speaker_in heard x)).session.salts
+  opens_salts not_so = rw not_so (acks_salts (acks_of judged))
+
+  abbrev now_salt : ℕ
+  now_salt = current_salt (needs_salts setting 1 (speaker_in heard x)).session.salts setting.now
+
+  abbrev first_message : Message
+  first_message = (new_owed setting (speaker_in heard x)).message
+
+  -- the others owe nothing yet
+  opened_others : OthersHeard by_names alone owing setting name opened
+  opened_others =
+      subst (λ (s : State S). OthersHeard by_names alone owing setting name s) (sym opened_is)
+      (all_mapped (OwesSo by_names alone owing setting name b.owed) (put b.session) heard.sessions
+      (λ o there.
+      elim (cases_Bool (is_named (name_of b.session) o)) [
+        | inl holds ↦ rw holds (inl (subst (λ (n : Name). is_named n b.session ≡ true) name_b (named_itself b.session)))
+        | inr not_so ↦
+            rw not_so
+            (inr (subst (λ (l : List Owed). OwesHeard l o) (sym (b_said.own.owed.1 ∙ ap (λ (l : List Owed). l ++ b_said.own.owed.0) none_owed))
+            (all_of (λ (one : Owed). one.name ≡ name_of o → has_accepted o ≡ true) b_said.own.owed.0
+            (λ one among of.
+            let same : name_of b.session ≡ name_of o = name_b ∙ sym (All-contains (λ (one : Owed). one.name ≡ name_of x) b_said.own.owed.0 one b_said.own.owed.2 among) ∙ of in
+            let e : false ≡ true = sym not_so ∙ subst (λ (n : Name). is_named n o ≡ true) (sym same) (named_itself o) in absurd (cc)))))
+      ]))
+
+  module _ (says_new : (setting : Setting S) (history : History) (judged : List Judgement) (speaker : Speaker S) → was_heard history ≡ false
+      → (later : List Owed) × ((opens setting history judged speaker).owed ≡ speaker.owed ++ new_owed setting speaker ∷ later))
+      (owes_little : (setting : Setting S) (envelope : Envelope) (state : State S) (session : Session) → state.sent ≡ [] → state.owed ≡ []
+      → IsOrderly session.history session.replies session.counters.last (jobs_of (name_of session) state.jobs)
+      → session_named (name_of session) state.sessions ≡ Some session → was_heard (history_by setting envelope session) ≡ false
+      → groups (messages_by (name_of session) (takes_by setting envelope (Some session) state).owed) ≡ messages_by (name_of session) (takes_by setting envelope (Some session) state).owed ∷ []) where
+    -- one that has accepted nothing
+    opened_begins : was_heard later_history ≡ false → Begins by_names alone owing setting name first_message opened
+    opened_begins unheard =
+        let new = says_new setting later_history judged (speaker_in heard x) unheard in
+        let owed : opened.owed ≡ new_owed setting (speaker_in heard x) ∷ new.0 =
+        ap (λ (s : State S). s.owed) opened_is ∙ new.1 ∙ ap (λ (l : List Owed). l ++ new_owed setting (speaker_in heard x) ∷ new.0) none_owed in
+        (messages_by name new.0, ap (messages_by name) owed ∙ rw (same_itself name) refl)
+
+    module _ (w : World) (numbers : List ℕ) (h : GoesOn w numbers done) (within : Within said name x.unique (lines name) done) where
+      within_opened : Within said name x.unique (lines name) opened
+      within_opened = all_within adds on alone owing said orders setting lines name x.unique past judged bodies opened within
+
+      history_so : h.there.x.history ≡ later_history
+      history_so =
+          (subst (λ (f : Option Session). IsMidwayAt (past name) (open_only name numbers name) f (jobs_of name done.jobs)) h.there.found (h.order.each name)).0
+          ∙ opening.own_past name later_history (past_in heard.sessions)
+
+      others_so : OthersHeard by_names alone owing setting name done
+      others_so =
+          others_fold by_names alone owing setting name orders past judged bodies opened (opening.opens setting way message heard x found order)
+          (subst (λ (history : History). All (λ (judgement : Judgement). IsTold judgement.number judgement.verdict history) judged) (sym (opening.own_past name later_history (past_in heard.sessions)))
+          (opening.told way x message (jobs_of name heard.jobs) orderly)) opened_others
+
+      abbrev Goes : Session → Type 0
+      Goes o = MayAllGo done.owed (with_line (lines (name_of o)) o)
+
+      heard_goes : (o : Session) → has_accepted o ≡ true → Goes o
+      heard_goes o is = heard_may_go done.owed (with_line (lines (name_of o)) o) (all_of (λ (one : Owed). one.name ≡ name_of o → has_accepted o ≡ true) done.owed (λ one there own. is))
+
+      new_goes : was_heard later_history ≡ false → Goes h.there.x
+      new_goes unheard =
+          let o : Session = h.there.x in
+          let o_there : Session = with_line (lines (name_of o)) o in
+          let o_name : name ≡ name_of o = name_is name o (found_in (is_named name) done.sessions o h.there.found).1 in
+          let not_accepted : has_accepted told_x ≡ false = unheard in
+          let in_line : IsWithin (lines name) (needs_salts setting 1 (speaker_in heard x)).session =
+          subst (λ (line : Line). AllByRecursion (λ (row : Row). Contains (lines name).rows row) line.rows) (opens_salts not_accepted) (within_opened b.session b_found) in
+          let has : HasSalt (with_line (lines name) x) now_salt = current adds setting gone xs (lines name) (speaker_in heard x) in_line in
+          let has_there : HasSalt o_there now_salt = subst (λ (n : Name). HasSalt (with_line (lines n) o) now_salt) o_name has in
+          let begins = begins_fold by_names alone owing setting name first_message judged bodies opened (opened_begins unheard) in
+          let together = owes_little setting envelope heard x none_sent none_owed orderly found unheard in
+          let is_new : IsFirstNew o_there (first_message ∷ begins.0) =
+          (x.first, now_salt, subst (λ (u : ℕ). first_message.body ≡ spelling_of (NewSessionCreated x.first u now_salt)) (sym h.there.same) refl, has_there) in
+          let go : MayGo o_there (messages_by name done.owed) = subst (λ (l : List Message). MayGo o_there l) (sym begins.1) (inr is_new) in
+          subst (λ (n : Name). AllByRecursion (MayGo o_there) (groups (messages_by n done.owed))) o_name
+          (subst (λ (l : List (List Message)). AllByRecursion (MayGo o_there) l) (sym together) (go, tt))
+
+      own_goes : Goes h.there.x
+      own_goes =
+          elim (cases_Bool (was_heard later_history)) [
+            | inl is ↦ heard_goes h.there.x (ap was_heard history_so ∙ is)
+            | inr not_so ↦ new_goes not_so
+          ]
+
+      each_goes : (o : Session) → Contains done.sessions o → Goes o
+      each_goes o there =
+          elim (cases_Bool (is_named name o)) [
+            | inl is ↦
+                let same : name ≡ name_of o = name_is name o is in
+                let itself = found_itself done.sessions h.order.names o there in
+                let one : h.there.x ≡ o = some_same h.there.x o (sym h.there.found ∙ ap (λ (n : Name). session_named n done.sessions) same ∙ itself) in
+                subst Goes one own_goes
+            | inr not_so ↦
+                elim (each_of (OwesSo by_names alone owing setting name done.owed) done.sessions others_so o there) [
+                  | inl is ↦ let e : false ≡ true = sym not_so ∙ is in absurd (cc)
+                  | inr heard ↦ heard_may_go done.owed (with_line (lines (name_of o)) o) heard
+                ]
+          ]
+
+      pub packet_goes : AllByRecursion (MayAllGo done.owed) (with_lines lines done.sessions)
+      packet_goes = all_mapped (MayAllGo done.owed) (λ session. with_line (lines (name_of session)) session) done.sessions each_goes

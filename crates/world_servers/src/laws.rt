@@ -341,4 +341,5 @@ pub fn packets_are_taken_by_moves<D: Draw>()
     server_laws::laws::sessions_speak_for_themselves::<D>();
     server_laws::laws::packets_settle_in_order::<D>();
     server_laws::laws::packets_are_judged();
+    server_laws::laws::messages_are_owed_by_name::<D>();
 }

@@ -20,5 +20,6 @@ returns g c = λ w gone lines setting envelope heard session reached h none_owed
       marks = λ history replies judgement once is. c.marks_are_of_replies.ensures history replies judgement once is;
     })
     (record { opens = c.packets_settle_in_order.ensures.opens; own_past = c.packets_settle_in_order.ensures.own_past; told = c.packets_are_judged.ensures.told })
+    (record { own = c.messages_are_owed_by_name.ensures.own; others = c.messages_are_owed_by_name.ensures.others })
     setting envelope heard gone lines session found none_owed none_sent order w reached h line_within ups not19 within in
     record { moves = l.moves; lawful = l.lawful; own = l.own; gives = (l.gives.1.gone, l.gives.1.stands) }
