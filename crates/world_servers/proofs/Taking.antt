@@ -231,7 +231,7 @@ module _ {S : Type 0} (adds : Adds) (on : MovesGoOn) (alone : GivesUpAlone S) (o
   abbrev opened : State S
   opened = speaks name speak heard
 
-  abbrev done : State S
+  abbrev pub done : State S
   done = takes_by setting envelope (Some x) heard
 
   abbrev GoesOn : World → List ℕ → State S → Type 0
@@ -290,7 +290,7 @@ module _ {S : Type 0} (adds : Adds) (on : MovesGoOn) (alone : GivesUpAlone S) (o
   abbrev AreJudgedAt : World → Type 0
   AreJudgedAt w = AreJudged adds on alone owing said orders setting lines name x.unique past w judged bodies
 
-  abbrev Ends : World → Type 0
+  abbrev pub Ends : World → Type 0
   Ends later = (numbers : List ℕ) × GoesOn later numbers done
 
   going : (w : World) → EventStands w gone lines opened → GoesOn w (opens_of judged) opened

@@ -51,7 +51,7 @@ SaysNew S =
 pub same_itself : (name : Name) → is_same name name ≡ true
 same_itself name = rw (eq-eqb name.key name.key refl, eq-eqb name.session name.session refl) refl
 
-none_out : (w : World) (owed : List Owed) (packets : List Sent) → packets ≡ [] → AllByRecursion (λ (sent : Sent). WentOut w owed sent.envelope) packets
+pub none_out : (w : World) (owed : List Owed) (packets : List Sent) → packets ≡ [] → AllByRecursion (λ (sent : Sent). WentOut w owed sent.envelope) packets
 none_out w owed packets none = subst (λ (l : List Sent). AllByRecursion (λ (sent : Sent). WentOut w owed sent.envelope) l) (sym none) tt
 
 module _ {S : Type 0} (adds : Adds) (extends : (w : World) (list : List Move) → AreLawful w list → Extends w (after_all w list)) (on : GoOn) (any : AnyResult)

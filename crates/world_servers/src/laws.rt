@@ -322,15 +322,22 @@ pub fn works_end_by_moves<D: Draw>()
 
 /// A session that was heard takes its packet by lawful moves: its messages are judged, and each judgement is settled, where
 /// each of these messages was sent under the packet's session number and salt, and none is noticed as an unlawful repeat
-/// (19). The line of salts that it has in the end has those that it had before.
+/// (19). The line of salts that it has in the end has those that it had before. What it owes then goes out.
 pub fn packets_are_taken_by_moves<D: Draw>()
-    ensures { (w : World) (gone : List Session) (lines : Name → Line) (setting : Setting D) (envelope : Envelope) (heard : State D) (session : Session) → Reached w
+    ensures taken { (w : World) (gone : List Session) (lines : Name → Line) (setting : Setting D) (envelope : Envelope) (heard : State D) (session : Session) → Reached w
         → EventStands w gone lines heard → heard.owed ≡ [] → heard.sent ≡ [] → IsGoingOn (past_in heard.sessions) none_open heard.sessions heard.jobs
         → session_named (name_of session) heard.sessions ≡ Some session → IsWithin (lines (name_of session)) session
         → AllByRecursion (IsUp w.ups session.number envelope.salt) (messages_judged (InEnvelope setting.now session.salts envelope.salt) session (message_in envelope))
         → AllByRecursion (λ judgement. judgement.verdict ≡ Noticed 19 → ⊥) (judgements (InEnvelope setting.now session.salts envelope.salt) (remembered session) (message_in envelope))
         → ((later : Session) → session_named (name_of session) (takes_by setting envelope (Some session) heard).sessions ≡ Some later → IsWithin (lines (name_of session)) later)
         → Leads w (λ later. (lost : List Session) × EventStands later lost lines (takes_by setting envelope (Some session) heard)) }
+    ensures ended { (w : World) (gone : List Session) (lines : Name → Line) (setting : Setting D) (envelope : Envelope) (heard : State D) (session : Session) → Reached w
+        → EventStands w gone lines heard → heard.owed ≡ [] → heard.sent ≡ [] → IsGoingOn (past_in heard.sessions) none_open heard.sessions heard.jobs
+        → session_named (name_of session) heard.sessions ≡ Some session → IsWithin (lines (name_of session)) session
+        → AllByRecursion (IsUp w.ups session.number envelope.salt) (messages_judged (InEnvelope setting.now session.salts envelope.salt) session (message_in envelope))
+        → AllByRecursion (λ judgement. judgement.verdict ≡ Noticed 19 → ⊥) (judgements (InEnvelope setting.now session.salts envelope.salt) (remembered session) (message_in envelope))
+        → ((later : Session) → session_named (name_of session) (takes_by setting envelope (Some session) heard).sessions ≡ Some later → IsWithin (lines (name_of session)) later)
+        → Leads w (λ later. EventEnds later lines (takes_by setting envelope (Some session) heard).owed (without_spent (all_sent setting (takes_by setting envelope (Some session) heard)))) }
 {
     moves_only_add();
     moves_go_on();
@@ -342,4 +349,8 @@ pub fn packets_are_taken_by_moves<D: Draw>()
     server_laws::laws::packets_settle_in_order::<D>();
     server_laws::laws::packets_are_judged();
     server_laws::laws::messages_are_owed_by_name::<D>();
+    numbers_are_given_once();
+    packing::laws::packets_have_all_messages();
+    server_laws::laws::new_sessions_say_so::<D>();
+    server_lives::laws::new_sessions_owe_little::<D>();
 }
