@@ -28,3 +28,4 @@ pub mod Settling
 pub mod Noticing
 pub mod Taking
 pub mod PacketEnd
+pub mod Hearing

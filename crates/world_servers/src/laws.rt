@@ -1,7 +1,8 @@
 //! Laws of a server's events and moves, each the contract of a function that does nothing.
 
-ghost use Rattle.std.specs.Prelude.{Bool, ◌==◌, if◌then◌else◌, filter_map, map, ◌++◌, ◌≡◌, ◌≢◌, ◌∷◌, ◌⊎◌, ℕ, false, true, List, [], Some, filter};
+ghost use Rattle.std.specs.Prelude.{Bool, ◌==◌, if◌then◌else◌, filter_map, map, ◌++◌, ◌≡◌, ◌≢◌, ◌∷◌, ◌⊎◌, ℕ, false, true, List, [], None, Some, filter};
 ghost use Rattle.std.specs.List.{All, AllByRecursion, Contains, zip};
+ghost use Rattle.draws.specs.Draws.{word_after};
 ghost use Rattle.salt_line.specs.Rows.{Row};
 ghost use Rattle.service_tl.specs.declared.lists.Message.{Message as Said};
 ghost use Rattle.id_window.specs.History.{EachOnce, History, Outcome, noted};
@@ -18,7 +19,7 @@ ghost use Rattle.server_laws.specs.Speech.{SaidFor};
 ghost use Rattle.server_rules.specs.Rows.{acked_by, owes};
 ghost use Rattle.server_rules.specs.Speaking.{dropped, made_room};
 ghost use Rattle.server_rules.specs.Waiting.{Outlook, gives_up, told};
-ghost use Rattle.server_rules.specs.Answer.{after_loss, after_restart, attaches, begun, finishes, message_in, messages_judged, opens, runs, takes_by, ticks, without_spent};
+ghost use Rattle.server_rules.specs.Answer.{after_loss, after_restart, attaches, begun, finishes, hears, message_in, messages_judged, name_in, opens, runs, session_for, takes_by, ticks, without_spent};
 ghost use Rattle.server_lives.specs.Lives.{acceptance_of};
 ghost use Rattle.session_moves.specs.Table as moves;
 ghost use Rattle.session_moves.specs.Table.{Message};
@@ -318,6 +319,26 @@ pub fn works_end_by_moves<D: Draw>()
     packing::laws::packets_have_all_messages();
     server_laws::laws::sessions_speak_for_themselves::<D>();
     server_laws::laws::new_sessions_say_so::<D>();
+}
+
+/// The session of a packet is heard: where it stands it is the last one then, which is no move; where there is none it is
+/// made by lawful moves, and where all places are taken the one heard least recently is lost by one. Its unique number and its
+/// first salt have to be new, and its number one of some client's, under which no session stands.
+pub fn sessions_are_heard_by_moves<D: Draw>()
+    ensures known { (w : World) (gone : List Session) (setting : Setting D) (envelope : Envelope) (state : State D) (session : Session)
+        → ServerStands w gone state.sessions state.jobs → session_named (name_in envelope) state.sessions ≡ Some session
+        → ServerStands w gone (hears setting envelope state).sessions (hears setting envelope state).jobs }
+    ensures made { (w : World) (gone : List Session) (setting : Setting D) (envelope : Envelope) (state : State D) → Reached w
+        → ServerStands w gone state.sessions state.jobs → session_named (name_in envelope) state.sessions ≡ None
+        → (session_for setting envelope state.draw).unique ≢ 0 → (w.servers (session_for setting envelope state.draw).unique).status ≡ Unmade
+        → IsNewSalt w (word_after setting.step 1 state.draw)
+        → ((client : ℕ) × Owns (w.clients client) envelope.session)
+        → AllByRecursion (λ other. other.number ≢ envelope.session) state.sessions
+        → AllByRecursion (λ one. is_of envelope.key envelope.session one ≡ false) state.jobs
+        → Leads w (λ later. (lost : List Session) × ServerStands later lost (hears setting envelope state).sessions (hears setting envelope state).jobs) }
+{
+    moves_go_on();
+    what_was_not_made_is_blank();
 }
 
 /// A session that was heard takes its packet by lawful moves: its messages are judged, and each judgement is settled, where
