@@ -1,16 +1,14 @@
 -- All flushes, one after the other.
-use Rattle.std.proofs.Common.{◌≡◌, ◌<◌, ◌+◌, ℕ, Bool, true, false, List, [], ◌∷◌, ◌++◌, length, Option, IfSome, IsSomeAnd, Result, Ok, Err, inl, inr, refl, sym, ap, subst, ◌∙◌, length-append, arith}
+use Rattle.std.proofs.Common.{◌≡◌, ◌+◌, ℕ, Bool, false, List, ◌++◌, length, Option, Result, Ok, Err, inl, inr, refl, sym, ap, subst, ◌∙◌, length-append, arith}
 use Rattle.auth_keys.specs.declared.ring.RingKey.{RingKey}
-use Rattle.cipher_modes.specs.CounterMode.{CtrState}
 use Rattle.envelope.specs.Packet.{Lock}
 use Rattle.mt_edge.specs.Links.{Told}
-use Rattle.transport.specs.Wires.{Line, Tells}
+use Rattle.transport.specs.Wires.{Line}
 use Rattle.client_rules.specs.Sending.{Setting}
 use Rattle.client_core.specs.declared.holder.Holder.{Holder}
 use Rattle.client_node.specs.Course.{Course, sends_all}
-use Rattle.client_node.specs.Flow.{AllFlushes, Flow, FlowedBy, OneFlush, SoFar, Stops, went_on}
+use Rattle.client_node.specs.Flow.{AllFlushes, Flow, OneFlush, SoFar, Stops, went_on}
 use Rattle.client_node.specs.Standing.{StandsAs}
-use Rattle.client_node.specs.Writes.{TellsMore}
 use Rattle.client_node.specs.declared.end.End.{End}
 use Rattle.client_node.specs.declared.end.End.TheVariants as ends
 use Rattle.client_node.proofs.Flowing.{stands_first, flow_both, no_flow, stops_both}

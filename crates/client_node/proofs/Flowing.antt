@@ -1,5 +1,5 @@
 -- What is sent in two steps is sent in one.
-use Rattle.std.proofs.Common.{◌≡◌, ◌⊎◌, ℕ, nat_lt, if◌then◌else◌, Bool, true, false, List, [], ◌∷◌, ◌++◌, Option, Some, None, IfOk, IfSome, IsSomeAnd, Result, Ok, Err, inl, inr, fold, refl, sym, ap, subst, ◌∙◌, append_assoc, append-nil}
+use Rattle.std.proofs.Common.{◌≡◌, ℕ, nat_lt, if◌then◌else◌, Bool, true, false, List, [], ◌∷◌, ◌++◌, Option, Some, None, IfSome, IsSomeAnd, Result, Ok, Err, inl, inr, refl, sym, ap, subst, ◌∙◌, append_assoc, append-nil}
 use Rattle.auth_keys.specs.declared.ring.RingKey.{RingKey}
 use Rattle.envelope.specs.Packet.{Lock}
 use Rattle.cipher_modes.specs.CounterMode.{CtrState}
@@ -15,7 +15,7 @@ use Rattle.client_rules.specs.Sending.{Setting}
 use Rattle.client_core.specs.declared.flush.Flush.TheVariants as answers
 use Rattle.client_core.specs.declared.holder.Holder.{Holder}
 use Rattle.client_node.specs.Course.{AreSent, Course, Phase, Opening, Open, Ended, flushed_in, flushes, is_decided, sends_all}
-use Rattle.client_node.specs.Flow.{CountsEnd, Flow, FlowedBy, Follows, FoundNothing, IsOne, OneFlush, StoppedBy, Stops, ended_by, flowed, went_on}
+use Rattle.client_node.specs.Flow.{CountsEnd, Flow, FlowedBy, Follows, FoundNothing, OneFlush, StoppedBy, Stops, ended_by, flowed, went_on}
 use Rattle.client_node.specs.Standing.{FlushedAs, StandsAs, StandsFor}
 use Rattle.client_node.specs.Writes.{CountsBy, TellsMore, Wrote, WroteBy, WroteFront}
 use Rattle.client_node.specs.declared.end.End.{End}

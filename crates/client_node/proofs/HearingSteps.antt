@@ -1,5 +1,5 @@
 -- One packet more that a client heard.
-use Rattle.std.proofs.Common.{◌≡◌, ◌+◌, ℕ, zero, suc, ◌<◌, ◌⊎◌, inl, inr, arith, append-nil, length-append, false, true, List, [], ◌∷◌, ◌++◌, length, All, Option, Result, Ok, Err, refl, sym, ap, subst, ◌∙◌, append_assoc}
+use Rattle.std.proofs.Common.{◌≡◌, ◌+◌, ℕ, zero, suc, inl, inr, arith, append-nil, length-append, false, List, [], ◌∷◌, ◌++◌, length, All, Option, Ok, Err, refl, sym, ap, subst, ◌∙◌, append_assoc}
 use Rattle.std.proofs.lemmas.List.Elements.{All-append}
 use Rattle.auth_keys.specs.declared.ring.RingKey.{RingKey}
 use Rattle.cipher_modes.specs.CounterMode.{CtrState}
@@ -8,7 +8,7 @@ use Rattle.transport.specs.Wires.{Hears, Line}
 use Rattle.client_core.specs.declared.holder.Holder.{Holder}
 use Rattle.client_node.specs.Course.{Course, Reading, takes_packet}
 use Rattle.client_node.specs.Standing.{IsReading, StandsAs}
-use Rattle.client_node.specs.Took.{CameNext, HeardPacket, IsHeardEnd, IsIdle, IsLost, IsNextEnd, IsNoError, IsSame, NoneDecides, TookAll, TookPacket, TookPiece, decides, takes_all}
+use Rattle.client_node.specs.Took.{CameNext, HeardPacket, IsHeardEnd, IsIdle, IsLost, IsNextEnd, IsNoError, IsSame, NoneDecides, TookAll, TookPiece, decides, takes_all}
 use Rattle.framing.specs.Streams.{Begins, Faulty, Stream}
 use Rattle.transport.specs.Directions.{through}
 use Rattle.transport.specs.Forms.{framing_of}

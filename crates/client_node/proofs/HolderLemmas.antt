@@ -1,6 +1,5 @@
 -- What the calls of a client in one state make of its course.
-use Rattle.std.proofs.Common.{◌≡◌, ℕ, max, Bool, true, false, Option, Some, None, Result, Ok, Err, List, refl, ap, sym, subst, ◌∙◌}
-use Rattle.octets.specs.declared.memory.Memory.{Memory}
+use Rattle.std.proofs.Common.{◌≡◌, ℕ, max, true, false, Option, Some, None, List, refl, ap, sym, subst, ◌∙◌}
 use Rattle.auth_keys.specs.declared.ring.RingKey.{RingKey}
 use Rattle.draws.specs.Draws.{draw_after, word_after}
 use Rattle.envelope.specs.declared.parts.Envelope.{Envelope}
@@ -10,7 +9,6 @@ use Rattle.envelope.specs.Packet.{Lock}
 use Rattle.client_rules.specs.Client.{Client, at_moment}
 use Rattle.client_rules.specs.Events.{renewed, takes}
 use Rattle.client_rules.specs.Taking.{take}
-use Rattle.client_rules.specs.Flush.{flush}
 use Rattle.client_rules.specs.Sending.{Setting}
 use Rattle.client_core.specs.Flushed.{Flushes, Leaves, TellsFlush}
 use Rattle.client_core.specs.Keys.{HasKeys as HasKeysOf, Keys}
@@ -19,8 +17,8 @@ use Rattle.client_core.specs.declared.flush.Flush.{Flush}
 use Rattle.client_core.specs.declared.flush.Flush.TheVariants as told
 use Rattle.client_core.specs.declared.holder.Holder.{Holder}
 use Rattle.client_core.specs.declared.holder.Holder.TheVariants as holder
-use Rattle.client_node.specs.Course.{Course, Phase, Opening, Open, Ended, Reading, flushed_in, heard_in, hears, is_decided, must_renew, phase_after, renews, renews_if, renews_unless, takes_packet}
-use Rattle.client_node.specs.Standing.{FlushedAs, HeardAs, IsOpened, IsReading, StandsAs, StandsFor, kept_of, phase_of}
+use Rattle.client_node.specs.Course.{Course, Open, Reading, flushed_in, heard_in, hears, must_renew, phase_after, renews}
+use Rattle.client_node.specs.Standing.{FlushedAs, IsOpened, StandsAs, StandsFor, phase_of}
 
 -- ---- a flush
 

@@ -1,12 +1,10 @@
 -- What becomes of a course by a packet that a client heard.
-use Rattle.std.proofs.Common.{◌≡◌, ℕ, max, Bool, true, false, List, Result, Ok, Err, sym, subst, ◌∙◌}
+use Rattle.std.proofs.Common.{◌≡◌, ℕ, max, Bool, true, false, List, Ok, Err, sym, subst, ◌∙◌}
 use Rattle.octets.specs.declared.memory.Memory.{Memory}
-use Rattle.auth_keys.specs.declared.ring.RingKey.{RingKey}
-use Rattle.envelope.specs.Packet.{Lock}
 use Rattle.client_rules.specs.Client.{Client}
 use Rattle.client_core.specs.declared.holder.Holder.{Holder}
-use Rattle.client_node.specs.Course.{Course, Phase, Reading, heard_in, hears, is_decided, phase_after, renews, renews_unless, takes_packet}
-use Rattle.client_node.specs.Standing.{HeardAs, IsOpened, IsReading, StandsAs, StandsFor, phase_of}
+use Rattle.client_node.specs.Course.{Course, Reading, heard_in, hears, is_decided, phase_after, renews, renews_unless}
+use Rattle.client_node.specs.Standing.{HeardAs, StandsAs, StandsFor, phase_of}
 use Rattle.client_node.specs.Took.{TookPacket}
 use Rattle.client_node.specs.declared.end.End.TheVariants as ends
 

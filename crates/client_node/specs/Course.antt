@@ -1,5 +1,5 @@
 -- A client between the events of its connections, and what each event makes of it.
-use Rattle.std.specs.Prelude.{ℕ, max, not, ◌&&◌, ◌||◌, Bool, true, false, if◌then◌else◌, Option, Some, None, List, [], ◌∷◌, fold, ⊤}
+use Rattle.std.specs.Prelude.{ℕ, max, not, ◌&&◌, ◌||◌, Bool, true, false, if◌then◌else◌, Option, Some, List, [], ◌∷◌, fold, ⊤}
 use Rattle.std.specs.List.{list_any}
 use Rattle.draws.specs.Draws.{draw_after, word_after}
 use Rattle.envelope.specs.declared.parts.Envelope.{Envelope}

@@ -1,5 +1,5 @@
 -- Kinds of calls: scaffolding of private functions, and no promise.
-use Rattle.std.specs.Prelude.{ℕ, Bool, true, false, Option, Some, None, List}
+use Rattle.std.specs.Prelude.{Bool, false, Option, Some, None, List}
 use Rattle.std.specs.List.{list_any}
 use Rattle.call_table.specs.Table.{Call, State, is_held, is_open, is_sent}
 use Rattle.client_node.specs.declared.calls.Kind.{Kind}

@@ -1,6 +1,5 @@
 -- What is written over a link.
-use Rattle.std.specs.Prelude.{◌≡◌, ℕ, List, [], ◌∷◌, ◌++◌, Result, Ok, Err, ⊤}
-use Rattle.cipher_modes.specs.CounterMode.{CtrState}
+use Rattle.std.specs.Prelude.{◌≡◌, ℕ, List, ◌++◌, Result, Ok, Err, ⊤}
 use Rattle.mt_edge.specs.Links.{Told}
 use Rattle.mt_edge.specs.Faults.{one_more}
 use Rattle.transport.specs.Directions.{through}

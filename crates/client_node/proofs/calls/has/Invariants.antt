@@ -1,4 +1,4 @@
-use Rattle.std.proofs.Common.{◌≡◌, ℕ, false, take}
+use Rattle.std.proofs.Common.{◌≡◌, false, take}
 use Rattle.client_rules.specs.Client.{Client, calls_of}
 use Rattle.client_node.specs.Kinds.{has_kind}
 use Rattle.client_node.specs.Standing.{StandsFor}

@@ -1,4 +1,4 @@
-use Rattle.std.proofs.Common.{◌≡◌, ℕ, arith, ◌∙◌}
+use Rattle.std.proofs.Common.{arith, ◌∙◌}
 use Rattle.client_core.specs.Flushed.{setting_of}
 use Rattle.client_node.proofs.AllFlowing.{all_done, all_failed, all_sent, so_far_more}
 use Rattle.client_node.proofs.flushing.flush_all.Goals as goal

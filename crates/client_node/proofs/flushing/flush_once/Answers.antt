@@ -1,4 +1,4 @@
-use Rattle.std.proofs.Common.{◌≡◌, ℕ, List, true, false, sym, subst, ◌∙◌}
+use Rattle.std.proofs.Common.{ℕ, List, true, false, sym, subst, ◌∙◌}
 use Rattle.client_core.specs.Flushed.{setting_of}
 use Rattle.client_core.specs.declared.flush.Flush.TheVariants as answers
 use Rattle.client_node.specs.Flow.{OneFlush}

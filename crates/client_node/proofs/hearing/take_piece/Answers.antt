@@ -1,4 +1,4 @@
-use Rattle.std.proofs.Common.{List, ℕ, [], ◌∷◌, ◌++◌, refl, ◌∙◌}
+use Rattle.std.proofs.Common.{[], ◌∷◌, ◌++◌, refl, ◌∙◌}
 use Rattle.client_node.proofs.HearingSteps.{count_more, hears_more, none_heard, none_wrong, piece_done, piece_failed, sizes_more, took_more}
 use Rattle.client_node.proofs.hearing.take_piece.Goals as goal
 

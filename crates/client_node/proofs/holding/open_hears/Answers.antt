@@ -1,7 +1,7 @@
-use Rattle.std.proofs.Common.{◌≡◌, ℕ, max, Bool, true, false, if◌then◌else◌, refl, sym, ap}
-use Rattle.client_rules.specs.Client.{Client, is_open}
+use Rattle.std.proofs.Common.{◌≡◌, max, Bool, true, false, if◌then◌else◌, refl, sym, ap}
+use Rattle.client_rules.specs.Client.{Client}
 use Rattle.client_core.specs.Kept.{Stands}
-use Rattle.client_node.specs.Course.{Opening, Open, Ended}
+use Rattle.client_node.specs.Course.{Open, Ended}
 use Rattle.client_node.proofs.HolderLemmas.{by_opened}
 use Rattle.client_node.proofs.holding.open_hears.Goals as goal
 

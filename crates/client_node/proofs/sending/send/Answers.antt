@@ -1,4 +1,4 @@
-use Rattle.std.proofs.Common.{rules, ◌≡◌, ◌++◌, ℕ, List, take, ◌∙◌}
+use Rattle.std.proofs.Common.{rules, ◌++◌, take, ◌∙◌}
 use Rattle.client_node.proofs.Writing.{front_more, told_more}
 use Rattle.client_node.proofs.sending.send.Goals as goal
 

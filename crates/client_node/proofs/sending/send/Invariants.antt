@@ -1,4 +1,4 @@
-use Rattle.std.proofs.Common.{◌≡◌, ℕ, List, ◌++◌, length, Some, IfSome, IsSome, IsSomeAnd}
+use Rattle.std.proofs.Common.{◌≡◌, ℕ, List, ◌++◌, length, IfSome, IsSome, IsSomeAnd}
 use Rattle.client_node.specs.Writes.{Wrote}
 use Rattle.client_node.proofs.sending.send.Given as goal
 
