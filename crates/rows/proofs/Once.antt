@@ -3,9 +3,8 @@ use Rattle.std.proofs.Common.{◌≡◌, ◌∙◌, ◌+◌, ◌<◌, ◌≤◌,
 use Rattle.std.specs.Prelude.{not, ◌==◌, if◌then◌else◌}
 use Rattle.std.specs.List.{filter, list_any}
 use Rattle.std.proofs.lemmas.Bool.{cases_Bool, eqb-true, eq-eqb, false≢true}
-use Rattle.std.proofs.lemmas.List.{length-map, take_more}
+use Rattle.std.proofs.lemmas.List.{take_more}
 use Rattle.std.proofs.lemmas.Grind.{fold-append}
-use Rattle.std.proofs.lemmas.List.Sums.{count_by-le-length, length-filter}
 use Rattle.std.proofs.lemmas.List.Elements.{filter-append}
 use Rattle.inbox.specs.declared.judged.Judgement.{Judgement}
 use Rattle.server_rules.specs.Calls.{each_once}
@@ -81,35 +80,31 @@ passed-there numbers once place lt is there =
     let so : among number (each_once (take place numbers)) ≡ true = ap (among number) (sym is) ∙ there in
     is ∙ sym (ap each_once (take_more numbers place 0 lt) ∙ (once-more (take place numbers) number ∙ (rw so refl)))
 
-pub once-fewer : (numbers : List ℕ) → length (each_once numbers) ≤ length numbers
-once-fewer [] = omega arith
-once-fewer (number ∷ numbers) =
-    let rest = once-fewer numbers in
-    let test = λ (other : ℕ). not (other == number) in
-    let left = length-filter test (each_once numbers) in
-    let fewer = count_by-le-length test (each_once numbers) in
-    omega arith
-
--- the numbers of some of a list are no more
-pub once-of-some : {X : Type 0} (test : X → Bool) (number : X → ℕ) (all : List X) → length (each_once (map number (filter test all))) ≤ length all
-once-of-some test number all =
-    let once = once-fewer (map number (filter test all)) in
-    let mapped = length-map (filter test all) number in
-    let left = length-filter test all in
-    let fewer = count_by-le-length test all in
-    omega arith
-
 -- what is acknowledged, one after the other
 
-noted-all : (numbers : List ℕ) (judged : List Judgement) → fold noted numbers judged ≡ numbers ++ map (λ judgement. judgement.number) (filter is_acked judged)
-noted-all numbers [] = sym (append-nil numbers)
+-- a further number stands there once
+once-noted : (numbers : List ℕ) (one : Judgement) → is_acked one ≡ true → noted (each_once numbers) one ≡ each_once (numbers ++ one.number ∷ [])
+once-noted numbers one acked =
+    let more = once-more numbers one.number in
+    elim (cases_Bool (among one.number (each_once numbers))) [
+      | inl there ↦ rw (acked, there) (sym (more ∙ (rw there refl)))
+      | inr absent ↦ rw (acked, absent) (sym (more ∙ (rw absent refl)))
+    ]
+
+noted-all : (numbers : List ℕ) (judged : List Judgement)
+    → fold noted (each_once numbers) judged ≡ each_once (numbers ++ map (λ judgement. judgement.number) (filter is_acked judged))
+noted-all numbers [] = ap each_once (sym (append-nil numbers))
 noted-all numbers (one ∷ judged) =
+    let own : List ℕ = map (λ judgement. judgement.number) (filter is_acked judged) in
     elim (cases_Bool (is_acked one)) [
-      | inl acked ↦ rw acked (noted-all (numbers ++ one.number ∷ []) judged ∙ append_assoc numbers (one.number ∷ []) (map (λ judgement. judgement.number) (filter is_acked judged)))
+      | inl acked ↦
+          ap (λ (so_far : List ℕ). fold noted so_far judged) (once-noted numbers one acked)
+          ∙ (noted-all (numbers ++ one.number ∷ []) judged ∙ (rw acked (ap each_once (append_assoc numbers (one.number ∷ []) own))))
       | inr silent ↦ rw silent (noted-all numbers judged)
     ]
 
-pub noted-are : (judged : List Judgement) → fold noted [] judged ≡ map (λ judgement. judgement.number) (filter is_acked judged)
+pub noted-are : (judged : List Judgement) → fold noted [] judged ≡ acks_of judged
+unfolding is_acked
 noted-are judged = noted-all [] judged
 
 pub noted-more : (judged : List Judgement) (place : ℕ) (one : Judgement) → place < length judged
@@ -117,7 +112,3 @@ pub noted-more : (judged : List Judgement) (place : ℕ) (one : Judgement) → p
 noted-more judged place one within =
     ap (λ (some : List Judgement). fold noted [] some) (take_more judged place one within)
     ∙ fold-append noted [] (take place judged) (get_or judged place one ∷ [])
-
-pub acks-are : (judged : List Judgement) → each_once (map (λ judgement. judgement.number) (filter is_acked judged)) ≡ acks_of judged
-unfolding is_acked
-acks-are judged = refl

@@ -1,5 +1,6 @@
 -- Scaffolding, and no promise: judgements whose numbers are acknowledged.
-use Rattle.std.specs.Prelude.{ℕ, ◌&&◌, Bool, if◌then◌else◌, List, [], ◌∷◌, ◌++◌}
+use Rattle.std.specs.Prelude.{ℕ, ◌&&◌, ◌==◌, not, Bool, if◌then◌else◌, List, [], ◌∷◌, ◌++◌}
+use Rattle.std.specs.List.{list_any}
 use Rattle.id_window.specs.Crossing.{is_odd}
 use Rattle.inbox.specs.declared.judged.Judgement.{Judgement}
 use Rattle.server_rules.specs.Rows.{is_verdict_acked}
@@ -7,6 +8,7 @@ use Rattle.server_rules.specs.Rows.{is_verdict_acked}
 unfoldable pub is_acked : Judgement → Bool
 is_acked judgement = is_odd judgement.seq && is_verdict_acked judgement.verdict
 
--- its number stands behind these, where it is acknowledged
+-- its number stands behind these, where it is acknowledged and isn't among them
 abbrev pub noted : List ℕ → Judgement → List ℕ
-noted numbers judgement = if is_acked judgement then numbers ++ judgement.number ∷ [] else numbers
+noted numbers judgement =
+    if is_acked judgement && not (list_any (λ other. other == judgement.number) numbers) then numbers ++ judgement.number ∷ [] else numbers

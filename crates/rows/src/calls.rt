@@ -90,8 +90,8 @@ impl CallDue {
     }
 }
 
-/// Each number of a list once, where it comes first.
-pub(crate) fn each_once(alloc: Global, numbers: &[u64]) -> Result<Vec<u64>, Memory>
+// Each number of a list once, where it comes first.
+fn each_once(alloc: Global, numbers: &[u64]) -> Result<Vec<u64>, Memory>
     ensures { IfOk result (λ once. once.items ≡ each_once numbers.now) }
 {
     let mut once = Vec::with_capacity(alloc, numbers.len())?;
@@ -104,8 +104,8 @@ pub(crate) fn each_once(alloc: Global, numbers: &[u64]) -> Result<Vec<u64>, Memo
     Ok(once)
 }
 
-// Whether a number is among these.
-fn has(numbers: &[u64], number: u64) -> bool
+/// Whether a number is among these.
+pub(crate) fn has(numbers: &[u64], number: u64) -> bool
     ensures { result ≡ list_any (λ other. other == number) numbers.now }
 {
     numbers.contains(&number)

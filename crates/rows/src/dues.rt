@@ -1,6 +1,7 @@
 //! What the messages of a packet need where they are accepted, made before they are judged.
 
-ghost use Rattle.std.specs.Prelude.{◌≡◌, ◌∷◌, ◌++◌, map, IfOk, OnOk};
+ghost use Rattle.std.specs.Prelude.{◌≡◌, ◌≤◌, ◌+◌, ◌∷◌, ◌++◌, map, IfOk, OnOk, vec_len};
+ghost use Rattle.containers.specs.Container.{messages_max};
 ghost use Rattle.containers.specs.Lent.{message_of};
 ghost use Rattle.inbox.specs.Inbox.{message_in};
 ghost use Rattle.inbox.specs.Kinds.{inner_messages, item_told};
@@ -14,13 +15,14 @@ use service_tl::{Item, parse};
 use std::alloc::Global;
 
 /// What each message of a packet needs where it is accepted: the one in the envelope, and then those inside it where it is a
-/// lawful container.
+/// lawful container, at most 1,021.
 ///
 /// # Errors
 ///
 /// `Memory`.
 pub fn dues_of(alloc: Global, outer: &Outer) -> Result<Vec<Due>, Memory>
-    ensures { IfOk result (λ dues. dues.items ≡ map needed_of (message_in outer.now ∷ inner_messages (message_in outer.now))) }
+    ensures dues { IfOk result (λ dues. dues.items ≡ map needed_of (message_in outer.now ∷ inner_messages (message_in outer.now))) }
+    ensures few { IfOk result (λ dues. vec_len dues ≤ messages_max + 1) }
 {
     let body = outer.body.as_slice();
     let mut dues = Vec::new(alloc);
@@ -31,7 +33,8 @@ pub fn dues_of(alloc: Global, outer: &Outer) -> Result<Vec<Due>, Memory>
 
 // Puts behind these what each message inside the message with this number and body needs.
 fn add_inner(alloc: Global, number: u64, body: &[u8], dues: &mut Vec<Due>) -> Result<(), Memory>
-    ensures { OnOk result (dues.new.items ≡ dues.old.items ++ map needed_of (inner_messages (record { number = number; seq = 0; body = body.now }))) }
+    ensures added { OnOk result (dues.new.items ≡ dues.old.items ++ map needed_of (inner_messages (record { number = number; seq = 0; body = body.now }))) }
+    ensures few { OnOk result (vec_len dues.new ≤ vec_len dues.old + messages_max) }
 {
     if !is_container(body) {
         return Ok(());
@@ -43,8 +46,10 @@ fn add_inner(alloc: Global, number: u64, body: &[u8], dues: &mut Vec<Due>) -> Re
 }
 
 fn add_parts(alloc: Global, parts: Parts<'_>, dues: &mut Vec<Due>) -> Result<(), Memory>
-    ensures { OnOk result (dues.new.items ≡ dues.old.items ++ map needed_of parts.entry) }
+    ensures added { OnOk result (dues.new.items ≡ dues.old.items ++ map needed_of parts.entry) }
+    ensures few { OnOk result (vec_len dues.new ≤ vec_len dues.old + messages_max) }
 {
+    dues.reserve(parts.len())?;
     for part in parts {
         dues.push(part_due(alloc, &part)?)?;
     }

@@ -24,7 +24,7 @@ pub use calls::{Awaited, CallDue};
 pub use due::{Answering, Asked, Due, Telling};
 pub use dues::dues_of;
 pub use entries::{Entries, Entry};
-pub use opening::acks_of;
+pub use opening::acks_in;
 pub use turn::Turn;
 pub use waiting::Run;
 

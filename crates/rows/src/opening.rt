@@ -1,6 +1,6 @@
 //! What a session owes first to a packet.
 
-ghost use Rattle.std.specs.Prelude.{◌≡◌, ◌≤◌, ◌+◌, if◌then◌else◌, fold, ℕ, List, [], IfOk, OnOk, length};
+ghost use Rattle.std.specs.Prelude.{◌≡◌, ◌≤◌, ◌<◌, ◌+◌, if◌then◌else◌, ℕ, List, [], length, vec_len, vec_capacity};
 ghost use Rattle.inbox.specs.declared.judged.Judgement.{Judgement};
 ghost use Rattle.waits.specs.Jobs.{Queue};
 ghost use Rattle.server_rules.specs.Answer.{opens};
@@ -15,48 +15,37 @@ ghost use Rattle.standing.specs.Unsaid.{NoMoreUnsaid};
 ghost use Rattle.rows.specs.Acks.{is_acked, noted};
 ghost use Rattle.rows.specs.Speaks.{HasRoom, Speaks, Spends};
 
-use crate::calls::each_once;
+use crate::calls::has;
 use crate::turn::Turn;
 use draws::Draw;
 use inbox::{Judgement, Mark, Verdict};
 use msg_ids::Moment;
-use octets::Memory;
 use standing::Standing;
-use std::alloc::Global;
 
-/// The numbers that a session acknowledges of what it judged: of messages of odd sequence number that were accepted, now or
-/// before, each once and in order of judging.
-///
-/// # Errors
-///
-/// `Memory`.
-pub fn acks_of(alloc: Global, judged: &[Judgement]) -> Result<Vec<u64>, Memory>
-    ensures acks { IfOk result (λ acks. acks.items ≡ acks_of judged.now) }
-    ensures few { IfOk result (λ acks. length acks.items ≤ length judged.now) }
+/// Writes the numbers that a session acknowledges of what it judged into an empty list with room for them: of messages of odd
+/// sequence number that were accepted, now or before, each once and in order of judging. Takes no memory.
+pub fn acks_in(judged: &[Judgement], acks: &mut Vec<u64>)
+    requires empty { acks.old.items ≡ [] }
+    requires room { length judged.now ≤ vec_capacity acks.old }
+    ensures acks { acks.new.items ≡ acks_of judged.now }
+    ensures few { length acks.new.items ≤ length judged.now }
+    ensures same_capacity { vec_capacity acks.new ≡ vec_capacity acks.old }
 {
-    let acked = acked_numbers(alloc, judged)?;
-    each_once(alloc, acked.as_slice())
-}
-
-// The numbers of the judgements that are acknowledged, in order.
-fn acked_numbers(alloc: Global, judged: &[Judgement]) -> Result<Vec<u64>, Memory>
-    ensures { IfOk result (λ acked. acked.items ≡ fold noted [] judged.now) }
-{
-    let mut acked = Vec::new(alloc);
     for judgement in judged {
-        note(&mut acked, judgement)?;
+        note(acks, judgement);
     }
-    Ok(acked)
 }
 
-// Puts the number of a judgement behind these where it is acknowledged.
-fn note(acked: &mut Vec<u64>, judgement: &Judgement) -> Result<(), Memory>
-    ensures { OnOk result (acked.new.items ≡ noted acked.old.items judgement.now) }
+// Puts the number of a judgement behind these where it is acknowledged and isn't among them.
+fn note(acks: &mut Vec<u64>, judgement: &Judgement)
+    requires room { vec_len acks.old < vec_capacity acks.old }
+    ensures noted { acks.new.items ≡ noted acks.old.items judgement.now }
+    ensures len { vec_len acks.new ≤ vec_len acks.old + 1 }
+    ensures same_capacity { vec_capacity acks.new ≡ vec_capacity acks.old }
 {
-    if is_acked(judgement) {
-        acked.push(judgement.number)?;
+    if is_acked(judgement) && !has(acks.as_slice(), judgement.number) {
+        acks.push_reserved(judgement.number);
     }
-    Ok(())
 }
 
 #[tactic(auto, unfolding(crate::specs::Acks::is_acked))]
@@ -87,7 +76,7 @@ fn is_mark_acked(mark: Mark) -> bool
 
 impl Turn {
     /// What the session owes first to a packet that it has judged: it says that it is new where it has accepted nothing so
-    /// far, and then which messages it received, given by `acks_of`.
+    /// far, and then which messages it received, given by `acks_in`.
     pub fn opens<D: Draw>(
         &mut self,
         now: Moment,

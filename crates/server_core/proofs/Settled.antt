@@ -27,7 +27,7 @@ use Rattle.server_core.proofs.OwnJobs.{owes-blocked}
 
 -- ---- how many jobs aren't ready
 
-blocked-left : (name : Name) (stays : Unfinished → Bool) (jobs : Queue) → blocked_of name (filter stays jobs) ≤ blocked_of name jobs
+pub blocked-left : (name : Name) (stays : Unfinished → Bool) (jobs : Queue) → blocked_of name (filter stays jobs) ≤ blocked_of name jobs
 blocked-left name stays [] = omega arith
 blocked-left name stays (one ∷ jobs) =
     let left = filter stays jobs in

@@ -63,3 +63,22 @@ uses-more again now place standing after last turn next end one two =
       number = two.number ∙ one.number;
       at = λ is. two.at (one.at is);
     }
+
+-- what two steps use is no more than this
+pub uses-both : (again : Bool) (now messages size answers kept more larger further longer both_messages both_size both_answers both_kept : ℕ) (standing : Standing) (turn : Turn)
+    (after : Standing) (next : Turn) (last : Standing) (end : Turn) → Uses again now messages size answers kept standing turn after next
+    → Uses again now more larger further longer after next last end → messages + more ≤ both_messages → size + larger ≤ both_size → answers + further ≤ both_answers
+    → kept + longer ≤ both_kept → Uses again now both_messages both_size both_answers both_kept standing turn last end
+uses-both again now messages size answers kept more larger further longer both_messages both_size both_answers both_kept standing turn after next last end one two of_messages of_size of_answers of_kept =
+    record {
+      places = omega (arith, one.places, two.places, of_messages);
+      bytes = omega (arith, one.bytes, two.bytes, of_size);
+      numbers = omega (arith, one.numbers, two.numbers, of_messages);
+      entries = omega (arith, one.entries, two.entries, of_answers);
+      replies = omega (arith, one.replies, two.replies, of_kept);
+      places_taken = two.places_taken ∙ one.places_taken;
+      bytes_taken = two.bytes_taken ∙ one.bytes_taken;
+      key = two.key ∙ one.key;
+      number = two.number ∙ one.number;
+      at = λ is. two.at (one.at is);
+    }

@@ -1,5 +1,6 @@
 -- The sessions that a server keeps beside one that speaks.
-use Rattle.std.specs.Prelude.{nat_lt, Bool, if◌then◌else◌, Option, Some, None, List, [], ◌∷◌, ◌++◌, length}
+use Rattle.std.specs.Prelude.{◌≡◌, nat_lt, Bool, if◌then◌else◌, Option, Some, None, List, [], ◌∷◌, ◌++◌, length}
+use Rattle.std.specs.List.{filter}
 use Rattle.server_rules.specs.Server.{sessions_max}
 use Rattle.standing.specs.declared.standing.Standing.{Standing}
 use Rattle.standing.specs.Standing.{key_of, number_of}
@@ -30,3 +31,8 @@ without_lost (Some standing) jobs = without_session (key_of standing) (number_of
 -- the others, and last the one that spoke, unless it is lost
 abbrev pub with_last_where : Bool → Standing → List Standing → List Standing
 with_last_where lost standing standings = if lost then standings else standings ++ standing ∷ []
+
+-- of those that were there, the ones that pass some test are left, in order
+pub record AreLeft (before after : List Standing) : Type 0 where
+  pub stays : Standing → Bool
+  pub left : after ≡ filter stays before

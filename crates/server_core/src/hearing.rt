@@ -1,7 +1,7 @@
 //! The session of a packet is heard, and is the one heard last from then on.
 
-ghost use Rattle.std.specs.Prelude.{◌≡◌, ◌≢◌, ◌<◌, ℕ, [], All, IfOk, OnErr, OnOk, Some, length};
-ghost use Rattle.std.specs.List.{position};
+ghost use Rattle.std.specs.Prelude.{◌≡◌, ◌≢◌, ◌<◌, ℕ, [], All, IfOk, OnErr, OnOk, Some, length, slice_index_or};
+ghost use Rattle.std.specs.List.{position, remove};
 ghost use Rattle.inbox.specs.Inbox.{message_in};
 ghost use Rattle.inbox.specs.Judging.{judgements, session_after};
 ghost use Rattle.inbox.specs.Refusals.{InEnvelope};
@@ -9,9 +9,10 @@ ghost use Rattle.server_laws.specs.Order.{IsOrderly, jobs_of};
 ghost use Rattle.server_rules.specs.Server.{Name, Server as Rules, Session, remembered, session_named};
 ghost use Rattle.server_rules.specs.Event.{Envelope, Setting, State};
 ghost use Rattle.server_rules.specs.Answer.{begun, name_in, with_place as place_made};
+ghost use Rattle.standing.specs.declared.standing.Standing.{Standing as One};
 ghost use Rattle.standing.specs.Names.{name_kept};
 ghost use Rattle.standing.specs.Standing.{IsAt};
-ghost use Rattle.server_core.specs.Sessions.{AreKept, is_kept_as};
+ghost use Rattle.server_core.specs.Sessions.{AreApart, AreKept, is_kept_as, without_kept};
 ghost use Rattle.server_core.specs.Among.{heard_among, with_history};
 ghost use Rattle.server_core.specs.Hearing.{IsHeard};
 ghost use Rattle.server_core.specs.Others.{first_lost, with_place, without_lost};
@@ -68,6 +69,10 @@ pub(crate) fn hears_known<D: Draw>(
         → IsHeard setting.now result.0 result.1 server.jobs server.bindings draw (heard_among setting envelope (begun server draw)) }
     ensures named { (name : Name) → position (is_kept_as name) sessions.old ≡ Some place → name_kept result.1 ≡ name }
     ensures apart { (name : Name) → position (is_kept_as name) sessions.old ≡ Some place → All (λ other. name_kept other ≢ name) result.0 }
+    ensures others { (name : Name) → position (is_kept_as name) sessions.old ≡ Some place → result.0 ≡ without_kept name sessions.old }
+    ensures removed { result.0 ≡ remove sessions.old place }
+    ensures at_place { (d : One) → result.1 ≡ slice_index_or sessions.old place d }
+    ensures sessions_apart { AreApart sessions.old }
     ensures lent { sessions.new ≡ [] }
 {
     sessions_stand_later();
@@ -88,6 +93,7 @@ pub(crate) fn makes_place<D: Draw>(
     ensures placed { (now : ℕ) (state : State D) → AreKept now sessions.old state.sessions → IfOk result (λ others. AreKept now others (place_made state).sessions) }
     ensures jobs { (now : ℕ) (state : State D) → AreKept now sessions.old state.sessions → jobs.old.jobs ≡ state.jobs
         → OnOk result (jobs.new.jobs ≡ (place_made state).jobs) }
+    ensures others { IfOk result (λ others. others ≡ with_place sessions.old) }
     ensures same_job_room { jobs.new.room ≡ jobs.old.room }
     ensures lent { OnOk result (sessions.new ≡ []) }
     ensures unchanged_on_memory { OnErr result ((sessions.new ≡ sessions.old) × (jobs.new ≡ jobs.old)) }

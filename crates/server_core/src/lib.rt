@@ -3,6 +3,7 @@
 //! the definitions (`Stands`), and each event makes it stand for what the definitions say of that event.
 #![tactic(auto)]
 
+mod again;
 mod attaching;
 mod desk;
 mod destroying;
@@ -11,12 +12,21 @@ mod failures;
 mod hearing;
 pub mod laws;
 mod leaving;
+mod losing;
 mod others;
+mod outgoing;
+mod packet_answers;
+mod packets;
+mod reserving;
+mod room;
 mod server;
 mod sessions;
 mod settling;
+mod settling_all;
 mod speech;
 pub mod tick_laws;
+mod ticking;
+mod voices;
 mod work;
 mod working;
 

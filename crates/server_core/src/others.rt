@@ -1,8 +1,9 @@
 //! The sessions of a server beside the one that speaks.
 
-ghost use Rattle.std.specs.Prelude.{◌≡◌, ◌≢◌, ◌++◌, ◌∷◌, [], All};
+ghost use Rattle.std.specs.Prelude.{◌≡◌, ◌≢◌, ◌≤◌, ◌++◌, ◌∷◌, [], All, length};
+ghost use Rattle.std.specs.List.{insert};
 ghost use Rattle.standing.specs.Names.{name_kept};
-ghost use Rattle.server_core.specs.Sessions.{kept_as, without_kept};
+ghost use Rattle.server_core.specs.Sessions.{AreApart, kept_as, without_kept};
 ghost use Rattle.server_core.specs.Others.{first_lost, with_place};
 
 use crate::sessions::{Sessions, out_of};
@@ -49,6 +50,17 @@ impl Others {
             return None;
         }
         Some(self.list.remove(0))
+    }
+
+    /// All of them, with one of a name of its own back at this place. Takes no memory.
+    pub(crate) fn with_it_at(self, place: usize, standing: Standing) -> Sessions
+        requires place { place ≤ length self }
+        requires apart { AreApart (insert self place standing) }
+        ensures { result ≡ insert self place standing }
+    {
+        let mut list = self.list;
+        let _ = list.insert(place, standing);
+        Sessions { list }
     }
 
     /// All of them, without the one that spoke. Takes no memory.

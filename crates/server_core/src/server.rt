@@ -147,6 +147,7 @@ impl<S: Seal> Server<S> {
     pub(crate) fn passes(&mut self, alloc: Global, moment: Moment) -> Result<Effects, Memory>
         requires later { self.old.moment ≤ moment }
         ensures stands { (server : Rules) → Stands self.old server → OnOk result (Stands self.new (record server { now = moment })) }
+        ensures moment_alone { OnOk result (self.new ≡ record self.old { moment = moment }) }
         ensures nothing { IfOk result (λ effects. (effects.out.outs ≡ []) × (effects.entries.entries ≡ [])) }
         ensures unchanged_on_memory { OnErr result (self.new ≡ self.old) }
         ensures same_seal { self.new.seal ≡ self.old.seal }

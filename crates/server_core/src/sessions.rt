@@ -1,7 +1,7 @@
 //! The sessions that a server keeps.
 
 ghost use Rattle.std.specs.Prelude.{◌≡◌, ◌<◌, ◌≤◌, ℕ, [], All, IfOk, OnErr, OnOk, Some, length, nat_lt, slice_index_or, slice_set, vec_capacity, vec_len};
-ghost use Rattle.std.specs.List.{position};
+ghost use Rattle.std.specs.List.{position, remove};
 ghost use Rattle.standing.specs.declared.standing.Standing.{Standing as One};
 ghost use Rattle.standing.specs.Standing.{IsAt, Stands, numbers_left};
 ghost use Rattle.standing.specs.Names.{name_kept};
@@ -79,6 +79,9 @@ impl Sessions {
         requires { place < length self.old }
         ensures others { (name : Name) → position (is_kept_as name) self.old ≡ Some place → result.0 ≡ without_kept name self.old }
         ensures one { (name : Name) → position (is_kept_as name) self.old ≡ Some place → kept_as name self.old ≡ Some result.1 }
+        ensures removed { result.0 ≡ remove self.old place }
+        ensures at_place { (d : One) → result.1 ≡ slice_index_or self.old place d }
+        ensures apart { AreApart self.old }
         ensures lent { self.new ≡ [] }
     {
         let mut list = mem::replace(&mut self.list, Vec::new(alloc));

@@ -13,6 +13,7 @@ ghost use Rattle.rows.specs.Rings.{AreOf};
 ghost use Rattle.rows.specs.Spare.{HasSpare, Uses};
 ghost use Rattle.server_core.specs.Among.{Among, row_among};
 ghost use Rattle.server_core.specs.Failures.{blocked_of};
+ghost use Rattle.server_core.specs.Others.{AreLeft};
 ghost use Rattle.server_core.specs.Settling.{IsSettling, SpeaksAmong, settled_among};
 
 use crate::destroying::destroys;
@@ -61,6 +62,7 @@ pub(crate) fn settles<D: Draw>(
         → Uses again now (2 + result) (due_bytes due + result * result_bytes short_bytes_max) (1 + result) (2 + result) standing.old turn.old standing.new turn.new }
     ensures job_room_lasts { jobs.old.room ≤ jobs.new.room + 1 }
     ensures binding_room_lasts { bindings.old.room ≤ bindings.new.room + 1 }
+    ensures left { AreLeft others.old others.new }
 {
     rows_keep_order::<D>();
     speech_keeps_order::<D>();
@@ -97,6 +99,7 @@ fn row<D: Draw>(
     ensures uses { (again : Bool) → (due_repeats due ≡ true → again ≡ true) → Uses again now 2 (due_bytes due) 1 2 standing.old turn.old standing.new turn.new }
     ensures job_room_lasts { jobs.old.room ≤ jobs.new.room + 1 }
     ensures binding_room_lasts { bindings.old.room ≤ bindings.new.room + 1 }
+    ensures left { AreLeft others.old others.new }
 {
     match due {
         Due::Destroys(destroyed) => {

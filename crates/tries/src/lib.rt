@@ -13,6 +13,8 @@ mod keys;
 #[cfg(test)]
 mod owed;
 #[cfg(test)]
+mod servers;
+#[cfg(test)]
 mod sessions;
 #[cfg(test)]
 mod wires;

@@ -1,6 +1,6 @@
 -- A session speaks in an event, or is lost in it.
 use Rattle.std.proofs.Common.{◌≡◌, ℕ, ◌<◌, arith, ◌==◌, ◌&&◌, not, Bool, true, false, Option, None, Some, List, [], ◌∷◌, ◌++◌, map, filter, inl, inr, refl, sym, ap, subst, ◌∙◌}
-use Rattle.std.specs.List.{AllByRecursion, Contains}
+use Rattle.std.specs.List.{All, AllByRecursion, Contains}
 use Rattle.std.proofs.lemmas.Bool.{cases_Bool}
 use Rattle.std.proofs.lemmas.List.Elements.{All-contains}
 use Rattle.salt_line.specs.Line.{Line}
@@ -61,7 +61,7 @@ put_line lines name b o is =
       | inr not_so ↦ rw not_so refl
     ]
 
-lines_put : (lines : Name → Line) (name : Name) (b : Session) (sessions : List Session) → name_of b ≡ name
+pub lines_put : (lines : Name → Line) (name : Name) (b : Session) (sessions : List Session) → name_of b ≡ name
     → with_lines lines (with_session b sessions) ≡ with_session (with_line (lines name) b) (with_lines lines sessions)
 lines_put lines name b [] is = refl
 lines_put lines name b (o ∷ sessions) is =
@@ -75,6 +75,15 @@ module _ (w later : World) (o : Session) (forgotten : (number : ℕ) → Contain
   owed_on owed h = owed_still w later o o.counters o.replies (λ reply same. same) forgotten owed h
 
 -- ---- a session speaks
+
+-- what it did is its own: it is the same session, and what is owed further is its own
+pub record IsItsOwn (S : Type 0) (before after : Speaker S) : Type 0 where
+  pub key : after.session.key ≡ before.session.key
+  pub number : after.session.number ≡ before.session.number
+  pub owed : (further : List Owed) × (after.owed ≡ before.owed ++ further) × All (λ one. one.name ≡ name_of before.session) further
+
+own_of : {S : Type 0} (before after : Speaker S) → SaidFor S before after → IsItsOwn S before after
+own_of before after said = record { key = said.key; number = said.number; owed = said.owed }
 
 module _ {S : Type 0} (adds : Adds) (w : World) (gone : List Session) (lines : Name → Line) (state : State S) (h : EventStands w gone lines state) (name : Name) where
   abbrev xs : List Session
@@ -101,7 +110,7 @@ module _ {S : Type 0} (adds : Adds) (w : World) (gone : List Session) (lines : N
           owed = each_of (λ (o : Session). AllByRecursion (IsOwedThere w o) state.owed) xs h.owed its among;
         }
 
-    module _ (b : Speaker S) (said : SaidFor S (speaker_in state x) b) (later : World)
+    module _ (b : Speaker S) (said : IsItsOwn S (speaker_in state x) b) (later : World)
         (forgotten : (unique number : ℕ) → Contains (w.servers unique).forgotten number → Contains (later.servers unique).forgotten number)
         (k : SpeaksThere later gone xs (lines name) b) where
       named_b : name_of b.session ≡ name
@@ -141,6 +150,20 @@ module _ {S : Type 0} (adds : Adds) (w : World) (gone : List Session) (lines : N
             (all_mapped (λ (o : Session). AllByRecursion (IsOwedThere later o) b.owed) (put now) xs put_owes);
       }
 
+  -- and what it leads to beside it
+  pub speaks_with : (x : Session) → session_named name state.sessions ≡ Some x → (speak : Speaker S → Speaker S) (Q : World → Type 0)
+      → IsItsOwn S (speaker_in state x) (speak (speaker_in state x))
+      → (SpeaksThere w gone xs (lines name) (speaker_in state x) → Leads w (λ later. SpeaksThere later gone xs (lines name) (speak (speaker_in state x)) × Q later))
+      → Leads w (λ later. EventStands later gone lines (spoken state (speak (speaker_in state x))) × Q later)
+  speaks_with x found speak Q own leads =
+      let l = leads (begins x found) in
+      record {
+        moves = l.moves;
+        lawful = l.lawful;
+        own = l.own;
+        gives = (ends x found (speak (speaker_in state x)) own (after_all w l.moves) (λ unique number has. adds.forgotten w l.moves l.lawful unique number has) l.gives.0, l.gives.1);
+      }
+
   -- what a session of the name says
   abbrev pub IsSpeech : (Speaker S → Speaker S) → Session → Type 0
   IsSpeech speak x =
@@ -157,7 +180,7 @@ module _ {S : Type 0} (adds : Adds) (w : World) (gone : List Session) (lines : N
         moves = l.moves;
         lawful = l.lawful;
         own = l.own;
-        gives = ends x is (speak (speaker_in state x)) its_speech.0 (after_all w l.moves) (λ unique number has. adds.forgotten w l.moves l.lawful unique number has) l.gives;
+        gives = ends x is (speak (speaker_in state x)) (own_of (speaker_in state x) (speak (speaker_in state x)) its_speech.0) (after_all w l.moves) (λ unique number has. adds.forgotten w l.moves l.lawful unique number has) l.gives;
       }
 
   pub speaks_on : (speak : Speaker S → Speaker S) → ((x : Session) → session_named name state.sessions ≡ Some x → IsSpeech speak x)

@@ -19,3 +19,6 @@ pub mod Jobs
 pub mod Ordered
 pub mod Beginning
 pub mod Sending
+pub mod Ending
+pub mod HeardOwe
+pub mod WorksEnd

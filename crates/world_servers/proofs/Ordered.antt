@@ -63,7 +63,7 @@ finds test (first ∷ sessions) x among is =
     ]
 
 module _ (sessions : List Session) (jobs : Queue) (apart : AreApart sessions) (h : AreOrdered sessions jobs) where
-  orderly : (x : Session) → Contains sessions x → IsOrderlyAt (Some x) (jobs_of (name_of x) jobs)
+  pub orderly : (x : Session) → Contains sessions x → IsOrderlyAt (Some x) (jobs_of (name_of x) jobs)
   orderly x among =
       let found = finds (is_named (name_of x)) sessions x among (named_itself x) in
       let y = found_in (is_named (name_of x)) sessions found.0 found.1 in

@@ -32,7 +32,7 @@ split_all : {X : Type 0} (P : X → Type 0) (xs ys : List X) → AllByRecursion 
 split_all P [] ys h = (tt, h)
 split_all P (x ∷ xs) ys h = let rest = split_all P xs ys h.1 in ((h.0, rest.0), rest.1)
 
-all_groups : {X : Type 0} (P : X → Type 0) (lists : List (List X)) → AllByRecursion P (flat_map (λ list. list) lists) → AllByRecursion (AllByRecursion P) lists
+pub all_groups : {X : Type 0} (P : X → Type 0) (lists : List (List X)) → AllByRecursion P (flat_map (λ list. list) lists) → AllByRecursion (AllByRecursion P) lists
 all_groups P [] h = tt
 all_groups P (list ∷ lists) h = let parts = split_all P list (flat_map (λ list. list) lists) h in (parts.0, all_groups P lists parts.1)
 

@@ -121,7 +121,7 @@ module _ {S : Type 0} (adds : Adds) (setting : Setting S) (lost sessions : List 
 
   -- ---- salts
 
-  current : (speaker : Speaker S) → IsWithin line (needs_salts setting 1 speaker).session
+  pub current : (speaker : Speaker S) → IsWithin line (needs_salts setting 1 speaker).session
       → HasSalt (with_line line speaker.session) (current_salt (needs_salts setting 1 speaker).session.salts setting.now)
   current speaker within =
       let period : ℕ = period_at speaker.session.salts.start setting.now in

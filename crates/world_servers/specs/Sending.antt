@@ -1,14 +1,20 @@
 -- What goes out of a session, as packets of the law on moves.
-use Rattle.std.specs.Prelude.{◌≡◌, ◌⊎◌, ⊤, true, ℕ, List, [], ◌∷◌}
-use Rattle.std.specs.List.{Contains, flat_map}
+use Rattle.std.specs.Prelude.{◌≡◌, ◌≢◌, ◌⊎◌, ⊤, true, ℕ, List, [], ◌∷◌}
+use Rattle.std.specs.List.{AllByRecursion, Contains, flat_map}
 use Rattle.service_tl.specs.declared.item.Item.{Item}
 use Rattle.service_tl.specs.declared.item.Item.TheVariants.{NewSessionCreated}
 use Rattle.service_tl.specs.declared.lists.Message.{Message}
 use Rattle.service_tl.specs.Items.{spelling_of}
-use Rattle.server_rules.specs.Server.{Session, has_accepted}
+use Rattle.server_rules.specs.Server.{Name, Session, has_accepted, name_of}
 use Rattle.session_moves.specs.World.{World}
 use Rattle.world_moves.specs.Packets.{item_there}
+use Rattle.packing.specs.Packing.{groups, packed}
+use Rattle.salt_line.specs.Line.{Line}
+use Rattle.server_rules.specs.Event.{Envelope, Owed, State}
+use Rattle.server_rules.specs.Sending.{messages_by}
+use Rattle.session_moves.specs.Table.Status.{Unmade}
 use Rattle.world_servers.specs.Servers.{HasSalt}
+use Rattle.world_servers.specs.Events.{EventStands}
 
 -- each message spells its item
 abbrev pub AreSpelt : List Message → List Item → Type 0
@@ -32,3 +38,28 @@ IsFirstNew session (message ∷ messages) =
 -- the session has accepted a message, or these begin so
 abbrev pub MayGo : Session → List Message → Type 0
 MayGo session group = (has_accepted session ≡ true) ⊎ IsFirstNew session group
+
+-- so may all that it owes, packet by packet
+abbrev pub MayAllGo : List Owed → Session → Type 0
+MayAllGo owed session = AllByRecursion (MayGo session) (groups (messages_by (name_of session) owed))
+
+-- the message is owed
+abbrev pub IsOwed : List Owed → Message → Type 0
+IsOwed owed message = (one : Owed) × Contains owed one × (one.message ≡ message)
+
+-- A packet went out there: the messages that it has in it are owed, and went out together from a server session of its
+-- session number.
+pub record WentOut (w : World) (owed : List Owed) (envelope : Envelope) : Type 0 where
+  pub unique : ℕ
+  pub group : List Message
+  pub body : envelope.body ≡ packed group
+  pub spoken : IsSpoken w unique group
+  pub due : AllByRecursion (IsOwed owed) group
+  pub made : (w.servers unique).status ≢ Unmade
+  pub session : (w.servers unique).session ≡ envelope.session
+
+-- An event has come so far that packets went out: the server stands there, with those that are lost by now.
+pub record EventEnds {S : Type 0} (w : World) (lines : Name → Line) (owed : List Owed) (state : State S) : Type 0 where
+  pub gone : List Session
+  pub stands : EventStands w gone lines state
+  pub out : AllByRecursion (λ sent. WentOut w owed sent.envelope) state.sent

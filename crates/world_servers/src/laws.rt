@@ -16,7 +16,7 @@ ghost use Rattle.server_laws.specs.Speech.{SaidFor};
 ghost use Rattle.server_rules.specs.Rows.{acked_by, owes};
 ghost use Rattle.server_rules.specs.Speaking.{dropped, made_room};
 ghost use Rattle.server_rules.specs.Waiting.{Outlook, gives_up, told};
-ghost use Rattle.server_rules.specs.Answer.{after_loss, after_restart, attaches, begun, finishes, messages_judged, opens, runs, ticks};
+ghost use Rattle.server_rules.specs.Answer.{after_loss, after_restart, attaches, begun, finishes, messages_judged, opens, runs, ticks, without_spent};
 ghost use Rattle.server_lives.specs.Lives.{acceptance_of};
 ghost use Rattle.session_moves.specs.Table as moves;
 ghost use Rattle.session_moves.specs.Table.{Message};
@@ -32,8 +32,8 @@ ghost use Rattle.salt_line.specs.Line.{Line};
 ghost use Rattle.inbox.specs.declared.judged.Judgement.{Judgement};
 ghost use Rattle.inbox.specs.declared.judged.Verdict.{Verdict};
 ghost use Rattle.packing.specs.Packing.{groups};
-ghost use Rattle.server_rules.specs.Sending.{sends};
-ghost use Rattle.world_servers.specs.Sending.{IsSpoken, MayGo};
+ghost use Rattle.server_rules.specs.Sending.{all_sent, sends};
+ghost use Rattle.world_servers.specs.Sending.{EventEnds, IsSpoken, MayAllGo, MayGo, WentOut};
 ghost use Rattle.world_servers.specs.Events.{AreLines, AreOpenJobs, EventStands, with_lines};
 ghost use Rattle.server_laws.specs.Order.{AreOrdered};
 ghost use Rattle.world_servers.specs.Speaking.{IsDue, IsOpen, IsSaid, IsWithin, SpeaksThere, with_line};
@@ -275,4 +275,43 @@ pub fn messages_go_out_by_moves<D: Draw>()
     moves_go_on();
     numbers_are_given_once();
     packing::laws::packets_have_all_messages();
+}
+
+/// An event ends by lawful moves: each session sends what it owes, and then those without room for a further event are lost.
+/// Each packet went out there, where each session has accepted a message or begins each of its packets by saying that it is
+/// new.
+pub fn events_end_by_moves<D: Draw>()
+    ensures { (w : World) (gone : List Session) (lines : Name → Line) (setting : Setting D) (state : State D) → Reached w
+        → EventStands w gone lines state → AllByRecursion (MayAllGo state.owed) (with_lines lines state.sessions)
+        → AllByRecursion (λ sent. WentOut w state.owed sent.envelope) state.sent
+        → Leads w (λ later. EventEnds later lines state.owed (without_spent (all_sent setting state))) }
+{
+    moves_only_add();
+    moves_go_on();
+    numbers_are_given_once();
+    packing::laws::packets_have_all_messages();
+}
+
+/// A run, a tick and the opening of a connection are lawful moves to their ends: what they owe goes out.
+pub fn works_end_by_moves<D: Draw>()
+    ensures run { (w : World) (gone : List Session) (lines : Name → Line) (more : Name → List Row) (setting : Setting D) (server : Server) (draw : D) (place : ℕ) (job : Job) (reply : List ℕ)
+        → Reached w → ServerStands w gone server.sessions server.jobs → AreOrdered server.sessions server.jobs → AreLines w lines more server.sessions
+        → ready_job place server.jobs ≡ Some job
+        → Leads w (λ later. EventEnds later lines (runs setting place job reply (begun server draw)).owed
+        (without_spent (all_sent setting (runs setting place job reply (begun server draw))))) }
+    ensures tick { (w : World) (gone : List Session) (lines : Name → Line) (more : Name → List Row) (setting : Setting D) (server : Server) (draw : D)
+        → Reached w → ServerStands w gone server.sessions server.jobs → AreOrdered server.sessions server.jobs → AreLines w lines more server.sessions
+        → Leads w (λ later. EventEnds later lines (ticks setting (begun server draw)).owed (without_spent (all_sent setting (ticks setting (begun server draw))))) }
+    ensures attach { (w : World) (gone : List Session) (lines : Name → Line) (more : Name → List Row) (setting : Setting D) (server : Server) (draw : D) (name : Name)
+        → Reached w → ServerStands w gone server.sessions server.jobs → AreOrdered server.sessions server.jobs → AreLines w lines more server.sessions
+        → ((session : Session) → session_named name server.sessions ≡ Some session → IsWithin (lines name) (attaches setting (speaker_in (begun server draw) session)).session)
+        → Leads w (λ later. EventEnds later lines (speaks name (attaches setting) (begun server draw)).owed
+        (without_spent (all_sent setting (speaks name (attaches setting) (begun server draw))))) }
+{
+    moves_only_add();
+    moves_go_on();
+    numbers_are_given_once();
+    packing::laws::packets_have_all_messages();
+    server_laws::laws::sessions_speak_for_themselves::<D>();
+    server_laws::laws::new_sessions_say_so::<D>();
 }

@@ -2,8 +2,11 @@ use Rattle.std.proofs.Common.{◌≡◌, ◌∙◌, sym, subst}
 use Rattle.server_rules.specs.Event.{Setting}
 use Rattle.server_laws.specs.Order.{jobs_of}
 use Rattle.standing.specs.Says.{setting_of}
+use Rattle.standing.specs.Standing.{key_of}
 use Rattle.server_core.specs.Among.{Among}
 use Rattle.server_core.specs.Settling.{SpeaksAmong}
+use Rattle.server_core.proofs.Left.{left-all, left-without}
+use Rattle.server_core.proofs.Names.{named}
 use Rattle.server_core.proofs.RowCases.{row-destroys, row-speaks}
 use Rattle.server_core.proofs.settling.row.Goals as goal
 
@@ -36,4 +39,9 @@ returns-in_default g c =
       uses = c.owes.ensures.uses;
       job_room_lasts = c.owes.ensures.job_room_lasts;
       binding_room_lasts = c.owes.ensures.binding_room_lasts;
+      left = left-all c.args.others.now;
     }
+
+pub returns-in-Destroys-clause-left : goal.returns-in-Destroys-clause-left
+returns-in-Destroys-clause-left g c =
+    left-without (named (key_of c.args.standing.now) c.in-Destroys.destroyed) c.args.others.now c.destroys.new.others c.destroys.ensures.others

@@ -1,0 +1,268 @@
+-- Judgements that are settled one after the other.
+use Rattle.std.proofs.Common.{◌≡◌, ◌∙◌, ℕ, ◌+◌, ◌*◌, ◌≤◌, Bool, true, false, List, [], ◌∷◌, length, sym, ap, subst, refl, arith}
+use Rattle.std.specs.List.{sum_by}
+use Rattle.std.proofs.lemmas.Bool.{or_left, or_right}
+use Rattle.std.proofs.lemmas.List.Elements.{All-head, All-tail}
+use Rattle.std.proofs.lemmas.List.Sums.{sum_by-cons}
+use Rattle.id_window.specs.History.{History}
+use Rattle.inbox.specs.declared.judged.Verdict.{Verdict}
+use Rattle.inbox.specs.declared.judged.Verdict.TheVariants.{Accepted, Again, Noticed}
+use Rattle.inbox.specs.declared.judged.Judgement.{Judgement}
+use Rattle.waits.specs.Jobs.{Queue}
+use Rattle.server_rules.specs.Server.{Binding, Name}
+use Rattle.server_rules.specs.Event.{Setting}
+use Rattle.server_laws.specs.Order.{IsSpeaking, IsTold, jobs_of, opens_of}
+use Rattle.standing.specs.declared.standing.Standing.{Standing}
+use Rattle.rows.specs.declared.due.Due.{Due}
+use Rattle.rows.specs.declared.turn.Turn.{Turn}
+use Rattle.rows.specs.Due.{due_by, due_bytes, due_of, due_repeats}
+use Rattle.rows.specs.Spare.{HasSpare, Uses, where_again}
+use Rattle.standing.specs.Unsaid.{unsaid_bytes, unsaid_count}
+use Rattle.server_core.specs.Among.{Among, IsAlone, IsInOrder, settles_among}
+use Rattle.server_core.specs.Failures.{blocked_of}
+use Rattle.server_core.specs.Settling.{IsSettling, SpeaksAmong, settled_among}
+use Rattle.server_core.specs.SettlingAll.{AreDue, AreSettling, all_settled, due_judged, due_most, some_repeats}
+use Rattle.server_core.proofs.Uses.{nothing-used, uses-both}
+
+-- ---- what is kept stands for the session, as far as its judgements are settled
+
+-- what the laws of one session promise
+
+abbrev pub StaysAlone : (S : Type 0) → Type 0
+StaysAlone S = (setting : Setting S) (name : Name) (judgement : Judgement) (body : List ℕ) (among : Among S) → IsAlone name among
+    → IsAlone name (settles_among setting among (judgement, body))
+
+abbrev pub StaysInOrder : (S : Type 0) → Type 0
+StaysInOrder S = (setting : Setting S) (name : Name) (others : Name → Queue) (past : History) (judgement : Judgement) (judged : List Judgement) (body : List ℕ) (among : Among S)
+    → IsAlone name among → IsTold judgement.number judgement.verdict past → IsSpeaking name others past (opens_of (judgement ∷ judged)) among.speaker
+    → IsInOrder name past (opens_of judged) (settles_among setting among (judgement, body)).speaker
+
+-- the judgements that are left lead to what all lead to
+pub record IsUnderWay (S : Type 0) (now : ℕ) (setting : Setting S) (name : Name) (past : History) (limit : ℕ) (all : Among S) (judged : List Judgement) (dues : List Due)
+    (others : List Standing) (standing : Standing) (turn : Turn) (queue : Queue) (bound : List Binding) (draw : S) : Type 0 where
+  pub bodies : List (List ℕ)
+  pub among : Among S
+  pub due : AreDue judged bodies dues
+  pub settling : AreSettling name past limit judged among
+  pub speaks : SpeaksAmong now others standing turn queue bound draw among
+  pub same : all_settled setting judged bodies among ≡ all
+
+-- what the first judgement that is left promises
+pub record FirstSettles (S : Type 0) (now : ℕ) (name : Name) (past : History) (limit answered : ℕ) (setting : Setting S) (number : ℕ) (due : Due)
+    (others : List Standing) (standing : Standing) (turn : Turn) (queue : Queue) (bound : List Binding) (draw : S)
+    (others_after : List Standing) (after : Standing) (turn_after : Turn) (queue_after : Queue) (bound_after : List Binding) (draw_after : S) : Type 0 where
+  pub settled : (seq : ℕ) (verdict : Verdict) (body opened : List ℕ) (among : Among S) → due ≡ due_of number seq verdict body → IsSettling name past number verdict opened among
+      → blocked_of name among.speaker.jobs + 1 ≤ limit → SpeaksAmong now others standing turn queue bound draw among
+      → SpeaksAmong now others_after after turn_after queue_after bound_after draw_after (settled_among setting number seq verdict body among)
+  pub fewer : (seq : ℕ) (verdict : Verdict) (body opened : List ℕ) (among : Among S) → due ≡ due_of number seq verdict body → IsSettling name past number verdict opened among
+      → SpeaksAmong now others standing turn queue bound draw among
+      → blocked_of name queue_after + answered ≤ blocked_of name among.speaker.jobs + 1
+
+first-settled : {S : Type 0} → StaysAlone S → StaysInOrder S → (now : ℕ) (setting : Setting S) (name : Name) (past : History) (limit answered left : ℕ) (all : Among S)
+    (judgement : Judgement) (judged : List Judgement) (due : Due) (dues : List Due)
+    (others : List Standing) (standing : Standing) (turn : Turn) (queue : Queue) (bound : List Binding) (draw : S)
+    (others_after : List Standing) (after : Standing) (turn_after : Turn) (queue_after : Queue) (bound_after : List Binding) (draw_after : S)
+    (bodies : List (List ℕ)) (among : Among S) (given : Due) → AreDue (judgement ∷ judged) bodies (due ∷ dues) → AreSettling name past limit (judgement ∷ judged) among
+    → SpeaksAmong now others standing turn queue bound draw among → all_settled setting (judgement ∷ judged) bodies among ≡ all → left + answered ≡ limit
+    → given ≡ due_judged judgement due → FirstSettles S now name past limit answered setting judgement.number given others standing turn queue bound draw others_after after turn_after queue_after bound_after draw_after
+    → IsUnderWay S now setting name past left all judged dues others_after after turn_after queue_after bound_after draw_after
+first-settled alone order now setting name past limit answered left all judgement judged due dues others standing turn queue bound draw others_after after turn_after queue_after bound_after draw_after
+    [] among given are is speaks same enough given_is first = absurd are
+first-settled {S} alone order now setting name past limit answered left all judgement judged due dues others standing turn queue bound draw others_after after turn_after queue_after bound_after draw_after
+    (body ∷ bodies) among given are is speaks same enough given_is first =
+    let P : Judgement → Type 0 = λ judgement. IsTold judgement.number judgement.verdict past in
+    let told = All-head P judgement judged is.told in
+    let settling : IsSettling name past judgement.number judgement.verdict (opens_of judged) among = record { alone = is.alone; told = told; order = is.order } in
+    let few = is.few in
+    let next : Among S = settles_among setting among (judgement, body) in
+    let speaks_after : SpeaksAmong now others_after after turn_after queue_after bound_after draw_after next =
+    first.settled judgement.seq judgement.verdict body (opens_of judged) among (given_is ∙ are.0) settling (omega arith) speaks in
+    let fewer = first.fewer judgement.seq judgement.verdict body (opens_of judged) among (given_is ∙ are.0) settling speaks in
+    let jobs : blocked_of name queue_after ≡ blocked_of name next.speaker.jobs = ap (blocked_of name) speaks_after.speaks.jobs in
+    record {
+      bodies = bodies;
+      among = next;
+      due = are.1;
+      settling = record {
+        alone = alone setting name judgement body among is.alone;
+        told = All-tail P judgement judged is.told;
+        order = order setting name (λ one. jobs_of one among.speaker.jobs) past judgement judged body among is.alone told is.order;
+        few = omega (arith, few, fewer, jobs, enough);
+      };
+      speaks = speaks_after;
+      same = same;
+    }
+
+pub goes-on : {S : Type 0} → StaysAlone S → StaysInOrder S → (now : ℕ) (setting : Setting S) (name : Name) (past : History) (limit answered left : ℕ) (all : Among S)
+    (judgement : Judgement) (judged next : List Judgement) (due : Due) (dues left_dues : List Due)
+    (others : List Standing) (standing : Standing) (turn : Turn) (queue : Queue) (bound : List Binding) (draw : S)
+    (others_after : List Standing) (after : Standing) (turn_after : Turn) (queue_after : Queue) (bound_after : List Binding) (draw_after : S)
+    (given : Due) → given ≡ due_judged judgement due → judged ≡ judgement ∷ next → dues ≡ due ∷ left_dues → left + answered ≡ limit
+    → IsUnderWay S now setting name past limit all judged dues others standing turn queue bound draw
+    → FirstSettles S now name past limit answered setting judgement.number given others standing turn queue bound draw others_after after turn_after queue_after bound_after draw_after
+    → IsUnderWay S now setting name past left all next left_dues others_after after turn_after queue_after bound_after draw_after
+goes-on {S} alone order now setting name past limit answered left all judgement judged next due dues left_dues others standing turn queue bound draw
+    others_after after turn_after queue_after bound_after draw_after given given_is first_is due_is enough under first =
+    let J : List Judgement → Type 0 = λ judged. IsUnderWay S now setting name past limit all judged dues others standing turn queue bound draw in
+    let D : List Due → Type 0 = λ dues. IsUnderWay S now setting name past limit all (judgement ∷ next) dues others standing turn queue bound draw in
+    let begins : IsUnderWay S now setting name past limit all (judgement ∷ next) (due ∷ left_dues) others standing turn queue bound draw = subst D due_is (subst J first_is under) in
+    first-settled alone order now setting name past limit answered left all judgement next due left_dues others standing turn queue bound draw
+    others_after after turn_after queue_after bound_after draw_after begins.bodies begins.among given begins.due begins.settling begins.speaks begins.same enough given_is first
+
+pub all-begin : {S : Type 0} (now : ℕ) (setting : Setting S) (name : Name) (past : History) (limit : ℕ) (judged first : List Judgement) (dues second : List Due)
+    (others : List Standing) (standing : Standing) (turn : Turn) (queue : Queue) (bound : List Binding) (draw : S) (bodies : List (List ℕ)) (among : Among S)
+    → first ≡ judged → second ≡ dues → AreDue judged bodies dues → AreSettling name past limit judged among → SpeaksAmong now others standing turn queue bound draw among
+    → IsUnderWay S now setting name past limit (all_settled setting judged bodies among) first second others standing turn queue bound draw
+all-begin {S} now setting name past limit judged first dues second others standing turn queue bound draw bodies among first_is second_is are is speaks =
+    let all : Among S = all_settled setting judged bodies among in
+    let J : List Judgement → Type 0 = λ judged. IsUnderWay S now setting name past limit all judged second others standing turn queue bound draw in
+    let D : List Due → Type 0 = λ dues. IsUnderWay S now setting name past limit all judged dues others standing turn queue bound draw in
+    subst J (sym first_is) (subst D (sym second_is) (record { bodies = bodies; among = among; due = are; settling = is; speaks = speaks; same = refl }))
+
+-- none is left
+nothing-left : {S : Type 0} (setting : Setting S) (judged : List Judgement) (bodies : List (List ℕ)) (among : Among S) → length judged ≡ 0 → all_settled setting judged bodies among ≡ among
+nothing-left setting [] bodies among none = refl
+nothing-left setting (judgement ∷ judged) bodies among none = absurd (omega arith)
+
+pub ends : {S : Type 0} (now : ℕ) (setting : Setting S) (name : Name) (past : History) (limit : ℕ) (all : Among S) (judged : List Judgement) (dues : List Due)
+    (others : List Standing) (standing : Standing) (turn : Turn) (queue : Queue) (bound : List Binding) (draw : S)
+    → IsUnderWay S now setting name past limit all judged dues others standing turn queue bound draw → length judged ≡ 0
+    → SpeaksAmong now others standing turn queue bound draw all
+ends {S} now setting name past limit all judged dues others standing turn queue bound draw under none =
+    subst (λ (among : Among S). SpeaksAmong now others standing turn queue bound draw among)
+    (sym (nothing-left setting judged under.bodies under.among none) ∙ under.same) under.speaks
+
+-- ---- what it has used up
+
+due-most : (seq : ℕ) (verdict : Verdict) (due : Due) → due_bytes (due_by seq verdict due) ≤ due_most due
+due-most seq (Noticed code) due = omega arith
+due-most seq (Again mark) due = omega arith
+due-most seq (Accepted item) due = omega arith
+
+-- what is used of the room for these dues and for so many answers, where these are left
+pub record HasUsed (now limit : ℕ) (repeats : Bool) (all dues : List Due) (left : ℕ) (standing : Standing) (turn : Turn) (after : Standing) (turn_after : Turn) : Type 0 where
+  pub settled : ℕ
+  pub size : ℕ
+  pub answered : ℕ
+  pub count : settled + length dues ≡ length all
+  pub bytes : size + sum_by due_most dues ≡ sum_by due_most all
+  pub answers : answered + left ≡ limit
+  pub uses : (again : Bool) → (repeats ≡ true → again ≡ true)
+      → Uses again now (2 * settled + answered) (size + answered * 48) (settled + answered) (2 * settled + answered) standing turn after turn_after
+
+-- no more may be said again
+again-weaker : (one other : Bool) (n : ℕ) → (one ≡ true → other ≡ true) → where_again one n ≤ where_again other n
+again-weaker true other n is = let so : where_again other n ≡ n = ap (λ (so : Bool). where_again so n) (is refl) in omega arith
+again-weaker false other n is = omega arith
+
+-- the first due's share of all bytes
+bytes-first : (due : Due) (dues left_dues : List Due) → dues ≡ due ∷ left_dues → sum_by due_most dues ≡ due_most due + sum_by due_most left_dues
+bytes-first due dues left_dues is = ap (sum_by due_most) is ∙ sum_by-cons due_most due left_dues
+
+length-first : (due : Due) (dues left_dues : List Due) → dues ≡ due ∷ left_dues → length dues ≡ length left_dues + 1
+length-first due dues left_dues is = ap (λ (dues : List Due). length dues) is ∙ omega arith
+
+-- room that is left, of all room
+spare-left : (again weaker : Bool) (now messages size answers kept used bytes given more part portion share further : ℕ) (standing : Standing) (turn : Turn) (after : Standing) (turn_after : Turn)
+    → HasSpare again messages size answers kept standing turn → Uses again now used bytes given more standing turn after turn_after
+    → (weaker ≡ true → again ≡ true)
+    → used + part ≤ messages → bytes + portion ≤ size → given + share ≤ answers → more + further ≤ kept → HasSpare weaker part portion share further after turn_after
+spare-left again weaker now messages size answers kept used bytes given more part portion share further standing turn after turn_after spare uses is of_messages of_size of_answers of_kept =
+    let count = again-weaker weaker again (unsaid_count after turn_after.owing) is in
+    let long = again-weaker weaker again (unsaid_bytes after turn_after.owing) is in
+    record {
+      places = omega (arith, spare.places, uses.places, count, of_messages);
+      bytes = omega (arith, spare.bytes, uses.bytes, long, of_size);
+      numbers = omega (arith, spare.numbers, uses.numbers, of_messages);
+      entries = omega (arith, spare.entries, uses.entries, of_answers);
+      replies = omega (arith, spare.replies, uses.replies, of_kept);
+    }
+
+-- room for the first of them
+pub spare-first : (now limit : ℕ) (repeats : Bool) (judgement : Judgement) (all dues left_dues : List Due) (due given : Due) (left : ℕ) (standing : Standing) (turn : Turn) (after : Standing) (turn_after : Turn)
+    → given ≡ due_judged judgement due → HasSpare repeats (2 * length all + limit) (sum_by due_most all + limit * 48) (length all + limit) (2 * length all + limit) standing turn
+    → HasUsed now limit repeats all dues left standing turn after turn_after → dues ≡ due ∷ left_dues → (due_repeats (due_judged judgement due) ≡ true → repeats ≡ true)
+    → HasSpare (due_repeats given) (2 + left) (due_bytes given + left * 48) (1 + left) (2 + left) after turn_after
+spare-first now limit repeats judgement all dues left_dues due given left standing turn after turn_after given_is spare used is again =
+    let P : Due → Type 0 = λ given. HasSpare (due_repeats given) (2 + left) (due_bytes given + left * 48) (1 + left) (2 + left) after turn_after in
+    let count = used.count in
+    let bytes = used.bytes in
+    let answers = used.answers in
+    let first = bytes-first due dues left_dues is in
+    let long = length-first due dues left_dues is in
+    let most = due-most judgement.seq judgement.verdict due in
+    subst P (sym given_is)
+    (spare-left repeats (due_repeats (due_judged judgement due)) now (2 * length all + limit) (sum_by due_most all + limit * 48) (length all + limit) (2 * length all + limit)
+    (2 * used.settled + used.answered) (used.size + used.answered * 48) (used.settled + used.answered) (2 * used.settled + used.answered)
+    (2 + left) (due_bytes (due_judged judgement due) + left * 48) (1 + left) (2 + left) standing turn after turn_after spare (used.uses repeats (λ is. is)) again
+    (omega (arith, count, answers, long)) (omega (arith, bytes, answers, first, most)) (omega (arith, count, answers, long)) (omega (arith, count, answers, long)))
+
+pub uses-first : (now limit : ℕ) (repeats : Bool) (judgement : Judgement) (all dues left_dues : List Due) (due given : Due) (left answered less : ℕ)
+    (standing : Standing) (turn : Turn) (after : Standing) (turn_after : Turn) (last : Standing) (turn_last : Turn)
+    → given ≡ due_judged judgement due → HasUsed now limit repeats all dues left standing turn after turn_after → dues ≡ due ∷ left_dues → (due_repeats (due_judged judgement due) ≡ true → repeats ≡ true)
+    → less + answered ≡ left
+    → ((again : Bool) → (due_repeats given ≡ true → again ≡ true)
+    → Uses again now (2 + answered) (due_bytes given + answered * 48) (1 + answered) (2 + answered) after turn_after last turn_last)
+    → HasUsed now limit repeats all left_dues less standing turn last turn_last
+uses-first now limit repeats judgement all dues left_dues due given left answered less standing turn after turn_after last turn_last given_is used is again enough uses_given =
+    let P : Due → Type 0 = λ given. (again : Bool) → (due_repeats given ≡ true → again ≡ true)
+    → Uses again now (2 + answered) (due_bytes given + answered * 48) (1 + answered) (2 + answered) after turn_after last turn_last in
+    let uses = subst P given_is uses_given in
+    let count = used.count in
+    let bytes = used.bytes in
+    let answers = used.answers in
+    let first = bytes-first due dues left_dues is in
+    let long = length-first due dues left_dues is in
+    let most = due-most judgement.seq judgement.verdict due in
+    record {
+      settled = used.settled + 1;
+      size = used.size + due_most due;
+      answered = used.answered + answered;
+      count = omega (arith, count, long);
+      bytes = omega (arith, bytes, first);
+      answers = omega (arith, answers, enough);
+      uses = λ so implied.
+          uses-both so now (2 * used.settled + used.answered) (used.size + used.answered * 48) (used.settled + used.answered) (2 * used.settled + used.answered)
+          (2 + answered) (due_bytes (due_judged judgement due) + answered * 48) (1 + answered) (2 + answered)
+          (2 * (used.settled + 1) + (used.answered + answered)) (used.size + due_most due + (used.answered + answered) * 48) (used.settled + 1 + (used.answered + answered)) (2 * (used.settled + 1) + (used.answered + answered))
+          standing turn after turn_after last turn_last (used.uses so implied) (uses so (λ is. implied (again is)))
+          (omega arith) (omega (arith, most)) (omega arith) (omega arith);
+    }
+
+-- all that is used in the end
+pub uses-all : (now limit : ℕ) (repeats : Bool) (all dues : List Due) (left : ℕ) (standing : Standing) (turn : Turn) (after : Standing) (turn_after : Turn)
+    → HasUsed now limit repeats all dues left standing turn after turn_after → (again : Bool) → (repeats ≡ true → again ≡ true)
+    → Uses again now (2 * length all + limit) (sum_by due_most all + limit * 48) (length all + limit) (2 * length all + limit) standing turn after turn_after
+uses-all now limit repeats all dues left standing turn after turn_after used again implied =
+    let count = used.count in
+    let bytes = used.bytes in
+    let answers = used.answers in
+    uses-both again now (2 * used.settled + used.answered) (used.size + used.answered * 48) (used.settled + used.answered) (2 * used.settled + used.answered) 0 0 0 0
+    (2 * length all + limit) (sum_by due_most all + limit * 48) (length all + limit) (2 * length all + limit) standing turn after turn_after after turn_after
+    (used.uses again implied) (nothing-used again now after turn_after)
+    (omega (arith, count, answers)) (omega (arith, bytes, answers)) (omega (arith, count, answers)) (omega (arith, count, answers))
+
+pub nothing-yet : (now limit : ℕ) (repeats : Bool) (all : List Due) (standing : Standing) (turn : Turn) → HasUsed now limit repeats all all limit standing turn standing turn
+nothing-yet now limit repeats all standing turn = record {
+  settled = 0;
+  size = 0;
+  answered = 0;
+  count = omega arith;
+  bytes = omega arith;
+  answers = omega arith;
+  uses = λ again implied. nothing-used again now standing turn;
+}
+
+-- ---- one of them may say kept replies again
+
+pub repeats-first : (repeats : Bool) (judgement : Judgement) (judged next : List Judgement) (due : Due) (dues left_dues : List Due) → judged ≡ judgement ∷ next → dues ≡ due ∷ left_dues
+    → (some_repeats judged dues ≡ true → repeats ≡ true) → due_repeats (due_judged judgement due) ≡ true → repeats ≡ true
+repeats-first repeats judgement judged next due dues left_dues first_is due_is all is =
+    let same : some_repeats judged dues ≡ some_repeats (judgement ∷ next) (due ∷ left_dues) = ap (λ (judged : List Judgement). some_repeats judged dues) first_is ∙ ap (some_repeats (judgement ∷ next)) due_is in
+    all (same ∙ or_left (due_repeats (due_judged judgement due)) (some_repeats next left_dues) is)
+
+pub repeats-next : (repeats : Bool) (judgement : Judgement) (judged next : List Judgement) (due : Due) (dues left_dues : List Due) → judged ≡ judgement ∷ next → dues ≡ due ∷ left_dues
+    → (some_repeats judged dues ≡ true → repeats ≡ true) → some_repeats next left_dues ≡ true → repeats ≡ true
+repeats-next repeats judgement judged next due dues left_dues first_is due_is all is =
+    let same : some_repeats judged dues ≡ some_repeats (judgement ∷ next) (due ∷ left_dues) = ap (λ (judged : List Judgement). some_repeats judged dues) first_is ∙ ap (some_repeats (judgement ∷ next)) due_is in
+    all (same ∙ or_right (due_repeats (due_judged judgement due)) (some_repeats next left_dues) is)

@@ -1,0 +1,48 @@
+use Rattle.std.proofs.Common.{◌≡◌, ◌∙◌, ℕ, List, max, ap, sym, subst}
+use Rattle.std.specs.Prelude.{IfOk}
+use Rattle.auth_keys.specs.declared.ring.RingKey.{RingKey}
+use Rattle.envelope.specs.declared.parts.Dir.TheVariants.{Up}
+use Rattle.envelope.specs.declared.parts.Envelope.{Envelope}
+use Rattle.envelope.specs.Opening.{IsRefused, Opens}
+use Rattle.server_rules.specs.Answer.{after_packet}
+use Rattle.standing.specs.Says.{setting_of}
+use Rattle.server_core.specs.Effects.{Gives}
+use Rattle.server_core.specs.Packets.{brought_in, effects_in}
+use Rattle.server_core.specs.Server.{Kept}
+use Rattle.server_core.proofs.server.Server.on_packet.Goals as goal
+
+pub returns-in-Envelope-clause-given : goal.returns-in-Envelope-clause-given
+returns-in-Envelope-clause-given g c = λ keys server envelope of stands order opens.
+    let V : Type 0 = g.row.S.Denot in
+    let D : Type 0 = g.row.D.Denot in
+    let K : Type 0 = Kept V in
+    let lock = g.S.Seal.lock in
+    let ring = g.S.Seal.keys c.args.self.now.seal in
+    let packet = c.args.packet.now in
+    let latest = max c.args.self.now.moment c.args.now in
+    let same_ring : g.S.Seal.keys c.self.inside.seal ≡ ring = ap (λ (kept : K). g.S.Seal.keys kept.seal) c.self.view_is in
+    let moment : c.later-moment.result ≡ latest = c.later-moment.ensures ∙ ap (λ (kept : K). max kept.moment c.args.now) c.self.view_is in
+    let one : Envelope = c.in-Envelope.envelope in
+    let R : List RingKey → Type 0 = λ ring. Opens lock ring c.later-moment.result Up packet one in
+    let M : ℕ → Type 0 = λ now. Opens lock ring now Up packet one in
+    let opened : Opens lock ring latest Up packet one = subst M moment (subst R same_ring c.in-Envelope.ensures.envelope) in
+    let same : one ≡ envelope = c.opens_what_it_sealed.ensures.one_envelope ring latest Up packet one envelope opened opens in
+    let N : ℕ → Type 0 = λ now. IfOk c.hears.result (λ reply. Gives {S = V} {D = D} lock ring c.hears.new.self c.hears.new.draw (effects_in reply)
+    (after_packet (setting_of now g.D.Draw.step keys) (brought_in one) server c.args.draw.now)) in
+    let E : Envelope → Type 0 = λ envelope. IfOk c.hears.result (λ reply. Gives {S = V} {D = D} lock ring c.hears.new.self c.hears.new.draw (effects_in reply)
+    (after_packet (setting_of latest g.D.Draw.step keys) (brought_in envelope) server c.args.draw.now)) in
+    subst E same (subst N moment (c.hears.ensures.given keys server of stands order))
+
+pub returns-in-Refused-clause-given : goal.returns-in-Refused-clause-given
+returns-in-Refused-clause-given g c = λ keys server envelope of stands order opens.
+    let K : Type 0 = Kept g.row.S.Denot in
+    let lock = g.S.Seal.lock in
+    let ring = g.S.Seal.keys c.args.self.now.seal in
+    let packet = c.args.packet.now in
+    let latest = max c.args.self.now.moment c.args.now in
+    let same_ring : g.S.Seal.keys c.self.inside.seal ≡ ring = ap (λ (kept : K). g.S.Seal.keys kept.seal) c.self.view_is in
+    let moment : c.later-moment.result ≡ latest = c.later-moment.ensures ∙ ap (λ (kept : K). max kept.moment c.args.now) c.self.view_is in
+    let refusal = c.in-Refused.refusal in
+    let R : List RingKey → Type 0 = λ ring. IsRefused lock ring c.later-moment.result Up packet refusal in
+    let M : ℕ → Type 0 = λ now. IsRefused lock ring now Up packet refusal in
+    absurd (c.opens_what_it_sealed.ensures.not_both ring latest Up packet envelope refusal opens (subst M moment (subst R same_ring c.in-Refused.ensures.refused)))

@@ -1,0 +1,217 @@
+use Rattle.std.proofs.Common.{◌≡◌, ◌≢◌, ◌∙◌, ◌+◌, ◌<◌, ◌≤◌, ℕ, true, Some, List, ◌∷◌, length, get_or, map, ap, sym, subst, refl, arith}
+use Rattle.std.specs.List.{insert, position, remove}
+use Rattle.std.proofs.lemmas.List.Edits.{length-remove}
+use Rattle.auth_keys.specs.declared.ring.RingKey.{RingKey}
+use Rattle.inbox.specs.declared.judged.Judgement.{Judgement}
+use Rattle.inbox.specs.Kinds.{inner_messages}
+use Rattle.rows.specs.declared.due.Due.{Due}
+use Rattle.rows.specs.Due.{needed_of}
+use Rattle.rows.specs.Rings.{AreOf}
+use Rattle.waits.specs.Jobs.{Queue}
+use Rattle.server_rules.specs.Answer.{Answer, after_packet, begun, message_in}
+use Rattle.server_rules.specs.Event.{Envelope, Setting}
+use Rattle.server_rules.specs.Server.{Binding, Name, Session, remembered, session_named}
+use Rattle.server_laws.specs.Order.{jobs_of}
+use Rattle.standing.specs.declared.standing.Standing.{Standing}
+use Rattle.standing.specs.Names.{name_kept}
+use Rattle.standing.specs.Says.{setting_of}
+use Rattle.standing.specs.Standing.{IsAt}
+use Rattle.server_core.specs.Among.{Among, ended_among, heard_among, takes_among}
+use Rattle.server_core.specs.Effects.{Gives}
+use Rattle.server_core.specs.Failures.{blocked_of}
+use Rattle.server_core.specs.Packets.{AreBeside, Fits, HasJudged, bodies_of, brought, judged_of, kept_so, way_of}
+use Rattle.server_core.specs.Server.{CanSpeak, IsSound, Kept, Stands}
+use Rattle.server_core.specs.Sessions.{AreApart, is_kept_as}
+use Rattle.server_core.specs.SettlingAll.{AreDue, some_repeats}
+use Rattle.server_core.proofs.HeardLemmas.{back-at, beside-known, can-judged, can-lent, fits-few, heard-blocked, judged-so}
+use Rattle.server_core.proofs.Lists.{place-is}
+use Rattle.server_core.proofs.Names.{named}
+use Rattle.server_core.proofs.PacketDues.{are-due}
+use Rattle.server_core.proofs.Speaking.{kept-later, sessions-have_room}
+use Rattle.server_core.proofs.Taken.{due-few}
+use Rattle.server_core.proofs.server.Server.takes_at.Goals as goal
+
+pub hears_known-others-requires : goal.hears_known-others-requires
+hears_known-others-requires g c =
+    let K : Type 0 = Kept g.row.S.Denot in
+    let name : Name = record { key = c.args.key; session = c.args.session } in
+    let standings = c.self.inside.sessions in
+    let placed : Some c.args.place ≡ position (is_kept_as name) standings =
+    sym (ap (λ (kept : K). position (is_kept_as name) kept.sessions) c.self.view_is ∙ c.requires.place) in
+    record { place = (place-is (is_kept_as name) standings c.args.place placed).1 }
+
+pub judges_in_room-requires : goal.judges_in_room-requires
+judges_in_room-requires g c =
+    let K : Type 0 = Kept g.row.S.Denot in
+    let laws = c.sessions_stand_later.ensures in
+    let name : Name = record { key = c.args.key; session = c.args.session } in
+    let place = c.args.place in
+    let moment = c.args.moment in
+    let standings = c.self.inside.sessions in
+    let placed : position (is_kept_as name) standings ≡ Some place = ap (λ (kept : K). position (is_kept_as name) kept.sessions) c.self.view_is ∙ c.requires.place in
+    let at = place-is (is_kept_as name) standings place (sym placed) in
+    let one : Standing = c.hears_known-others.result.1 in
+    let ring = g.S.Seal.keys c.self.inside.seal in
+    let lt : c.self.inside.moment ≤ moment = subst (λ (old : ℕ). old ≤ moment) (sym (ap (λ (kept : K). kept.moment) c.self.view_is)) c.requires.later in
+    let can = can-lent ring c.self.inside.moment standings place one c.self.invariant.speaking at.1 (c.hears_known-others.ensures.at_place one) in
+    record { at = laws.at c.self.inside.moment moment one lt can.at }
+
+pub answers_packet-requires : goal.answers_packet-requires
+answers_packet-requires g c =
+    let K : Type 0 = Kept g.row.S.Denot in
+    let laws = c.sessions_stand_later.ensures in
+    let name : Name = record { key = c.args.key; session = c.args.session } in
+    let place = c.args.place in
+    let moment = c.args.moment in
+    let standings = c.self.inside.sessions in
+    let placed : position (is_kept_as name) standings ≡ Some place = ap (λ (kept : K). position (is_kept_as name) kept.sessions) c.self.view_is ∙ c.requires.place in
+    let at = place-is (is_kept_as name) standings place (sym placed) in
+    let one : Standing = c.hears_known-others.result.1 in
+    let ring = g.S.Seal.keys c.self.inside.seal in
+    let lt : c.self.inside.moment ≤ moment = subst (λ (old : ℕ). old ≤ moment) (sym (ap (λ (kept : K). kept.moment) c.self.view_is)) c.requires.later in
+    let can = can-lent ring c.self.inside.moment standings place one c.self.invariant.speaking at.1 (c.hears_known-others.ensures.at_place one) in
+    let after : Standing = c.judges_in_room.new.standing in
+    record {
+      speaking = can-judged ring c.self.inside.moment moment one after can c.in-Ok.ensures.same_name c.in-Ok.ensures.same_numbers c.in-Ok.ensures.at;
+      room = c.in-Ok.ensures.room;
+      beside =
+          beside-known laws.at ring c.self.inside.moment moment name standings c.hears_known-others.result.0 place after lt c.self.invariant at.1
+          c.hears_known-others.ensures.removed (c.hears_known-others.ensures.others name placed) (c.in-Ok.ensures.same_name ∙ c.hears_known-others.ensures.named name placed);
+    }
+
+pub with_it_at-requires : goal.with_it_at-requires
+with_it_at-requires g c =
+    let K : Type 0 = Kept g.row.S.Denot in
+    let laws = c.sessions_stand_later.ensures in
+    let name : Name = record { key = c.args.key; session = c.args.session } in
+    let place = c.args.place in
+    let moment = c.args.moment in
+    let standings = c.self.inside.sessions in
+    let placed : position (is_kept_as name) standings ≡ Some place = ap (λ (kept : K). position (is_kept_as name) kept.sessions) c.self.view_is ∙ c.requires.place in
+    let at = place-is (is_kept_as name) standings place (sym placed) in
+    let one : Standing = c.hears_known-others.result.1 in
+    let ring = g.S.Seal.keys c.self.inside.seal in
+    let lt : c.self.inside.moment ≤ moment = subst (λ (old : ℕ). old ≤ moment) (sym (ap (λ (kept : K). kept.moment) c.self.view_is)) c.requires.later in
+    let can = can-lent ring c.self.inside.moment standings place one c.self.invariant.speaking at.1 (c.hears_known-others.ensures.at_place one) in
+    let after : Standing = c.judges_in_room.new.standing in
+    let others = c.hears_known-others.result.0 in
+    let removed : others ≡ remove standings place = c.hears_known-others.ensures.removed in
+    let long : length others ≡ length (remove standings place) = ap (λ (standings : List Standing). length standings) removed in
+    let fewer = length-remove standings place at.1 in
+    let is : insert others place after ≡ standings =
+    ap (λ (others : List Standing). insert others place after) removed
+    ∙ (ap (λ (one : Standing). insert (remove standings place) place one) c.in-Err.ensures.unchanged_on_memory ∙ back-at standings place one at.1 (c.hears_known-others.ensures.at_place one)) in
+    record { place = omega (arith, at.1); apart = subst AreApart (sym is) c.hears_known-others.ensures.sessions_apart }
+
+pub invariant_of-self-in-Err : goal.invariant_of-self-in-Err
+invariant_of-self-in-Err g c =
+    let K : Type 0 = Kept g.row.S.Denot in
+    let laws = c.sessions_stand_later.ensures in
+    let name : Name = record { key = c.args.key; session = c.args.session } in
+    let place = c.args.place in
+    let moment = c.args.moment in
+    let standings = c.self.inside.sessions in
+    let placed : position (is_kept_as name) standings ≡ Some place = ap (λ (kept : K). position (is_kept_as name) kept.sessions) c.self.view_is ∙ c.requires.place in
+    let at = place-is (is_kept_as name) standings place (sym placed) in
+    let one : Standing = c.hears_known-others.result.1 in
+    let ring = g.S.Seal.keys c.self.inside.seal in
+    let lt : c.self.inside.moment ≤ moment = subst (λ (old : ℕ). old ≤ moment) (sym (ap (λ (kept : K). kept.moment) c.self.view_is)) c.requires.later in
+    let can = can-lent ring c.self.inside.moment standings place one c.self.invariant.speaking at.1 (c.hears_known-others.ensures.at_place one) in
+    let after : Standing = c.judges_in_room.new.standing in
+    let others = c.hears_known-others.result.0 in
+    let removed : others ≡ remove standings place = c.hears_known-others.ensures.removed in
+    let is : insert others place after ≡ standings =
+    ap (λ (others : List Standing). insert others place after) removed
+    ∙ (ap (λ (one : Standing). insert (remove standings place) place one) c.in-Err.ensures.unchanged_on_memory ∙ back-at standings place one at.1 (c.hears_known-others.ensures.at_place one)) in
+    subst (λ (standings : List Standing). IsSound ring c.self.inside.moment standings) (sym (c.with_it_at.ensures ∙ is)) c.self.invariant
+
+pub returns-in-Err-clause-unchanged_on_memory : goal.returns-in-Err-clause-unchanged_on_memory
+returns-in-Err-clause-unchanged_on_memory g c =
+    let K : Type 0 = Kept g.row.S.Denot in
+    let laws = c.sessions_stand_later.ensures in
+    let name : Name = record { key = c.args.key; session = c.args.session } in
+    let place = c.args.place in
+    let moment = c.args.moment in
+    let standings = c.self.inside.sessions in
+    let placed : position (is_kept_as name) standings ≡ Some place = ap (λ (kept : K). position (is_kept_as name) kept.sessions) c.self.view_is ∙ c.requires.place in
+    let at = place-is (is_kept_as name) standings place (sym placed) in
+    let one : Standing = c.hears_known-others.result.1 in
+    let ring = g.S.Seal.keys c.self.inside.seal in
+    let lt : c.self.inside.moment ≤ moment = subst (λ (old : ℕ). old ≤ moment) (sym (ap (λ (kept : K). kept.moment) c.self.view_is)) c.requires.later in
+    let can = can-lent ring c.self.inside.moment standings place one c.self.invariant.speaking at.1 (c.hears_known-others.ensures.at_place one) in
+    let after : Standing = c.judges_in_room.new.standing in
+    let others = c.hears_known-others.result.0 in
+    let removed : others ≡ remove standings place = c.hears_known-others.ensures.removed in
+    let is : insert others place after ≡ standings =
+    ap (λ (others : List Standing). insert others place after) removed
+    ∙ (ap (λ (one : Standing). insert (remove standings place) place one) c.in-Err.ensures.unchanged_on_memory ∙ back-at standings place one at.1 (c.hears_known-others.ensures.at_place one)) in
+    let seal = c.self.inside.seal in
+    let before = c.self.inside.moment in
+    let jobs = c.judges_in_room.new.jobs.jobs in
+    let bindings = c.judges_in_room.new.bindings.bindings in
+    ap (λ (standings : List Standing). kept_so seal before standings jobs bindings) (c.with_it_at.ensures ∙ is)
+    ∙ (ap (λ (jobs : Queue). kept_so seal before standings jobs bindings) c.in-Err.ensures.same_jobs
+    ∙ (ap (λ (bindings : List Binding). kept_so seal before standings c.self.inside.jobs.jobs bindings) c.in-Err.ensures.same_bindings ∙ c.self.view_is))
+
+pub returns-in-Ok-clause-given : goal.returns-in-Ok-clause-given
+returns-in-Ok-clause-given g c = λ keys server of stands order.
+    let V : Type 0 = g.row.S.Denot in
+    let D : Type 0 = g.row.D.Denot in
+    let K : Type 0 = Kept V in
+    let laws = c.sessions_stand_later.ensures in
+    let name : Name = record { key = c.args.key; session = c.args.session } in
+    let moment = c.args.moment in
+    let standings = c.self.inside.sessions in
+    let placed : position (is_kept_as name) standings ≡ Some c.args.place = ap (λ (kept : K). position (is_kept_as name) kept.sessions) c.self.view_is ∙ c.requires.place in
+    let lock = g.S.Seal.lock in
+    let ring = g.S.Seal.keys c.self.inside.seal in
+    let same_ring : ring ≡ g.S.Seal.keys c.args.self.now.seal = ap (λ (kept : K). g.S.Seal.keys kept.seal) c.self.view_is in
+    let of_ring = subst (λ (ring : List RingKey). AreOf ring keys) (sym same_ring) of in
+    let lt : c.self.inside.moment ≤ moment = subst (λ (old : ℕ). old ≤ moment) (sym (ap (λ (kept : K). kept.moment) c.self.view_is)) c.requires.later in
+    let inside = subst (λ (kept : K). Stands kept server) (sym c.self.view_is) stands in
+    let are = kept-later laws.later c.self.inside.moment moment standings server.sessions lt inside.sessions in
+    let room = sessions-have_room laws.room ring c.self.inside.moment moment standings server.sessions are c.self.invariant.speaking in
+    let setting : Setting D = setting_of moment g.D.Draw.step keys in
+    let envelope : Envelope = brought c.args.key c.args.session c.args.outer.now in
+    let draw = c.args.draw.now in
+    let heard : Among D = heard_among setting envelope (begun server draw) in
+    let session : Session = heard.speaker.session in
+    let one : Standing = c.hears_known-others.result.1 in
+    let is_heard = c.hears_known-others.ensures.heard setting envelope server draw are placed in
+    let alone = c.one_session_stays_alone.ensures.heard setting envelope server draw room order.unfailed in
+    let ordered = c.one_session_stays_in_order.ensures.heard setting envelope server draw order in
+    let judged = c.as_slice.result.now in
+    let taken = c.in-Ok.both.0 in
+    let judged_is : judged ≡ judged_of setting envelope session = c.as_slice.ensures ∙ c.in-Ok.ensures.judged session is_heard.stands in
+    let after = c.in-Ok.ensures.stands session (jobs_of name heard.speaker.jobs) is_heard.stands ordered in
+    let jobs_are : c.judges_in_room.new.jobs.jobs ≡ server.jobs = c.in-Ok.ensures.same_jobs ∙ inside.jobs in
+    let bindings_are : c.judges_in_room.new.bindings.bindings ≡ server.bindings = c.in-Ok.ensures.same_bindings ∙ inside.bindings in
+    let has = judged-so setting envelope c.hears_known-others.result.0 one c.judges_in_room.new.standing server.jobs c.judges_in_room.new.jobs.jobs
+    server.bindings c.judges_in_room.new.bindings.bindings draw judged heard is_heard after jobs_are bindings_are judged_is alone ordered in
+    let bodies = bodies_of setting envelope session in
+    let due_is : taken.dues.items ≡ map needed_of (message_in envelope ∷ inner_messages (message_in envelope)) = c.in-Ok.ensures.dues in
+    let J : List Judgement → Type 0 = λ judged. AreDue judged bodies taken.dues.items in
+    let E : List Due → Type 0 = λ dues. AreDue (judged_of setting envelope session) bodies dues in
+    let due : AreDue judged bodies taken.dues.items =
+    subst J (sym judged_is) (subst E (sym due_is) (are-due (way_of setting envelope session) (remembered session) (message_in envelope))) in
+    let named_so : name_kept one ≡ name = c.hears_known-others.ensures.named name placed in
+    let limit_is : taken.limit ≡ blocked_of name server.jobs + length taken.dues.items =
+    c.in-Ok.ensures.limit
+    ∙ (ap (λ (name : Name). blocked_of name c.self.inside.jobs.jobs + length taken.dues.items) named_so
+    ∙ ap (λ (jobs : Queue). blocked_of name jobs + length taken.dues.items) inside.jobs) in
+    let A : List Judgement → Type 0 = λ judged. some_repeats judged taken.dues.items ≡ true → taken.again ≡ true in
+    let fits : Fits setting envelope judged taken heard = record {
+      due = due;
+      again = subst A (sym c.as_slice.ensures) (c.in-Ok.ensures.again session is_heard.stands);
+      few =
+          fits-few (blocked_of name server.jobs) (blocked_of name heard.speaker.jobs) (length judged) (length taken.dues.items) taken.limit limit_is
+          (heard-blocked setting envelope (session_named name server.sessions) (begun server draw)) (due-few judged bodies taken.dues.items due);
+    } in
+    let given = c.answers_packet.ensures.given keys envelope heard of_ring has fits in
+    let same : after_packet setting envelope server draw ≡ ended_among setting (takes_among setting envelope heard) =
+    c.one_session_takes.ensures setting envelope server draw room order.unfailed in
+    let kept_now : K = kept_so c.self.inside.seal moment c.answers_packet.new.sessions c.answers_packet.new.jobs.jobs c.answers_packet.new.bindings.bindings in
+    let R : List RingKey → Type 0 = λ ring. Gives {S = V} {D = D} lock ring kept_now c.answers_packet.new.draw c.answers_packet.result
+    (ended_among setting (takes_among setting envelope heard)) in
+    let G : Answer D → Type 0 = λ answer. Gives {S = V} {D = D} lock (g.S.Seal.keys c.args.self.now.seal) kept_now c.answers_packet.new.draw c.answers_packet.result answer in
+    subst G (sym same) (subst R same_ring given)

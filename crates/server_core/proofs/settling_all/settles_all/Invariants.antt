@@ -1,0 +1,32 @@
+use Rattle.std.proofs.Common.{◌≡◌, ◌≤◌, ℕ, true, List, length}
+use Rattle.std.specs.Iterator.Adapters.{zip_first, zip_second}
+use Rattle.std.specs.Slice.Iter.{iter_rest}
+use Rattle.std.specs.Vec.Iter.{into_iter_items}
+use Rattle.id_window.specs.History.{History}
+use Rattle.server_rules.specs.Server.{Name}
+use Rattle.standing.specs.Says.{Keys, setting_of}
+use Rattle.rows.specs.Rings.{AreOf}
+use Rattle.server_core.specs.Among.{Among}
+use Rattle.server_core.specs.Others.{AreLeft}
+use Rattle.server_core.specs.Settling.{SpeaksAmong}
+use Rattle.server_core.specs.SettlingAll.{AreDue, AreSettling, all_settled, some_repeats}
+use Rattle.server_core.proofs.AllSettled.{HasUsed, IsUnderWay}
+use Rattle.server_core.proofs.settling_all.settles_all.Given as goal
+
+-- the judgements and dues that are left lead to what all lead to, and there is room for them
+abbrev pub invariant-loop-judgement : goal.invariant-loop-judgement
+invariant-loop-judgement g l = record {
+  can_next : (goal.iterator-loop-judgement g).can_next l.judgement-iterator;
+  finite : (goal.iterator-loop-judgement g).is_finite l.judgement-iterator;
+  enough : length (iter_rest (zip_first l.judgement-iterator)) ≤ length (into_iter_items (zip_second l.judgement-iterator));
+  repeats : some_repeats (iter_rest (zip_first l.judgement-iterator)) (into_iter_items (zip_second l.judgement-iterator)) ≡ true → some_repeats l.judged l.fn.dues.items ≡ true;
+  used : HasUsed l.now l.limit (some_repeats l.judged l.fn.dues.items) l.fn.dues.items (into_iter_items (zip_second l.judgement-iterator)) l.left l.fn.standing l.fn.turn l.standing l.turn;
+  job_room : length (iter_rest (zip_first l.judgement-iterator)) ≤ l.jobs.room;
+  binding_room : length (iter_rest (zip_first l.judgement-iterator)) ≤ l.bindings.room;
+  others : AreLeft l.fn.others l.others;
+  under : (keys : Keys) (name : Name) (past : History) (bodies : List (List ℕ)) (among : Among g.row.D.Denot) → AreOf l.ring keys → AreDue l.judged bodies l.fn.dues.items
+      → AreSettling name past l.limit l.judged among
+      → SpeaksAmong l.now l.fn.others l.fn.standing l.fn.turn l.fn.jobs.jobs l.fn.bindings.bindings l.fn.draw among
+      → IsUnderWay g.row.D.Denot l.now (setting_of l.now g.D.Draw.step keys) name past l.left (all_settled (setting_of l.now g.D.Draw.step keys) l.judged bodies among)
+      (iter_rest (zip_first l.judgement-iterator)) (into_iter_items (zip_second l.judgement-iterator)) l.others l.standing l.turn l.jobs.jobs l.bindings.bindings l.draw;
+}

@@ -1,0 +1,126 @@
+-- A packet that a server hears: what its session judges, and what the event leaves.
+use Rattle.std.specs.Prelude.{◌≡◌, ◌≢◌, ◌<◌, ◌≤◌, ℕ, ◌+◌, true, List, [], length, map, All}
+use Rattle.auth_keys.specs.declared.ring.RingKey.{RingKey}
+use Rattle.envelope.specs.declared.parts.Dir.TheVariants.{Up}
+use Rattle.envelope.specs.declared.parts.Envelope.{Envelope as Sealed}
+use Rattle.envelope.specs.Opening.{IsRefused, Opens}
+use Rattle.envelope.specs.Packet.{Lock}
+use Rattle.id_window.specs.History.{History}
+use Rattle.inbox.specs.declared.judged.Judgement.{Judgement}
+use Rattle.inbox.specs.declared.outer.Outer.{Outer}
+use Rattle.inbox.specs.Judging.{judgements, session_after}
+use Rattle.inbox.specs.Refusals.{Way, InEnvelope}
+use Rattle.owing.specs.Outs.{AreSent}
+use Rattle.waits.specs.Jobs.{Queue}
+use Rattle.server_rules.specs.Answer.{message_in, messages_judged, name_in}
+use Rattle.server_rules.specs.Event.{Envelope, Setting}
+use Rattle.server_rules.specs.Server.{Binding, Name, Session, remembered, sessions_max}
+use Rattle.standing.specs.declared.standing.Standing.{Standing}
+use Rattle.standing.specs.Names.{name_kept}
+use Rattle.standing.specs.Standing.{Stands}
+use Rattle.server_core.specs.declared.desk.Heard.{Heard}
+use Rattle.server_core.specs.declared.desk.Heard.TheVariants.{Judged, NotOpened}
+use Rattle.server_core.specs.declared.desk.Reply.{Reply}
+use Rattle.server_core.specs.declared.effects.Effects.{Effects}
+use Rattle.server_core.specs.declared.room.PacketRoom.{PacketRoom}
+use Rattle.server_core.specs.Among.{Among, IsAlone, IsOrderlySpeaker, remembers_among}
+use Rattle.server_core.specs.Failures.{blocked_of}
+use Rattle.server_core.specs.Hearing.{IsHeard}
+use Rattle.server_core.specs.Server.{CanSpeak, Kept}
+use Rattle.server_core.specs.Sessions.{AreKept}
+use Rattle.server_core.specs.SettlingAll.{AreDue, some_repeats}
+
+-- ---- what a server hears
+
+-- A packet that comes at this moment opens to an envelope of this session, or doesn't open, for this cause.
+abbrev pub IsHeardOf : Lock → List RingKey → ℕ → List ℕ → Heard → Type 0
+IsHeardOf lock keys now packet (NotOpened refusal) = IsRefused lock keys now Up packet refusal
+IsHeardOf lock keys now packet (Judged key session) =
+    (envelope : Sealed) × Opens lock keys now Up packet envelope × (envelope.key ≡ key) × (envelope.session ≡ session)
+
+-- nothing goes out and nothing changes but the moment
+pub record NothingIsDone {S D : Type 0} (moment : ℕ) (before after : Kept S) (draw later : D) (reply : Reply) : Type 0 where
+  pub same : after ≡ record before { moment = moment }
+  pub drawn : later ≡ draw
+  pub sent : reply.out.outs ≡ []
+  pub entered : reply.entries.entries ≡ []
+
+abbrev pub effects_in : Reply → Effects
+effects_in reply = record { out = reply.out; entries = reply.entries }
+
+-- what an envelope brings, as the rules see it
+abbrev pub brought_in : Sealed → Envelope
+brought_in envelope =
+    record {
+      key = envelope.key;
+      salt = envelope.salt;
+      session = envelope.session;
+      number = envelope.number;
+      seq = envelope.seq;
+      body = envelope.body;
+    }
+
+-- what one of this key and session brings
+abbrev pub brought : ℕ → ℕ → Outer → Envelope
+brought key session outer =
+    record {
+      key = key;
+      salt = outer.salt;
+      session = session;
+      number = outer.number;
+      seq = outer.seq;
+      body = outer.body;
+    }
+
+-- ---- what a session that was heard judges
+
+abbrev pub way_of : {S : Type 0} → Setting S → Envelope → Session → Way
+way_of setting envelope session = InEnvelope setting.now session.salts envelope.salt
+
+abbrev pub judged_of : {S : Type 0} → Setting S → Envelope → Session → List Judgement
+judged_of setting envelope session = judgements (way_of setting envelope session) (remembered session) (message_in envelope)
+
+abbrev pub history_of : {S : Type 0} → Setting S → Envelope → Session → History
+history_of setting envelope session = (session_after (way_of setting envelope session) (remembered session) (message_in envelope)).history
+
+-- the bodies of the messages that it judges
+abbrev pub bodies_of : {S : Type 0} → Setting S → Envelope → Session → List (List ℕ)
+bodies_of setting envelope session = map (λ one. one.body) (messages_judged (way_of setting envelope session) session (message_in envelope))
+
+-- What is kept is that of a session among the others that was heard and remembers what it judged, and these are its
+-- judgements.
+pub record HasJudged {S : Type 0} (setting : Setting S) (envelope : Envelope) (kept : List Standing) (standing : Standing) (queue : Queue) (bound : List Binding) (draw : S) (judged : List Judgement) (among : Among S) : Type 0 where
+  pub heard : IsHeard setting.now kept standing queue bound draw (remembers_among (history_of setting envelope among.speaker.session) among)
+  pub are : judged ≡ judged_of setting envelope among.speaker.session
+  pub alone : IsAlone (name_in envelope) among
+  pub order : IsOrderlySpeaker (name_in envelope) among.speaker
+
+-- The room that was taken is that for what these judgements need: there is room for kept replies that are said again where
+-- some may be, and for so many jobs that fail.
+pub record Fits {S : Type 0} (setting : Setting S) (envelope : Envelope) (judged : List Judgement) (room : PacketRoom) (among : Among S) : Type 0 where
+  pub due : AreDue judged (bodies_of setting envelope among.speaker.session) room.dues.items
+  pub again : some_repeats judged room.dues.items ≡ true → room.again ≡ true
+  pub few : blocked_of (name_in envelope) among.speaker.jobs + length judged ≤ room.limit
+
+-- ---- what the event leaves
+
+-- What is kept of the others, of the session that spoke, the jobs, the bindings and the draw, and what the event gives, are
+-- those of this session among the others.
+pub record EndsAmong {S : Type 0} (lock : Lock) (keys : List RingKey) (now : ℕ) (kept : List Standing) (standing : Standing) (queue : Queue) (bound : List Binding) (draw : S) (effects : Effects) (among : Among S) : Type 0 where
+  pub others : AreKept now kept among.others
+  pub stands : Stands now standing among.speaker.session
+  pub jobs : queue ≡ among.speaker.jobs
+  pub bindings : bound ≡ among.speaker.bindings
+  pub drawn : draw ≡ among.speaker.draw
+  pub sent : AreSent lock keys among.speaker.sent effects.out.outs
+  pub entered : effects.entries.entries ≡ among.speaker.entries
+
+-- the server then, by its parts
+abbrev pub kept_so : {S : Type 0} → S → ℕ → List Standing → Queue → List Binding → Kept S
+kept_so seal moment sessions jobs bindings = record { seal = seal; moment = moment; sessions = sessions; jobs = jobs; bindings = bindings }
+
+-- the sessions beside one of this name: there is a place for that one, none has its name, and each can speak
+pub record AreBeside (keys : List RingKey) (moment : ℕ) (name : Name) (others : List Standing) : Type 0 where
+  pub few : length others < sessions_max
+  pub apart : All (λ other. name_kept other ≢ name) others
+  pub speaking : All (CanSpeak keys moment) others

@@ -1,0 +1,256 @@
+//! A packet comes to a server (core.telegram.org/mtproto/description, "Encrypted Message").
+
+ghost use Rattle.std.specs.Prelude.{◌≡◌, ◌≤◌, [], None, Some, IfOk, IsSome, OnErr, OnOk, max};
+ghost use Rattle.std.specs.List.{position};
+ghost use Rattle.auth_keys.specs.Rings.{entry_of};
+ghost use Rattle.envelope.specs.declared.parts.Dir.TheVariants.{Up};
+ghost use Rattle.envelope.specs.declared.parts.Envelope.{Envelope as Sealed};
+ghost use Rattle.envelope.specs.declared.refusal.Refusal.{Refusal as Refused};
+ghost use Rattle.envelope.specs.Opening.{IsRefused, Opens};
+ghost use Rattle.rows.specs.Rings.{AreOf};
+ghost use Rattle.server_rules.specs.Answer.{after_packet};
+ghost use Rattle.server_rules.specs.Server.{Server as Rules};
+ghost use Rattle.server_laws.specs.Order.{AreOrdered};
+ghost use Rattle.standing.specs.Says.{Keys, setting_of};
+ghost use Rattle.server_core.specs.declared.desk.Heard.TheVariants.{Judged, NotOpened};
+ghost use Rattle.server_core.specs.Effects.{Gives};
+ghost use Rattle.server_core.specs.Packets.{IsHeardOf, NothingIsDone, brought, brought_in, effects_in};
+ghost use Rattle.server_core.specs.Server.{Stands};
+ghost use Rattle.server_core.specs.Sessions.{is_kept_as};
+
+use crate::desk::{Heard, Reply};
+use crate::effects::Effects;
+use crate::hearing::{hears_known, makes_place};
+use crate::laws::{one_session_stays_alone, one_session_stays_in_order, one_session_takes};
+use crate::packet_answers::answers_packet;
+use crate::room::judges_in_room;
+use crate::server::{Server, later};
+use draws::Draw;
+use envelope::{Dir, Envelope, Opened, Refusal, Seal};
+use inbox::Outer;
+use msg_ids::Moment;
+use octets::Memory;
+use standing::Standing;
+use standing::laws::sessions_stand_later;
+use std::alloc::Global;
+
+impl<S: Seal> Server<S> {
+    /// A packet comes. It is opened, as one that goes up, at the greatest moment that the server was given. The session that its
+    /// envelope names judges what is in it, and answers; it is made where there is none of its name, and then, where the server
+    /// has 256, the one heard least recently is lost first. A packet that doesn't open changes nothing but the moment.
+    ///
+    /// # Errors
+    ///
+    /// `Memory`, and then the server is as it was.
+    pub fn on_packet<D: Draw>(
+        &mut self,
+        alloc: Global,
+        now: Moment,
+        packet: &[u8],
+        draw: &mut D,
+    ) -> Result<Reply, Memory>
+
+        // What it opens to, or why it doesn't open. By the seal's law no packet both opens and is refused.
+        ensures heard { IfOk result (λ reply. IsHeardOf S.lock (S.keys self.old.seal) (max self.old.moment now) packet.now reply.heard) }
+        ensures refused { (refusal : Refused) → IsRefused S.lock (S.keys self.old.seal) (max self.old.moment now) Up packet.now refusal
+            → IfOk result (NothingIsDone (max self.old.moment now) self.old self.new draw.old draw.new) }
+        ensures given { (keys : Keys) (server : Rules) (envelope : Sealed) → AreOf (S.keys self.old.seal) keys → Stands self.old server
+            → AreOrdered server.sessions server.jobs → Opens S.lock (S.keys self.old.seal) (max self.old.moment now) Up packet.now envelope
+            → IfOk result (λ reply. Gives S.lock (S.keys self.old.seal) self.new draw.new (effects_in reply)
+            (after_packet (setting_of (max self.old.moment now) D.step keys) (brought_in envelope) server draw.old)) }
+        ensures unchanged_on_memory { OnErr result (self.new ≡ self.old) }
+        ensures same_seal { self.new.seal ≡ self.old.seal }
+    {
+        S::opens_what_it_sealed();
+        let moment = later(self.moment, now);
+        match self.seal.unseal(alloc, moment, Dir::Up, packet) {
+            Opened::Envelope(envelope) => self.hears(alloc, moment, envelope, draw),
+            Opened::Refused(refusal) => self.refuses(alloc, moment, refusal),
+            Opened::Memory => Err(Memory),
+        }
+    }
+
+    // A packet doesn't open, for this cause.
+    fn refuses(&mut self, alloc: Global, moment: Moment, refusal: Refusal) -> Result<Reply, Memory>
+        requires later { self.old.moment ≤ moment }
+        ensures heard { IfOk result (λ reply. reply.heard ≡ NotOpened refusal) }
+        ensures nothing { IfOk result (λ reply. (reply.out.outs ≡ []) × (reply.entries.entries ≡ [])) }
+        ensures moment_alone { OnOk result (self.new ≡ record self.old { moment = moment }) }
+        ensures unchanged_on_memory { OnErr result (self.new ≡ self.old) }
+        ensures same_seal { self.new.seal ≡ self.old.seal }
+    {
+        let Effects { out, entries } = self.passes(alloc, moment)?;
+        Ok(Reply {
+            heard: Heard::NotOpened(refusal),
+            out,
+            entries,
+        })
+    }
+
+    // A packet opens to this envelope, under a key that is there.
+    fn hears<D: Draw>(
+        &mut self,
+        alloc: Global,
+        moment: Moment,
+        envelope: Envelope,
+        draw: &mut D,
+    ) -> Result<Reply, Memory>
+        requires later { self.old.moment ≤ moment }
+        requires key { IsSome (entry_of envelope.key (S.keys self.old.seal)) }
+        ensures heard { IfOk result (λ reply. reply.heard ≡ Judged envelope.key envelope.session) }
+        ensures given { (keys : Keys) (server : Rules) → AreOf (S.keys self.old.seal) keys → Stands self.old server → AreOrdered server.sessions server.jobs
+            → IfOk result (λ reply. Gives S.lock (S.keys self.old.seal) self.new draw.new (effects_in reply)
+            (after_packet (setting_of moment D.step keys) (brought_in envelope) server draw.old)) }
+        ensures unchanged_on_memory { OnErr result (self.new ≡ self.old) }
+        ensures same_seal { self.new.seal ≡ self.old.seal }
+    {
+        let Envelope {
+            key,
+            salt,
+            session,
+            number,
+            seq,
+            body,
+        } = envelope;
+        let outer = Outer {
+            number,
+            seq,
+            salt,
+            body,
+        };
+        let Effects { out, entries } = self.takes(alloc, moment, key, session, &outer, draw)?;
+        Ok(Reply {
+            heard: Heard::Judged { key, session },
+            out,
+            entries,
+        })
+    }
+
+    // The session of this name takes what an envelope brought.
+    fn takes<D: Draw>(
+        &mut self,
+        alloc: Global,
+        moment: Moment,
+        key: u64,
+        session: u64,
+        outer: &Outer,
+        draw: &mut D,
+    ) -> Result<Effects, Memory>
+        requires later { self.old.moment ≤ moment }
+        requires key { IsSome (entry_of key (S.keys self.old.seal)) }
+        ensures given { (keys : Keys) (server : Rules) → AreOf (S.keys self.old.seal) keys → Stands self.old server → AreOrdered server.sessions server.jobs
+            → IfOk result (λ effects. Gives S.lock (S.keys self.old.seal) self.new draw.new effects
+            (after_packet (setting_of moment D.step keys) (brought key session outer.now) server draw.old)) }
+        ensures unchanged_on_memory { OnErr result (self.new ≡ self.old) }
+        ensures same_seal { self.new.seal ≡ self.old.seal }
+    {
+        match self.sessions.place(key, session) {
+            None => self.takes_new(alloc, moment, key, session, outer, draw),
+            Some(place) => self.takes_at(alloc, moment, key, session, place, outer, draw),
+        }
+    }
+
+    // The session of this name, which is at this place, takes what an envelope brought.
+    fn takes_at<D: Draw>(
+        &mut self,
+        alloc: Global,
+        moment: Moment,
+        key: u64,
+        session: u64,
+        place: usize,
+        outer: &Outer,
+        draw: &mut D,
+    ) -> Result<Effects, Memory>
+        requires later { self.old.moment ≤ moment }
+        requires place { position (is_kept_as (record { key = key; session = session })) self.old.sessions ≡ Some place }
+        ensures given { (keys : Keys) (server : Rules) → AreOf (S.keys self.old.seal) keys → Stands self.old server → AreOrdered server.sessions server.jobs
+            → IfOk result (λ effects. Gives S.lock (S.keys self.old.seal) self.new draw.new effects
+            (after_packet (setting_of moment D.step keys) (brought key session outer.now) server draw.old)) }
+        ensures unchanged_on_memory { OnErr result (self.new ≡ self.old) }
+        ensures same_seal { self.new.seal ≡ self.old.seal }
+    {
+        sessions_stand_later();
+        one_session_takes::<D>();
+        one_session_stays_alone::<D>();
+        one_session_stays_in_order::<D>();
+        let (others, mut standing) = hears_known::<D>(&mut self.sessions, alloc, place);
+        match judges_in_room(
+            alloc,
+            moment,
+            outer,
+            &mut standing,
+            &mut self.jobs,
+            &mut self.bindings,
+        ) {
+            Ok(both) => {
+                let (room, judged) = both;
+                self.moment = moment;
+                Ok(answers_packet(
+                    &mut self.sessions,
+                    &mut self.jobs,
+                    &mut self.bindings,
+                    others,
+                    standing,
+                    moment,
+                    judged.as_slice(),
+                    room,
+                    &self.seal,
+                    draw,
+                ))
+            }
+            Err(memory) => {
+                self.sessions = others.with_it_at(place, standing);
+                Err(memory)
+            }
+        }
+    }
+
+    // A session of this name, of which there is none, is made and takes what an envelope brought.
+    fn takes_new<D: Draw>(
+        &mut self,
+        alloc: Global,
+        moment: Moment,
+        key: u64,
+        session: u64,
+        outer: &Outer,
+        draw: &mut D,
+    ) -> Result<Effects, Memory>
+        requires later { self.old.moment ≤ moment }
+        requires key { IsSome (entry_of key (S.keys self.old.seal)) }
+        requires none { position (is_kept_as (record { key = key; session = session })) self.old.sessions ≡ None }
+        ensures given { (keys : Keys) (server : Rules) → AreOf (S.keys self.old.seal) keys → Stands self.old server → AreOrdered server.sessions server.jobs
+            → IfOk result (λ effects. Gives S.lock (S.keys self.old.seal) self.new draw.new effects
+            (after_packet (setting_of moment D.step keys) (brought key session outer.now) server draw.old)) }
+        ensures unchanged_on_memory { OnErr result (self.new ≡ self.old) }
+        ensures same_seal { self.new.seal ≡ self.old.seal }
+    {
+        sessions_stand_later();
+        one_session_takes::<D>();
+        one_session_stays_alone::<D>();
+        one_session_stays_in_order::<D>();
+        let mut standing = Standing::new(alloc, moment, key, session, outer.number, draw)?;
+        let both = judges_in_room(
+            alloc,
+            moment,
+            outer,
+            &mut standing,
+            &mut self.jobs,
+            &mut self.bindings,
+        )?;
+        let (room, judged) = both;
+        let others = makes_place::<D>(&mut self.sessions, &mut self.jobs, alloc)?;
+        self.moment = moment;
+        Ok(answers_packet(
+            &mut self.sessions,
+            &mut self.jobs,
+            &mut self.bindings,
+            others,
+            standing,
+            moment,
+            judged.as_slice(),
+            room,
+            &self.seal,
+            draw,
+        ))
+    }
+}

@@ -1,0 +1,219 @@
+//! The room that a packet's event takes before anything is judged.
+
+ghost use Rattle.std.specs.Prelude.{◌≡◌, ◌≤◌, ◌*◌, ◌+◌, ◌∷◌, ℕ, true, IfOk, OnErr, OnOk, length, map, max};
+ghost use Rattle.waits.specs.Jobs.{Queue, blocked_count_of};
+ghost use Rattle.inbox.specs.Inbox.{message_in};
+ghost use Rattle.inbox.specs.Judging.{judgements, session_after};
+ghost use Rattle.inbox.specs.Kinds.{inner_messages};
+ghost use Rattle.inbox.specs.Refusals.{InEnvelope, Way};
+ghost use Rattle.server_laws.specs.Order.{IsOrderly};
+ghost use Rattle.server_rules.specs.Server.{Session, remembered};
+ghost use Rattle.rows.specs.Due.{needed_of};
+ghost use Rattle.outbox.specs.Replies.{kept_bytes_max, kept_replies_max};
+ghost use Rattle.owing.specs.Batch.{packets_most};
+ghost use Rattle.server_rules.specs.Answer.{room_min};
+ghost use Rattle.rows.specs.Spare.{where_again};
+ghost use Rattle.standing.specs.Names.{name_kept};
+ghost use Rattle.standing.specs.Repeats.{kept_bytes, kept_count};
+ghost use Rattle.standing.specs.Rooms.{with_replies_left};
+ghost use Rattle.standing.specs.Standing.{IsAt, Stands, key_of, number_of, numbers_left, outbox_of, replies_left};
+ghost use Rattle.server_core.specs.Room.{CanTake, dues_most, packet_bytes, packet_messages, settling_messages};
+ghost use Rattle.server_core.specs.SettlingAll.{some_repeats};
+ghost use Rattle.server_core.specs.Speech.{IsRoomFor};
+
+use crate::again::may_repeat;
+use crate::speech::Speech;
+use inbox::{Judged, Outer};
+use msg_ids::Moment;
+use octets::Memory;
+use rows::{Bindings, Due, Entries, dues_of};
+use standing::Standing;
+use std::alloc::Global;
+use waits::Jobs;
+
+/// The bytes of bodies by which a session says that it is new, and which messages it received, beside their numbers.
+const OPENING_BYTES: usize = 40;
+
+/// The bytes of a number.
+const NUMBER_BYTES: usize = 8;
+
+/// What each short answer takes at most, in bytes.
+const SHORT_RESULT_BYTES: usize = 48;
+
+/// The bytes of the longest notice.
+const NOTICE_BYTES: usize = 28;
+
+/// The room for all that a session says and records by a packet, and what its messages need.
+#[derive(Debug, Drop)]
+pub(crate) struct PacketRoom {
+    /// What each message needs where it is accepted.
+    pub(crate) dues: Vec<Due>,
+    /// None yet, and room for the numbers that are acknowledged.
+    pub(crate) acks: Vec<u64>,
+    /// How many jobs of the session may fail by the packet at most: those that aren't ready, and its own.
+    pub(crate) limit: usize,
+    /// Whether there is room for all kept replies.
+    pub(crate) again: bool,
+    pub(crate) speech: Speech,
+    pub(crate) entries: Entries,
+}
+
+impl PacketRoom {
+    ghost use Rattle.server_core.specs.Room.{IsPacketRoom};
+
+    /// What the messages of a packet need, and the room for all that a session says and records by it, before it is judged.
+    ///
+    /// # Errors
+    ///
+    /// `Memory`.
+    pub(crate) fn new(
+        alloc: Global,
+        outer: &Outer,
+        standing: &Standing,
+        jobs: &Jobs,
+    ) -> Result<PacketRoom, Memory>
+        ensures room { IfOk result (IsPacketRoom standing.now) }
+        ensures dues { IfOk result (λ room. room.dues.items ≡ map needed_of (message_in outer.now ∷ inner_messages (message_in outer.now))) }
+        ensures limit { IfOk result (λ room. room.limit ≡ blocked_count_of (key_of standing.now) (number_of standing.now) jobs.now.jobs + length room.dues.items) }
+        ensures again { (now : ℕ) (session : Session) (way : Way) → Stands now standing.now session
+            → IfOk result (λ room. some_repeats (judgements way (remembered session) (message_in outer.now)) room.dues.items ≡ true → room.again ≡ true) }
+    {
+        let dues = dues_of(alloc, outer)?;
+        let again = may_repeat(standing, outer, dues.as_slice());
+        let count = dues.len();
+        let limit = jobs.blocked(standing.key(), standing.number()) + count;
+        Ok(PacketRoom {
+            acks: Vec::with_capacity(alloc, count)?,
+            speech: speech_for(alloc, standing, again, dues.as_slice(), limit)?,
+            entries: Entries::new(alloc, count + limit)?,
+            dues,
+            limit,
+            again,
+        })
+    }
+}
+
+/// Takes all room for a packet's event, before it is judged: what `PacketRoom` has, and in the session, the jobs and the
+/// bindings.
+///
+/// # Errors
+///
+/// `Memory`, and then the session is as it was, and so are the jobs and the bindings but for their room.
+pub(crate) fn takes_room(
+    alloc: Global,
+    outer: &Outer,
+    standing: &mut Standing,
+    jobs: &mut Jobs,
+    bindings: &mut Bindings,
+) -> Result<PacketRoom, Memory>
+    ensures room { IfOk result (CanTake standing.new jobs.new.room bindings.new.room) }
+    ensures dues { IfOk result (λ room. room.dues.items ≡ map needed_of (message_in outer.now ∷ inner_messages (message_in outer.now))) }
+    ensures limit { IfOk result (λ room. room.limit ≡ blocked_count_of (key_of standing.old) (number_of standing.old) jobs.old.jobs + length room.dues.items) }
+    ensures again { (now : ℕ) (session : Session) (way : Way) → Stands now standing.old session
+        → IfOk result (λ room. some_repeats (judgements way (remembered session) (message_in outer.now)) room.dues.items ≡ true → room.again ≡ true) }
+    ensures kept { IfOk result (λ room. standing.new ≡ with_replies_left (max (replies_left standing.old) (settling_messages (length room.dues.items) room.limit)) standing.old) }
+    ensures same_jobs { jobs.new.jobs ≡ jobs.old.jobs }
+    ensures same_bindings { bindings.new.bindings ≡ bindings.old.bindings }
+    ensures unchanged_on_memory { OnErr result (standing.new ≡ standing.old) }
+{
+    let room = PacketRoom::new(alloc, outer, standing, jobs)?;
+    let count = room.dues.len();
+    jobs.reserve(alloc, count)?;
+    bindings.reserve(alloc, count)?;
+    standing.reserve(alloc, 2 * count + room.limit)?;
+    Ok(room)
+}
+
+/// Takes all room for a packet's event, and then the session judges the packet and remembers it. No memory is needed after
+/// that.
+///
+/// # Errors
+///
+/// `Memory`, and then the session is as it was, and so are the jobs and the bindings but for their room.
+pub(crate) fn judges_in_room(
+    alloc: Global,
+    now: Moment,
+    outer: &Outer,
+    standing: &mut Standing,
+    jobs: &mut Jobs,
+    bindings: &mut Bindings,
+) -> Result<(PacketRoom, Judged), Memory>
+    requires at { IsAt now standing.old }
+    ensures room { IfOk result (λ both. CanTake standing.new jobs.new.room bindings.new.room both.0) }
+    ensures dues { IfOk result (λ both. both.0.dues.items ≡ map needed_of (message_in outer.now ∷ inner_messages (message_in outer.now))) }
+    ensures limit { IfOk result (λ both. both.0.limit ≡ blocked_count_of (key_of standing.old) (number_of standing.old) jobs.old.jobs + length both.0.dues.items) }
+    ensures judged { (session : Session) → Stands now standing.old session
+        → IfOk result (λ both. both.1 ≡ judgements (InEnvelope now session.salts outer.now.salt) (remembered session) (message_in outer.now)) }
+    ensures again { (session : Session) → Stands now standing.old session → IfOk result (λ both. some_repeats both.1 both.0.dues.items ≡ true → both.0.again ≡ true) }
+    ensures stands { (session : Session) (queue : Queue) → Stands now standing.old session
+        → IsOrderly session.history session.replies session.counters.last queue
+        → OnOk result (Stands now standing.new (record session { history = (session_after (InEnvelope now session.salts outer.now.salt) (remembered session) (message_in outer.now)).history })) }
+    ensures same_numbers { numbers_left standing.new ≡ numbers_left standing.old }
+    ensures same_name { name_kept standing.new ≡ name_kept standing.old }
+    ensures at { IsAt now standing.new }
+    ensures same_jobs { jobs.new.jobs ≡ jobs.old.jobs }
+    ensures same_bindings { bindings.new.bindings ≡ bindings.old.bindings }
+    ensures unchanged_on_memory { OnErr result (standing.new ≡ standing.old) }
+{
+    let before = standing.replies_left();
+    let room = takes_room(alloc, outer, standing, jobs, bindings)?;
+    match standing.judges(alloc, now, outer) {
+        Ok(judged) => Ok((room, judged)),
+        Err(memory) => {
+            standing.release(before);
+            Err(memory)
+        }
+    }
+}
+
+// The room for all that a session says by a packet whose messages need this, where so many jobs may fail by it.
+fn speech_for(
+    alloc: Global,
+    standing: &Standing,
+    again: bool,
+    dues: &[Due],
+    limit: usize,
+) -> Result<Speech, Memory>
+    requires few { length dues.now ≤ 1021 }
+    requires few_jobs { limit ≤ 5117 }
+    ensures room { IfOk result (IsRoomFor
+        (packet_messages (length dues.now) limit + where_again again (kept_count standing.now))
+        (packet_bytes dues.now limit + where_again again (kept_bytes standing.now))) }
+    ensures numbers { IfOk result (λ speech. packet_messages (length dues.now) limit + packets_most speech.packets.messages speech.packets.bytes ≤ room_min) }
+{
+    let (replies, bytes) = room_again(standing, again);
+    let opening = OPENING_BYTES + NUMBER_BYTES * dues.len();
+    let settling = most_bytes(dues) + limit * SHORT_RESULT_BYTES;
+    Speech::new(
+        alloc,
+        2 + 2 * dues.len() + limit + replies,
+        opening + settling + bytes,
+    )
+}
+
+// How many kept replies may be said again, and their bytes.
+fn room_again(standing: &Standing, again: bool) -> (usize, usize)
+    ensures count { result.0 ≡ where_again again (kept_count standing.now) }
+    ensures bytes { result.1 ≡ where_again again (kept_bytes standing.now) }
+    ensures few { result.0 ≤ kept_replies_max }
+    ensures short { result.1 ≤ kept_bytes_max }
+{
+    if again {
+        (standing.kept_count(), standing.kept_bytes())
+    } else {
+        (0, 0)
+    }
+}
+
+// The bytes of bodies that these take at most.
+fn most_bytes(dues: &[Due]) -> usize
+    requires few { length dues.now ≤ 1021 }
+    ensures sum { result ≡ dues_most dues.now }
+    ensures few { result ≤ 8208 * length dues.now }
+{
+    let mut bytes = 0;
+    for due in dues {
+        bytes += NOTICE_BYTES.max(due.bytes());
+    }
+    bytes
+}
