@@ -16,7 +16,7 @@ use Rattle.client_core.specs.declared.flush.Flush.TheVariants as answers
 use Rattle.client_core.specs.declared.holder.Holder.{Holder}
 use Rattle.client_node.specs.Course.{AreSent, Course, Phase, Opening, Open, Ended, flushed_in, flushes, is_decided, sends_all}
 use Rattle.client_node.specs.Flow.{CountsEnd, Flow, FlowedBy, Follows, FoundNothing, OneFlush, StoppedBy, Stops, ended_by, flowed, went_on}
-use Rattle.client_node.specs.Standing.{FlushedAs, StandsAs, StandsFor}
+use Rattle.client_node.specs.Standing.{AllDecided, DecidedBy, FlushedAs, StandsAs, StandsFor}
 use Rattle.client_node.specs.Writes.{CountsBy, TellsMore, Wrote, WroteBy, WroteFront}
 use Rattle.client_node.specs.declared.end.End.{End}
 use Rattle.client_node.specs.declared.end.End.TheVariants as ends
@@ -420,6 +420,22 @@ ended_counts true (Ok done) before after counted = inl counted
 ended_counts false (Ok done) before after counted = counted
 ended_counts true (Err ends.Lost) before after counted = inr counted
 ended_counts false (Err ends.Lost) before after counted = counted
+
+-- ---- whether each call is decided
+
+pub told_all : (kept : Holder) (answer : Bool) → ((whole : Client) → StandsFor kept whole → answer ≡ is_decided whole) → answer ≡ true → AllDecided kept
+told_all kept answer tells all whole stands = sym (tells whole stands) ∙ all
+
+pub ended_decided : (decided : Bool) (sent : Result Unit End) (before after : ℕ) (kept : Holder) → CountsBy sent before after
+    → ((whole : Client) → StandsFor kept whole → decided ≡ is_decided whole) → DecidedBy (ended_by decided sent) kept
+ended_decided decided (Err ends.Decided) before after kept counted tells = absurd counted
+ended_decided decided (Err ends.TurnsSpent) before after kept counted tells = absurd counted
+ended_decided decided (Err ends.Spent) before after kept counted tells = absurd counted
+ended_decided decided (Err ends.Memory) before after kept counted tells = tt
+ended_decided true (Ok done) before after kept counted tells = told_all kept true tells refl
+ended_decided false (Ok done) before after kept counted tells = tt
+ended_decided true (Err ends.Lost) before after kept counted tells = told_all kept true tells refl
+ended_decided false (Err ends.Lost) before after kept counted tells = tt
 
 pub counts_from : {X : Type 0} (result : Result X End) (first before after : ℕ) → before ≡ first → CountsEnd result before after → CountsEnd result first after
 counts_from result first before after same counted = subst (λ (count : ℕ). CountsEnd result count after) same counted

@@ -11,7 +11,7 @@ use Rattle.client_rules.specs.Events.{renewed, takes}
 use Rattle.client_rules.specs.Taking.{take}
 use Rattle.client_rules.specs.Sending.{Setting}
 use Rattle.client_core.specs.Flushed.{Flushes, Leaves, TellsFlush}
-use Rattle.client_core.specs.Keys.{HasKeys as HasKeysOf, Keys}
+use Rattle.client_core.specs.Keys.{HasKeys as HasKeysOf, Keys, keys_in}
 use Rattle.client_core.specs.Kept.{Contents, Stands}
 use Rattle.client_core.specs.declared.flush.Flush.{Flush}
 use Rattle.client_core.specs.declared.flush.Flush.TheVariants as told
@@ -92,6 +92,9 @@ heard_so reading now course packet kept draw same phase client = record { phase 
 
 pub keys_kept : (ring : List RingKey) (before after : Keys) → HasKeysOf ring before → after ≡ before → HasKeysOf ring after
 keys_kept ring before after has same = subst (λ (keys : Keys). HasKeysOf ring keys) (sym same) has
+
+pub kept_in : (before after : Contents) → keys_in after ≡ keys_in before → (ring : List RingKey) → HasKeysOf ring (keys_in before) → HasKeysOf ring (keys_in after)
+kept_in before after same ring has = keys_kept ring (keys_in before) (keys_in after) has same
 
 -- by what a packet opens to
 pub by_opened : (P : Client → Type 0) (lock : Lock) (keys : List RingKey) (at now : ℕ) (packet : List ℕ) (whole : Client) (opened : Option Envelope)

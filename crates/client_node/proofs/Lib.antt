@@ -1,8 +1,10 @@
 pub mod AllFlowing
+pub mod Connecting
 pub mod Flowing
 pub mod HearingSteps
 pub mod HolderLemmas
 pub mod KindLemmas
 pub mod PacketLemmas
 pub mod Sendable
+pub mod Talking
 pub mod Writing

@@ -6,8 +6,7 @@ use Rattle.envelope.specs.declared.parts.Envelope.{Envelope}
 use Rattle.envelope.specs.Lawful.{OpensWhatItSealed}
 use Rattle.envelope.specs.Packet.{Lock, Sealed}
 use Rattle.envelope.specs.declared.parts.Dir.TheVariants.{Up}
-use Rattle.client_rules.specs.Flush.{Answer, Nothing, Spent, Sends}
-use Rattle.client_core.specs.Flushed.{TellsFlush}
+use Rattle.client_core.specs.Sealing.{TellsSealed}
 use Rattle.client_core.specs.declared.flush.Flush.TheVariants as answers
 use Rattle.frame_len.specs.Lengths.{IsPaddedSize, IsWritten}
 
@@ -32,9 +31,7 @@ sendable lock keys dir envelope padding packet false opens sealed =
       size = tt;
     }
 
--- a packet that a flush gave
-pub flushed_sendable : (lock : Lock) (keys : List RingKey) (answer : Answer) (packet : List ℕ) (padded : Bool)
-    → OpensWhatItSealed lock → TellsFlush lock keys answer (answers.Packet packet) → IsWritten padded packet
-flushed_sendable lock keys Nothing packet padded opens sent = absurd sent
-flushed_sendable lock keys Spent packet padded opens sent = absurd sent
-flushed_sendable lock keys (Sends whole) packet padded opens sent = sendable lock keys Up whole.envelope whole.padding packet padded opens sent
+-- a packet that a flush told
+pub told_sendable : (lock : Lock) (keys : List RingKey) (packet : List ℕ) (padded : Bool)
+    → OpensWhatItSealed lock → TellsSealed lock keys (answers.Packet packet) → IsWritten padded packet
+told_sendable lock keys packet padded opens told = sendable lock keys Up told.0.envelope told.0.padding packet padded opens told.1

@@ -1,4 +1,6 @@
+pub mod Connects
 pub mod Course
+pub mod Ends
 pub mod Flow
 pub mod Kinds
 pub mod Standing

@@ -1,5 +1,5 @@
 -- A client as it is kept, and the course that it stands for.
-use Rattle.std.specs.Prelude.{◌≡◌, ℕ, Option, Some, None, Result, Ok, Err, List}
+use Rattle.std.specs.Prelude.{◌≡◌, ℕ, true, Option, Some, None, Result, Ok, Err, List, ⊤}
 use Rattle.auth_keys.specs.declared.ring.RingKey.{RingKey}
 use Rattle.octets.specs.declared.memory.Memory.{Memory}
 use Rattle.envelope.specs.declared.parts.Envelope.{Envelope}
@@ -14,7 +14,9 @@ use Rattle.client_core.specs.Flushed.{Leaves, TellsFlush}
 use Rattle.client_core.specs.declared.flush.Flush.{Flush}
 use Rattle.client_core.specs.declared.holder.Holder.{Holder}
 use Rattle.client_core.specs.declared.holder.Holder.TheVariants as holder
-use Rattle.client_node.specs.Course.{Phase, Opening, Open, Ended, Course, Reading, flush_of, phase_after}
+use Rattle.client_node.specs.Course.{Phase, Opening, Open, Ended, Course, Reading, flush_of, is_decided, phase_after}
+use Rattle.client_node.specs.declared.end.End.{End}
+use Rattle.client_node.specs.declared.end.End.TheVariants as ends
 
 abbrev pub phase_of : Holder → Phase
 phase_of (holder.Opening kept) = Opening
@@ -41,6 +43,26 @@ abbrev pub HasKeys : List RingKey → Holder → Type 0
 HasKeys keys (holder.Opening kept) = HasKeysOf keys (keys_in kept)
 HasKeys keys (holder.Open kept) = HasKeysOf keys (keys_in kept)
 HasKeys keys (holder.Ended kept) = Unit {0}
+
+-- whatever ring had the keys of the client before, has those of the client after
+abbrev pub KeepsKeys : Holder → Holder → Type 0
+KeepsKeys before after = (ring : List RingKey) → HasKeys ring before → HasKeys ring after
+
+-- each call of the client that it stands for is decided
+abbrev pub AllDecided : Holder → Type 0
+AllDecided kept = (whole : Client) → StandsFor kept whole → is_decided whole ≡ true
+
+-- it ended as `Decided` only where each call is
+abbrev pub DecidedIn : End → Holder → Type 0
+DecidedIn ends.Decided kept = AllDecided kept
+DecidedIn ends.Lost kept = ⊤
+DecidedIn ends.TurnsSpent kept = ⊤
+DecidedIn ends.Spent kept = ⊤
+DecidedIn ends.Memory kept = ⊤
+
+abbrev pub DecidedBy : {X : Type 0} → Result X End → Holder → Type 0
+DecidedBy (Ok done) kept = ⊤
+DecidedBy (Err end) kept = DecidedIn end kept
 
 -- ---- what a call of the client tells
 

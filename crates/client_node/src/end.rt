@@ -1,5 +1,8 @@
 //! How a connection ended.
 
+ghost use Rattle.std.specs.Prelude.{◌≡◌};
+ghost use Rattle.client_node.specs.Ends.{batch_by};
+
 use crate::plan::Batch;
 
 /// What ended a connection, for the client.
@@ -17,13 +20,15 @@ pub(crate) enum End {
     Memory,
 }
 
-/// How the batch ended by it; none where the connection is lost.
-pub(crate) fn batch_of(end: End) -> Option<Batch> {
+/// How the batch ends by it, where it goes no further.
+pub(crate) fn batch_of(end: End) -> Batch
+    ensures { result ≡ batch_by end }
+{
     match end {
-        End::Decided => Some(Batch::Decided),
-        End::Lost => None,
-        End::TurnsSpent => Some(Batch::TurnsSpent),
-        End::Spent => Some(Batch::Spent),
-        End::Memory => Some(Batch::Memory),
+        End::Decided => Batch::Decided,
+        End::Lost => Batch::LinkLost,
+        End::TurnsSpent => Batch::TurnsSpent,
+        End::Spent => Batch::Spent,
+        End::Memory => Batch::Memory,
     }
 }

@@ -3,9 +3,9 @@
 ghost use Rattle.std.specs.Prelude.{◌≡◌, IfOk, IsSome, OnOk};
 ghost use Rattle.client_rules.specs.Client.{Client};
 ghost use Rattle.client_core.specs.Flushed.{setting_of};
-ghost use Rattle.client_node.specs.Course.{Course, is_decided};
+ghost use Rattle.client_node.specs.Course.{is_decided};
 ghost use Rattle.client_node.specs.Flow.{AllFlushes, CountsEnd, OneFlush, ended_by};
-ghost use Rattle.client_node.specs.Standing.{HasKeys, StandsAs, StandsFor};
+ghost use Rattle.client_node.specs.Standing.{DecidedBy, HasKeys, StandsFor};
 
 use crate::calls::is_decided;
 use crate::end::End;
@@ -41,7 +41,7 @@ fn end_of(is_decided: bool, sent: Result<(), End>) -> Result<bool, End>
 /// # Errors
 ///
 /// Why the connection ends: by `Decided` and `Lost` once the packet is written, as far as writes don't fail.
-#[tactic(auto, using(crate::proofs::Flowing::flow_packet, crate::proofs::Flowing::flush_nothing, crate::proofs::Flowing::flush_spent, crate::proofs::Flowing::flush_memory, crate::proofs::Flowing::ended_counts, crate::proofs::Sendable::flushed_sendable))]
+#[tactic(auto, using(crate::proofs::Flowing::flow_packet, crate::proofs::Flowing::flush_nothing, crate::proofs::Flowing::flush_spent, crate::proofs::Flowing::flush_memory, crate::proofs::Flowing::ended_counts, crate::proofs::Flowing::ended_decided, crate::proofs::Flowing::told_all, crate::proofs::Sendable::told_sendable))]
 fn flush_once<L: Link, S: Seal, D: Draw>(
     client: &mut Holder,
     alloc: Global,
@@ -52,9 +52,9 @@ fn flush_once<L: Link, S: Seal, D: Draw>(
     draw: &mut D,
 ) -> Result<bool, End>
     requires keys { HasKeys (S.keys seal.now) client.old }
-    requires known { (course : Course D) × StandsAs client.old draw.old course }
     ensures flow { OneFlush (setting_of D.step (S.keys seal.now)) S.lock (S.keys seal.now) now client.old draw.old wire.old (L.told link.old) result client.new draw.new wire.new (L.told link.new) }
     ensures keys { HasKeys (S.keys seal.now) client.new }
+    ensures decided { DecidedBy result client.new }
     ensures goes_on { IsSome (L.told link.old) → OnOk result (IsSome (L.told link.new)) }
     ensures first_fault { IsSome (L.told link.old) → L.faults link.old ≡ 0 → IsSome (L.told link.new) }
     ensures counted { CountsEnd result (L.faults link.old) (L.faults link.new) }
@@ -98,9 +98,9 @@ pub(crate) fn flush_all<L: Link, S: Seal, D: Draw>(
     draw: &mut D,
 ) -> Result<(), End>
     requires keys { HasKeys (S.keys seal.now) client.old }
-    requires known { (course : Course D) × StandsAs client.old draw.old course }
     ensures flow { AllFlushes (setting_of D.step (S.keys seal.now)) S.lock (S.keys seal.now) now client.old draw.old wire.old (L.told link.old) result client.new draw.new wire.new (L.told link.new) }
     ensures keys { HasKeys (S.keys seal.now) client.new }
+    ensures decided { DecidedBy result client.new }
     ensures goes_on { IsSome (L.told link.old) → OnOk result (IsSome (L.told link.new)) }
     ensures first_fault { IsSome (L.told link.old) → L.faults link.old ≡ 0 → IsSome (L.told link.new) }
     ensures counted { CountsEnd result (L.faults link.old) (L.faults link.new) }

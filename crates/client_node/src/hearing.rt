@@ -2,7 +2,7 @@
 
 ghost use Rattle.std.specs.Prelude.{◌≡◌, IfErr};
 ghost use Rattle.client_node.specs.Course.{Course, Reading};
-ghost use Rattle.client_node.specs.Standing.{IsReading, StandsAs};
+ghost use Rattle.client_node.specs.Standing.{DecidedBy, IsReading, KeepsKeys, StandsAs};
 ghost use Rattle.client_node.specs.Took.{CameNext, IsHeardEnd, IsNextEnd, TookPacket, TookPiece};
 
 use crate::calls::is_decided;
@@ -24,7 +24,7 @@ const ERROR_BYTES: usize = 4;
 /// # Errors
 ///
 /// Why the connection ends.
-#[tactic(auto, using(crate::proofs::PacketLemmas::packet_memory, crate::proofs::PacketLemmas::packet_decided, crate::proofs::PacketLemmas::packet_goes))]
+#[tactic(auto, using(crate::proofs::PacketLemmas::packet_memory, crate::proofs::PacketLemmas::packet_decided, crate::proofs::PacketLemmas::packet_goes, crate::proofs::Flowing::told_all))]
 fn take_packet<S: Seal, D: Draw>(
     client: Holder,
     alloc: Global,
@@ -36,6 +36,8 @@ fn take_packet<S: Seal, D: Draw>(
     ensures took { (reading : Reading) (course : Course D) → IsReading S.lock (S.keys seal.now) reading → StandsAs client draw.old course
         → TookPacket D.step reading now course packet.now result.1 result.0 draw.new }
     ensures ends { IfErr result.1 IsHeardEnd }
+    ensures keys { KeepsKeys client result.0 }
+    ensures decided { DecidedBy result.1 result.0 }
 {
     let (client, heard) = hear(client, alloc, now, seal, packet);
     match heard {
@@ -64,6 +66,8 @@ fn take_next<S: Seal, D: Draw>(
     draw: &mut D,
 ) -> (Holder, Result<bool, End>)
     ensures ends { IfErr result.1 IsNextEnd }
+    ensures keys { KeepsKeys client result.0 }
+    ensures decided { DecidedBy result.1 result.0 }
     ensures next { CameNext D.step S.lock (S.keys seal.now) now client draw.old wire.old result.1 result.0 draw.new wire.new }
     ensures same_out { (wire.new.form ≡ wire.old.form) × (wire.new.writing ≡ wire.old.writing) × (wire.new.number ≡ wire.old.number) }
 {
@@ -98,6 +102,9 @@ pub(crate) fn take_piece<S: Seal, D: Draw>(
     seal: &S,
     draw: &mut D,
 ) -> (Holder, Result<(), End>)
+    ensures ends { IfErr result.1 IsNextEnd }
+    ensures keys { KeepsKeys client result.0 }
+    ensures decided { DecidedBy result.1 result.0 }
     ensures took { TookPiece D.step S.lock (S.keys seal.now) now client draw.old wire.old piece.now result.1 result.0 draw.new wire.new }
     ensures same_out { (wire.new.form ≡ wire.old.form) × (wire.new.writing ≡ wire.old.writing) × (wire.new.number ≡ wire.old.number) }
 {

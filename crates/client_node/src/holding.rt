@@ -1,13 +1,16 @@
 //! The events of a client, whatever state it is in.
 
-ghost use Rattle.std.specs.Prelude.{◌≡◌, max, Option};
+ghost use Rattle.std.specs.Prelude.{◌≡◌, max, List, Option};
+ghost use Rattle.auth_keys.specs.declared.ring.RingKey.{RingKey};
 ghost use Rattle.envelope.specs.declared.parts.Envelope.{Envelope};
 ghost use Rattle.client_rules.specs.Client.{Client};
 ghost use Rattle.client_rules.specs.Events.{takes};
 ghost use Rattle.client_core.specs.Flushed.{setting_of};
+ghost use Rattle.client_core.specs.Keys.{HasKeys as HasKeysOf, keys_in};
 ghost use Rattle.client_core.specs.Kept.{Stands};
+ghost use Rattle.client_core.specs.Sealing.{TellsSealed};
 ghost use Rattle.client_node.specs.Course.{Course, Opening, Open, attached_in, heard_in, renews};
-ghost use Rattle.client_node.specs.Standing.{FlushedAs, HasKeys, HeardAs, IsOpened, StandsAs, StandsFor, kept_of, phase_of};
+ghost use Rattle.client_node.specs.Standing.{FlushedAs, HasKeys, HeardAs, IsOpened, KeepsKeys, StandsAs, StandsFor, kept_of, phase_of};
 
 use crate::calls::must_renew;
 use client_core::{Flush, Holder, OpenClient, OpenStep, OpeningClient, OpeningStep};
@@ -18,9 +21,11 @@ use octets::Memory;
 use std::alloc::Global;
 
 /// A connection was opened. An ended client sends nothing again.
+#[tactic(auto, using(crate::proofs::HolderLemmas::kept_in))]
 pub(crate) fn attach(client: &mut Holder)
     ensures stands { (whole : Client) → StandsFor client.old whole → StandsFor client.new (attached_in (phase_of client.old) whole) }
     ensures phase { phase_of client.new ≡ phase_of client.old }
+    ensures keys { KeepsKeys client.old client.new }
 {
     match client {
         Holder::Opening(client) => client.attach(),
@@ -41,6 +46,7 @@ pub(crate) fn flush<S: Seal, D: Draw>(
     requires keys { HasKeys (S.keys seal.now) client.old }
     ensures flushes { (course : Course D) → StandsAs client.old draw.old course
         → FlushedAs (setting_of D.step (S.keys seal.now)) S.lock (S.keys seal.now) now course result client.new draw.new }
+    ensures sealed { TellsSealed S.lock (S.keys seal.now) result }
     ensures keys { HasKeys (S.keys seal.now) client.new }
 {
     match client {
@@ -51,9 +57,10 @@ pub(crate) fn flush<S: Seal, D: Draw>(
 }
 
 /// The client goes on in another session where it has to.
-#[tactic(auto, using(crate::proofs::HolderLemmas::stays, crate::proofs::HolderLemmas::goes_on))]
+#[tactic(auto, using(crate::proofs::HolderLemmas::stays, crate::proofs::HolderLemmas::goes_on, crate::proofs::HolderLemmas::kept_in))]
 pub(crate) fn renew<D: Draw>(client: Holder, draw: &mut D) -> Holder
-    ensures { (course : Course D) → StandsAs client draw.old course → StandsAs result draw.new (renews D.step course) }
+    ensures renews { (course : Course D) → StandsAs client draw.old course → StandsAs result draw.new (renews D.step course) }
+    ensures keys { KeepsKeys client result }
 {
     if !must_renew(&client) {
         return client;
@@ -66,6 +73,7 @@ pub(crate) fn renew<D: Draw>(client: Holder, draw: &mut D) -> Holder
 }
 
 /// What an opening client becomes by a packet.
+#[tactic(auto, using(crate::proofs::HolderLemmas::kept_in))]
 fn opening_hears<S: Seal>(
     client: OpeningClient,
     alloc: Global,
@@ -73,8 +81,9 @@ fn opening_hears<S: Seal>(
     seal: &S,
     packet: &[u8],
 ) -> (Holder, Result<(), Memory>)
-    ensures { (whole : Client) (opened : Option Envelope) → Stands client whole → IsOpened S.lock (S.keys seal.now) (max whole.now now) packet.now opened
+    ensures hears { (whole : Client) (opened : Option Envelope) → Stands client whole → IsOpened S.lock (S.keys seal.now) (max whole.now now) packet.now opened
         → HeardAs Opening whole (takes now opened whole) result.0 result.1 }
+    ensures keys { (ring : List RingKey) → HasKeysOf ring (keys_in client) → HasKeys ring result.0 }
 {
     match client.on_packet(alloc, now, seal, packet) {
         OpeningStep::Still(client) => (Holder::Opening(client), Ok(())),
@@ -84,6 +93,7 @@ fn opening_hears<S: Seal>(
 }
 
 /// What an open client becomes by a packet.
+#[tactic(auto, using(crate::proofs::HolderLemmas::kept_in))]
 fn open_hears<S: Seal>(
     client: OpenClient,
     alloc: Global,
@@ -91,8 +101,9 @@ fn open_hears<S: Seal>(
     seal: &S,
     packet: &[u8],
 ) -> (Holder, Result<(), Memory>)
-    ensures { (whole : Client) (opened : Option Envelope) → Stands client whole → IsOpened S.lock (S.keys seal.now) (max whole.now now) packet.now opened
+    ensures hears { (whole : Client) (opened : Option Envelope) → Stands client whole → IsOpened S.lock (S.keys seal.now) (max whole.now now) packet.now opened
         → HeardAs Open whole (takes now opened whole) result.0 result.1 }
+    ensures keys { (ring : List RingKey) → HasKeysOf ring (keys_in client) → HasKeys ring result.0 }
 {
     match client.on_packet(alloc, now, seal, packet) {
         OpenStep::Still(client) => (Holder::Open(client), Ok(())),
@@ -113,8 +124,9 @@ pub(crate) fn hear<S: Seal>(
     seal: &S,
     packet: &[u8],
 ) -> (Holder, Result<(), Memory>)
-    ensures { (whole : Client) (opened : Option Envelope) → StandsFor client whole → IsOpened S.lock (S.keys seal.now) (max whole.now now) packet.now opened
+    ensures hears { (whole : Client) (opened : Option Envelope) → StandsFor client whole → IsOpened S.lock (S.keys seal.now) (max whole.now now) packet.now opened
         → HeardAs (phase_of client) whole (heard_in (phase_of client) now opened whole) result.0 result.1 }
+    ensures keys { KeepsKeys client result.0 }
 {
     match client {
         Holder::Opening(client) => opening_hears(client, alloc, now, seal, packet),

@@ -1,14 +1,21 @@
-//! A client's calls over the connections of a net (core.telegram.org/mtproto/mtproto-transports), begun: what each event
-//! of a connection makes of the client (`specs/Course.antt`), and the private parts that follow it. No call runs a batch
-//! yet.
+//! A client's calls over the connections of a net (core.telegram.org/mtproto/mtproto-transports): `run_batch` connects until
+//! each call is decided or too many connections are lost (`specs/Connects.antt`). What each event of a connection makes of the
+//! client is `specs/Course.antt`, which the private parts follow.
 #![tactic(auto)]
 
+mod batch;
 mod calls;
+mod connection;
 mod end;
 mod flushing;
 mod hearing;
 mod holding;
 mod plan;
 mod sending;
+mod talk;
 
+pub use batch::run_batch;
 pub use plan::{Batch, Plan};
+
+#[cfg(test)]
+mod tests;

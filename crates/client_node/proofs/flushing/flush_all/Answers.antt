@@ -24,7 +24,6 @@ flushes-preserved g c =
           c.flushes._count c.flushes.client c.flushes.draw c.flushes.wire (g.L.Link.told c.flushes.link) c.flush_once.new.client c.flush_once.new.draw c.flush_once.new.wire (g.L.Link.told c.flush_once.new.link)
           so_far.so_far (rw (c.in-Ok-true.field-0-test) at one.flow);
       keys = one.keys;
-      known = (_, (one.flow.flow.course so_far.known.0 so_far.known.1).stands);
       goes_on = λ is. one.goes_on (so_far.goes_on is);
       faults = one.counted ∙ so_far.faults;
       place = one.same_place ∙ so_far.place;

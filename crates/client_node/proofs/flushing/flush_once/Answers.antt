@@ -2,9 +2,9 @@ use Rattle.std.proofs.Common.{ℕ, List, true, false, sym, subst, ◌∙◌}
 use Rattle.client_core.specs.Flushed.{setting_of}
 use Rattle.client_core.specs.declared.flush.Flush.TheVariants as answers
 use Rattle.client_node.specs.Flow.{OneFlush}
-use Rattle.client_node.specs.Standing.{FlushedAs}
+use Rattle.client_node.specs.Standing.{DecidedBy, FlushedAs}
 use Rattle.client_node.specs.Writes.{framed}
-use Rattle.client_node.proofs.Flowing.{flow_packet, flush_nothing, flush_spent}
+use Rattle.client_node.proofs.Flowing.{ended_decided, flow_packet, flush_nothing, flush_spent}
 use Rattle.client_node.proofs.flushing.flush_once.Goals as goal
 
 pub returns-in-Packet-clause-flow : goal.returns-in-Packet-clause-flow
@@ -33,3 +33,9 @@ pub returns-in-Spent-clause-flow : goal.returns-in-Spent-clause-flow
 returns-in-Spent-clause-flow g c =
     flush_spent (setting_of g.D.Draw.step (g.S.Seal.keys c.args.seal.now)) g.S.Seal.lock (g.S.Seal.keys c.args.seal.now) c.args.now c.args.client.now c.args.draw.now c.args.wire.now (g.L.Link.told c.args.link.now)
     c.flush.new.client c.flush.new.draw c.in-Spent.ensures.flushes
+
+pub returns-in-Packet-clause-decided : goal.returns-in-Packet-clause-decided
+returns-in-Packet-clause-decided g c =
+    subst (λ result. DecidedBy result c.flush.new.client) (sym c.end_of.ensures)
+    (ended_decided c.is_decided-is_decided.result c.send_packet.result (g.L.Link.faults c.args.link.now) (g.L.Link.faults c.send_packet.new.link) c.flush.new.client
+    c.send_packet.ensures.counted c.is_decided-is_decided.ensures)

@@ -10,6 +10,7 @@ pub packets-init : goal.packets-init
 packets-init g c =
     record {
       heard = ([], refl, none_wrong, (λ reading course reads stands. (tt, stands)), (λ from packets bytes hears. none_heard _ from packets bytes hears));
+      keys = λ ring has. has;
       same_out = c.feed.ensures.same_out;
     }
 
@@ -43,5 +44,6 @@ packets-preserved g c =
         took_more g.D.Draw.step g.S.Seal.lock (g.S.Seal.keys c.args.seal.now) c.args.now c.args.client c.args.draw.now so_far.0 c.packets.client c.packets.draw c.packets.wire c.take_next-next.new.wire next.0 c.take_next-next.result.0 c.take_next-next.new.draw so_far.3 next.1,
         hears_more c.feed.new.self c.packets.wire c.take_next-next.new.wire so_far.0 next.0 so_far.4 (λ from packets bytes hears. (next.1.came from packets bytes hears).hears),
       );
+      keys = λ ring has. c.take_next-next.ensures.keys ring (c.packets.invariant.keys ring has);
       same_out = (now_same.0 ∙ same.0, now_same.1 ∙ same.1, now_same.2 ∙ same.2);
     }

@@ -1,0 +1,49 @@
+//! One connection of a batch.
+
+ghost use Rattle.std.specs.Prelude.{◌≡◌, ◌≢◌, ◌<◌, ◌⊎◌, IfSome, IsSome, IsSomeAnd, length, true};
+ghost use Rattle.mt_edge.specs.Faults.{one_more};
+ghost use Rattle.transport.specs.declared.form.Form.TheVariants as forms;
+ghost use Rattle.client_node.specs.Ends.{Connected};
+ghost use Rattle.client_node.specs.Standing.{DecidedIn, HasKeys};
+
+use crate::end::End;
+use crate::plan::Plan;
+use crate::talk::talk;
+use client_core::Holder;
+use draws::Draw;
+use envelope::Seal;
+use mt_edge::{Clock, Link, Linked, Net};
+use std::alloc::Global;
+
+/// Connects, talks over the connection, closes it and gives it back. An attempt that fails is a lost connection.
+#[tactic(auto, using(crate::proofs::Connecting::gave_back, crate::proofs::Connecting::attempt_failed, crate::proofs::Talking::counts_after))]
+pub(crate) fn connect<N: Net, S: Seal, C: Clock, D: Draw>(
+    client: Holder,
+    alloc: Global,
+    plan: &Plan,
+    net: &mut N,
+    into: &mut [u8],
+    seal: &S,
+    clock: &mut C,
+    draw: &mut D,
+) -> (Holder, End)
+    requires full_is_plain { plan.now.obfuscate ≡ true → plan.now.form ≢ forms.Full }
+    requires keys { HasKeys (S.keys seal.now) client }
+    requires room { 0 < length into.old }
+    ensures keys { HasKeys (S.keys seal.now) result.0 }
+    ensures decided { DecidedIn result.1 result.0 }
+    ensures connected { IfSome (N.calls net.new) (λ after. IsSomeAnd (N.calls net.old) (λ before. Connected plan.now.port result.1 before after)) }
+    ensures first_fault { IsSome (N.calls net.old) → N.faults net.old ≡ 0 → IsSome (N.calls net.new) }
+    ensures counted { ((N.faults net.new ≡ N.faults net.old) × (IsSome (N.calls net.old) → IsSome (N.calls net.new))) ⊎ (N.faults net.new ≡ one_more (N.faults net.old)) }
+{
+    match net.connect(plan.port) {
+        Linked::Link(link) => {
+            let mut link = link;
+            let (client, end) = talk(client, alloc, plan, &mut link, into, seal, clock, draw);
+            link.close();
+            net.done(link);
+            (client, end)
+        }
+        Linked::Failed => (client, End::Lost),
+    }
+}

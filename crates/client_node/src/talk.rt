@@ -1,0 +1,137 @@
+//! A connection that is open.
+
+ghost use Rattle.std.specs.Prelude.{◌≡◌, ◌≢◌, ◌<◌, IsSome, OnOk, length, true};
+ghost use Rattle.transport.specs.declared.form.Form.TheVariants as forms;
+ghost use Rattle.client_node.specs.Ends.{CountsLink, CountsTurn};
+ghost use Rattle.client_node.specs.Standing.{DecidedBy, DecidedIn, HasKeys, KeepsKeys};
+
+use crate::end::End;
+use crate::flushing::flush_all;
+use crate::hearing::take_piece;
+use crate::holding::{attach, renew};
+use crate::plan::Plan;
+use crate::sending::send;
+use client_core::Holder;
+use draws::Draw;
+use envelope::Seal;
+use msg_ids::Moment;
+use mt_edge::{Clock, Got, Link};
+use octets::Memory;
+use std::alloc::Global;
+use transport::{Framed, Wire};
+
+/// The most pieces that one connection gives.
+const TURNS_MAX: u32 = 1_000_000;
+
+/// Reads a piece, which the client hears. It answers the moment after the read.
+///
+/// # Errors
+///
+/// Why the connection ends.
+#[tactic(auto, using(crate::proofs::Talking::same_turn, crate::proofs::Talking::read_failed))]
+fn take_turn<L: Link, S: Seal, C: Clock, D: Draw>(
+    client: Holder,
+    alloc: Global,
+    wire: &mut Wire<Framed>,
+    link: &mut L,
+    into: &mut [u8],
+    seal: &S,
+    clock: &mut C,
+    draw: &mut D,
+) -> (Holder, Result<Moment, End>)
+    requires room { 0 < length into.old }
+    ensures keys { KeepsKeys client result.0 }
+    ensures decided { DecidedBy result.1 result.0 }
+    ensures goes_on { IsSome (L.told link.old) → OnOk result.1 (IsSome (L.told link.new)) }
+    ensures first_fault { IsSome (L.told link.old) → L.faults link.old ≡ 0 → IsSome (L.told link.new) }
+    ensures counted { CountsTurn result.1 (L.faults link.old) (L.faults link.new) }
+    ensures same_place { L.place link.new ≡ L.place link.old }
+{
+    match link.read(into) {
+        Got::Bytes(count) => {
+            let now = clock.now();
+            let (client, taken) = take_piece(client, alloc, now, wire, &into[..count], seal, draw);
+            match taken {
+                Ok(()) => (client, Ok(now)),
+                Err(end) => (client, Err(end)),
+            }
+        }
+        Got::End | Got::Failed => (client, Err(End::Lost)),
+    }
+}
+
+/// The turns of a connection: what is due is sent, and a piece is read, over and over.
+#[tactic(auto, using(crate::proofs::Talking::flushed_counts, crate::proofs::Talking::counts_after))]
+fn take_turns<L: Link, S: Seal, C: Clock, D: Draw>(
+    client: Holder,
+    alloc: Global,
+    wire: &mut Wire<Framed>,
+    link: &mut L,
+    into: &mut [u8],
+    first: Moment,
+    seal: &S,
+    clock: &mut C,
+    draw: &mut D,
+) -> (Holder, End)
+    requires keys { HasKeys (S.keys seal.now) client }
+    requires room { 0 < length into.old }
+    ensures keys { HasKeys (S.keys seal.now) result.0 }
+    ensures decided { DecidedIn result.1 result.0 }
+    ensures first_fault { IsSome (L.told link.old) → L.faults link.old ≡ 0 → IsSome (L.told link.new) }
+    ensures counted { CountsLink result.1 (L.faults link.old) (L.faults link.new) }
+    ensures same_place { L.place link.new ≡ L.place link.old }
+{
+    let mut client = client;
+    let mut now = first;
+    'turns: for _count in 0..TURNS_MAX {
+        if let Err(end) = flush_all(&mut client, alloc, now, wire, link, seal, draw) {
+            return (client, end);
+        }
+        let (next, turn) = take_turn(client, alloc, wire, link, into, seal, clock, draw);
+        client = next;
+        match turn {
+            Ok(moment) => now = moment,
+            Err(end) => return (client, end),
+        }
+    }
+    match flush_all(&mut client, alloc, now, wire, link, seal, draw) {
+        Ok(()) => (client, End::TurnsSpent),
+        Err(end) => (client, end),
+    }
+}
+
+/// Everything that is done over a connection: the start of its form, an attach, and its turns.
+#[tactic(auto, using(crate::proofs::Talking::sent_counts, crate::proofs::Talking::sent_decided, crate::proofs::Talking::same_link, crate::proofs::Talking::counts_after))]
+pub(crate) fn talk<L: Link, S: Seal, C: Clock, D: Draw>(
+    client: Holder,
+    alloc: Global,
+    plan: &Plan,
+    link: &mut L,
+    into: &mut [u8],
+    seal: &S,
+    clock: &mut C,
+    draw: &mut D,
+) -> (Holder, End)
+    requires full_is_plain { plan.now.obfuscate ≡ true → plan.now.form ≢ forms.Full }
+    requires keys { HasKeys (S.keys seal.now) client }
+    requires room { 0 < length into.old }
+    ensures keys { HasKeys (S.keys seal.now) result.0 }
+    ensures decided { DecidedIn result.1 result.0 }
+    ensures first_fault { IsSome (L.told link.old) → L.faults link.old ≡ 0 → IsSome (L.told link.new) }
+    ensures counted { CountsLink result.1 (L.faults link.old) (L.faults link.new) }
+    ensures same_place { L.place link.new ≡ L.place link.old }
+{
+    let now = clock.now();
+    let (mut wire, start) =
+        match Wire::<Framed>::client(alloc, plan.form, plan.obfuscate, draw) {
+            Ok(begun) => begun,
+            Err(Memory) => return (client, End::Memory),
+        };
+    if let Err(end) = send(link, start.as_slice()) {
+        return (client, end);
+    }
+    let mut client = client;
+    attach(&mut client);
+    let client = renew(client, draw);
+    take_turns(client, alloc, &mut wire, link, into, now, seal, clock, draw)
+}
