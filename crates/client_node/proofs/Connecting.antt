@@ -110,7 +110,7 @@ ended plan times first between last end before one most many =
     record {
       lost = before.lost;
       last = one.call;
-      whole = one.whole ∙ ap (λ (calls : List NetCall). calls ++ one.call ∷ []) before.whole ∙ append_assoc first before.lost (one.call ∷ []);
+      whole = one.whole ∙ ap (λ (calls : List NetCall). calls ++ one.call ∷ []) before.whole;
       all_lost = before.all_lost;
       most = subst (λ (n : ℕ). n ≤ plan.retries) (sym before.count) most;
       its = one.its;
@@ -127,12 +127,26 @@ ends_so plan times first None (Some last) end before one most many = absurd one
 ends_so plan times None (Some between) (Some last) end before one most many = absurd before
 ends_so plan times (Some first) (Some between) (Some last) end before one most many = ended plan times first between last end before one most many
 
+abbrev IsLinkLost : Batch → Type 0
+IsLinkLost batch.LinkLost = Unit {0}
+IsLinkLost batch.Decided = ⊥
+IsLinkLost batch.TurnsSpent = ⊥
+IsLinkLost batch.Spent = ⊥
+IsLinkLost batch.Memory = ⊥
+
+abbrev IsDecidedEnd : Batch → Type 0
+IsDecidedEnd batch.Decided = Unit {0}
+IsDecidedEnd batch.LinkLost = ⊥
+IsDecidedEnd batch.TurnsSpent = ⊥
+IsDecidedEnd batch.Spent = ⊥
+IsDecidedEnd batch.Memory = ⊥
+
 not_link_lost : (end : End) → (end ≡ ends.Lost → ⊥) → (X : Type 0) → batch_by end ≡ batch.LinkLost → X
 not_link_lost ends.Lost other X same = absurd (other refl)
-not_link_lost ends.Decided other X same = absurd same
-not_link_lost ends.TurnsSpent other X same = absurd same
-not_link_lost ends.Spent other X same = absurd same
-not_link_lost ends.Memory other X same = absurd same
+not_link_lost ends.Decided other X same = absurd (subst IsLinkLost (sym same) tt)
+not_link_lost ends.TurnsSpent other X same = absurd (subst IsLinkLost (sym same) tt)
+not_link_lost ends.Spent other X same = absurd (subst IsLinkLost (sym same) tt)
+not_link_lost ends.Memory other X same = absurd (subst IsLinkLost (sym same) tt)
 
 pub ends_here : (plan : Plan) (times : ℕ) (first between last : Option (List NetCall)) (end : End)
     → SomeLost plan.port times first between
@@ -154,10 +168,10 @@ too_many_lost plan times first between last end before one many =
 
 pub decided_batch : (end : End) (kept : Holder) → DecidedIn end kept → batch_by end ≡ batch.Decided → AllDecided kept
 decided_batch ends.Decided kept all same = all
-decided_batch ends.Lost kept all same = absurd same
-decided_batch ends.TurnsSpent kept all same = absurd same
-decided_batch ends.Spent kept all same = absurd same
-decided_batch ends.Memory kept all same = absurd same
+decided_batch ends.Lost kept all same = absurd (subst IsDecidedEnd (sym same) tt)
+decided_batch ends.TurnsSpent kept all same = absurd (subst IsDecidedEnd (sym same) tt)
+decided_batch ends.Spent kept all same = absurd (subst IsDecidedEnd (sym same) tt)
+decided_batch ends.Memory kept all same = absurd (subst IsDecidedEnd (sym same) tt)
 
 -- ---- whether the net still tells
 

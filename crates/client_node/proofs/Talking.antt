@@ -27,28 +27,28 @@ pub read_failed : (before after : ℕ) → after ≡ one_more before → CountsL
 read_failed before after more = inr more
 
 -- the flushes ended it
-pub flushed_link : (end : End) (before after : ℕ) → CountsEnd {Unit} (Err end) before after → CountsLink end before after
+pub flushed_link : (end : End) (before after : ℕ) → CountsEnd {X = Unit} (Err end) before after → CountsLink end before after
 flushed_link ends.Lost before after counted = inr counted
 flushed_link ends.Decided before after counted = counted
 flushed_link ends.TurnsSpent before after counted = absurd counted
 flushed_link ends.Spent before after counted = counted
 flushed_link ends.Memory before after counted = counted
 
-pub flushed_counts : (end : End) (first before after : ℕ) → before ≡ first → CountsEnd {Unit} (Err end) before after → CountsLink end first after
+pub flushed_counts : (end : End) (first before after : ℕ) → before ≡ first → CountsEnd {X = Unit} (Err end) before after → CountsLink end first after
 flushed_counts end first before after same counted = subst (λ (count : ℕ). CountsLink end count after) same (flushed_link end before after counted)
 
 pub counts_after : (end : End) (first before after : ℕ) → before ≡ first → CountsLink end before after → CountsLink end first after
 counts_after end first before after same counted = subst (λ (count : ℕ). CountsLink end count after) same counted
 
 -- the start wasn't sent
-pub sent_counts : (end : End) (before after : ℕ) → CountsBy {Unit} (Err end) before after → CountsLink end before after
+pub sent_counts : (end : End) (before after : ℕ) → CountsBy {X = Unit} (Err end) before after → CountsLink end before after
 sent_counts ends.Lost before after counted = inr counted
 sent_counts ends.Memory before after counted = counted
 sent_counts ends.Decided before after counted = absurd counted
 sent_counts ends.TurnsSpent before after counted = absurd counted
 sent_counts ends.Spent before after counted = absurd counted
 
-pub sent_decided : (end : End) (before after : ℕ) (kept : Holder) → CountsBy {Unit} (Err end) before after → DecidedIn end kept
+pub sent_decided : (end : End) (before after : ℕ) (kept : Holder) → CountsBy {X = Unit} (Err end) before after → DecidedIn end kept
 sent_decided ends.Lost before after kept counted = tt
 sent_decided ends.Memory before after kept counted = tt
 sent_decided ends.Decided before after kept counted = absurd counted

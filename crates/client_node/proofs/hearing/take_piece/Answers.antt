@@ -47,3 +47,9 @@ packets-preserved g c =
       keys = λ ring has. c.take_next-next.ensures.keys ring (c.packets.invariant.keys ring has);
       same_out = (now_same.0 ∙ same.0, now_same.1 ∙ same.1, now_same.2 ∙ same.2);
     }
+
+pub returns-in-Ok-false-clause-keys : goal.returns-in-Ok-false-clause-keys
+returns-in-Ok-false-clause-keys g c ring has = c.take_next-next.ensures.keys ring (c.packets.invariant.keys ring has)
+
+pub returns-in-Err-taken-clause-keys : goal.returns-in-Err-taken-clause-keys
+returns-in-Err-taken-clause-keys g c ring has = c.take_next-next.ensures.keys ring (c.packets.invariant.keys ring has)
