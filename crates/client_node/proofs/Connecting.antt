@@ -8,7 +8,7 @@ use Rattle.mt_edge.specs.declared.net_call.NetCall.{NetCall}
 use Rattle.mt_edge.specs.declared.net_call.NetCall.TheVariants.{Connect}
 use Rattle.mt_edge.specs.declared.net_call.Outcome.TheVariants.{Failed, Open, Done}
 use Rattle.client_core.specs.declared.holder.Holder.{Holder}
-use Rattle.client_node.specs.Connects.{Connects, IsLast, IsLost}
+use Rattle.client_node.specs.Connects.{Connects, IsLast, IsLost, Uses}
 use Rattle.client_node.specs.Ends.{AllLost, Connected, CountsLink, batch_by}
 use Rattle.client_node.specs.Standing.{AllDecided, DecidedIn}
 use Rattle.client_node.specs.declared.end.End.{End}
@@ -164,6 +164,14 @@ pub too_many_lost : (plan : Plan) (times : ℕ) (first between last : Option (Li
 too_many_lost plan times first between last end before one many =
     ends_so plan times first between last end before one (omega (arith, many)) (λ lost. many)
 
+-- a batch that made connections
+pub used : (plan : Plan) (end : Batch) (first last : Option (List NetCall))
+    → IfSome last (λ after. IsSomeAnd first (λ before. Connects plan end before after))
+    → IfSome last (λ after. IsSomeAnd first (λ before. Uses plan end before after))
+used plan end first None made = tt
+used plan end None (Some last) made = absurd made
+used plan end (Some first) (Some last) made = inr made
+
 -- ---- decided calls
 
 pub decided_batch : (end : End) (kept : Holder) → DecidedIn end kept → batch_by end ≡ batch.Decided → AllDecided kept
@@ -179,12 +187,12 @@ one_more_some : (faults : ℕ) → one_more faults ≤ 1 → faults ≡ 0
 one_more_some faults few = grind (arith, few)
 
 -- it does where no more than one attempt failed since it told
-pub still_tells : (first between last : Option (List NetCall)) (zeroth before after : ℕ)
-    → (IsSome first → zeroth ≡ 0 → before ≤ 1 → IsSome between)
+pub still_tells : (first between last : Option (List NetCall)) (began before after : ℕ)
+    → (IsSome first → began ≡ 0 → before ≤ 1 → IsSome between)
     → (IsSome between → before ≡ 0 → IsSome last)
     → ((after ≡ before) × (IsSome between → IsSome last)) ⊎ (after ≡ one_more before)
-    → IsSome first → zeroth ≡ 0 → after ≤ 1 → IsSome last
-still_tells first between last zeroth before after so_far fault (inl same) is none few = same.1 (so_far is none (omega (arith, same.0, few)))
-still_tells first between last zeroth before after so_far fault (inr more) is none few =
+    → IsSome first → began ≡ 0 → after ≤ 1 → IsSome last
+still_tells first between last began before after so_far fault (inl same) is none few = same.1 (so_far is none (omega (arith, same.0, few)))
+still_tells first between last began before after so_far fault (inr more) is none few =
     let unfailed = one_more_some before (omega (arith, more, few)) in
     fault (so_far is none (omega (arith, unfailed))) unfailed

@@ -16,6 +16,3 @@ mod talk;
 
 pub use batch::run_batch;
 pub use plan::{Batch, Plan};
-
-#[cfg(test)]
-mod tests;

@@ -1,10 +1,13 @@
 use Rattle.std.proofs.Common.{ℕ, List, true, false, sym, subst, ◌∙◌}
 use Rattle.client_core.specs.Flushed.{setting_of}
 use Rattle.client_core.specs.declared.flush.Flush.TheVariants as answers
+use Rattle.frame_len.specs.Lengths.{IsWritten}
+use Rattle.transport.specs.Forms.{is_padded}
 use Rattle.client_node.specs.Flow.{OneFlush}
 use Rattle.client_node.specs.Standing.{DecidedBy, FlushedAs}
 use Rattle.client_node.specs.Writes.{framed}
 use Rattle.client_node.proofs.Flowing.{ended_decided, flow_packet, flush_nothing, flush_spent}
+use Rattle.client_node.proofs.Sendable.{told_sendable}
 use Rattle.client_node.proofs.flushing.flush_once.Goals as goal
 
 pub returns-in-Packet-clause-flow : goal.returns-in-Packet-clause-flow
@@ -39,3 +42,10 @@ returns-in-Packet-clause-decided g c =
     subst (λ result. DecidedBy result c.flush.new.client) (sym c.end_of.ensures)
     (ended_decided c.is_decided-is_decided.result c.send_packet.result (g.L.Link.faults c.args.link.now) (g.L.Link.faults c.send_packet.new.link) c.flush.new.client
     c.send_packet.ensures.counted c.is_decided-is_decided.ensures)
+
+pub send_packet-requires : goal.send_packet-requires
+send_packet-requires g c =
+    record {
+      sent = subst (λ (bytes : List ℕ). IsWritten (is_padded c.args.wire.now.form) bytes) (sym c.as_slice.ensures.value)
+          (told_sendable g.S.Seal.lock (g.S.Seal.keys c.args.seal.now) c.in-Packet.packet (is_padded c.args.wire.now.form) c.opens_what_it_sealed.ensures c.in-Packet.ensures.sealed);
+    }
