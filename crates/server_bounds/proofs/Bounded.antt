@@ -170,7 +170,7 @@ module _ {S : Type 0} (H J : Type 0) (fit : AnswersFit S) (setting : Setting S) 
   place-good [] state good = good
   place-good (session ∷ sessions) state good = lost-good (name_of session) state good
 
-  hears-good : (envelope : Envelope) (found : Option Session) (state : State S) → session_named (name_in envelope) state.sessions ≡ found → Good state
+  pub hears-good : (envelope : Envelope) (found : Option Session) (state : State S) → session_named (name_in envelope) state.sessions ≡ found → Good state
       → Good (hears_by setting envelope found state)
   hears-good envelope (Some session) state is good =
       let own = find-all (Few H) (is_named (name_in envelope)) state.sessions session good.0 is in

@@ -4,3 +4,9 @@ pub mod Kept
 pub mod Contents
 pub mod Rows
 pub mod Bounded
+pub mod Names
+pub mod Unsaid
+pub mod Counted
+pub mod Sent
+pub mod Given
+pub mod Taking

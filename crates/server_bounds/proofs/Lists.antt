@@ -3,7 +3,7 @@ use Rattle.std.proofs.Common.{◌≡◌, ◌∙◌, ℕ, zero, suc, Bool, true, 
 use Rattle.std.specs.Prelude.{map}
 use Rattle.std.specs.List.{All, Contains, filter, find}
 use Rattle.std.proofs.lemmas.Bool.{cases_Bool, cond-true, cond-false, cond_both}
-use Rattle.std.proofs.lemmas.List.Elements.{All-nil, All-cons, All-head, All-tail}
+use Rattle.std.proofs.lemmas.List.Elements.{All-nil, All-cons, All-head, All-tail, All-weaker}
 
 -- a chosen member of an option
 or_else : {X : Type 0} → X → Option X → X
@@ -50,3 +50,16 @@ pub all-map : {X : Type 0} (P : X → Type 0) (change : X → X) (xs : List X) �
 all-map P change [] keeps all = All-nil P
 all-map P change (x ∷ xs) keeps all =
     All-cons P (change x) (map change xs) (keeps x (All-head P x xs all)) (all-map P change xs keeps (All-tail P x xs all))
+
+contains-later : {X : Type 0} (x first : X) (xs : List X) → Contains xs x → Contains (first ∷ xs) x
+contains-later x first xs has = (suc has.0, let within = has.1 in omega (arith, within), has.2)
+
+-- what is left of a list stands in it and passes the test
+pub filter-there : {X : Type 0} (test : X → Bool) (xs : List X) → All (λ x. Contains xs x × (test x ≡ true)) (filter test xs)
+filter-there test [] = All-nil (λ x. Contains [] x × (test x ≡ true))
+filter-there {X} test (first ∷ xs) =
+    let There : X → Type 0 = λ x. Contains xs x × (test x ≡ true) in
+    let Then : X → Type 0 = λ x. Contains (first ∷ xs) x × (test x ≡ true) in
+    let rest : All Then (filter test xs) = All-weaker There Then (λ x there. (contains-later x first xs there.0, there.1)) (filter test xs) (filter-there test xs) in
+    cond_both (test first) (first ∷ filter test xs) (filter test xs) (λ (left : List X). All Then left)
+    (λ is. All-cons Then first (filter test xs) ((0, omega arith, refl), is) rest) (λ is. rest)
