@@ -4,10 +4,11 @@ use super::*;
 use answers::Short;
 use auth_keys::{KeyFault, Ring};
 use draws::{Draw, StepDraw};
-use inbox::Outer;
+use inbox::{Judgement, Mark, Outer, Verdict};
 use msg_ids::Moment;
 use octets::{Memory, Octets};
 use owing::Owing;
+use service_tl::Item;
 use standing::Standing;
 use std::alloc::Global;
 use std::test::Fail;
@@ -172,5 +173,36 @@ fn calls_under_a_temporary_key_wait_for_its_binding(rt: HostRuntime) -> Result<(
     );
     let (entries, jobs, bound) = binds_a_key(alloc, &ring, &MESSAGE[..100])?;
     assert_eq!(rt; (entries.as_slice().len(), jobs, bound), (2, 0, false));
+    Ok(())
+}
+
+// The numbers that are acknowledged of a call that comes twice, one of even sequence number, one that came before, a refused one
+// and a container.
+fn acknowledged(alloc: Global) -> Result<Vec<u64>, Memory> {
+    let judged = [
+        judgement(8, 1, Verdict::Accepted(Item::Call)),
+        judgement(12, 2, Verdict::Accepted(Item::Call)),
+        judgement(4, 3, Verdict::Again(Mark::Waiting)),
+        judgement(8, 1, Verdict::Again(Mark::Service)),
+        judgement(16, 5, Verdict::Noticed(33)),
+        judgement(20, 7, Verdict::Again(Mark::Container)),
+    ];
+    let mut acks = Vec::with_capacity(alloc, judged.len())?;
+    acks_in(&judged, &mut acks);
+    Ok(acks)
+}
+
+fn judgement(number: u64, seq: u32, verdict: Verdict) -> Judgement {
+    Judgement {
+        number,
+        seq,
+        verdict,
+    }
+}
+
+#[test]
+fn a_call_is_acknowledged_once(rt: HostRuntime) -> Result<(), Fail> {
+    let acks = acknowledged(rt.alloc())?;
+    assert_eq!(rt; acks.as_slice(), [8, 4].as_slice());
     Ok(())
 }

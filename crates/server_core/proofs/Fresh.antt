@@ -1,8 +1,8 @@
 -- Messages that didn't come before.
-use Rattle.std.proofs.Common.{◌≡◌, ◌≢◌, ◌∙◌, ◌<◌, ◌≤◌, ℕ, zero, suc, ◌+◌, ◌-◌, Bool, true, false, cond, Option, Some, None, List, [], ◌∷◌, ◌++◌, ap, sym, subst, refl, inl, inr, fold, length, drop, length-append, arith}
-use Rattle.std.specs.Prelude.{◌==◌, ◌||◌, nat_lt}
-use Rattle.std.specs.List.{All, list_any, zip}
-use Rattle.std.proofs.lemmas.Bool.{cases_Bool, cases_lt, cond-true, cond-false, eqb-true, false≢true, or_cases, or_left, or_parts, or_right, ne_eqb}
+use Rattle.std.proofs.Common.{◌≡◌, ◌≢◌, ◌∙◌, ◌<◌, ℕ, zero, suc, ◌+◌, ◌-◌, Bool, true, false, cond, Option, Some, None, List, [], ◌∷◌, ◌++◌, ap, sym, subst, refl, inl, inr, length, drop, length-append, arith}
+use Rattle.std.specs.Prelude.{◌==◌, nat_lt}
+use Rattle.std.specs.List.{All, list_any}
+use Rattle.std.proofs.lemmas.Bool.{cases_Bool, cases_lt, cond-true, cond-false, false≢true, or_cases, or_left, or_parts, or_right, ne_eqb}
 use Rattle.std.proofs.lemmas.Grind.{fold-append}
 use Rattle.std.proofs.lemmas.List.Elements.{All-nil, All-cons, All-head, All-tail}
 use Rattle.service_tl.specs.declared.lists.Message.{Message}
@@ -17,7 +17,7 @@ use Rattle.inbox.specs.Refusals.{Way, InContainer, refusal}
 use Rattle.inbox.specs.Judging.{Session, first_mark, inner_judgements, judge, judged_session, judgement_on, judgements, recorded, remembered, unfolded, verdict_by}
 use Rattle.rows.specs.declared.due.Due.{Due}
 use Rattle.rows.specs.Due.{due_by, due_repeats}
-use Rattle.server_core.specs.SettlingAll.{due_judged, some_repeats}
+use Rattle.server_core.specs.SettlingAll.{some_repeats}
 use Rattle.server_core.specs.Room.{AreFresh, is_again}
 
 -- ---- one more number is kept

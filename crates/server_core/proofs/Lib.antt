@@ -30,6 +30,17 @@ pub mod FirstWords
 pub mod Uses
 pub mod RowCases
 pub mod Settled
+pub mod Due
+pub mod TickSteps
+pub mod SendSteps
+pub mod VoiceSteps
+pub mod LoseLemmas
+pub mod Lent
+pub mod TickStart
+pub mod TickLoops
+pub mod ReserveLemmas
+pub mod FreshLemmas
+pub mod OverdueLemmas
 pub mod Fresh
 pub mod PacketRoom
 pub mod AllSettled

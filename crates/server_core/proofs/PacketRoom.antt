@@ -14,7 +14,7 @@ use Rattle.server_rules.specs.Answer.{room_min}
 use Rattle.service_tl.specs.declared.lists.Message.{Message}
 use Rattle.standing.specs.declared.standing.Standing.{Standing}
 use Rattle.standing.specs.Repeats.{kept_bytes, kept_count}
-use Rattle.standing.specs.Standing.{numbers_left, outbox_of, replies_left}
+use Rattle.standing.specs.Standing.{numbers_left, outbox_of}
 use Rattle.standing.specs.Unsaid.{NoMoreUnsaid, unsaid_bytes, unsaid_count, unsaid_weight}
 use Rattle.rows.specs.declared.turn.Turn.{Turn}
 use Rattle.rows.specs.Entries.{Held}
@@ -23,7 +23,7 @@ use Rattle.rows.specs.Speaks.{HasRoom, Spends}
 use Rattle.server_core.specs.declared.room.PacketRoom.{PacketRoom}
 use Rattle.server_core.specs.declared.speech.Speech.{Speech}
 use Rattle.server_core.specs.Speech.{IsRoomFor}
-use Rattle.server_core.specs.Room.{CanSend, CanTake, IsPacketRoom, opening_bytes, packet_bytes, packet_messages, settling_bytes, settling_messages, turn_in}
+use Rattle.server_core.specs.Room.{CanSend, CanTake, IsPacketRoom, packet_bytes, packet_messages, settling_bytes, settling_messages, turn_in}
 
 -- what wasn't said of the kept replies is no more than these
 unsaid-less : (weight : Kept → ℕ) (messages : List Message) (replies : Replies) → unsaid_weight weight messages replies ≤ sum_by weight replies

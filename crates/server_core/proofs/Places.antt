@@ -23,7 +23,7 @@ one-of (standing ∷ standings) n within = standing
 
 -- ---- names
 
-names-set : (standings : List Standing) (n : ℕ) (standing : Standing) (i : ℕ) (d : Standing) → n < length standings
+pub names-set : (standings : List Standing) (n : ℕ) (standing : Standing) (i : ℕ) (d : Standing) → n < length standings
     → name_kept standing ≡ name_kept (get_or standings n d) → name_kept (get_or (set standings n standing) i d) ≡ name_kept (get_or standings i d)
 names-set standings n standing i d within same =
     elim (cases_Bool (i == n)) [

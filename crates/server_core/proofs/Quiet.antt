@@ -34,7 +34,7 @@ none-out test (one ∷ jobs) none =
           rw not_so (ap (λ (left : Queue). one ∷ left) (none-out test jobs (sym later ∙ none))))
     ]
 
-first-same : {S : Type 0} (setting : Setting S) (content : List ℕ) (test : Unfinished → Bool) (state : State S) → HasNone test state.jobs
+pub first-same : {S : Type 0} (setting : Setting S) (content : List ℕ) (test : Unfinished → Bool) (state : State S) → HasNone test state.jobs
     → first_given_up setting content (first_so test) state ≡ state
 first-same {S} setting content test state none =
     ap (λ (found : Option Job). given_up setting content found (record state { jobs = without_first test state.jobs })) none

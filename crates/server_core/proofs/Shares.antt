@@ -52,7 +52,7 @@ filter-map_off {X} test f same stays (x ∷ xs) =
           ∙ (rest ∙ sym (cond-false (test x) (x ∷ filter test xs) (filter test xs) not_so))
     ]
 
-find-only : {X : Type 0} (test : X → Bool) (xs : List X) → find test (filter test xs) ≡ find test xs
+pub find-only : {X : Type 0} (test : X → Bool) (xs : List X) → find test (filter test xs) ≡ find test xs
 find-only test [] = refl
 find-only test (x ∷ xs) =
     elim (cases_Bool (test x)) [
@@ -64,29 +64,29 @@ find-only test (x ∷ xs) =
           ∙ (find-only test xs ∙ sym (find-other test x xs not_so))
     ]
 
-filter-push : {X : Type 0} (test : X → Bool) (xs : List X) (x : X) → test x ≡ true → filter test (xs ++ x ∷ []) ≡ filter test xs ++ x ∷ []
+pub filter-push : {X : Type 0} (test : X → Bool) (xs : List X) (x : X) → test x ≡ true → filter test (xs ++ x ∷ []) ≡ filter test xs ++ x ∷ []
 filter-push {X} test xs x is =
     filter-append test xs (x ∷ []) ∙ ap (λ (ys : List X). filter test xs ++ ys) (cond-true (test x) (x ∷ []) [] is)
 
-filter-push_off : {X : Type 0} (test : X → Bool) (xs : List X) (x : X) → test x ≡ false → filter test (xs ++ x ∷ []) ≡ filter test xs
+pub filter-push_off : {X : Type 0} (test : X → Bool) (xs : List X) (x : X) → test x ≡ false → filter test (xs ++ x ∷ []) ≡ filter test xs
 filter-push_off {X} test xs x not_so =
     filter-append test xs (x ∷ [])
     ∙ (ap (λ (ys : List X). filter test xs ++ ys) (cond-false (test x) (x ∷ []) [] not_so) ∙ append-nil (filter test xs))
 
 -- ---- the job that is taken out
 
-abbrev is_own : Name → Unfinished → Bool
+abbrev pub is_own : Name → Unfinished → Bool
 is_own name one = is_of name.key name.session one
 
-abbrev owner : Job → Name
+abbrev pub owner : Job → Name
 owner job = named job.key job.session
 
 -- it is the session's own, so it is the first of its jobs alone
-record IsTaken (test : Unfinished → Bool) (name : Name) (job : Job) (jobs : Queue) : Type 0 where
-  found : first_job test (jobs_of name jobs) ≡ Some job
-  left : jobs_of name (without_first test jobs) ≡ without_first test (jobs_of name jobs)
+pub record IsTaken (test : Unfinished → Bool) (name : Name) (job : Job) (jobs : Queue) : Type 0 where
+  pub found : first_job test (jobs_of name jobs) ≡ Some job
+  pub left : jobs_of name (without_first test jobs) ≡ without_first test (jobs_of name jobs)
 
-taken-own : (test : Unfinished → Bool) (name : Name) (job : Job) (jobs : Queue) → first_job test jobs ≡ Some job → owner job ≡ name → IsTaken test name job jobs
+pub taken-own : (test : Unfinished → Bool) (name : Name) (job : Job) (jobs : Queue) → first_job test jobs ≡ Some job → owner job ≡ name → IsTaken test name job jobs
 taken-own test name job [] is own = absurd (none-some job is)
 taken-own test name job (one ∷ jobs) is own =
     elim (cases_Bool (test one)) [
@@ -102,7 +102,7 @@ taken-own test name job (one ∷ jobs) is own =
           ])
     ]
 
-taken-other : (test : Unfinished → Bool) (name : Name) (job : Job) (jobs : Queue) → first_job test jobs ≡ Some job → owner job ≢ name
+pub taken-other : (test : Unfinished → Bool) (name : Name) (job : Job) (jobs : Queue) → first_job test jobs ≡ Some job → owner job ≢ name
     → jobs_of name (without_first test jobs) ≡ jobs_of name jobs
 taken-other test name job [] is apart = absurd (none-some job is)
 taken-other test name job (one ∷ jobs) is apart =
@@ -132,7 +132,7 @@ none-own test name (one ∷ jobs) none =
           ])
     ]
 
-none-empty : (test : Unfinished → Bool) (jobs : Queue) → length jobs ≤ 0 → HasNone test jobs
+pub none-empty : (test : Unfinished → Bool) (jobs : Queue) → length jobs ≤ 0 → HasNone test jobs
 none-empty test [] few = refl
 none-empty test (one ∷ jobs) few = absurd (omega arith)
 
@@ -174,7 +174,7 @@ answered-other name other number ok apart one is =
     ap (λ (own : Bool). own && list_any (λ awaited. awaited == number) one.job.after) (of-another name other one apart is) in
     cond-false (waits_for other.key other.session number one) (told number ok one) one off
 
-told-own : (name : Name) (session : Session) (far : Outlook) (number : ℕ) (jobs : Queue)
+pub told-own : (name : Name) (session : Session) (far : Outlook) (number : ℕ) (jobs : Queue)
     → jobs_of name (told_of far session number jobs) ≡ told_of far session number (jobs_of name jobs)
 told-own name session Over number jobs =
     filter-map_same (is_own name) (after_answer session.key session.number number true) (answered-same name (name_of session) number true) jobs
@@ -182,7 +182,7 @@ told-own name session InVain number jobs =
     filter-map_same (is_own name) (after_answer session.key session.number number false) (answered-same name (name_of session) number false) jobs
 told-own name session GoesOn number jobs = refl
 
-told-other : (name : Name) (session : Session) (far : Outlook) (number : ℕ) (jobs : Queue) → name ≢ name_of session
+pub told-other : (name : Name) (session : Session) (far : Outlook) (number : ℕ) (jobs : Queue) → name ≢ name_of session
     → jobs_of name (told_of far session number jobs) ≡ jobs_of name jobs
 told-other name session Over number jobs apart =
     filter-map_off (is_own name) (after_answer session.key session.number number true) (answered-same name (name_of session) number true)
@@ -400,7 +400,7 @@ ticks-alone {S} setting name state =
 none-more : (n : ℕ) → n ≡ 0 + n
 none-more n = omega arith
 
-own-overdue : (name : Name) (now : ℕ) (jobs : Queue) → overdue_count now (jobs_of name jobs) ≡ overdue_count_of name.key name.session now jobs
+pub own-overdue : (name : Name) (now : ℕ) (jobs : Queue) → overdue_count now (jobs_of name jobs) ≡ overdue_count_of name.key name.session now jobs
 own-overdue name now [] = refl
 own-overdue name now (one ∷ jobs) =
     let rest = own-overdue name now jobs in

@@ -10,6 +10,10 @@ pub mod Others
 pub mod Hearing
 pub mod Ticking
 pub mod Settling
+pub mod Answering
+pub mod Outgoing
+pub mod Losing
+pub mod Reserving
 pub mod SettlingAll
 pub mod Room
 pub mod Packets

@@ -16,7 +16,7 @@ ghost use Rattle.rows.specs.Spare.{where_again};
 ghost use Rattle.standing.specs.Names.{name_kept};
 ghost use Rattle.standing.specs.Repeats.{kept_bytes, kept_count};
 ghost use Rattle.standing.specs.Rooms.{with_replies_left};
-ghost use Rattle.standing.specs.Standing.{IsAt, Stands, key_of, number_of, numbers_left, outbox_of, replies_left};
+ghost use Rattle.standing.specs.Standing.{IsAt, Stands, key_of, number_of, numbers_left, replies_left};
 ghost use Rattle.server_core.specs.Room.{CanTake, dues_most, packet_bytes, packet_messages, settling_messages};
 ghost use Rattle.server_core.specs.SettlingAll.{some_repeats};
 ghost use Rattle.server_core.specs.Speech.{IsRoomFor};

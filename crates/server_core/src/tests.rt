@@ -41,3 +41,14 @@ fn an_unknown_session_owes_nothing(rt: HostRuntime) -> Result<(), Fail> {
     assert!(rt; server.seal().has(KEY_ID));
     Ok(())
 }
+
+#[test]
+fn a_tick_with_nothing_due_says_nothing(rt: HostRuntime) -> Result<(), Fail> {
+    let alloc = rt.alloc();
+    let mut server = Server::new(alloc, MtSeal::new(ring(alloc)?));
+    let mut draw = StepDraw::new();
+    let effects = server.tick(alloc, Moment::new(30), &mut draw)?;
+    assert_eq!(rt; effects.out.as_slice().len(), 0);
+    assert_eq!(rt; effects.entries.as_slice().len(), 0);
+    Ok(())
+}

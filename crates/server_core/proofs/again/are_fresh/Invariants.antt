@@ -1,4 +1,4 @@
-use Rattle.std.proofs.Common.{◌≡◌, ℕ}
+use Rattle.std.proofs.Common.{ℕ}
 use Rattle.server_rules.specs.Server.{Session, remembered}
 use Rattle.standing.specs.Standing.{Stands}
 use Rattle.server_core.specs.Room.{AreFresh}

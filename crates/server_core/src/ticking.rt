@@ -1,0 +1,82 @@
+//! A tick of a server: jobs that have waited too long are answered (core.telegram.org/api/invoking).
+
+ghost use Rattle.std.specs.Prelude.{◌≡◌, ◌≤◌, max, IfOk, OnErr};
+ghost use Rattle.server_rules.specs.Server.{Server as Rules};
+ghost use Rattle.server_rules.specs.Answer.{after_tick};
+ghost use Rattle.server_laws.specs.Order.{AreOrdered};
+ghost use Rattle.standing.specs.Says.{Keys, setting_of};
+ghost use Rattle.server_core.specs.Server.{Stands};
+ghost use Rattle.server_core.specs.Effects.{Gives};
+
+use crate::effects::Effects;
+use crate::losing::lose_all_spent;
+use crate::reserving::{fresh_voices, reserves};
+use crate::server::{Server, later};
+use crate::tick_laws::quiet_ticks_say_nothing;
+use draws::Draw;
+use envelope::Seal;
+use msg_ids::Moment;
+use octets::Memory;
+use owing::Outs;
+use standing::laws::sessions_stand_later;
+use std::alloc::Global;
+
+/// How many packets a session's answers in a tick make at most.
+const PACKETS_MAX: usize = 5;
+
+impl<S: Seal> Server<S> {
+    // A tick at this moment, by which a job is overdue.
+    fn ticks_due<D: Draw>(
+        &mut self,
+        alloc: Global,
+        moment: Moment,
+        draw: &mut D,
+    ) -> Result<Effects, Memory>
+        requires later { self.old.moment ≤ moment }
+        ensures given { (keys : Keys) (server : Rules) → Stands self.old server → AreOrdered server.sessions server.jobs
+            → IfOk result (λ effects. Gives S.lock (S.keys self.old.seal) self.new draw.new effects (after_tick (setting_of moment D.step keys) server draw.old)) }
+        ensures unchanged_on_memory { OnErr result (self.new ≡ self.old) }
+        ensures same_seal { self.new.seal ≡ self.old.seal }
+    {
+        sessions_stand_later();
+        let mut voices = fresh_voices(alloc, moment, &self.sessions, &self.jobs)?;
+        let mut outs = Outs::new(alloc, PACKETS_MAX * self.sessions.count())?;
+        reserves(&mut self.sessions, &voices.list, alloc, 0)?;
+        self.moment = moment;
+        voices.answers_all::<D>(moment, &mut self.sessions, &mut self.jobs);
+        voices.sends(moment, &mut self.sessions, &self.seal, draw, &mut outs);
+        lose_all_spent::<D>(&mut self.sessions, &mut self.jobs);
+        Ok(Effects {
+            out: outs,
+            entries: voices.entries,
+        })
+    }
+
+    /// Answers each job that has waited too long by now, and then each that fails by that, in order of acceptance. The
+    /// sessions send in the order of their first answers.
+    ///
+    /// # Errors
+    ///
+    /// `Memory`, and then the server is as it was.
+    pub fn tick<D: Draw>(
+        &mut self,
+        alloc: Global,
+        now: Moment,
+        draw: &mut D,
+    ) -> Result<Effects, Memory>
+        ensures given { (keys : Keys) (server : Rules) → Stands self.old server → AreOrdered server.sessions server.jobs
+            → IfOk result (λ effects. Gives S.lock (S.keys self.old.seal) self.new draw.new effects
+            (after_tick (setting_of (max self.old.moment now) D.step keys) server draw.old)) }
+        ensures unchanged_on_memory { OnErr result (self.new ≡ self.old) }
+        ensures same_seal { self.new.seal ≡ self.old.seal }
+    {
+        sessions_stand_later();
+        quiet_ticks_say_nothing::<D>();
+        let moment = later(self.moment, now);
+        if self.jobs.overdue(moment) == 0 {
+            self.passes(alloc, moment)
+        } else {
+            self.ticks_due(alloc, moment, draw)
+        }
+    }
+}
