@@ -51,3 +51,5 @@ pub mod Taken
 pub mod HeardLemmas
 pub mod PacketDues
 pub mod BeginsSettling
+pub mod BetweenEvents
+pub mod Desked
