@@ -24,7 +24,7 @@ synced_by_act s (Write at count) = refl
 synced_by_act s (Cut len) = refl
 synced_by_act s (Sync contents) = refl
 
-synced_by_acts : (s : Standing) (acts : List DiskAct) → (after_acts s acts).synced ≡ fold synced_after s.synced acts
+pub synced_by_acts : (s : Standing) (acts : List DiskAct) → (after_acts s acts).synced ≡ fold synced_after s.synced acts
 synced_by_acts s [] = refl
 synced_by_acts s (act ∷ acts) = synced_by_acts (after_act s act) acts ∙ ap (λ b. fold synced_after b acts) (synced_by_act s act)
 

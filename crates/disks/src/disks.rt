@@ -1,6 +1,6 @@
 //! Files that are opened by name.
 
-ghost use Rattle.std.specs.Prelude.{◌≡◌, ◌≤◌, ℕ, Option, IfSome, IsSomeAnd};
+ghost use Rattle.std.specs.Prelude.{◌≡◌, ◌≤◌, ℕ, Option, IfSome, IsSome, IsSomeAnd};
 ghost use Rattle.disks.specs.Crash.{MayLeave};
 ghost use Rattle.disks.specs.Told.{now};
 ghost use Rattle.disks.specs.Named.{ByDisk, Closes, Counts, CountsDone, IfDisk, NamesTold, Opens, OpensNone};
@@ -16,7 +16,7 @@ pub enum DiskOpen<K> {
     Failed,
 }
 
-/// Files that are opened by name. What they tell now, they told before each call.
+/// Files that are opened by name. What they tell now, they told before each call, and those that tell go on telling.
 pub trait Disks {
     /// An open file.
     type K: Disk;
@@ -35,7 +35,7 @@ pub trait Disks {
         ensures told { IfSome (told self.new) (λ after. IsSomeAnd (told self.old) (λ before. ByDisk result
             (λ disk. IsSomeAnd (Self.K.told disk) (λ holds. Opens name.now (Self.K.place disk) holds.contents before after))
             (OpensNone name.now before after))) }
-        ensures goes_on { IfSome (told self.old) (λ _. IsSomeAnd (told self.new) (λ _. Unit {0})) }
+        ensures goes_on { IsSome (told self.old) → IsSome (told self.new) }
         ensures never_falls { faults self.old ≤ faults self.new }
         ensures counted { Counts result (faults self.old) (faults self.new) };
 
@@ -43,6 +43,7 @@ pub trait Disks {
     fn done(&mut self, disk: Self::K)
         ensures told { IfSome (told self.new) (λ after. IsSomeAnd (told self.old) (λ before. IsSomeAnd (Self.K.told disk) (λ holds.
             Closes (Self.K.place disk) holds.contents before after))) }
+        ensures goes_on { IsSome (told self.old) → IsSome (told self.new) }
         ensures never_falls { faults self.old ≤ faults self.new }
         ensures counted { CountsDone (Self.K.faults disk) (faults self.old) (faults self.new) };
 }

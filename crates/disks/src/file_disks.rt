@@ -1,7 +1,9 @@
 //! Files of this machine. They tell nothing.
 
-ghost use Rattle.std.specs.Prelude.{◌≡◌, ◌≢◌, ◌≤◌, None, IfOk, IfErr};
+ghost use Rattle.std.specs.Prelude.{◌≡◌, ◌≢◌, ◌≤◌, None, true, IfOk, IfErr, OnOk};
+ghost use Rattle.std.specs.Fs.{new_options, with_create, with_read, with_write};
 ghost use Rattle.disks.specs.Named.{Counts, CountsDone};
+ghost use Rattle.disks.specs.Placed.{ReadsFrom, StandsAt, WritesTo};
 ghost use Rattle.disks.specs.Told.{Counts as CountsLen};
 
 use crate::disk::Disk;
@@ -19,19 +21,30 @@ pub struct FileDisk<F> {
 }
 
 impl<F: Read + Write + Seek + OpenFile + Drop> FileDisk<F> {
-    /// What std answers to a read at a place.
-    fn read_at(&mut self, at: u64, into: &mut [u8]) -> io::Result<()>
+    /// What std answers to a move to a place.
+    fn move_to(&mut self, at: u64) -> io::Result<()>
+        ensures there { OnOk result (StandsAt (F.stream_position self.old.file) at (F.stream_position self.new.file)) }
         ensures faults { self.new.faults ≡ self.old.faults }
     {
         self.file.seek(SeekFrom::Start(at))?;
+        Ok(())
+    }
+
+    /// What std answers to a read at a place.
+    fn read_at(&mut self, at: u64, into: &mut [u8]) -> io::Result<()>
+        ensures from_there { OnOk result (ReadsFrom F.stream_position F.remaining at into.new self.old.file self.new.file) }
+        ensures faults { self.new.faults ≡ self.old.faults }
+    {
+        self.move_to(at)?;
         self.file.read_exact(into)
     }
 
     /// What std answers to a write at a place.
     fn write_at(&mut self, at: u64, bytes: &[u8]) -> io::Result<()>
+        ensures to_there { OnOk result (WritesTo F.stream_position F.contents at bytes.now self.old.file self.new.file) }
         ensures faults { self.new.faults ≡ self.old.faults }
     {
-        self.file.seek(SeekFrom::Start(at))?;
+        self.move_to(at)?;
         self.file.write_all(bytes)?;
         self.file.flush()
     }
@@ -102,6 +115,15 @@ impl<F: Read + Write + Seek + OpenFile + Drop> Disk for FileDisk<F> {
     }
 }
 
+/// How a file is opened: to be read and written, with what it holds, and made where it isn't there.
+fn how() -> OpenOptions
+    ensures { result ≡ with_create (with_write (with_read new_options true) true) true }
+{
+    let mut how = OpenOptions::new();
+    how.read(true).write(true).create(true);
+    how
+}
+
 /// The files of this machine. One that isn't there is made, and is empty.
 #[derive(Debug, Drop)]
 pub struct FileDisks<R> {
@@ -126,7 +148,7 @@ impl<R: Files + Drop> FileDisks<R> {
 }
 
 /// The answer of an attempt, by what std answered.
-fn open_of<F: Drop>(answer: io::Result<F>) -> DiskOpen<FileDisk<F>>
+pub(crate) fn open_of<F: Drop>(answer: io::Result<F>) -> DiskOpen<FileDisk<F>>
     ensures disk { IfOk answer (λ file. result ≡ DiskOpen.Disk (record { file = file; faults = 0 })) }
     ensures failed { IfErr answer (λ _. result ≡ DiskOpen.Failed) }
 {
@@ -163,9 +185,7 @@ impl<R: Files + Drop> Disks for FileDisks<R> {
     ghost faults = { λ disks. disks.faults };
 
     fn open(&mut self, name: &str) -> DiskOpen<FileDisk<R::File>> {
-        let mut how = OpenOptions::new();
-        how.read(true).write(true).create(true);
-        let open = open_of(how.open(&self.files, name));
+        let open = open_of(how().open(&self.files, name));
         self.faults = after_open(&open, self.faults);
         open
     }

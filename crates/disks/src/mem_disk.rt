@@ -3,6 +3,7 @@
 ghost use Rattle.std.specs.Prelude.{◌≡◌, ◌<◌, ◌≤◌, ◌+◌, [], ◌∷◌, ◌++◌, Some, length, take, max, fold, vec_len, vec_capacity, IfOk, IfSome, IsSomeAnd};
 ghost use Rattle.disks.specs.Crash.{MayLeave, after_acts, overwritten, synced_after, synced_at};
 ghost use Rattle.disks.specs.Told.{Changes, Syncs, moment, now};
+ghost use Rattle.mt_edge.specs.Acts.{Counts as CountsAct};
 ghost use Rattle.mt_edge.specs.Faults.{one_more};
 
 use crate::disk::Disk;
@@ -98,15 +99,17 @@ impl MemDisk {
         self.place
     }
 
-    /// What a stop after the first so many acts may leave: all since the last sync is lost.
+    /// What a stop after the first so many acts may leave: what a read gave at the last sync among them, or at the start where
+    /// none is; all since then is lost.
     ///
     /// # Errors
     ///
     /// `Memory`.
-    #[tactic(auto, using(crate::proofs::LostLemmas::lost_possible))]
+    #[tactic(auto, using(crate::proofs::LostLemmas::lost_possible, crate::proofs::LostLemmas::synced_by_acts))]
     pub fn lost(&self, alloc: Global, acts: usize) -> Result<Octets, Memory>
         requires { IfSome (⟦<MemDisk as Disk>⟧.told self.now) (λ told. acts ≤ length told.acts) }
-        ensures { IfOk result (λ image. IfSome (⟦<MemDisk as Disk>⟧.told self.now) (λ told. MayLeave (moment told acts) image)) }
+        ensures synced { IfOk result (λ image. IfSome (⟦<MemDisk as Disk>⟧.told self.now) (λ told. image ≡ (moment told acts).synced)) }
+        ensures possible { IfOk result (λ image. IfSome (⟦<MemDisk as Disk>⟧.told self.now) (λ told. MayLeave (moment told acts) image)) }
     {
         let image = last_synced(self.first.as_slice(), &self.acts[..acts]);
         Octets::copy(alloc, image)
@@ -157,6 +160,7 @@ impl MemDisk {
     fn fails(&mut self) -> Act
         ensures failed { result ≡ Act.Failed }
         ensures told { ⟦<MemDisk as Disk>⟧.told self.new ≡ ⟦<MemDisk as Disk>⟧.told self.old }
+        ensures contents { self.new.contents ≡ self.old.contents }
         ensures place { self.new.place ≡ self.old.place }
         ensures faults { self.new.faults ≡ one_more self.old.faults }
         ensures never_falls { self.old.faults ≤ self.new.faults }
@@ -187,6 +191,7 @@ impl MemDisk {
         requires recorded { vec_len self.old.acts < vec_len self.old.recorded }
         ensures told { IfSome (⟦<MemDisk as Disk>⟧.told self.old) (λ before. IsSomeAnd (⟦<MemDisk as Disk>⟧.told self.new) (λ after.
             Changes Act.Failed (DiskAct.Write at (length bytes.now)) (overwritten at bytes.now before.contents) before after)) }
+        ensures contents { self.new.contents ≡ self.old.contents }
         ensures place { self.new.place ≡ self.old.place }
         ensures faults { self.new.faults ≡ one_more self.old.faults }
         ensures never_falls { self.old.faults ≤ self.new.faults }
@@ -216,6 +221,7 @@ impl MemDisk {
         requires recorded { vec_len self.old.acts < vec_len self.old.recorded }
         ensures told { IfSome (⟦<MemDisk as Disk>⟧.told self.old) (λ before. IsSomeAnd (⟦<MemDisk as Disk>⟧.told self.new) (λ after.
             Changes Act.Failed (DiskAct.Cut len) (take len before.contents) before after)) }
+        ensures contents { self.new.contents ≡ self.old.contents }
         ensures place { self.new.place ≡ self.old.place }
         ensures faults { self.new.faults ≡ one_more self.old.faults }
         ensures never_falls { self.old.faults ≤ self.new.faults }
@@ -230,6 +236,7 @@ impl MemDisk {
         requires copy { contents ≡ self.old.contents.items }
         requires recorded { vec_len self.old.acts < vec_len self.old.recorded }
         ensures told { IfSome (⟦<MemDisk as Disk>⟧.told self.old) (λ before. IsSomeAnd (⟦<MemDisk as Disk>⟧.told self.new) (λ after. Syncs Act.Ready before after)) }
+        ensures contents { self.new.contents ≡ self.old.contents }
         ensures place { self.new.place ≡ self.old.place }
         ensures faults { self.new.faults ≡ self.old.faults }
     {
@@ -326,7 +333,15 @@ impl Disk for MemDisk {
     }
 
     #[tactic(auto, using(crate::proofs::Moments::none_told))]
-    fn write(&mut self, at: u64, bytes: &[u8]) -> Act {
+    fn write(&mut self, at: u64, bytes: &[u8]) -> Act
+        ensures told { IfSome (⟦<MemDisk as Disk>⟧.told self.old) (λ before. IsSomeAnd (⟦<MemDisk as Disk>⟧.told self.new) (λ after.
+            Changes result (DiskAct.Write at (length bytes.now)) (overwritten at bytes.now before.contents) before after)) }
+        // A failed one leaves what a read gives as it was.
+        ensures unchanged { result ≡ Act.Failed → IfSome (⟦<MemDisk as Disk>⟧.told self.old) (λ before. IsSomeAnd (⟦<MemDisk as Disk>⟧.told self.new) (λ after. after.contents ≡ before.contents)) }
+        ensures same_place { ⟦<MemDisk as Disk>⟧.place self.new ≡ ⟦<MemDisk as Disk>⟧.place self.old }
+        ensures never_falls { ⟦<MemDisk as Disk>⟧.faults self.old ≤ ⟦<MemDisk as Disk>⟧.faults self.new }
+        ensures counted { CountsAct result (⟦<MemDisk as Disk>⟧.faults self.old) (⟦<MemDisk as Disk>⟧.faults self.new) }
+    {
         if self.recorded.len() >= self.calls_room {
             return self.fails();
         }
@@ -346,7 +361,15 @@ impl Disk for MemDisk {
     }
 
     #[tactic(auto, using(crate::proofs::Moments::none_told))]
-    fn cut(&mut self, len: u64) -> Act {
+    fn cut(&mut self, len: u64) -> Act
+        ensures told { IfSome (⟦<MemDisk as Disk>⟧.told self.old) (λ before. IsSomeAnd (⟦<MemDisk as Disk>⟧.told self.new) (λ after.
+            Changes result (DiskAct.Cut len) (take len before.contents) before after)) }
+        // A failed one leaves what a read gives as it was.
+        ensures unchanged { result ≡ Act.Failed → IfSome (⟦<MemDisk as Disk>⟧.told self.old) (λ before. IsSomeAnd (⟦<MemDisk as Disk>⟧.told self.new) (λ after. after.contents ≡ before.contents)) }
+        ensures same_place { ⟦<MemDisk as Disk>⟧.place self.new ≡ ⟦<MemDisk as Disk>⟧.place self.old }
+        ensures never_falls { ⟦<MemDisk as Disk>⟧.faults self.old ≤ ⟦<MemDisk as Disk>⟧.faults self.new }
+        ensures counted { CountsAct result (⟦<MemDisk as Disk>⟧.faults self.old) (⟦<MemDisk as Disk>⟧.faults self.new) }
+    {
         if self.recorded.len() >= self.calls_room {
             return self.fails();
         }
@@ -364,7 +387,15 @@ impl Disk for MemDisk {
     }
 
     #[tactic(auto, using(crate::proofs::Moments::no_sync_told))]
-    fn sync(&mut self) -> Act {
+    fn sync(&mut self) -> Act
+        ensures told { IfSome (⟦<MemDisk as Disk>⟧.told self.old) (λ before. IsSomeAnd (⟦<MemDisk as Disk>⟧.told self.new) (λ after.
+            Syncs result before after)) }
+        // It leaves what a read gives as it was.
+        ensures unchanged { IfSome (⟦<MemDisk as Disk>⟧.told self.old) (λ before. IsSomeAnd (⟦<MemDisk as Disk>⟧.told self.new) (λ after. after.contents ≡ before.contents)) }
+        ensures same_place { ⟦<MemDisk as Disk>⟧.place self.new ≡ ⟦<MemDisk as Disk>⟧.place self.old }
+        ensures never_falls { ⟦<MemDisk as Disk>⟧.faults self.old ≤ ⟦<MemDisk as Disk>⟧.faults self.new }
+        ensures counted { CountsAct result (⟦<MemDisk as Disk>⟧.faults self.old) (⟦<MemDisk as Disk>⟧.faults self.new) }
+    {
         if self.recorded.len() >= self.calls_room {
             return self.fails();
         }

@@ -1,6 +1,6 @@
 //! Files in memory by name, for tests.
 
-ghost use Rattle.std.specs.Prelude.{◌≡◌, ◌≤◌, [], Some, vec_len, vec_capacity, IfOk};
+ghost use Rattle.std.specs.Prelude.{◌≡◌, ◌≤◌, [], Some, vec_len, vec_capacity, IfOk, IfSome};
 ghost use Rattle.disks.specs.Held.{names_of};
 
 use crate::disk::Disk;
@@ -53,6 +53,21 @@ impl MemDisks {
             calls: 0,
             faults: 0,
         })
+    }
+
+    /// The files, in order. One that is open holds nothing here. Takes no memory.
+    pub fn files(&self) -> &[MemFile]
+        ensures { IfSome (⟦<MemDisks as Disks>⟧.told self.now) (λ told. names_of result.now ≡ told.files) }
+    {
+        self.files.as_slice()
+    }
+
+    /// The names that were asked for, in order, whatever came of it: all but those for which there was no room. Takes no
+    /// memory.
+    pub fn asked(&self) -> &[Octets]
+        ensures { IfSome (⟦<MemDisks as Disks>⟧.told self.now) (λ told. result.now ≡ told.asked) }
+    {
+        self.asked.as_slice()
     }
 
     /// How many calls have failed, and how many files came back with faults.

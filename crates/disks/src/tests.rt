@@ -4,11 +4,13 @@ ghost use Rattle.std.specs.Prelude.{◌≡◌, ◌++◌, IfSome, IsSomeAnd};
 ghost use Rattle.disks.specs.Crash.{synced_at};
 ghost use Rattle.disks.specs.Told.{now};
 
+use crate::file_disks::open_of;
 use crate::{Disk, DiskCall, DiskLen, DiskOpen, Disks, FileDisks, MemDisk, MemDisks, MemFile};
 use mt_edge::Act;
 use octets::Octets;
 use std::alloc::Global;
-use std::fs;
+use std::fs::{self, Metadata, OpenFile};
+use std::io::{self, ErrorKind, Read, Seek, SeekFrom, Write};
 use std::test::Fail;
 
 /// What a journal does: it adds bytes behind the end, and makes sure of them.
@@ -25,11 +27,11 @@ fn add<K: Disk>(disk: &mut K, bytes: &[u8]) -> Act
     }
 }
 
-/// What a journal does: it reads a file that it knows nothing of, from its start on. It answers with the first byte.
-fn first_byte<K: Disk>(disk: &mut K) -> Option<u8> {
+/// What a journal does: it reads a file that it knows nothing of. It answers with the byte at a place.
+fn byte_at<K: Disk>(disk: &mut K, at: u64) -> Option<u8> {
     let mut into = [0u8; 1];
     match disk.len() {
-        DiskLen::Len(len) if len > 0 => match disk.read(0, &mut into) {
+        DiskLen::Len(len) if at < len => match disk.read(at, &mut into) {
             Act::Ready => Some(into[0]),
             Act::Failed => None,
         },
@@ -51,7 +53,7 @@ fn files_in_memory(rt: HostRuntime) -> Result<(), Fail> {
     let mut disk = MemDisk::new(alloc, b"ab", &[4, 8], 8, 8)?;
     assert_eq!(rt; add(&mut disk, b"cd"), Act::Ready);
     assert_eq!(rt; add(&mut disk, b"ef"), Act::Failed);
-    assert_eq!(rt; first_byte(&mut disk), Some(b'a'));
+    assert_eq!(rt; byte_at(&mut disk, 0), Some(b'a'));
     assert_eq!(rt;
         (disk.contents(), disk.calls().last().copied(), disk.faults()),
         (
@@ -96,13 +98,24 @@ fn first_beside<D: Disks>(disks: &mut D, name: &str, open: &str) -> Option<u8> {
     let first = match disks.open(name) {
         DiskOpen::Failed => None,
         DiskOpen::Disk(mut disk) => {
-            let first = first_byte(&mut disk);
+            let first = byte_at(&mut disk, 0);
             disks.done(disk);
             first
         }
     };
     disks.done(held);
     first
+}
+
+/// The file has this name and these contents, and isn't open.
+fn is_file(file: Option<&MemFile>, name: &[u8], contents: &[u8]) -> bool {
+    let Some(file) = file else {
+        return false;
+    };
+    match &file.disk {
+        Some(disk) => file.name.as_slice() == name && disk.contents() == contents,
+        None => false,
+    }
 }
 
 #[test]
@@ -119,6 +132,8 @@ fn files_in_memory_by_name(rt: HostRuntime) -> Result<(), Fail> {
         ),
         (Some(b'y'), None)
     );
+    assert!(rt; is_file(disks.files().first(), b"journal", b"y"));
+    assert_eq!(rt; (disks.asked().len(), disks.faults()), (6, 2));
     Ok(())
 }
 
@@ -132,13 +147,127 @@ fn files_of_this_machine(rt: HostRuntime) -> Result<(), Fail> {
     assert_eq!(rt; add(&mut disk, b"abc"), Act::Ready);
     assert_eq!(rt; (disk.cut(1), disk.len()), (Act::Ready, DiskLen::Len(1)));
     assert_eq!(rt;
-        (disk.write(0, b"x"), first_byte(&mut disk)),
-        (Act::Ready, Some(b'x'))
+        (disk.write(1, b"xyz"), byte_at(&mut disk, 2)),
+        (Act::Ready, Some(b'y'))
     );
-    assert_eq!(rt; disk.read(0, &mut [0u8; 2]), Act::Failed);
+    assert_eq!(rt;
+        (byte_at(&mut disk, 0), disk.len()),
+        (Some(b'a'), DiskLen::Len(4))
+    );
+    assert_eq!(rt; disk.read(3, &mut [0u8; 2]), Act::Failed);
     disks.done(disk);
     fs::remove_file(&rt, name)?;
     assert!(rt; matches!(disks.open("no_such_folder/file"), DiskOpen::Failed));
     assert_eq!(rt; disks.faults(), 2);
+    Ok(())
+}
+
+/// The bytes at the front of the file of this name, and how many it has.
+fn front<D: Disks>(disks: &mut D, name: &str) -> Option<([u8; 4], u64)> {
+    let mut into = [0u8; 4];
+    match disks.open(name) {
+        DiskOpen::Failed => None,
+        DiskOpen::Disk(mut disk) => {
+            let front = match disk.len() {
+                DiskLen::Len(len) if len >= 4 => match disk.read(0, &mut into) {
+                    Act::Ready => Some((into, len)),
+                    Act::Failed => None,
+                },
+                _ => None,
+            };
+            disks.done(disk);
+            front
+        }
+    }
+}
+
+#[test]
+fn files_that_are_opened_again(rt: HostRuntime) -> Result<(), Fail> {
+    let (first, second) = ("disks_first.tmp", "disks_second.tmp");
+    let mut disks = FileDisks::new(&rt);
+    assert!(rt;
+        add_by_name(&mut disks, first, b"abc") == Act::Ready
+            && add_by_name(&mut disks, second, b"vwxyz") == Act::Ready
+            && add_by_name(&mut disks, first, b"d") == Act::Ready
+    );
+    assert_eq!(rt;
+        (front(&mut disks, first), front(&mut disks, second)),
+        (Some((*b"abcd", 4)), Some((*b"vwxy", 5)))
+    );
+    fs::remove_file(&rt, first)?;
+    fs::remove_file(&rt, second)?;
+    Ok(())
+}
+
+/// A file that reads and writes, but moves only where it is asked to, and does nothing else.
+#[derive(Drop)]
+struct Faulty {
+    can_move: bool,
+}
+
+/// What it answers to what it doesn't do.
+fn fault<T>() -> io::Result<T> {
+    Err(io::Error::from(ErrorKind::Unsupported))
+}
+
+impl Read for Faulty {
+    fn read(&mut self, buf: &mut [u8]) -> io::Result<usize> {
+        Ok(buf.len())
+    }
+}
+
+impl Write for Faulty {
+    fn write(&mut self, buf: &[u8]) -> io::Result<usize> {
+        Ok(buf.len())
+    }
+
+    fn flush(&mut self) -> io::Result<()> {
+        fault()
+    }
+}
+
+impl Seek for Faulty {
+    fn seek(&mut self, _to: SeekFrom) -> io::Result<u64> {
+        if self.can_move { Ok(0) } else { fault() }
+    }
+}
+
+impl OpenFile for Faulty {
+    fn metadata(&self) -> io::Result<Metadata> {
+        fault()
+    }
+
+    fn set_len(&self, _size: u64) -> io::Result<()> {
+        fault()
+    }
+
+    fn sync_all(&self) -> io::Result<()> {
+        fault()
+    }
+
+    fn sync_data(&self) -> io::Result<()> {
+        Ok(())
+    }
+}
+
+/// What a file that moves, or doesn't, answers to a read, a write, a cut and a sync.
+fn answers_of(can_move: bool) -> Option<[Act; 4]> {
+    let DiskOpen::Disk(mut disk) = open_of(Ok(Faulty { can_move })) else {
+        return None;
+    };
+    let mut into = [0u8; 2];
+    Some([
+        disk.read(0, &mut into),
+        disk.write(0, b"ab"),
+        disk.cut(0),
+        disk.sync(),
+    ])
+}
+
+#[test]
+fn files_that_fail(rt: HostRuntime) -> Result<(), Fail> {
+    use Act::{Failed, Ready};
+    assert_eq!(rt; answers_of(true), Some([Ready, Failed, Failed, Failed]));
+    assert_eq!(rt; answers_of(false), Some([Failed, Failed, Failed, Failed]));
     Ok(())
 }

@@ -1,5 +1,5 @@
 -- Lines of a reader.
-use Rattle.std.specs.Prelude.{◌≡◌, ◌≢◌, ℕ, List, [], ◌∷◌, ◌++◌, ◌⊎◌}
+use Rattle.std.specs.Prelude.{◌≡◌, ◌≢◌, ℕ, List, [], ◌∷◌, ◌++◌, ◌⊎◌, Option, IfSome, IsSomeAnd}
 use Rattle.std.specs.List.{All}
 use Rattle.mt_edge.specs.declared.spawner.Line.{Line}
 use Rattle.mt_edge.specs.declared.spawner.Line.TheVariants.{Text, End as NoLine, Failed as NotRead, Memory}
@@ -12,15 +12,26 @@ HandsByte (Byte byte) before after = before ≡ byte ∷ after
 HandsByte End before after = (before ≡ []) × (after ≡ [])
 HandsByte Failed before after = after ≡ before
 
--- P says something of the line, where there is one
-abbrev pub IfText : Line → (List ℕ → Type 0) → Type 0
-IfText (Text line) P = P line
-IfText NoLine P = Unit {0}
-IfText NotRead P = Unit {0}
-IfText Memory P = Unit {0}
-
 -- the next line, by the bytes that were left before it and are left after it: it goes up to the next byte 10, which goes with
--- it, or to the end
+-- it, or it is all that is left, and then it has a byte
 pub record IsLine (line before after : List ℕ) : Type 0 where
   pub one : All (λ byte. byte ≢ 10) line
-  pub next : (before ≡ line ++ 10 ∷ after) ⊎ ((before ≡ line) × (after ≡ []))
+  pub next : (before ≡ line ++ 10 ∷ after) ⊎ ((line ≢ []) × (before ≡ line) × (after ≡ []))
+
+-- no line was given, and a front of the next one, without its end, is lost
+pub record Loses (before after : List ℕ) : Type 0 where
+  pub lost : List ℕ
+  pub one : All (λ byte. byte ≢ 10) lost
+  pub front : before ≡ lost ++ after
+
+-- a read of a line, by the bytes that were left before it and are left after it: the end comes only where nothing was left, and
+-- memory runs out only where something was
+abbrev pub GivesLine : Line → List ℕ → List ℕ → Type 0
+GivesLine (Text line) before after = IsLine line before after
+GivesLine NoLine before after = (before ≡ []) × (after ≡ [])
+GivesLine NotRead before after = Loses before after
+GivesLine Memory before after = Loses before after × (before ≢ [])
+
+-- a read of a line from a reader of std, by what it tells before and after
+abbrev pub ReadsLine : Line → Option (List ℕ) → Option (List ℕ) → Type 0
+ReadsLine line before after = IfSome before (λ left. IsSomeAnd after (λ rest. GivesLine line left rest))

@@ -1,14 +1,15 @@
 //! Programs of this machine. They tell nothing.
 
-ghost use Rattle.std.specs.Prelude.{◌≡◌, ◌≢◌, None, Some, pos, IfOk, IfErr};
-ghost use Rattle.std.specs.Process.{exit_code};
+ghost use Rattle.std.specs.Prelude.{◌≡◌, ◌≢◌, None, Some, Ok, pos, map, string_bytes, IfOk, IfErr, IfSome, IsErr, IsSomeAnd};
+ghost use Rattle.std.specs.Process.{child_status, command_args, command_program, exit_code};
+ghost use Rattle.mt_edge.specs.Lines.{ReadsLine};
 
 use crate::act::Act;
 use crate::lines::read_line;
 use crate::mem_kids::after_line;
 use crate::spawner::{Line, Spawner};
-use crate::tcp::{act_of, after_act};
-use std::alloc::Global;
+use crate::tcp::after_act;
+use std::alloc::{AllocError, Global};
 use std::io::{self, ErrorKind};
 use std::process::{Child, Command, ExitStatus, Processes, Stdio};
 
@@ -39,20 +40,47 @@ impl<R: Processes + Drop> ChildKids<R> {
         }
     }
 
-    /// What std answers to a start with these words.
-    fn spawn(&self, words: &[String]) -> io::Result<Child<R::Started>> {
+    /// The program with these words.
+    fn command(&self, words: &[String]) -> Result<Command, AllocError>
+        ensures program { IfOk result (λ command. command_program command ≡ string_bytes self.now.program) }
+        ensures words { IfOk result (λ command. command_args command ≡ map string_bytes words.now) }
+    {
         let alloc = *self.program.allocator();
         let mut command = Command::new(alloc, self.program.as_str())?;
         for word in words {
             command.arg(word.as_str())?;
         }
+        Ok(command)
+    }
+
+    /// What std answers to a start with these words.
+    fn spawn(&self, words: &[String]) -> io::Result<Child<R::Started>> {
+        let mut command = self.command(words)?;
         command.stdin(Stdio::null());
         command.stdout(Stdio::piped());
         command.spawn(&self.processes)
     }
 
+    /// The answer of a start, by what std answered. A child that was started is now the one that was started last.
+    fn begin(&mut self, started: io::Result<Child<R::Started>>) -> Act
+        ensures ready { IfOk started (λ child. (result ≡ Act.Ready) × (self.new.child ≡ Some child)) }
+        ensures failed { IfErr started (λ _. (result ≡ Act.Failed) × (self.new.child ≡ self.old.child)) }
+        ensures faults { self.new.faults ≡ self.old.faults }
+    {
+        match started {
+            Ok(child) => {
+                self.child = Some(child);
+                Act::Ready
+            }
+            Err(_) => Act::Failed,
+        }
+    }
+
     /// The next line of the child.
     fn next_line(&mut self, alloc: Global) -> Line
+        ensures none { self.old.child ≡ None → result ≡ Line.Failed }
+        ensures line { IfSome self.old.child (λ before. IfSome before.stdout (λ output. IsSomeAnd self.new.child (λ after. IsSomeAnd after.stdout (λ rest.
+            ReadsLine result (R.Started.Stdout.remaining output) (R.Started.Stdout.remaining rest))))) }
         ensures faults { self.new.faults ≡ self.old.faults }
     {
         match &mut self.child {
@@ -66,6 +94,9 @@ impl<R: Processes + Drop> ChildKids<R> {
 
     /// What std answers to a wait for the child.
     fn status(&mut self) -> io::Result<ExitStatus>
+        ensures none { self.old.child ≡ None → IsErr result }
+        ensures ended { IfOk result (λ status. IsSomeAnd self.new.child (λ child. child_status child ≡ Some status)) }
+        ensures again { IfSome self.old.child (λ child. IfSome (child_status child) (λ status. result ≡ Ok status)) }
         ensures faults { self.new.faults ≡ self.old.faults }
     {
         match &mut self.child {
@@ -99,9 +130,8 @@ impl<R: Processes + Drop> Spawner for ChildKids<R> {
     ghost faults = { λ kids. kids.faults };
 
     fn start(&mut self, words: &[String]) -> Act {
-        let child = self.spawn(words);
-        let answer = act_of(&child);
-        self.child = child.ok();
+        let started = self.spawn(words);
+        let answer = self.begin(started);
         self.faults = after_act(answer, self.faults);
         answer
     }

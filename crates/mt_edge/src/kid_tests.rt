@@ -116,3 +116,47 @@ fn children_of_this_machine(rt: HostRuntime) -> Result<(), Fail> {
     );
     Ok(())
 }
+
+/// Starts a child, fails to start another, reads a line and waits: what each came to.
+fn life_beside<P: Spawner>(
+    kids: &mut P,
+    alloc: Global,
+    words: &[String],
+    faulty: &[String],
+) -> (Act, Act, &'static str, Act) {
+    let started = kids.start(words);
+    let failed = kids.start(faulty);
+    let line = kids.line(alloc);
+    let ended = kids.wait();
+    (started, failed, kind_of(&line), ended)
+}
+
+#[test]
+fn a_start_that_failed_in_memory(rt: HostRuntime) -> Result<(), Fail> {
+    let alloc = rt.alloc();
+    let mut lines = Vec::new(alloc);
+    lines.push(Octets::copy(alloc, b"ready")?)?;
+    let mut kids = Vec::new(alloc);
+    kids.push(MemKid { lines, status: 0 })?;
+    let mut kids = MemKids::new(alloc, kids, &[], 4, 2, 8)?;
+    let words = words(alloc, "serve", "--conns")?;
+    assert_eq!(rt;
+        life_beside(&mut kids, alloc, words.as_slice(), words.as_slice()),
+        (Act::Ready, Act::Failed, "ready", Act::Ready)
+    );
+    assert_eq!(rt; kids.faults(), 1);
+    Ok(())
+}
+
+#[test]
+fn a_start_that_failed_on_this_machine(rt: HostRuntime) -> Result<(), Fail> {
+    let alloc = rt.alloc();
+    let mut kids = ChildKids::new(&rt, String::from_str(alloc, "sh")?);
+    let good = words(alloc, "-c", "echo ready")?;
+    let faulty = words(alloc, "-c", "echo \0")?;
+    assert_eq!(rt;
+        life_beside(&mut kids, alloc, good.as_slice(), faulty.as_slice()),
+        (Act::Ready, Act::Failed, "ready", Act::Ready)
+    );
+    Ok(())
+}

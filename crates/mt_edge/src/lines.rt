@@ -1,8 +1,8 @@
 //! Lines of a reader of std.
 
-ghost use Rattle.std.specs.Prelude.{◌≡◌, ◌∷◌, [], IfSome, IsSomeAnd, length};
+ghost use Rattle.std.specs.Prelude.{◌≡◌, ◌≢◌, ◌∷◌, [], IfSome, IsSomeAnd, length};
 ghost use Rattle.std.specs.List.{All};
-ghost use Rattle.mt_edge.specs.Lines.{HandsByte, IfText, IsLine};
+ghost use Rattle.mt_edge.specs.Lines.{HandsByte, ReadsLine};
 
 use crate::answers::read_from;
 use crate::source::Got;
@@ -39,8 +39,7 @@ fn next_byte<R: Read>(reader: &mut R) -> NextByte
 
 /// The next line of a reader, where it is shorter than `max_bytes`; the last one may have no end.
 pub(crate) fn read_line<R: Read>(alloc: Global, reader: &mut R, max_bytes: usize) -> Line
-    ensures text { IfText result (λ text. IfSome (R.remaining reader.old) (λ before. IsSomeAnd (R.remaining reader.new) (λ after. IsLine text before after))) }
-    ensures end { result ≡ Line.End → IfSome (R.remaining reader.old) (λ before. before ≡ []) }
+    ensures { ReadsLine result (R.remaining reader.old) (R.remaining reader.new) }
 {
     let mut text = Octets::new(alloc);
     for _ in 0..max_bytes {
@@ -60,8 +59,8 @@ pub(crate) fn read_line<R: Read>(alloc: Global, reader: &mut R, max_bytes: usize
 
 /// The line at the end, where it has a byte.
 fn last_line(text: Octets) -> Line
-    ensures text { IfText result (λ line. line ≡ text) }
-    ensures end { result ≡ Line.End → text ≡ [] }
+    ensures text { text ≢ [] → result ≡ Line.Text text }
+    ensures end { text ≡ [] → result ≡ Line.End }
 {
     if text.as_slice().is_empty() {
         Line::End

@@ -60,6 +60,18 @@ fn links_cut_fail_and_end(rt: HostRuntime) -> Result<(), Fail> {
     Ok(())
 }
 
+#[test]
+fn closed_links_fail(rt: HostRuntime) -> Result<(), Fail> {
+    let mut into = [0u8; 4];
+    let mut link = MemLink::new(rt.alloc(), b"abc", 2, &[], 8, 4)?;
+    link.close();
+    assert_eq!(rt;
+        read_and_write(&mut link, &mut into, b"x"),
+        (Got::Failed, Put::Failed)
+    );
+    Ok(())
+}
+
 /// What a call of a net came to.
 fn kind_of(call: &NetCall) -> &'static str {
     match call {

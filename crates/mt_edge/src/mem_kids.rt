@@ -1,7 +1,7 @@
 //! Programs in memory, for tests.
 
-ghost use Rattle.std.specs.Prelude.{◌≡◌, ◌≢◌, ◌<◌, ◌≤◌, ◌+◌, [], Some, vec_len, vec_capacity, IfOk};
-ghost use Rattle.mt_edge.specs.Kids.{Counts};
+ghost use Rattle.std.specs.Prelude.{◌≡◌, ◌≢◌, ◌<◌, ◌≤◌, ◌+◌, [], None, Some, vec_len, vec_capacity, IfOk, IsSomeAnd, MatchOption};
+ghost use Rattle.mt_edge.specs.Kids.{Begins, Counts, Ends, Pops};
 
 use crate::act::Act;
 use crate::faults::raised;
@@ -23,7 +23,7 @@ pub struct MemKid {
 
 /// Programs in memory, one a start in the order given. The calls of the given numbers fail, counted together from 1, and
 /// so does each one past the room for what is noted, a start with words for which there is no room or with no child left,
-/// and a read or a wait before the first start. A call that finds no room isn't noted.
+/// and a read or a wait before the first start that succeeded. A call that finds no room isn't noted.
 #[derive(Debug, Drop)]
 pub struct MemKids {
     kids: Vec<MemKid>,
@@ -94,6 +94,7 @@ impl MemKids {
 
     /// Makes the next child the one that was started last, where there is one.
     fn begin(&mut self) -> Act
+        ensures begins { Begins result self.old.kids.items self.new.kids.items self.old.current self.new.current }
         ensures calls { self.new.calls ≡ self.old.calls }
         ensures room { self.new.room ≡ self.old.room }
         ensures faults { self.new.faults ≡ self.old.faults }
@@ -110,6 +111,9 @@ impl MemKids {
     /// The next line of the child, and a copy of it.
     fn next_line(&mut self, alloc: Global) -> (Line, Line)
         ensures same { result.0 ≡ result.1 }
+        ensures line { MatchOption self.old.current ((result.0 ≡ Line.Failed) × (self.new.current ≡ None))
+            (λ kid. IsSomeAnd self.new.current (λ after. Pops result.0 kid.lines.items after.lines.items × (after.status ≡ kid.status))) }
+        ensures kids { self.new.kids ≡ self.old.kids }
         ensures calls { self.new.calls ≡ self.old.calls }
         ensures room { self.new.room ≡ self.old.room }
         ensures faults { self.new.faults ≡ self.old.faults }
@@ -121,7 +125,9 @@ impl MemKids {
     }
 
     /// The status of the child as an answer.
-    fn status(&self) -> Act {
+    fn status(&self) -> Act
+        ensures { MatchOption self.now.current (result ≡ Act.Failed) (λ kid. Ends kid.status result) }
+    {
         match &self.current {
             Some(kid) => act_of_status(kid.status),
             None => Act::Failed,
@@ -146,6 +152,7 @@ fn rooms(
 /// The last of these lines, which goes, and a copy of it. For want of memory it stays.
 fn pop_line(alloc: Global, lines: &mut Vec<Octets>) -> (Line, Line)
     ensures same { result.0 ≡ result.1 }
+    ensures line { Pops result.0 lines.old.items lines.new.items }
 {
     let copy = match lines.last() {
         None => return (Line::End, Line::End),
@@ -163,15 +170,15 @@ fn pop_line(alloc: Global, lines: &mut Vec<Octets>) -> (Line, Line)
 /// Two equal texts as answers.
 fn two_texts(line: Octets, copy: Octets) -> (Line, Line)
     requires { line ≡ copy }
-    ensures { result.0 ≡ result.1 }
+    ensures same { result.0 ≡ result.1 }
+    ensures line { result.0 ≡ Line.Text line }
 {
     (Line::Text(line), Line::Text(copy))
 }
 
 /// The answer of a wait, by the status with which the child ended.
 fn act_of_status(status: u8) -> Act
-    ensures ready { status ≡ 0 → result ≡ Act.Ready }
-    ensures failed { status ≢ 0 → result ≡ Act.Failed }
+    ensures { Ends status result }
 {
     if status == 0 { Act::Ready } else { Act::Failed }
 }

@@ -22,8 +22,9 @@ pub enum Line {
     Memory,
 }
 
-/// What starts a program, reads the lines that it writes, and waits for its end. One that tells its calls goes on
-/// telling them; a call that failed may be left out of its record.
+/// What starts a program, reads the lines that it writes, and waits for its end. A start that failed started nothing, so
+/// lines and the end are still those of the program before it. One that tells its calls goes on telling them; a call that
+/// failed may be left out of its record.
 pub trait Spawner {
     ghost use Rattle.mt_edge.specs.declared.kid_call.KidCall.{KidCall};
 
@@ -33,7 +34,7 @@ pub trait Spawner {
     /// How many calls have failed. It stays at 2^64 - 1 once it is there.
     ghost faults: { Self → ℕ };
 
-    /// Starts the program with these words.
+    /// Starts the program with these words. Where it fails, the program that was started last stays the one before it.
     fn start(&mut self, words: &[String]) -> Act
         ensures told { IfSome (calls self.old) (λ before. IsSomeAnd (calls self.new) (λ after. NotesAct result (KidCall.Start (map string_bytes words.now) result) before after)) }
         ensures never_falls { faults self.old ≤ faults self.new }

@@ -18,7 +18,7 @@ use Rattle.regs_service.specs.Served.{Step}
 use Rattle.inbox.specs.declared.judged.Verdict.{Verdict}
 use Rattle.inbox.specs.declared.judged.Verdict.TheVariants.{Accepted, Again, Noticed}
 use Rattle.inbox.specs.declared.judged.Judgement.{Judgement}
-use Rattle.inbox.specs.Refusals.{InEnvelope}
+use Rattle.inbox.specs.Refusals.{InEnvelope, Way}
 use Rattle.inbox.specs.Judging.{judgements, session_after, is_accepted, Session as Remembered}
 use Rattle.waits.specs.declared.job.Job.{Job}
 use Rattle.waits.specs.Jobs.{Queue, ready_job, without_ready, has_failed, is_overdue, without_session as without_jobs_of}
@@ -38,7 +38,8 @@ use Rattle.server_laws.proofs.Midway.{midway-given}
 use Rattle.server_laws.proofs.Speaking.{next-above, says_again-keeps, says-keeps, answers-keeps, tells-keeps, leaves-keeps}
 use Rattle.server_laws.proofs.Rows.{acknowledges-keeps, new-keeps, notices-keeps, came_again-keeps, accepts-keeps}
 use Rattle.server_laws.proofs.Sessions.{IsPast, Open, found-named, find-first, find-other, speaks-goes, lost-goes, taken-goes, opened_at, opened-own, opened-others, all_given-goes, lost-name, lost-other_name}
-use Rattle.server_laws.proofs.Judged.{Known, IsService, AreJudged, all-ends, judged-midway}
+use Rattle.server_laws.specs.Going.{history_in, none_open, open_by, open_only, past_in, past_with}
+use Rattle.server_laws.proofs.Judged.{Known, IsService, AreJudged, all-ends, judged-midway, told-after}
 
 -- ---- between events and within one
 
@@ -46,16 +47,6 @@ use Rattle.server_laws.proofs.Judged.{Known, IsService, AreJudged, all-ends, jud
 pub record Stand (sessions : List Session) (jobs : Queue) : Type 0 where
   pub names : AllPairs (λ one other. name_of one ≢ name_of other) sessions
   pub each : (name : Name) → IsOrderlyAt (session_named name sessions) (jobs_of name jobs)
-
-abbrev history_in : Option Session → History
-history_in None = []
-history_in (Some session) = session.history
-
-abbrev pub past_in : List Session → IsPast
-past_in sessions name = history_in (session_named name sessions)
-
-abbrev pub none_open : Open
-none_open name = []
 
 begun-at : (session : Option Session) (jobs : Queue) → IsOrderlyAt session jobs → IsMidwayAt (history_in session) [] session jobs
 begun-at None jobs is = is
@@ -113,20 +104,12 @@ same-goes : {S : Type 0} (name : Name) (past : IsPast) (opened : Open) (speak : 
 same-goes name past opened speak state goes on =
     speaks-goes name past past opened opened speak state (λ other apart. (refl, refl)) (λ session found others s. goes others (speaker_in state session) s) on
 
--- the open numbers at one name alone
-abbrev pub open_only : Name → List ℕ → Open
-open_only name numbers other = cond (is_same other name) numbers []
-
-only-own : (name : Name) (numbers : List ℕ) → open_only name numbers name ≡ numbers
+pub only-own : (name : Name) (numbers : List ℕ) → open_only name numbers name ≡ numbers
 only-own name numbers = cond-true (is_same name name) numbers [] (names-same name name refl)
 
 only-others : (name : Name) (numbers later : List ℕ) → (other : Name) → other ≢ name → open_only name numbers other ≡ open_only name later other
 only-others name numbers later other apart =
     cond-false (is_same other name) numbers [] (apart-names other name apart) ∙ sym (cond-false (is_same other name) later [] (apart-names other name apart))
-
--- the open numbers after a judgement
-abbrev open_by : Verdict → ℕ → List ℕ → List ℕ
-open_by verdict number numbers = cond (is_accepted verdict) (number ∷ numbers) numbers
 
 -- one session's open numbers change as it speaks
 only-goes : {S : Type 0} (name : Name) (past : IsPast) (numbers later : List ℕ) (speak : Speaker S → Speaker S) (state : State S)
@@ -170,7 +153,7 @@ row-by setting name number seq verdict body past numbers state told on =
     only-goes name past (open_by verdict number numbers) numbers (owes setting number seq verdict body) state
     (λ others speaker s. owes-keeps setting number seq verdict body name (past name) numbers others speaker told s) on
 
-row-goes : {S : Type 0} (setting : Setting S) (name : Name) (number seq : ℕ) (verdict : Verdict) (body : List ℕ) (past : IsPast) (numbers : List ℕ) (state : State S)
+pub row-goes : {S : Type 0} (setting : Setting S) (name : Name) (number seq : ℕ) (verdict : Verdict) (body : List ℕ) (past : IsPast) (numbers : List ℕ) (state : State S)
     → IsTold number verdict (past name)
     → IsGoingOn past (open_only name (open_by verdict number numbers)) state.sessions state.jobs
     → IsGoingOn past (open_only name numbers) (row setting name number seq verdict body state).sessions (row setting name number seq verdict body state).jobs
@@ -180,16 +163,19 @@ row-goes setting name number seq (Accepted item) body past numbers state told on
 row-goes setting name number seq (Again mark) body past numbers state told on = row-by setting name number seq (Again mark) body past numbers state told on
 row-goes setting name number seq (Noticed code) body past numbers state told on = row-by setting name number seq (Noticed code) body past numbers state told on
 
-pub settles-go : {S : Type 0} (setting : Setting S) (name : Name) (judgement : Judgement) (body : List ℕ) (past : IsPast) (numbers : List ℕ) (state : State S)
+pub tells-go : {S : Type 0} (name : Name) (number : ℕ) (past : IsPast) (numbers : List ℕ) (state : State S) → IsGoingOn past (open_only name numbers) state.sessions state.jobs
+    → IsGoingOn past (open_only name numbers) (speaks name (tells_of number) state).sessions (speaks name (tells_of number) state).jobs
+tells-go name number past numbers state on =
+    only-goes name past numbers numbers (tells_of number) state (λ others speaker s. tells-keeps number name others (past name) numbers speaker s) on
+
+settles-go : {S : Type 0} (setting : Setting S) (name : Name) (judgement : Judgement) (body : List ℕ) (past : IsPast) (numbers : List ℕ) (state : State S)
     → IsTold judgement.number judgement.verdict (past name)
     → IsGoingOn past (open_only name (open_by judgement.verdict judgement.number numbers)) state.sessions state.jobs
     → IsGoingOn past (open_only name numbers) (settles setting name state (judgement, body)).sessions (settles setting name state (judgement, body)).jobs
 settles-go setting name judgement body past numbers state told on =
     let done = row setting name judgement.number judgement.seq judgement.verdict body state in
     failures-go setting past (open_only name numbers) (speaks name (tells_of judgement.number) done)
-    (only-goes name past numbers numbers (tells_of judgement.number) done
-    (λ others speaker s. tells-keeps judgement.number name others (past name) numbers speaker s)
-    (row-goes setting name judgement.number judgement.seq judgement.verdict body past numbers state told on))
+    (tells-go name judgement.number past numbers done (row-goes setting name judgement.number judgement.seq judgement.verdict body past numbers state told on))
 
 -- all of them, with their bodies
 all-settle : {S : Type 0} (setting : Setting S) (name : Name) (judged : List Judgement) (bodies : List (List ℕ)) (past : IsPast) (state : State S)
@@ -224,11 +210,7 @@ opens-keeps {S} setting later judged history name others speaker once are s =
     (cond_both (has_accepted ready.session) ready (says_it_is_new setting ready) (λ (speaker : Speaker S). IsSpeaking name others later (opens_of judged) speaker)
     (λ is. s_ready) (λ is. new-keeps setting name others later (opens_of judged) ready s_ready))
 
--- the histories after a session was told of its own
-past_with : Name → History → IsPast → IsPast
-past_with name history past other = cond (is_same other name) history (past other)
-
-with-own-past : (name : Name) (history : History) (past : IsPast) → past_with name history past name ≡ history
+pub with-own-past : (name : Name) (history : History) (past : IsPast) → past_with name history past name ≡ history
 unfolding past_with
 with-own-past name history past = cond-true (is_same name name) history (past name) (names-same name name refl)
 
@@ -257,6 +239,28 @@ found-orderly name sessions jobs session is stand =
     let P : Option Session → Type 0 = λ found. IsOrderlyAt found (jobs_of name jobs) in
     subst P is (stand.each name)
 
+-- the session opens what it owes, with what it judged
+pub opened-goes : {S : Type 0} (known : Known) (service : IsService) (setting : Setting S) (way : Way) (message : Message) (state : State S) (session : Session)
+    → session_named (name_of session) state.sessions ≡ Some session → IsGoingOn (past_in state.sessions) none_open state.sessions state.jobs
+    → IsGoingOn (past_with (name_of session) (session_after way (remembered session) message).history (past_in state.sessions))
+    (open_only (name_of session) (opens_of (judgements way (remembered session) message)))
+    (speaks (name_of session) (opens setting (session_after way (remembered session) message).history (judgements way (remembered session) message)) state).sessions
+    (speaks (name_of session) (opens setting (session_after way (remembered session) message).history (judgements way (remembered session) message)) state).jobs
+opened-goes {S} known service setting way message state session found on =
+    let name = name_of session in
+    let order = found-orderly name state.sessions state.jobs session found (goes-stand (past_in state.sessions) none_open state.sessions state.jobs on) in
+    let ends = all-ends known service way session.replies message session.history order.judged order.replied.accepted in
+    let later = (session_after way (remembered session) message).history in
+    let later_is : later ≡ ends.later = ap (λ (session : Remembered). session.history) ends.is in
+    let judged = judgements way (remembered session) message in
+    let past = past_in state.sessions in
+    let past_is : past name ≡ session.history = ap history_in found in
+    let J : History → Type 0 = λ history. AreJudged judged history ends.later in
+    let K : History → Type 0 = λ history. AreJudged judged (past name) history in
+    let are : AreJudged judged (past name) later = subst K (sym later_is) (subst J (sym past_is) ends.judged) in
+    let once : EachOnce later = subst EachOnce (sym later_is) ends.once in
+    opens-go setting later judged name past state once are on
+
 takes-stand : {S : Type 0} (known : Known) (service : IsService) (setting : Setting S) (envelope : Envelope) (state : State S) (found : Option Session)
     → session_named (name_in envelope) state.sessions ≡ found → Stand state.sessions state.jobs
     → Stand (takes_by setting envelope found state).sessions (takes_by setting envelope found state).jobs
@@ -269,21 +273,15 @@ takes-stand {S} known service setting envelope state (Some session) is stand =
     let found : session_named (name_of session) state.sessions ≡ Some session = subst N (sym named_so) is in
     let name = name_of session in
     let order = found-orderly name state.sessions state.jobs session found stand in
-    let ends = all-ends known service way session.replies message session.history order.judged order.replied.accepted in
     let later = (session_after way (remembered session) message).history in
-    let later_is : later ≡ ends.later = ap (λ (session : Remembered). session.history) ends.is in
     let judged = judgements way (remembered session) message in
     let past = past_in state.sessions in
-    let past_is : past name ≡ session.history = ap history_in found in
-    let J : History → Type 0 = λ history. AreJudged judged history ends.later in
-    let K : History → Type 0 = λ history. AreJudged judged (past name) history in
-    let are : AreJudged judged (past name) later = subst K (sym later_is) (subst J (sym past_is) ends.judged) in
-    let once : EachOnce later = subst EachOnce (sym later_is) ends.once in
     let T : History → Type 0 = λ history. All (λ judgement. IsTold judgement.number judgement.verdict history) judged in
+    let told : T later = told-after known service way session.replies message session.history session.counters.last (jobs_of name state.jobs) order in
     let opened = speaks name (opens setting later judged) state in
     all-settle setting name judged (map (λ one. one.body) (messages_judged way session message)) (past_with name later past) opened
-    (subst T (sym (with-own-past name later past)) are.told)
-    (opens-go setting later judged name past state once are (begun-goes state.sessions state.jobs stand))
+    (subst T (sym (with-own-past name later past)) told)
+    (opened-goes known service setting way message state session found (begun-goes state.sessions state.jobs stand))
 
 -- ---- a session is heard, or made
 
@@ -383,7 +381,7 @@ place-stand : {S : Type 0} (sessions : List Session) (state : State S) → Stand
 place-stand [] state stand = stand
 place-stand (session ∷ sessions) state stand = lost-stand (name_of session) state.sessions state.jobs stand
 
-hears-stand : {S : Type 0} (setting : Setting S) (envelope : Envelope) (state : State S) (found : Option Session)
+pub hears-stand : {S : Type 0} (setting : Setting S) (envelope : Envelope) (state : State S) (found : Option Session)
     → session_named (name_in envelope) state.sessions ≡ found → Stand state.sessions state.jobs
     → Stand (hears_by setting envelope found state).sessions (hears_by setting envelope found state).jobs
 hears-stand setting envelope state (Some session) is stand =

@@ -15,13 +15,13 @@ ghost use Rattle.waits.specs.declared.job.Job.{Job};
 ghost use Rattle.waits.specs.declared.job.Unfinished.{Unfinished};
 ghost use Rattle.waits.specs.Jobs.{Queue, first_job, without_first, ready_job, without_ready};
 ghost use Rattle.server_rules.specs.Server.{Name, Server, Session, Reply, has_accepted, kept_of, kept_replies, mark_after, marks_of, name_of, remembered, reply_to, session_named};
-ghost use Rattle.server_rules.specs.Event.{Owed, Sent, Setting, Speaker, State, BindingCall, speaker_in, speaks};
+ghost use Rattle.server_rules.specs.Event.{Envelope, Owed, Sent, Setting, Speaker, State, BindingCall, speaker_in, speaks};
 ghost use Rattle.server_rules.specs.Events.{Event, Course, course_of, after_event};
 ghost use Rattle.server_rules.specs.Speaking.{says, says_again, says_it_is_new, answers, answers_in_place, made_room};
-ghost use Rattle.server_rules.specs.Waiting.{gives_up, tells_of};
+ghost use Rattle.server_rules.specs.Waiting.{after_failures, gives_up, tells_of};
 ghost use Rattle.server_rules.specs.Calls.{accepts_call, binds, drops_answer};
 ghost use Rattle.server_rules.specs.Rows.{accepts, acknowledges, answers_broken, came_again, notices, sends_again, takes_acks, tells_salts, tells_states};
-ghost use Rattle.server_rules.specs.Answer.{after_attach, attaches, finishes, opens};
+ghost use Rattle.server_rules.specs.Answer.{after_attach, attaches, begun, finishes, hears, opens};
 ghost use Rattle.server_rules.specs.Sending.{messages_by, sends};
 ghost use Rattle.inbox.specs.Inbox.{was_heard};
 ghost use Rattle.inbox.specs.declared.judged.Judgement.{Judgement};
@@ -29,10 +29,11 @@ ghost use Rattle.msg_ids.specs.Counters.{Counters, room};
 ghost use Rattle.packing.specs.Packing.{packets_of};
 ghost use Rattle.server_laws.specs.Start.{BeginsWith, SaysItIsNew, new_owed};
 ghost use Rattle.inbox.specs.declared.judged.Verdict.{Verdict};
-ghost use Rattle.server_rules.specs.Rows.{owes};
+ghost use Rattle.server_rules.specs.Rows.{owes, row};
 ghost use Rattle.server_laws.specs.Speech.{SaidFor};
 ghost use Rattle.server_laws.specs.Witness as shown;
-ghost use Rattle.server_laws.specs.Order.{AreOrdered, IsOrderly, IsMidway, IsSpeaking, IsTold, IsUnanswered, HasNoJob, WasCalled, is_for_service, opens_of, reply_made};
+ghost use Rattle.server_laws.specs.Going.{none_open, open_by, open_only, past_in, past_with};
+ghost use Rattle.server_laws.specs.Order.{AreOrdered, IsGoingOn, IsOrderly, IsMidway, IsSpeaking, IsTold, IsUnanswered, HasNoJob, WasCalled, is_for_service, opens_of, reply_made};
 
 use draws::Draw;
 
@@ -67,6 +68,34 @@ pub fn packets_are_judged()
     ensures told { (way : Way) (session : Session) (message : Message) (jobs : Queue)
         → IsOrderly session.history session.replies session.counters.last jobs
         → All (λ judgement. IsTold judgement.number judgement.verdict (session_after way (remembered session) message).history) (judgements way (remembered session) message) }
+{
+    id_window::laws::numbers_are_judged_once();
+    server_rules::laws::marks_follow_history();
+}
+
+/// The event of a packet keeps all in order: its session is heard, and opens with what it judged, whose accepted numbers are
+/// open then; the row of a judgement answers its number, or leaves it, and then jobs are told and those that fail answered.
+pub fn packets_settle_in_order<D: Draw>()
+    ensures hears { (setting : Setting D) (envelope : Envelope) (server : Server) (draw : D) → AreOrdered server.sessions server.jobs
+        → IsGoingOn (past_in (hears setting envelope (begun server draw)).sessions) none_open
+        (hears setting envelope (begun server draw)).sessions (hears setting envelope (begun server draw)).jobs }
+    ensures opens { (setting : Setting D) (way : Way) (message : Message) (state : State D) (session : Session)
+        → session_named (name_of session) state.sessions ≡ Some session → IsGoingOn (past_in state.sessions) none_open state.sessions state.jobs
+        → IsGoingOn (past_with (name_of session) (session_after way (remembered session) message).history (past_in state.sessions))
+        (open_only (name_of session) (opens_of (judgements way (remembered session) message)))
+        (speaks (name_of session) (opens setting (session_after way (remembered session) message).history (judgements way (remembered session) message)) state).sessions
+        (speaks (name_of session) (opens setting (session_after way (remembered session) message).history (judgements way (remembered session) message)) state).jobs }
+    ensures row { (setting : Setting D) (name : Name) (number seq : ℕ) (verdict : Verdict) (body : List ℕ) (past : Name → History) (numbers : List ℕ) (state : State D)
+        → IsTold number verdict (past name)
+        → IsGoingOn past (open_only name (open_by verdict number numbers)) state.sessions state.jobs
+        → IsGoingOn past (open_only name numbers) (row setting name number seq verdict body state).sessions (row setting name number seq verdict body state).jobs }
+    ensures tells { (name : Name) (number : ℕ) (past : Name → History) (numbers : List ℕ) (state : State D)
+        → IsGoingOn past (open_only name numbers) state.sessions state.jobs
+        → IsGoingOn past (open_only name numbers) (speaks name (tells_of number) state).sessions (speaks name (tells_of number) state).jobs }
+    ensures failures { (setting : Setting D) (past : Name → History) (opened : Name → List ℕ) (state : State D) → IsGoingOn past opened state.sessions state.jobs
+        → IsGoingOn past opened (after_failures setting state).sessions (after_failures setting state).jobs }
+    ensures own_past { (name : Name) (history : History) (past : Name → History) → past_with name history past name ≡ history }
+    ensures own_open { (name : Name) (numbers : List ℕ) → open_only name numbers name ≡ numbers }
 {
     id_window::laws::numbers_are_judged_once();
     server_rules::laws::marks_follow_history();

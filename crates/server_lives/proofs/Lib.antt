@@ -17,3 +17,4 @@ pub mod Opening
 pub mod Packed
 pub mod Announced
 pub mod Lived
+pub mod Little

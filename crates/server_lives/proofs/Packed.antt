@@ -34,7 +34,7 @@ others-new setting salt mute (packet ∷ packets) speaker apart all =
 
 -- ---- the packet of its messages
 
-short-new : (first unique : ℕ) (message : Message) → NamesSession first unique message.body → IsShort message
+pub short-new : (first unique : ℕ) (message : Message) → NamesSession first unique message.body → IsShort message
 short-new first unique message names =
     let size = new-length first unique names.0 in
     let same = ap length names.1 in omega arith

@@ -52,7 +52,7 @@ three-within one other third short_one short_other short_third =
     and_from _ _ (le-leb (length group) messages_max few) (le-leb (size_of group) bytes_max small)
 
 -- one of at most three short messages and those behind it
-one-group : (first : Message) (rest : List Message) → IsShort first → length rest ≤ 2 → All IsShort rest → groups (first ∷ rest) ≡ (first ∷ rest) ∷ []
+pub one-group : (first : Message) (rest : List Message) → IsShort first → length rest ≤ 2 → All IsShort rest → groups (first ∷ rest) ≡ (first ∷ rest) ∷ []
 one-group first [] short few all = refl
 one-group first (other ∷ []) short few all =
     cond-true (is_within (first ∷ (other ∷ []))) (grouped (first ∷ (other ∷ [])) []) ((first ∷ []) ∷ grouped (other ∷ []) [])

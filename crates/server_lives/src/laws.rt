@@ -1,10 +1,16 @@
 //! Laws of the lives of a server's sessions, each the contract of a function that does nothing.
 
-ghost use Rattle.std.specs.Prelude.{◌≡◌, true, false, [], ◌∷◌, List, ◌++◌, All};
+ghost use Rattle.std.specs.Prelude.{◌≡◌, true, false, [], ◌∷◌, List, Some, ◌++◌, All};
 ghost use Rattle.regs_service.specs.Served.{Step};
-ghost use Rattle.server_rules.specs.Event.{Setting};
+ghost use Rattle.packing.specs.Packing.{groups};
+ghost use Rattle.inbox.specs.Inbox.{was_heard};
+ghost use Rattle.server_rules.specs.Server.{Session, name_of, session_named};
+ghost use Rattle.server_rules.specs.Event.{Envelope, Setting, State};
+ghost use Rattle.server_rules.specs.Sending.{messages_by};
+ghost use Rattle.server_rules.specs.Answer.{takes_by};
+ghost use Rattle.server_laws.specs.Order.{IsOrderly, jobs_of};
 ghost use Rattle.server_rules.specs.Events.{Event, course_of};
-ghost use Rattle.server_lives.specs.Lives.{told_of};
+ghost use Rattle.server_lives.specs.Lives.{history_by, told_of};
 ghost use Rattle.server_lives.specs.Announced.{IsAnnounced};
 ghost use Rattle.server_lives.specs.Courses.{GoOn};
 ghost use Rattle.server_laws.specs.Witness as shown;
@@ -97,3 +103,17 @@ pub fn lives_that_happen()
     ensures bound_entered { lived.entered lived.bound ≡ [] ∷ [] }
     ensures bound_unfinished { lived.unfinished lived.bound ≡ [] }
 {}
+
+/// What a session that has accepted nothing, with this packet, owes to the packet goes out together.
+pub fn new_sessions_owe_little<D: Draw>()
+    ensures { (setting : Setting D) (envelope : Envelope) (state : State D) (session : Session) → state.sent ≡ [] → state.owed ≡ []
+        → IsOrderly session.history session.replies session.counters.last (jobs_of (name_of session) state.jobs)
+        → session_named (name_of session) state.sessions ≡ Some session → was_heard (history_by setting envelope session) ≡ false
+        → groups (messages_by (name_of session) (takes_by setting envelope (Some session) state).owed)
+        ≡ messages_by (name_of session) (takes_by setting envelope (Some session) state).owed ∷ [] }
+{
+    server_laws::laws::sessions_speak::<D>();
+    server_laws::laws::sessions_speak_for_themselves::<D>();
+    server_laws::laws::floors_never_fall();
+    server_laws::laws::new_sessions_say_so::<D>();
+}

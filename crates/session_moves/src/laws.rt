@@ -7,7 +7,7 @@ ghost use Rattle.session_moves.specs.Table.Status.{Unmade, Standing, Lost};
 ghost use Rattle.session_moves.specs.Table.Cause.{ServerSessionLost, Ended, Forgotten};
 ghost use Rattle.session_moves.specs.Table.Outcome.{AcceptedOther};
 ghost use Rattle.session_moves.specs.Table.Item.{NewSession, Result, Notice, WrongSalt};
-ghost use Rattle.session_moves.specs.Table.{CallId, Text, State, Name, Message, Outcome, Judged, Item, Packet, Entry, call_at};
+ghost use Rattle.session_moves.specs.Table.{CallId, Text, State, Name, Message, Outcome, Item, Packet, Entry, call_at};
 ghost use Rattle.session_moves.specs.World.{World, Owns, IsName, IsUnder, start};
 ghost use Rattle.session_moves.specs.Move.{Part, Move};
 ghost use Rattle.session_moves.specs.Move.OwnAct.{NewClient, Renew, Submit, GiveUp, End};
@@ -269,12 +269,6 @@ pub fn numbers_are_given_once()
         → IsName w.calls message.session message.number → ⊥ }
     ensures any_result { (w : World) (unique : ℕ) (message : Message) (reply : Text) → Reached w → Contains w.ups message
         → message.session ≡ (w.servers unique).session → message.call ≡ None → MaySay w unique (Result message.number reply) }
-{}
-
-/// A server session has one outcome at most of a number.
-pub fn numbers_are_judged_once()
-    ensures { (w : World) (unique : ℕ) (one other : Judged) → Reached w → Contains (w.servers unique).judged one
-        → Contains (w.servers unique).judged other → one.number ≡ other.number → one ≡ other }
 {}
 
 /// A name is of one call, stands once among the names of that call, and was sent. Each session number of a name or of a

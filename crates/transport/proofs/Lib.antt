@@ -6,3 +6,4 @@ pub mod OneStart
 pub mod SentStarts
 pub mod Meeting
 pub mod InOrder
+pub mod Answering

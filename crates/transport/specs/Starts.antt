@@ -71,6 +71,12 @@ pub record StartsObfuscated (bytes : List ℕ) (opening : Opening) (rest : List 
 abbrev pub Starts : List ℕ → Opening → List ℕ → Type 0
 Starts bytes opening rest = StartsPlain bytes opening rest ⊎ StartsObfuscated bytes opening rest
 
+-- the bytes are some start and what is behind it
+pub record IsOpened (bytes : List ℕ) : Type 0 where
+  pub opening : Opening
+  pub rest : List ℕ
+  pub starts : Starts bytes opening rest
+
 -- more bytes are needed
 pub record IsAwaited (bytes : List ℕ) : Type 0 where
   pub few : length bytes < 64

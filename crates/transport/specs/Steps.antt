@@ -1,5 +1,5 @@
 -- What a server's end becomes as its first bytes come.
-use Rattle.std.specs.Prelude.{⊤, ℕ, List}
+use Rattle.std.specs.Prelude.{◌≡◌, ⊤, ℕ, List}
 use Rattle.transport.specs.Wires.{Line}
 use Rattle.transport.specs.declared.wire.RawStep.{RawStep}
 use Rattle.transport.specs.declared.wire.RawStep.TheVariants.{Raw, Framed, Start, Memory}
@@ -27,3 +27,24 @@ IfMemory (Raw wire) P = ⊤
 IfMemory (Framed wire) P = ⊤
 IfMemory (Start bytes) P = ⊤
 IfMemory (Memory wire) P = P wire
+
+-- that it awaits more bytes
+abbrev pub IsRaw : RawStep → Type 0
+IsRaw (Raw wire) = ⊤
+IsRaw (Framed wire) = ⊥
+IsRaw (Start bytes) = ⊥
+IsRaw (Memory wire) = ⊥
+
+-- that its form is known, or would be but for want of memory
+abbrev pub IsFramedOrMemory : RawStep → Type 0
+IsFramedOrMemory (Raw wire) = ⊥
+IsFramedOrMemory (Framed wire) = ⊤
+IsFramedOrMemory (Start bytes) = ⊥
+IsFramedOrMemory (Memory wire) = ⊤
+
+-- that these bytes name no form
+abbrev pub IsStart : List ℕ → RawStep → Type 0
+IsStart bytes (Raw wire) = ⊥
+IsStart bytes (Framed wire) = ⊥
+IsStart bytes (Start found) = found ≡ bytes
+IsStart bytes (Memory wire) = ⊥

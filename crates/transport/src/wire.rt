@@ -3,6 +3,7 @@
 use crate::direction::Direction;
 use crate::form::Form;
 use crate::framed::Framed;
+use crate::laws::first_bytes_tell_one_thing;
 use crate::raw::{Raw, START_MAX};
 use crate::start::{Told, look_at, start_of, tag_of};
 use cipher_modes::Ctr;
@@ -51,9 +52,9 @@ pub enum RawStep {
 }
 
 impl Wire<Raw> {
-    ghost use Rattle.std.specs.Prelude.{◌≡◌, ◌++◌, []};
-    ghost use Rattle.transport.specs.Starts.{IsAwaited, IsRefused};
-    ghost use Rattle.transport.specs.Steps.{IfRaw, IfFramed, IfStart, IfMemory};
+    ghost use Rattle.std.specs.Prelude.{◌≡◌, ◌++◌, [], ℕ, List};
+    ghost use Rattle.transport.specs.Starts.{IsAwaited, IsOpened, IsRefused, Opening, Starts};
+    ghost use Rattle.transport.specs.Steps.{IfRaw, IfFramed, IfStart, IfMemory, IsRaw, IsFramedOrMemory, IsStart};
     ghost use Rattle.transport.specs.Wires.{HasStarted};
 
     /// A server's end that no byte has come to. Takes no memory.
@@ -64,12 +65,27 @@ impl Wire<Raw> {
     }
 
     /// Takes the next piece: the wire awaits more, or knows the form, and then what is behind the start is fed to it, or
-    /// names no form. `Memory` leaves the wire as it was.
+    /// names no form. `Memory` leaves the wire as it was, and comes only where the form is known.
     pub fn feed(self, alloc: Global, piece: &[u8]) -> RawStep
+        ensures awaits { IfRaw result (λ wire. (wire ≡ self ++ piece.now) × IsAwaited (self ++ piece.now)) }
+        ensures only_awaits { IsAwaited (self ++ piece.now) → IsRaw result }
+        ensures opens { IfFramed result (λ wire. HasStarted wire (self ++ piece.now)) }
+        ensures only_opens { (opening : Opening) (rest : List ℕ) → Starts (self ++ piece.now) opening rest → IsFramedOrMemory result }
+        ensures refuses { IfStart result (λ bytes. IsRefused (self ++ piece.now) bytes) }
+        ensures only_refuses { (bytes : List ℕ) → IsRefused (self ++ piece.now) bytes → IsStart bytes result }
+        ensures unchanged_on_memory { IfMemory result (λ wire. wire ≡ self) }
+    {
+        first_bytes_tell_one_thing();
+        self.step(alloc, piece)
+    }
+
+    // The same, without those that say that it answers nothing else.
+    fn step(self, alloc: Global, piece: &[u8]) -> RawStep
         ensures awaits { IfRaw result (λ wire. (wire ≡ self ++ piece.now) × IsAwaited (self ++ piece.now)) }
         ensures opens { IfFramed result (λ wire. HasStarted wire (self ++ piece.now)) }
         ensures refuses { IfStart result (λ bytes. IsRefused (self ++ piece.now) bytes) }
         ensures unchanged_on_memory { IfMemory result (λ wire. wire ≡ self) }
+        ensures known_on_memory { IfMemory result (λ _. IsOpened (self ++ piece.now)) }
     {
         buffers_stand::<Form>();
         let (first, count) = self.state.with(piece);

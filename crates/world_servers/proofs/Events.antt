@@ -82,7 +82,7 @@ pub record IsItsOwn (S : Type 0) (before after : Speaker S) : Type 0 where
   pub number : after.session.number ≡ before.session.number
   pub owed : (further : List Owed) × (after.owed ≡ before.owed ++ further) × All (λ one. one.name ≡ name_of before.session) further
 
-own_of : {S : Type 0} (before after : Speaker S) → SaidFor S before after → IsItsOwn S before after
+pub own_of : {S : Type 0} (before after : Speaker S) → SaidFor S before after → IsItsOwn S before after
 own_of before after said = record { key = said.key; number = said.number; owed = said.owed }
 
 module _ {S : Type 0} (adds : Adds) (w : World) (gone : List Session) (lines : Name → Line) (state : State S) (h : EventStands w gone lines state) (name : Name) where

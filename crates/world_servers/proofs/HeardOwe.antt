@@ -18,7 +18,7 @@ use Rattle.server_rules.specs.Waiting.{Outlook, after_failures, after_timeouts, 
 use Rattle.server_rules.specs.Sending.{messages_by}
 use Rattle.server_rules.specs.Answer.{finishes, runs, ticks}
 use Rattle.server_laws.specs.Speech.{SaidFor}
-use Rattle.server_laws.specs.Order.{AreOrdered, WasCalled, jobs_of}
+use Rattle.server_laws.specs.Order.{AreOrdered, IsOrderlyAt, WasCalled, jobs_of}
 use Rattle.world_servers.specs.Servers.{AreApart, IsJobOf}
 use Rattle.world_servers.specs.Speaking.{with_line}
 use Rattle.world_servers.specs.Events.{with_lines}
@@ -67,7 +67,7 @@ pub record AreHeard (sessions : List Session) (jobs : Queue) (owed : List Owed) 
   pub owe : AllByRecursion (OwesHeard owed) sessions
   pub work : AllByRecursion (WorksHeard jobs) sessions
 
-works_so : (jobs new : Queue) (o : Session) → AllByRecursion (IsJobOf jobs) new → WorksHeard jobs o → WorksHeard new o
+pub works_so : (jobs new : Queue) (o : Session) → AllByRecursion (IsJobOf jobs) new → WorksHeard jobs o → WorksHeard new o
 works_so jobs new o from h =
     map_all (IsJobOf jobs) (λ (one : Unfinished). is_of o.key o.number one ≡ true → has_accepted o ≡ true) new
     (λ one is other of.
@@ -200,7 +200,7 @@ or_right : (a b : Bool) → b ≡ true → (a || b) ≡ true
 or_right true b is = refl
 or_right false b is = is
 
-any_of : (history : History) (one : FirstJudgement) → Contains history one → was_accepted one.outcome ≡ true → was_heard history ≡ true
+pub any_of : (history : History) (one : FirstJudgement) → Contains history one → was_accepted one.outcome ≡ true → was_heard history ≡ true
 any_of [] one there is = let below : there.0 < 0 = there.1 in absurd (omega (arith, below))
 any_of (first ∷ history) one there is =
     elim (first_or one first history there) [
@@ -208,17 +208,18 @@ any_of (first ∷ history) one there is =
       | inr other ↦ or_right (was_accepted first.outcome) (was_heard history) (any_of history one other is)
     ]
 
+pub ordered_works : (sessions : List Session) (jobs : Queue) → AreApart sessions → ((name : Name) → IsOrderlyAt (session_named name sessions) (jobs_of name jobs)) → AllByRecursion (WorksHeard jobs) sessions
+ordered_works sessions jobs apart each =
+    all_of (WorksHeard jobs) sessions
+    (λ o there.
+    all_of (λ (one : Unfinished). is_of o.key o.number one ≡ true → has_accepted o ≡ true) jobs
+    (λ one is of.
+    let called : WasCalled one.job.number o.history =
+    All-contains (λ (one : Unfinished). WasCalled one.job.number o.history) (jobs_of (name_of o) jobs) one (orderly sessions jobs apart each o there).unfinished.called (kept_in (is_of o.key o.number) jobs one is of) in
+    any_of o.history called.0 called.1 (ap was_accepted called.3)))
+
 pub ordered_heard : (sessions : List Session) (jobs : Queue) → AreApart sessions → AreOrdered sessions jobs → AreHeard sessions jobs []
-ordered_heard sessions jobs apart h = record {
-  owe = all_of (OwesHeard []) sessions (λ o there. tt);
-  work = all_of (WorksHeard jobs) sessions
-      (λ o there.
-      all_of (λ (one : Unfinished). is_of o.key o.number one ≡ true → has_accepted o ≡ true) jobs
-      (λ one is of.
-      let called : WasCalled one.job.number o.history =
-      All-contains (λ (one : Unfinished). WasCalled one.job.number o.history) (jobs_of (name_of o) jobs) one (orderly sessions jobs apart h o there).unfinished.called (kept_in (is_of o.key o.number) jobs one is of) in
-      any_of o.history called.0 called.1 (ap was_accepted called.3)));
-}
+ordered_heard sessions jobs apart h = record { owe = all_of (OwesHeard []) sessions (λ o there. tt); work = ordered_works sessions jobs apart h.each }
 
 pub lines_heard : (lines : Name → Line) (owed : List Owed) (sessions : List Session) → AllByRecursion (OwesHeard owed) sessions
     → AllByRecursion (MayAllGo owed) (with_lines lines sessions)

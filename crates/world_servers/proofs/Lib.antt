@@ -22,3 +22,10 @@ pub mod Sending
 pub mod Ending
 pub mod HeardOwe
 pub mod WorksEnd
+pub mod Growing
+pub mod Named
+pub mod Settling
+pub mod Noticing
+pub mod Taking
+pub mod PacketEnd
+pub mod Hearing

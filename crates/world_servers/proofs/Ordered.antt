@@ -6,7 +6,7 @@ use Rattle.std.proofs.lemmas.List.Elements.{All-contains}
 use Rattle.waits.specs.declared.job.Unfinished.{Unfinished}
 use Rattle.waits.specs.Jobs.{Queue, is_of}
 use Rattle.server_rules.specs.Server.{Name, Reply, Session, is_named, name_of, session_named}
-use Rattle.server_laws.specs.Order.{AreOrdered, IsOrderlyAt, IsUnanswered, jobs_of}
+use Rattle.server_laws.specs.Order.{IsOrderlyAt, IsUnanswered, jobs_of}
 use Rattle.world_servers.specs.Servers.{AreApart}
 use Rattle.world_servers.specs.Speaking.{IsOpen}
 use Rattle.world_servers.specs.Events.{AreCallsApart, AreOpenJobs, AreUnanswered, IsSameCall}
@@ -62,13 +62,13 @@ finds test (first ∷ sessions) x among is =
           ]
     ]
 
-module _ (sessions : List Session) (jobs : Queue) (apart : AreApart sessions) (h : AreOrdered sessions jobs) where
+module _ (sessions : List Session) (jobs : Queue) (apart : AreApart sessions) (each : (name : Name) → IsOrderlyAt (session_named name sessions) (jobs_of name jobs)) where
   pub orderly : (x : Session) → Contains sessions x → IsOrderlyAt (Some x) (jobs_of (name_of x) jobs)
   orderly x among =
       let found = finds (is_named (name_of x)) sessions x among (named_itself x) in
       let y = found_in (is_named (name_of x)) sessions found.0 found.1 in
       let same : found.0 ≡ x = one_of_number sessions apart found.0 x y.0 among (sym (number_of_named (name_of x) found.0 y.1)) in
-      subst (λ (o : Option Session). IsOrderlyAt o (jobs_of (name_of x) jobs)) (found.1 ∙ ap (λ (z : Session). Some z) same) (h.each (name_of x))
+      subst (λ (o : Option Session). IsOrderlyAt o (jobs_of (name_of x) jobs)) (found.1 ∙ ap (λ (z : Session). Some z) same) (each (name_of x))
 
   its_open : (x : Session) → Contains sessions x → AreUnanswered jobs x
   its_open x among =
@@ -81,5 +81,5 @@ module _ (sessions : List Session) (jobs : Queue) (apart : AreApart sessions) (h
   pub ordered_open : AreOpenJobs sessions jobs
   ordered_open = record {
     unanswered = all_of (AreUnanswered jobs) sessions (λ x among. its_open x among);
-    apart = apart_of jobs (λ name. once_at (session_named name sessions) (jobs_of name jobs) (h.each name));
+    apart = apart_of jobs (λ name. once_at (session_named name sessions) (jobs_of name jobs) (each name));
   }

@@ -438,17 +438,20 @@ module _ (low : (history : History) → All (λ (j : FirstJudgement). is_kept j.
     rest_by way r message (Again mark) is marks salted w reached s ups = stays w (AtWith (judged_session way r message) []) (s, tt)
     rest_by way r message (Noticed code) is marks salted w reached s ups = stays w (AtWith (judged_session way r message) []) (s, tt)
 
-    pub judged_packet : (now : ℕ) (message : Message) (marks : HasMarks (remembered x)) (w : World) → Reached w → ServerStands w lost sessions jobs
-        → AllByRecursion (IsUp w.ups x.number salt) (messages_judged (InEnvelope now x.salts salt) x message)
-        → Leads w (AtWith (session_after (InEnvelope now x.salts salt) (remembered x) message)
-        (filter_map acceptance_of (zip (judgements (InEnvelope now x.salts salt) (remembered x) message)
-        (map (λ (one : Message). one.body) (messages_judged (InEnvelope now x.salts salt) x message)))))
-    judged_packet now message marks w reached s ups =
-        let way : Way = InEnvelope now x.salts salt in
+    -- by salts that are some of the session's
+    pub judged_packet : (now : ℕ) (line : Line) (within : AllByRecursion (λ (row : Row). Contains x.salts.rows row) line.rows) (message : Message) (marks : HasMarks (remembered x)) (w : World) → Reached w
+        → ServerStands w lost sessions jobs
+        → AllByRecursion (IsUp w.ups x.number salt) (messages_judged (InEnvelope now line salt) x message)
+        → Leads w (AtWith (session_after (InEnvelope now line salt) (remembered x) message)
+        (filter_map acceptance_of (zip (judgements (InEnvelope now line salt) (remembered x) message)
+        (map (λ (one : Message). one.body) (messages_judged (InEnvelope now line salt) x message)))))
+    judged_packet now line within message marks w reached s ups =
+        let way : Way = InEnvelope now line salt in
         let r : Remembered = remembered x in
         let verdict : Verdict = judge way r message in
         let rec : Option Outcome = recorded (kind_of message) verdict in
-        let salted : (item : Item) → judge way r message ≡ Accepted item → HasSalt x salt = λ item is. salt_accepted now salt x.salts r message item is in
+        let salted : (item : Item) → judge way r message ≡ Accepted item → HasSalt x salt = λ item is.
+        let row = salt_accepted now salt line r message item is in (row.0, each_of (λ (row : Row). Contains x.salts.rows row) line.rows within row.0 row.1, row.2) in
         let before : At r w = subst (λ (l : List Session). ServerStands w lost l jobs) (sym (with_itself sessions s.apart x among)) s in
         let then_ : Remembered = judged_session way r message in
         let inner : List Message = unfolded verdict message in

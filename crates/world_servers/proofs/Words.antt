@@ -97,7 +97,7 @@ module _ {S : Type 0} (adds : Adds) (setting : Setting S) (lost sessions : List 
       quietly w lost sessions (with_line line speaker.session) speaker.jobs speaker.owed h (after_item setting.now speaker.session.counters item) speaker.session.replies speaker.jobs
       (go_same speaker.session.replies) (same_jobs speaker.jobs)
 
-  says_it : (w : World) (speaker : Speaker S) (item : Item) → At w speaker
+  pub says_it : (w : World) (speaker : Speaker S) (item : Item) → At w speaker
       → AllByRecursion (CanSay w (with_line line (record speaker.session { counters = after_item setting.now speaker.session.counters item }))) (item_there item)
       → At w (says setting item speaker)
   says_it w speaker item h can =
@@ -109,7 +109,7 @@ module _ {S : Type 0} (adds : Adds) (setting : Setting S) (lost sessions : List 
       cond_both (has_said reply.number speaker) speaker (owes_message (message_of reply) speaker) (At w) (λ is. h)
       (λ is. owes_it w speaker (message_of reply) h (reply_said w (with_line line speaker.session) reply same (message_of reply) refl))
 
-  tells_it : (w : World) (number : ℕ) (speaker : Speaker S) → At w speaker → At w (tells_of number speaker)
+  pub tells_it : (w : World) (number : ℕ) (speaker : Speaker S) → At w speaker → At w (tells_of number speaker)
   tells_it w number speaker h =
       let list : Queue = told (outlook speaker.session speaker.jobs number) speaker.session number speaker.jobs in
       record {

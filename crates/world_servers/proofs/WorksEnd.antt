@@ -48,10 +48,10 @@ SaysNew S =
     (setting : Setting S) (speaker : Speaker S) (jobs : Queue) → IsOrderly speaker.session.history speaker.session.replies speaker.session.counters.last jobs
     → has_accepted speaker.session ≡ false → attaches setting speaker ≡ says_it_is_new setting speaker
 
-same_itself : (name : Name) → is_same name name ≡ true
+pub same_itself : (name : Name) → is_same name name ≡ true
 same_itself name = rw (eq-eqb name.key name.key refl, eq-eqb name.session name.session refl) refl
 
-none_out : (w : World) (owed : List Owed) (packets : List Sent) → packets ≡ [] → AllByRecursion (λ (sent : Sent). WentOut w owed sent.envelope) packets
+pub none_out : (w : World) (owed : List Owed) (packets : List Sent) → packets ≡ [] → AllByRecursion (λ (sent : Sent). WentOut w owed sent.envelope) packets
 none_out w owed packets none = subst (λ (l : List Sent). AllByRecursion (λ (sent : Sent). WentOut w owed sent.envelope) l) (sym none) tt
 
 module _ {S : Type 0} (adds : Adds) (extends : (w : World) (list : List Move) → AreLawful w list → Extends w (after_all w list)) (on : GoOn) (any : AnyResult)
@@ -77,7 +77,7 @@ module _ {S : Type 0} (adds : Adds) (extends : (w : World) (list : List Move) �
       goes_on on w Begun (Ends state) reached (begins_on on w gone lines more server draw reached s h)
       (λ later reached k.
       goes_on on later (λ last. IsGoing last gone lines state) (Ends state) reached
-      (runs_on adds setting gone lines alone finishing on later start place job reply reached (k, ordered_open server.sessions server.jobs s.apart order) is)
+      (runs_on adds setting gone lines alone finishing on later start place job reply reached (k, ordered_open server.sessions server.jobs s.apart order.each) is)
       (λ last reached m. ends_so state (lines_heard lines state.owed state.sessions heard.0.owe) heard.1 last reached m.0))
 
   pub tick_ends : GivesUpAlone S → Leads w (Ends (ticks setting start))
@@ -87,7 +87,7 @@ module _ {S : Type 0} (adds : Adds) (extends : (w : World) (list : List Move) �
       goes_on on w Begun (Ends state) reached (begins_on on w gone lines more server draw reached s h)
       (λ later reached k.
       goes_on on later (λ last. IsGoing last gone lines state) (Ends state) reached
-      (ticks_on adds setting gone lines alone on later start reached (k, ordered_open server.sessions server.jobs s.apart order))
+      (ticks_on adds setting gone lines alone on later start reached (k, ordered_open server.sessions server.jobs s.apart order.each))
       (λ last reached m. ends_so state (lines_heard lines state.owed state.sessions heard.0.owe) heard.1 last reached m.0))
 
   -- ---- a connection is opened
@@ -125,7 +125,7 @@ module _ {S : Type 0} (adds : Adds) (extends : (w : World) (list : List Move) �
 
       go_new : has_accepted x ≡ false → MayAllGo b.owed now
       go_new not_so =
-          let is : b ≡ new = says_new setting first (jobs_of (name_of x) server.jobs) (orderly server.sessions server.jobs s.apart order x place.0) not_so in
+          let is : b ≡ new = says_new setting first (jobs_of (name_of x) server.jobs) (orderly server.sessions server.jobs s.apart order.each x place.0) not_so in
           let has = current adds setting gone (with_lines lines server.sessions) (lines name) first
           (subst (λ (sp : Speaker S). IsWithin (lines name) sp.session) is (within x found)) in
           subst (λ (sp : Speaker S). MayAllGo sp.owed (with_line (lines name) sp.session)) (sym is)

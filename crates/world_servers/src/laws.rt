@@ -1,7 +1,8 @@
 //! Laws of a server's events and moves, each the contract of a function that does nothing.
 
-ghost use Rattle.std.specs.Prelude.{Bool, ◌==◌, if◌then◌else◌, filter_map, map, ◌++◌, ◌≡◌, ◌≢◌, ◌∷◌, ◌⊎◌, ℕ, false, true, List, [], Some, filter};
+ghost use Rattle.std.specs.Prelude.{Bool, ◌==◌, if◌then◌else◌, filter_map, map, ◌++◌, ◌≡◌, ◌≢◌, ◌∷◌, ◌⊎◌, ℕ, false, true, List, [], None, Some, filter};
 ghost use Rattle.std.specs.List.{All, AllByRecursion, Contains, zip};
+ghost use Rattle.draws.specs.Draws.{word_after};
 ghost use Rattle.salt_line.specs.Rows.{Row};
 ghost use Rattle.service_tl.specs.declared.lists.Message.{Message as Said};
 ghost use Rattle.id_window.specs.History.{EachOnce, History, Outcome, noted};
@@ -10,13 +11,15 @@ ghost use Rattle.inbox.specs.Judging.{judgements, session_after};
 ghost use Rattle.waits.specs.declared.job.Job.{Job};
 ghost use Rattle.waits.specs.declared.job.Unfinished.{Unfinished};
 ghost use Rattle.waits.specs.Jobs.{Queue, ready_job, accepted, is_of, without_first, without_ready, without_session as without_jobs_of};
-ghost use Rattle.server_rules.specs.Server.{Name, Reply, Server, Session, has_accepted, is_named, remembered, session_named, with_session, without_session};
-ghost use Rattle.server_rules.specs.Event.{Setting, Speaker, State, lost, speaker_in, speaks};
+ghost use Rattle.server_rules.specs.Server.{Name, Reply, Server, Session, has_accepted, is_named, name_of, remembered, session_named, with_session, without_session};
+ghost use Rattle.inbox.specs.declared.judged.Verdict.TheVariants.{Noticed};
+ghost use Rattle.server_laws.specs.Going.{none_open, past_in};
+ghost use Rattle.server_rules.specs.Event.{Envelope, Setting, Speaker, State, lost, speaker_in, speaks};
 ghost use Rattle.server_laws.specs.Speech.{SaidFor};
 ghost use Rattle.server_rules.specs.Rows.{acked_by, owes};
 ghost use Rattle.server_rules.specs.Speaking.{dropped, made_room};
 ghost use Rattle.server_rules.specs.Waiting.{Outlook, gives_up, told};
-ghost use Rattle.server_rules.specs.Answer.{after_loss, after_restart, attaches, begun, finishes, messages_judged, opens, runs, ticks, without_spent};
+ghost use Rattle.server_rules.specs.Answer.{after_loss, after_restart, attaches, begun, finishes, hears, message_in, messages_judged, name_in, opens, runs, session_for, takes_by, ticks, without_spent};
 ghost use Rattle.server_lives.specs.Lives.{acceptance_of};
 ghost use Rattle.session_moves.specs.Table as moves;
 ghost use Rattle.session_moves.specs.Table.{Message};
@@ -35,7 +38,7 @@ ghost use Rattle.packing.specs.Packing.{groups};
 ghost use Rattle.server_rules.specs.Sending.{all_sent, sends};
 ghost use Rattle.world_servers.specs.Sending.{EventEnds, IsSpoken, MayAllGo, MayGo, WentOut};
 ghost use Rattle.world_servers.specs.Events.{AreLines, AreOpenJobs, EventStands, with_lines};
-ghost use Rattle.server_laws.specs.Order.{AreOrdered};
+ghost use Rattle.server_laws.specs.Order.{AreOrdered, IsGoingOn};
 ghost use Rattle.world_servers.specs.Speaking.{IsDue, IsOpen, IsSaid, IsWithin, SpeaksThere, with_line};
 ghost use Rattle.world_servers.specs.Servers.{AsksThere, AreNewSalts, CanSay, GoOn, HasForgotten, IsAcceptedThere, IsJobOf, IsNewSalt, IsSuch, IsUp, ServerStands, WasAnswered, WasJudged, with_history, with_replies, with_row, with_rows};
 
@@ -148,17 +151,19 @@ pub fn sessions_speak_by_moves()
     numbers_are_given_once();
 }
 
-/// A packet's messages are judged by lawful moves of its session, where each was sent under the packet's session number and
-/// salt, as the call that its body asks for, or as none. What is accepted is that call there, or no call.
+/// A packet's messages are judged by lawful moves of its session, by salts that are some of its own, where each was sent under
+/// the packet's session number and salt, as the call that its body asks for, or as none. What is accepted is that call there,
+/// or no call.
 pub fn packets_are_judged_by_moves()
-    ensures { (w : World) (lost sessions : List Session) (jobs : Queue) (session : Session) (now salt : ℕ) (message : Said) → Reached w
+    ensures { (w : World) (lost sessions : List Session) (jobs : Queue) (session : Session) (line : Line) (now salt : ℕ) (message : Said) → Reached w
         → ServerStands w lost sessions jobs → Contains sessions session → EachOnce session.history
-        → AllByRecursion (IsUp w.ups session.number salt) (messages_judged (InEnvelope now session.salts salt) session message)
+        → IsWithin session.salts (with_line line session)
+        → AllByRecursion (IsUp w.ups session.number salt) (messages_judged (InEnvelope now line salt) session message)
         → Leads w (λ later. ServerStands later lost
-        (with_session (with_history (session_after (InEnvelope now session.salts salt) (remembered session) message).history session) sessions) jobs
+        (with_session (with_history (session_after (InEnvelope now line salt) (remembered session) message).history session) sessions) jobs
         × AllByRecursion (IsAcceptedThere later session) (filter_map acceptance_of
-        (zip (judgements (InEnvelope now session.salts salt) (remembered session) message)
-        (map (λ one. one.body) (messages_judged (InEnvelope now session.salts salt) session message))))) }
+        (zip (judgements (InEnvelope now line salt) (remembered session) message)
+        (map (λ one. one.body) (messages_judged (InEnvelope now line salt) session message))))) }
 {
     floors_never_fall();
     marks_are_of_replies();
@@ -314,4 +319,59 @@ pub fn works_end_by_moves<D: Draw>()
     packing::laws::packets_have_all_messages();
     server_laws::laws::sessions_speak_for_themselves::<D>();
     server_laws::laws::new_sessions_say_so::<D>();
+}
+
+/// The session of a packet is heard: where it stands it is the last one then, which is no move; where there is none it is
+/// made by lawful moves, and where all places are taken the one heard least recently is lost by one. Its unique number and its
+/// first salt have to be new, and its number one of some client's, under which no session stands.
+pub fn sessions_are_heard_by_moves<D: Draw>()
+    ensures known { (w : World) (gone : List Session) (setting : Setting D) (envelope : Envelope) (state : State D) (session : Session)
+        → ServerStands w gone state.sessions state.jobs → session_named (name_in envelope) state.sessions ≡ Some session
+        → ServerStands w gone (hears setting envelope state).sessions (hears setting envelope state).jobs }
+    ensures made { (w : World) (gone : List Session) (setting : Setting D) (envelope : Envelope) (state : State D) → Reached w
+        → ServerStands w gone state.sessions state.jobs → session_named (name_in envelope) state.sessions ≡ None
+        → (session_for setting envelope state.draw).unique ≢ 0 → (w.servers (session_for setting envelope state.draw).unique).status ≡ Unmade
+        → IsNewSalt w (word_after setting.step 1 state.draw)
+        → ((client : ℕ) × Owns (w.clients client) envelope.session)
+        → AllByRecursion (λ other. other.number ≢ envelope.session) state.sessions
+        → AllByRecursion (λ one. is_of envelope.key envelope.session one ≡ false) state.jobs
+        → Leads w (λ later. (lost : List Session) × ServerStands later lost (hears setting envelope state).sessions (hears setting envelope state).jobs) }
+{
+    moves_go_on();
+    what_was_not_made_is_blank();
+}
+
+/// A session that was heard takes its packet by lawful moves: its messages are judged, and each judgement is settled, where
+/// each of these messages was sent under the packet's session number and salt, and none is noticed as an unlawful repeat
+/// (19). The line of salts that it has in the end has those that it had before. What it owes then goes out.
+pub fn packets_are_taken_by_moves<D: Draw>()
+    ensures taken { (w : World) (gone : List Session) (lines : Name → Line) (setting : Setting D) (envelope : Envelope) (heard : State D) (session : Session) → Reached w
+        → EventStands w gone lines heard → heard.owed ≡ [] → heard.sent ≡ [] → IsGoingOn (past_in heard.sessions) none_open heard.sessions heard.jobs
+        → session_named (name_of session) heard.sessions ≡ Some session → IsWithin (lines (name_of session)) session
+        → AllByRecursion (IsUp w.ups session.number envelope.salt) (messages_judged (InEnvelope setting.now session.salts envelope.salt) session (message_in envelope))
+        → AllByRecursion (λ judgement. judgement.verdict ≡ Noticed 19 → ⊥) (judgements (InEnvelope setting.now session.salts envelope.salt) (remembered session) (message_in envelope))
+        → ((later : Session) → session_named (name_of session) (takes_by setting envelope (Some session) heard).sessions ≡ Some later → IsWithin (lines (name_of session)) later)
+        → Leads w (λ later. (lost : List Session) × EventStands later lost lines (takes_by setting envelope (Some session) heard)) }
+    ensures ended { (w : World) (gone : List Session) (lines : Name → Line) (setting : Setting D) (envelope : Envelope) (heard : State D) (session : Session) → Reached w
+        → EventStands w gone lines heard → heard.owed ≡ [] → heard.sent ≡ [] → IsGoingOn (past_in heard.sessions) none_open heard.sessions heard.jobs
+        → session_named (name_of session) heard.sessions ≡ Some session → IsWithin (lines (name_of session)) session
+        → AllByRecursion (IsUp w.ups session.number envelope.salt) (messages_judged (InEnvelope setting.now session.salts envelope.salt) session (message_in envelope))
+        → AllByRecursion (λ judgement. judgement.verdict ≡ Noticed 19 → ⊥) (judgements (InEnvelope setting.now session.salts envelope.salt) (remembered session) (message_in envelope))
+        → ((later : Session) → session_named (name_of session) (takes_by setting envelope (Some session) heard).sessions ≡ Some later → IsWithin (lines (name_of session)) later)
+        → Leads w (λ later. EventEnds later lines (takes_by setting envelope (Some session) heard).owed (without_spent (all_sent setting (takes_by setting envelope (Some session) heard)))) }
+{
+    moves_only_add();
+    moves_go_on();
+    floors_never_fall();
+    marks_are_of_replies();
+    others_are_not_above_the_floor();
+    server_laws::laws::sessions_speak::<D>();
+    server_laws::laws::sessions_speak_for_themselves::<D>();
+    server_laws::laws::packets_settle_in_order::<D>();
+    server_laws::laws::packets_are_judged();
+    server_laws::laws::messages_are_owed_by_name::<D>();
+    numbers_are_given_once();
+    packing::laws::packets_have_all_messages();
+    server_laws::laws::new_sessions_say_so::<D>();
+    server_lives::laws::new_sessions_owe_little::<D>();
 }

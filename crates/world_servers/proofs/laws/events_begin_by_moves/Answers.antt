@@ -7,4 +7,4 @@ returns-clause-salts g c = λ w gone lines more server draw reached s h.
     begins_on (record { reached = c.moves_go_on.ensures.reached; lawful = c.moves_go_on.ensures.lawful; after = c.moves_go_on.ensures.after }) w gone lines more server draw reached s h
 
 pub returns-clause-jobs : goal.returns-clause-jobs
-returns-clause-jobs g c = λ w gone sessions jobs s h. ordered_open sessions jobs s.apart h
+returns-clause-jobs g c = λ w gone sessions jobs s h. ordered_open sessions jobs s.apart h.each

@@ -41,7 +41,7 @@ returns-clause-work g c = λ w gone lines more setting server draw place job rep
     (λ last going. going.0)
     (runs_on (adds_of c.moves_only_add.ensures) setting gone lines (λ setting speaker content job. c.sessions_speak_for_themselves.ensures.gives_up setting speaker content job)
     (λ setting speaker job reply. c.sessions_speak_for_themselves.ensures.finishes setting speaker job reply) on later (begun server draw) place job reply reached
-    (k, ordered_open server.sessions server.jobs s.apart order) is))
+    (k, ordered_open server.sessions server.jobs s.apart order.each) is))
 
 pub returns-clause-tick : goal.returns-clause-tick
 returns-clause-tick g c = λ w gone lines more setting server draw reached s order h.
@@ -52,4 +52,4 @@ returns-clause-tick g c = λ w gone lines more setting server draw reached s ord
     leads_so later (λ last. IsGoing last gone lines (ticks setting (begun server draw))) (λ last. EventStands last gone lines (ticks setting (begun server draw)))
     (λ last going. going.0)
     (ticks_on (adds_of c.moves_only_add.ensures) setting gone lines (λ setting speaker content job. c.sessions_speak_for_themselves.ensures.gives_up setting speaker content job)
-    on later (begun server draw) reached (k, ordered_open server.sessions server.jobs s.apart order)))
+    on later (begun server draw) reached (k, ordered_open server.sessions server.jobs s.apart order.each)))
