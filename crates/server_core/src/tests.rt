@@ -1,21 +1,10 @@
 //! What a server does that no session has come to.
 
-ghost use Rattle.std.specs.Prelude.{◌≡◌, max, OnOk};
-ghost use Rattle.envelope.specs.declared.parts.Dir.TheVariants.{Up};
-ghost use Rattle.envelope.specs.declared.parts.Envelope.{Envelope as Sealed};
-ghost use Rattle.envelope.specs.Opening.{Opens};
-ghost use Rattle.rows.specs.Rings.{AreOf};
-ghost use Rattle.server_rules.specs.Answer.{after_packet, after_tick};
-ghost use Rattle.server_rules.specs.Server.{Server as Rules};
-ghost use Rattle.standing.specs.Says.{Keys, setting_of};
-ghost use Rattle.server_core.specs.Packets.{brought_in};
-
-use crate::{Desk, DeskFault, Plain, Server};
+use crate::Server;
 use auth_keys::Ring;
 use draws::StepDraw;
 use envelope::{MtSeal, Seal};
 use msg_ids::Moment;
-use regs_service::{Regs, Service};
 use std::alloc::Global;
 use std::test::*;
 
@@ -61,62 +50,5 @@ fn a_tick_with_nothing_due_says_nothing(rt: HostRuntime) -> Result<(), Fail> {
     let effects = server.tick(alloc, Moment::new(30), &mut draw)?;
     assert_eq!(rt; effects.out.as_slice().len(), 0);
     assert_eq!(rt; effects.entries.as_slice().len(), 0);
-    Ok(())
-}
-
-// A packet comes to any desk, then a ready job runs and a tick comes: how many packets go out.
-fn serves<K: Desk, V: Service>(
-    alloc: Global,
-    desk: &mut K,
-    service: &mut V,
-    now: Moment,
-    packet: &[u8],
-) -> Result<usize, DeskFault>
-    ensures same_keys { K.keys desk.new ≡ K.keys desk.old }
-{
-    let reply = desk.on_packet(alloc, now, packet)?;
-    let mut sent = reply.out.as_slice().len();
-    if desk.ready() > 0 {
-        let run = desk.work(alloc, 0, service, now)?;
-        sent = sent.saturating_add(run.out.as_slice().len());
-    }
-    let tick = desk.tick(alloc, now)?;
-    Ok(sent.saturating_add(tick.out.as_slice().len()))
-}
-
-// A packet comes to any desk, which opens, and then a tick.
-fn hears<K: Desk>(alloc: Global, desk: &mut K, now: Moment, packet: &[u8]) -> Result<(), DeskFault>
-    ensures given { (ring : Keys) (server : Rules) (envelope : Sealed) → AreOf (K.keys desk.old) ring → K.StandsFor desk.old server
-        → Opens K.S.lock (K.keys desk.old) (max server.now now) Up packet.now envelope
-        → OnOk result (K.StandsFor desk.new (after_tick
-        (setting_of (max (after_packet (setting_of (max server.now now) K.D.step ring) (brought_in envelope) server (K.drawn desk.old)).server.now now) K.D.step ring)
-        (after_packet (setting_of (max server.now now) K.D.step ring) (brought_in envelope) server (K.drawn desk.old)).server
-        (after_packet (setting_of (max server.now now) K.D.step ring) (brought_in envelope) server (K.drawn desk.old)).draw).server) }
-{
-    desk.on_packet(alloc, now, packet)?;
-    desk.tick(alloc, now)?;
-    Ok(())
-}
-
-#[test]
-fn a_plain_desk_drops_what_does_not_open(rt: HostRuntime) -> Result<(), Fail> {
-    let alloc = rt.alloc();
-    let mut server = Server::new(alloc, MtSeal::new(ring(alloc)?));
-    let mut draw = StepDraw::new();
-    let mut service = Regs::fresh(alloc);
-    let mut desk = Plain {
-        server: &mut server,
-        draw: &mut draw,
-    };
-    let sent = serves(
-        alloc,
-        &mut desk,
-        &mut service,
-        Moment::new(30),
-        b"too short",
-    )?;
-    assert_eq!(rt; sent, 0);
-    hears(alloc, &mut desk, Moment::new(31), b"too short")?;
-    assert_eq!(rt; desk.ready(), 0);
     Ok(())
 }
