@@ -48,3 +48,5 @@ pub mod Left
 pub mod Taken
 pub mod HeardLemmas
 pub mod PacketDues
+pub mod BetweenEvents
+pub mod Desked
