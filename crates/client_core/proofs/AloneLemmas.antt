@@ -1,5 +1,5 @@
 -- A call that goes again, alone.
-use Rattle.std.proofs.Common.{◌≡◌, ◌∙◌, subst, false, ℕ, zero, suc, ◌+◌, ◌-◌, ◌<◌, ◌≤◌, List, [], ◌∷◌, Option, Some, None, length, ap, refl, sym, arith}
+use Rattle.std.proofs.Common.{◌≡◌, ◌∙◌, subst, false, ℕ, zero, suc, ◌+◌, ◌-◌, ◌≤◌, List, [], ◌∷◌, Option, Some, None, length, ap, refl, sym, arith}
 use Rattle.std.specs.Prelude.{◌%◌, IfSome, option_map, slice_get}
 use Rattle.std.specs.List.{AllByRecursion}
 use Rattle.service_tl.specs.declared.lists.Message.{Message}
@@ -7,11 +7,11 @@ use Rattle.call_table.specs.declared.call.CallNo.{CallNo}
 use Rattle.call_table.specs.declared.call.Flags.{Flags}
 use Rattle.call_table.specs.declared.call.Living.{Living}
 use Rattle.call_table.specs.declared.row.Row.{Row}
-use Rattle.call_table.specs.Table.{State, Name, Call, Table, at, changed, changed_at, flagged, living_name, sent_again, with_call}
+use Rattle.call_table.specs.Table.{Name, Call, Table, at, changed, changed_at, flagged, living_name, sent_again, with_call}
 use Rattle.call_table.specs.Kept.{Contents, Stands as StandsFor, flagged_row, state_in, state_of}
 use Rattle.client_rules.specs.Filling.{body_behind}
 use Rattle.client_rules.specs.Flush.{Marked, first_marked, gone_again, marked_at, message_behind}
-use Rattle.client_core.specs.Sound.{IsSound, AreSound, IsSendable}
+use Rattle.client_core.specs.Sound.{IsSound, AreSound}
 use Rattle.client_core.specs.Calling.{wrap_bytes}
 use Rattle.client_core.proofs.CallLemmas.{same_at, value}
 
@@ -89,7 +89,7 @@ changed_one f k [] = refl
 changed_one f zero (x ∷ xs) = refl
 changed_one f (suc k) (x ∷ xs) = changed_one f k xs
 
-changed_count : {X : Type 0} (f : X → X) (k : ℕ) (xs : List X) → length (changed_at k f xs) ≡ length xs
+pub changed_count : {X : Type 0} (f : X → X) (k : ℕ) (xs : List X) → length (changed_at k f xs) ≡ length xs
 changed_count f k [] = refl
 changed_count f zero (x ∷ xs) = refl
 changed_count f (suc k) (x ∷ xs) = omega (arith, changed_count f k xs)

@@ -1,9 +1,9 @@
 -- How many bytes a binding message has, whatever the numbers in it.
-use Rattle.std.proofs.Common.{◌≡◌, ◌∙◌, ℕ, zero, suc, ◌+◌, ◌<◌, ◌^◌, List, [], ◌∷◌, ◌++◌, length, ap, refl, sym, subst, arith}
+use Rattle.std.proofs.Common.{◌≡◌, ◌∙◌, ℕ, zero, suc, ◌<◌, ◌^◌, List, [], ◌∷◌, ◌++◌, length, ap, refl, arith}
 use Rattle.std.specs.Prelude.{◌%◌}
 use Rattle.std.specs.Int.{byte_at, bytes_low_first}
 use Rattle.octets.specs.Bytes.{IsBytes, HasBytes}
-use Rattle.draws.specs.Draws.{next_bytes, next_words}
+use Rattle.draws.specs.Draws.{next_bytes}
 use Rattle.temp_keys.specs.declared.binding.Inner.{Inner}
 use Rattle.temp_keys.specs.Messages.{IsInner, Says, binding_message, inner_bytes, inner_constructor, inner_text, int, long, message_bytes, plain_text, sealed}
 

@@ -1,6 +1,6 @@
 -- A binding is asked for, in a packet.
 use Rattle.std.proofs.Common.{◌≡◌, ◌∙◌, ℕ, ◌≤◌, Bool, true, false, List, [], ◌∷◌, ◌++◌, Option, Some, None, length, ap, refl, sym, subst, inl, inr, arith}
-use Rattle.std.specs.Prelude.{◌≢◌, ◌&&◌, if◌then◌else◌, option_map, IfSome, IsSome}
+use Rattle.std.specs.Prelude.{◌&&◌, if◌then◌else◌, IfSome, IsSome}
 use Rattle.std.proofs.lemmas.Bool.{cases_Bool, true≢false}
 use Rattle.draws.specs.Draws.{draw_after, next_bytes, word_after}
 use Rattle.service_tl.specs.declared.lists.Message.{Message}
@@ -11,14 +11,14 @@ use Rattle.auth_keys.specs.declared.key.KeyKind.{KeyKind}
 use Rattle.auth_keys.specs.Rings.{entry_of, key_in}
 use Rattle.call_table.specs.Table.{no_calls}
 use Rattle.call_table.specs.Kept.{Contents as Calls, Stands as StandsFor}
-use Rattle.client_rules.specs.Client.{Asked, Client, Temporary, after_message, is_open, numbered, time_of, with_binding}
+use Rattle.client_rules.specs.Client.{Asked, Client, Temporary, is_open, numbered, time_of, with_binding}
 use Rattle.client_rules.specs.Filling.{Filling, asks_binding, goes, is_needed, says_binding}
 use Rattle.client_rules.specs.Sending.{Setting, binding_body, draw_after_binding}
 use Rattle.msg_ids.specs.Counters.{after_next}
 use Rattle.client_core.specs.Asked.{asked_inner, asked_message, asking_message, needed_of}
 use Rattle.client_core.specs.declared.rebinding.Needed.{Needed}
 use Rattle.client_core.specs.Flushed.{binding_under, setting_of}
-use Rattle.client_core.specs.Kept.{Contents, Stands}
+use Rattle.client_core.specs.Kept.{Contents}
 use Rattle.client_core.specs.Draft.{Draft, Goes, Holds, enters}
 use Rattle.client_core.proofs.CallLemmas.{value}
 use Rattle.client_core.proofs.GoesLemmas.{goes_in, goes_out_keeps}

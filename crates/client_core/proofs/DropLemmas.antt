@@ -1,16 +1,15 @@
 -- The answers that are to be dropped, as they are gone through.
-use Rattle.std.proofs.Common.{◌≡◌, ◌∙◌, ℕ, zero, suc, ◌+◌, ◌-◌, ◌<◌, ◌≤◌, Bool, true, false, List, [], ◌∷◌, Option, Some, None, length, drop, ap, refl, sym, subst, inl, inr, arith}
-use Rattle.std.specs.Prelude.{◌≢◌, if◌then◌else◌, option_map, slice_get, fold}
+use Rattle.std.proofs.Common.{◌≡◌, ◌∙◌, ℕ, ◌+◌, ◌<◌, ◌≤◌, true, false, List, [], ◌∷◌, Option, Some, None, length, drop, ap, refl, sym, subst, inl, inr, arith}
+use Rattle.std.specs.Prelude.{◌≢◌, option_map, slice_get, fold}
 use Rattle.std.proofs.lemmas.Bool.{cases_Bool, true≢false}
 use Rattle.service_tl.specs.declared.item.Item.TheVariants.{RpcDropAnswer}
 use Rattle.service_tl.specs.Items.{spelling_of}
 use Rattle.call_table.specs.declared.call.CallNo.{CallNo}
-use Rattle.call_table.specs.declared.call.Living.{Living}
 use Rattle.call_table.specs.declared.row.Progress.{Progress}
 use Rattle.call_table.specs.declared.row.Progress.TheVariants as progress
 use Rattle.call_table.specs.declared.row.Row.{Row}
-use Rattle.call_table.specs.Table.{State, Sent, at}
-use Rattle.call_table.specs.Kept.{living_in, state_in, state_of}
+use Rattle.call_table.specs.Table.{Sent, at}
+use Rattle.call_table.specs.Kept.{living_in, state_of}
 use Rattle.client_rules.specs.Client.{after_message, calls_of, numbered, with_call}
 use Rattle.client_rules.specs.Filling.{Filling, changes, number_of, says_drop, says_drop_of, undropped}
 use Rattle.client_core.specs.Kept.{Contents}

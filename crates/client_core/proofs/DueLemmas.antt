@@ -1,7 +1,7 @@
 -- A packet has a message exactly where something is due.
-use Rattle.std.proofs.Common.{◌≡◌, ◌∙◌, ℕ, zero, suc, ◌≤◌, ◌+◌, ◌-◌, Bool, true, false, List, [], ◌∷◌, ◌++◌, Option, Some, None, length, map, ap, refl, sym, subst, inl, inr, arith}
-use Rattle.std.specs.Prelude.{◌⊎◌, ◌≢◌, ◌&&◌, ◌||◌, if◌then◌else◌, nat_le, is_some, IfSome, IsSome, fold, option_map, slice_get, take}
-use Rattle.std.specs.List.{AllByRecursion, AllZip, list_any}
+use Rattle.std.proofs.Common.{◌≡◌, ◌∙◌, ℕ, zero, suc, ◌≤◌, Bool, true, false, List, [], ◌∷◌, ◌++◌, Option, Some, None, length, ap, refl, sym, subst, inl, inr, arith}
+use Rattle.std.specs.Prelude.{◌⊎◌, ◌≢◌, ◌&&◌, ◌||◌, if◌then◌else◌, is_some, IfSome, fold, slice_get, take}
+use Rattle.std.specs.List.{list_any}
 use Rattle.std.proofs.lemmas.Bool.{cases_Bool, true≢false}
 use Rattle.tl_codec.specs.Spelling.{Form, Of, Fits, spelling, string_size, size_of as size_of_form}
 use Rattle.service_tl.specs.declared.lists.Message.{Message}
@@ -11,21 +11,18 @@ use Rattle.service_tl.specs.Items.{spelling_of}
 use Rattle.service_tl.specs.Schema.{rpc_drop_answer, get_future_salts, ping, destroy_session, msgs_ack, msgs_state_req, msgs_state_info, msg_resend_req}
 use Rattle.packing.specs.Packing.{is_within}
 use Rattle.call_table.specs.declared.call.CallNo.{CallNo}
-use Rattle.call_table.specs.declared.call.Fate.TheVariants as fate
 use Rattle.call_table.specs.declared.call.Group.TheVariants as group
-use Rattle.call_table.specs.Table.{Call, at, call_no, changed_at, group_of, is_in, is_queued, places_from, settled}
-use Rattle.call_table.specs.Table as table
-use Rattle.client_rules.specs.Client.{Client, Binding, Needed, Asked, Held, Bound, Refused, Temporary, States, after_message, at_moment, calls_of, is_open, numbered, with_call}
+use Rattle.call_table.specs.Table.{at, group_of}
+use Rattle.client_rules.specs.Client.{Client, Temporary, States, after_message, at_moment, calls_of, is_open, numbered, with_call}
 use Rattle.client_rules.specs.Sending.{Setting}
-use Rattle.client_rules.specs.Filling.{Filling, Turn, Goes as Going, Waits, Never, asks_binding, asks_states, body_behind, changes, empty, fills, goes, number_of, outstanding, says, says_acks, says_binding, says_call, says_call_at, says_destroyed, says_drop, says_drop_of, says_ping, says_resent, says_salts, says_states, says_told, sends_call, takes_turn, turn_after, turn_behind, turn_of, turn_under, turn_with, undropped}
+use Rattle.client_rules.specs.Filling.{Filling, asks_binding, asks_states, changes, empty, fills, goes, number_of, outstanding, says, says_acks, says_binding, says_call, says_destroyed, says_drop, says_drop_of, says_ping, says_resent, says_salts, says_states, says_told, undropped}
 use Rattle.client_rules.specs.Flush.{has_any}
 use Rattle.client_core.specs.Asked.{asking_message, needed_of}
-use Rattle.client_core.specs.Calling.{wrap_bytes}
-use Rattle.client_core.specs.Due.{CanSay, goes_at, goes_now, goes_of, has_some, is_due_before, is_due_beside, waits}
+use Rattle.client_core.specs.Due.{CanSay, goes_at, has_some, is_due_before, is_due_beside, waits}
 use Rattle.client_core.specs.declared.rebinding.Needed.{Needed as NeededSo}
 use Rattle.client_core.proofs.BoundLemmas.{needed_goes, needed_not, unopened}
 use Rattle.client_core.proofs.QuietLemmas.{calls_any, calls_due}
-use Rattle.client_core.proofs.SizeLemmas.{boxed-size, call-size}
+use Rattle.client_core.proofs.SizeLemmas.{boxed-size}
 
 abbrev went : {S : Type 0} → Message → Filling S → Filling S
 went message filling = record filling { messages = filling.messages ++ message ∷ [] }

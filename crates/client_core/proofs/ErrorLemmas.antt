@@ -1,5 +1,5 @@
 -- The code of the error that a body is.
-use Rattle.std.proofs.Common.{◌≡◌, ◌∙◌, ℕ, Bool, true, false, List, [], ◌∷◌, ◌++◌, length, ap, refl, sym, Option, Some, None, arith}
+use Rattle.std.proofs.Common.{◌≡◌, ◌∙◌, ℕ, Bool, true, false, List, [], ◌∷◌, ◌++◌, length, ap, refl, sym, Option, Some, arith}
 use Rattle.std.proofs.lemmas.Bool.Decides.{nat_tests}
 use Rattle.std.specs.Prelude.{◌≢◌, ◌==◌, if◌then◌else◌, Result, Ok, Err}
 use Rattle.std.specs.List.{AllByRecursion}
@@ -10,7 +10,7 @@ use Rattle.service_tl.specs.declared.item.Item.{Item}
 use Rattle.service_tl.specs.declared.item.Item.TheVariants.{Broken, Packed, RpcError, RpcResult}
 use Rattle.service_tl.specs.Fields.{Field, Plain, Rest, Holds, field_at}
 use Rattle.service_tl.specs.Schema.{Makes, Row, fields_at, gzip_packed, item_in, schema, rpc_drop_answer, rpc_answer_unknown, rpc_answer_dropped_running, rpc_answer_dropped, sessions, lists, notices, wrappers}
-use Rattle.service_tl.specs.ItemOf.{item_after, item_behind, item_of, whole}
+use Rattle.service_tl.specs.ItemOf.{item_behind, whole}
 use Rattle.client_rules.specs.Taking.{binding_error}
 
 -- an item of these fields is never an error

@@ -1,21 +1,19 @@
 -- A packet is filled: what an item leaves as it was.
-use Rattle.std.proofs.Common.{◌≡◌, ◌∙◌, ℕ, zero, suc, ◌+◌, ◌-◌, Bool, true, false, List, [], ◌∷◌, ◌++◌, Option, Some, None, map, ap, refl, sym, inl, inr}
+use Rattle.std.proofs.Common.{◌≡◌, ◌∙◌, ℕ, zero, suc, ◌+◌, ◌-◌, Bool, true, false, List, [], ◌∷◌, ◌++◌, Option, Some, None, map, ap, refl, sym}
 use Rattle.std.specs.Prelude.{◌&&◌, if◌then◌else◌, fold}
-use Rattle.std.proofs.lemmas.Bool.{cases_Bool}
 use Rattle.service_tl.specs.declared.lists.Message.{Message}
 use Rattle.service_tl.specs.declared.item.Item.{Item}
 use Rattle.service_tl.specs.declared.item.Item.TheVariants.{RpcDropAnswer, GetFutureSalts, Ping, DestroySession, MsgsAck, MsgsStateReq, MsgsStateInfo, MsgResendReq}
 use Rattle.service_tl.specs.Items.{spelling_of}
 use Rattle.packing.specs.Packing.{is_within}
 use Rattle.call_table.specs.declared.call.CallNo.{CallNo}
-use Rattle.call_table.specs.declared.call.Group.{Group}
 use Rattle.call_table.specs.declared.call.Group.TheVariants as group
-use Rattle.call_table.specs.Table.{Call, at, call_no, changed, changed_at, group_of, is_in, places_from}
-use Rattle.client_rules.specs.Client.{Client, States, Temporary, Waiting, after_message, calls_of, is_open, numbered, with_call}
+use Rattle.call_table.specs.Table.{Call, at, call_no, changed_at, group_of, is_in, places_from}
+use Rattle.client_rules.specs.Client.{Client, States, Temporary, after_message, calls_of, is_open, numbered, with_call}
 use Rattle.client_rules.specs.Sending.{Setting, binding_body}
 use Rattle.client_rules.specs.Filling.{Filling, Turn, Goes as Going, Waits, Never, asks_binding, asks_states, body_behind, changes, empty, fills, goes, is_needed, number_of, outstanding, says, says_acks, says_binding, says_call, says_call_at, says_destroyed, says_drop, says_drop_of, says_ping, says_resent, says_salts, says_states, says_told, sends_call, takes_turn, turn_of, undropped}
 use Rattle.client_core.specs.Draft.{drops, queue}
-use Rattle.client_core.specs.Filled.{own_acks, own_binding, own_calls, own_destroyed, own_drops, own_ping, own_resent, own_salts, own_states, own_told, waiting_said}
+use Rattle.client_core.specs.Filled.{own_acks, own_binding, own_calls, own_drops, own_ping, own_resent, own_salts, own_states, own_told, waiting_said}
 
 abbrev went : {S : Type 0} → Message → Filling S → Filling S
 went message filling = record filling { messages = filling.messages ++ message ∷ [] }

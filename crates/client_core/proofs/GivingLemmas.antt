@@ -1,5 +1,5 @@
 -- The turns of queued calls come one after the other, and none goes.
-use Rattle.std.proofs.Common.{◌≡◌, ◌∙◌, ℕ, zero, suc, ◌≤◌, ◌<◌, ◌+◌, Bool, true, false, List, [], ◌∷◌, Option, Some, None, length, drop, ap, refl, sym, subst, arith}
+use Rattle.std.proofs.Common.{◌≡◌, ◌∙◌, ℕ, suc, ◌≤◌, ◌<◌, ◌+◌, Bool, true, false, List, [], ◌∷◌, Option, Some, None, length, drop, ap, refl, sym, subst, arith}
 use Rattle.std.specs.Prelude.{◌≢◌, ◌||◌, fold, option_map, slice_get}
 use Rattle.std.specs.List.{list_any}
 use Rattle.call_table.specs.declared.call.CallNo.{CallNo}

@@ -22,6 +22,7 @@ pub mod TakingLemmas
 pub mod WalkLemmas
 pub mod RuleLemmas
 pub mod NumberLemmas
+pub mod OwnLemmas
 pub mod PacketLemmas
 pub mod QueueLemmas
 pub mod QuietLemmas

@@ -1,6 +1,6 @@
 -- Lists that are gone through by places.
-use Rattle.std.proofs.Common.{◌≡◌, ◌∙◌, ℕ, zero, suc, ◌+◌, ◌<◌, ◌≤◌, List, [], ◌∷◌, ◌++◌, Option, Some, None, length, ap, refl, sym, arith}
-use Rattle.std.specs.Prelude.{◌≢◌, slice_get, take}
+use Rattle.std.proofs.Common.{◌≡◌, ◌∙◌, ℕ, zero, suc, ◌+◌, ◌<◌, ◌≤◌, List, [], ◌∷◌, ◌++◌, Some, None, length, ap, sym, arith}
+use Rattle.std.specs.Prelude.{slice_get, take}
 use Rattle.std.proofs.lemmas.List.{take_all}
 use Rattle.client_core.proofs.CallLemmas.{value}
 

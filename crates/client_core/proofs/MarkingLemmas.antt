@@ -1,5 +1,5 @@
 -- Calls that are to be sent again, by one number after the other.
-use Rattle.std.proofs.Common.{◌≡◌, ◌∙◌, ℕ, zero, suc, ◌+◌, ◌<◌, List, [], ◌∷◌, length, take, fold, slice_index, map, ap, refl, sym, Option, Some, None, arith}
+use Rattle.std.proofs.Common.{◌≡◌, ◌∙◌, ℕ, zero, suc, ◌+◌, ◌<◌, List, [], ◌∷◌, length, take, fold, slice_index, ap, refl, Option, Some, None, arith}
 use Rattle.std.specs.Prelude.{◌==◌, if◌then◌else◌, true, false, slice_get}
 use Rattle.std.specs.List.{zip}
 use Rattle.call_table.specs.declared.call.CallNo.{CallNo}

@@ -1,11 +1,11 @@
 -- What a notice changes, by what its number is.
 use Rattle.std.proofs.Common.{◌≡◌, ◌∙◌, ℕ, Bool, true, false, List, Option, Some, None, fold, ap, refl, sym, arith}
 use Rattle.std.specs.Prelude.{◌==◌, ◌||◌, if◌then◌else◌, option_map}
-use Rattle.call_table.specs.Table.{Table, inner_of, owner}
+use Rattle.call_table.specs.Table.{inner_of, owner}
 use Rattle.call_table.specs.Kept.{Stands as StandsFor}
 use Rattle.client_rules.specs.Client.{Client, calls_of, with_binding}
 use Rattle.client_rules.specs.Learning.{with_clock}
-use Rattle.client_rules.specs.Taking.{Notice, alone_among, binding_noticed, has_asked, noticed, noticed_by, packet_noticed, takes_over, with_notice_clock, with_notice_salt}
+use Rattle.client_rules.specs.Taking.{Notice, alone_among, binding_noticed, has_asked, noticed, noticed_by, packet_noticed, with_notice_clock, with_notice_salt}
 use Rattle.client_core.specs.Marks.{table_alone}
 use Rattle.client_core.specs.Kept.{Contents, Stands}
 use Rattle.client_core.proofs.MarkingLemmas.{numbers_lifted}

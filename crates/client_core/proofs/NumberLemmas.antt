@@ -1,5 +1,5 @@
 -- The numbers under which calls are outstanding.
-use Rattle.std.proofs.Common.{◌≡◌, ◌∙◌, ℕ, ◌<◌, nat_lt, Bool, true, false, List, [], ◌∷◌, Option, Some, None, ap, refl, sym, inl, inr, arith}
+use Rattle.std.proofs.Common.{◌≡◌, ◌∙◌, ℕ, nat_lt, true, false, List, [], ◌∷◌, Option, Some, None, ap, refl, sym, inl, inr, arith}
 use Rattle.std.specs.Prelude.{if◌then◌else◌, option_map, fold, filter_map}
 use Rattle.std.specs.List.{AllZip, cons_option}
 use Rattle.std.proofs.lemmas.Bool.{cases_Bool}
@@ -9,8 +9,8 @@ use Rattle.call_table.specs.declared.call.Under.{Under}
 use Rattle.call_table.specs.declared.row.Progress.{Progress}
 use Rattle.call_table.specs.declared.row.Progress.TheVariants as progress
 use Rattle.call_table.specs.declared.row.Row.{Row}
-use Rattle.call_table.specs.Table.{State, Queued, Sent, Held, Done, Refused, Unknown, Name, Call, Table, living_name, living_name_in, living_numbers, with_number, with_own}
-use Rattle.call_table.specs.Kept.{Contents, IsNewest, IsProgressOf, IsRowOf, Stands, number_in, numbers_in}
+use Rattle.call_table.specs.Table.{State, Sent, Name, Call, living_name, living_name_in, living_numbers, with_number, with_own}
+use Rattle.call_table.specs.Kept.{IsNewest, IsProgressOf, IsRowOf, number_in, numbers_in}
 use Rattle.client_rules.specs.Filling.{inserted, living_number}
 
 ins_less : (x a : ℕ) (xs : List ℕ) → nat_lt x a ≡ true → inserted (x ∷ xs) a ≡ x ∷ inserted xs a

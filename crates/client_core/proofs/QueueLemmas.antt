@@ -1,12 +1,12 @@
 -- The queue of calls, as it is gone through.
-use Rattle.std.proofs.Common.{◌≡◌, ◌∙◌, ℕ, zero, suc, ◌+◌, ◌-◌, ◌<◌, ◌≤◌, Bool, true, false, List, [], ◌∷◌, Option, Some, None, length, map, drop, ap, refl, sym, subst, inl, inr, arith}
+use Rattle.std.proofs.Common.{◌≡◌, ◌∙◌, ℕ, zero, suc, ◌+◌, ◌-◌, ◌<◌, ◌≤◌, Bool, true, false, List, [], ◌∷◌, Some, None, length, map, drop, ap, refl, sym, subst, inl, inr, arith}
 use Rattle.std.specs.Prelude.{◌≢◌, if◌then◌else◌, option_map, slice_get, fold}
 use Rattle.std.proofs.lemmas.Bool.{cases_Bool, true≢false}
 use Rattle.std.specs.List.{drop-map}
 use Rattle.call_table.specs.declared.call.CallNo.{CallNo}
 use Rattle.call_table.specs.declared.call.Group.{Group}
 use Rattle.call_table.specs.Table.{Call, at, call_no, changed, changed_at, group_of, is_in, places_from}
-use Rattle.client_rules.specs.Client.{Client, calls_of}
+use Rattle.client_rules.specs.Client.{calls_of}
 use Rattle.client_rules.specs.Filling.{Filling, says_call, says_call_at}
 use Rattle.client_core.specs.Kept.{Contents}
 use Rattle.client_core.specs.Draft.{Draft, Goes, LeavesQueue, SoFar, queue}

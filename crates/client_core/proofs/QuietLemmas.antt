@@ -1,8 +1,8 @@
 -- The turns of queued calls come, and none goes.
-use Rattle.std.proofs.Common.{◌≡◌, ◌∙◌, ℕ, zero, suc, ◌≤◌, ◌+◌, ◌-◌, Bool, true, false, List, [], ◌∷◌, ◌++◌, Option, Some, None, length, map, drop, ap, refl, sym, subst, inl, inr, arith}
-use Rattle.std.specs.Prelude.{◌⊎◌, ◌≢◌, ◌&&◌, ◌||◌, if◌then◌else◌, IfSome, fold, option_map, slice_get}
-use Rattle.std.specs.List.{AllByRecursion, AllZip, list_any}
-use Rattle.std.proofs.lemmas.Bool.{cases_Bool, true≢false}
+use Rattle.std.proofs.Common.{◌≡◌, ◌∙◌, ℕ, zero, suc, ◌≤◌, ◌+◌, ◌-◌, Bool, true, false, List, [], ◌∷◌, ◌++◌, Option, Some, None, length, map, ap, refl, sym, subst, arith}
+use Rattle.std.specs.Prelude.{◌||◌, if◌then◌else◌, IfSome, fold, option_map, slice_get}
+use Rattle.std.specs.List.{AllByRecursion, list_any}
+use Rattle.std.proofs.lemmas.Bool.{true≢false}
 use Rattle.tl_codec.specs.Spelling.{Form, Of, Fits, spelling, size_of as size_of_form}
 use Rattle.service_tl.specs.declared.lists.Message.{Message}
 use Rattle.packing.specs.Packing.{is_within}
@@ -12,7 +12,7 @@ use Rattle.call_table.specs.declared.call.Group.TheVariants as group
 use Rattle.call_table.specs.Table.{State, Call, at, call_no, changed_at, group_of, is_in, is_queued, places_from, settled}
 use Rattle.call_table.specs.Table as table
 use Rattle.client_rules.specs.Client.{Client, Binding, Needed, Asked, Held, Bound, Refused, Temporary, calls_of, is_open, numbered, with_call}
-use Rattle.client_rules.specs.Filling.{Filling, Turn, Goes as Going, Waits, Never, body_behind, changes, empty, goes, living_number, says_call, says_call_at, sends_call, takes_turn, turn_after, turn_behind, turn_by, turn_of, turn_under, turn_with}
+use Rattle.client_rules.specs.Filling.{Filling, Turn, Goes as Going, Waits, Never, body_behind, empty, living_number, says_call, says_call_at, sends_call, takes_turn, turn_after, turn_behind, turn_by, turn_of, turn_under, turn_with}
 use Rattle.client_rules.specs.Flush.{has_any}
 use Rattle.client_core.specs.Calling.{wrap_bytes}
 use Rattle.client_core.specs.Due.{goes_at, goes_now, goes_of}

@@ -9,15 +9,14 @@ use Rattle.service_tl.specs.declared.item.Item.TheVariants as item
 use Rattle.service_tl.specs.ItemOf.{item_of}
 use Rattle.envelope.specs.declared.parts.Envelope.{Envelope}
 use Rattle.call_table.specs.declared.call.CallNo.{CallNo}
-use Rattle.call_table.specs.declared.call.Fate.{Fate}
 use Rattle.call_table.specs.declared.call.Fate.TheVariants as fate
 use Rattle.call_table.specs.Table.{Table, acknowledged, Call, Name, State, Sent, Done, at, call_no, changed, changed_at, first_from, inner_of, is_number_of, living_name, living_name_in, owner, settled, state_at}
 use Rattle.call_table.specs.Table as table
 use Rattle.client_rules.specs.Client.{Client, StateRequest, at_moment, calls_of, is_open}
 use Rattle.client_rules.specs.Asking.{alone}
 use Rattle.client_rules.specs.Filling.{numbers_max}
-use Rattle.client_rules.specs.Learning.{each_becomes, ended, fate_at_end, fate_learning, learn, learnt_max, learns, settled_if, with_clock}
-use Rattle.client_rules.specs.Taking.{Notice, acknowledges, asks_answer, without_idle_wish, alone_call, alone_number, answered_by, fate_noticed, goes_again, has_asked, is_for, is_odd, message_in, messages_of, noticed, noticed_by, packet_noticed, row, take, takes_message, takes_over, told_of, told_state, told_states, with_notice_clock, with_notice_salt}
+use Rattle.client_rules.specs.Learning.{ended, fate_at_end, fate_learning, learn, learnt_max, learns, settled_if, with_clock}
+use Rattle.client_rules.specs.Taking.{Notice, acknowledges, asks_answer, without_idle_wish, alone_call, alone_number, answered_by, fate_noticed, goes_again, is_odd, message_in, messages_of, noticed_by, row, take, takes_message, takes_over, told_of, told_state, told_states, with_notice_salt}
 use Rattle.client_core.specs.Results.{BringsResult, taken_of}
 use Rattle.octets.specs.declared.memory.Memory.{Memory}
 use Rattle.call_table.specs.Kept.{Contents as Calls, Stands as StandsFor, state_in}

@@ -1,9 +1,8 @@
 -- What a rule says of one call, and of all.
-use Rattle.std.proofs.Common.{◌≡◌, ◌∙◌, ℕ, zero, suc, ◌-◌, Bool, true, false, List, [], ◌∷◌, map, ap, refl, sym, Option, Some, None, arith}
+use Rattle.std.proofs.Common.{◌≡◌, ◌∙◌, ℕ, zero, suc, ◌-◌, Bool, true, false, List, [], ◌∷◌, map, ap, refl, Option, Some, None, arith}
 use Rattle.std.specs.Prelude.{option_map, slice_get}
 use Rattle.call_table.specs.declared.call.CallNo.{CallNo}
 use Rattle.call_table.specs.declared.call.Fate.{Fate}
-use Rattle.call_table.specs.declared.call.Flags.{Flags}
 use Rattle.call_table.specs.declared.call.Group.TheVariants.{Outstanding, Held, Queued}
 use Rattle.call_table.specs.declared.call.Under.{Under}
 use Rattle.call_table.specs.declared.row.Progress.{Progress}

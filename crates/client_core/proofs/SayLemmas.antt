@@ -1,21 +1,17 @@
 -- What is kept of a client can be said.
-use Rattle.std.proofs.Common.{◌≡◌, ◌∙◌, ℕ, zero, suc, ◌≤◌, ◌+◌, Bool, true, false, List, [], ◌∷◌, Option, Some, None, length, drop, ap, refl, sym, subst, arith}
+use Rattle.std.proofs.Common.{◌≡◌, ℕ, zero, suc, ◌≤◌, Bool, true, false, List, [], ◌∷◌, Option, Some, None, length, drop, ap, refl, sym, subst, arith}
 use Rattle.std.specs.Prelude.{◌≢◌, ◌||◌, IfSome, option_map, slice_get}
 use Rattle.std.specs.List.{AllZip, list_any}
 use Rattle.call_table.specs.declared.call.CallNo.{CallNo}
-use Rattle.call_table.specs.declared.call.Living.{Living}
-use Rattle.call_table.specs.declared.row.Progress.{Progress}
-use Rattle.call_table.specs.declared.row.Progress.TheVariants as progress
 use Rattle.call_table.specs.declared.row.Row.{Row}
-use Rattle.call_table.specs.Table.{Call, Name, Sent, living_name}
-use Rattle.call_table.specs.Kept.{IsRowOf, living_in, state_of}
+use Rattle.call_table.specs.Table.{Call}
+use Rattle.call_table.specs.Kept.{IsRowOf}
 use Rattle.client_rules.specs.Client.{Client, States}
-use Rattle.client_rules.specs.Filling.{Turn, number_of, turn_of}
-use Rattle.client_core.specs.Due.{any_of, goes_now, goes_of, has_some}
+use Rattle.client_rules.specs.Filling.{Turn, turn_of}
+use Rattle.client_core.specs.Due.{any_of, goes_now, goes_of}
 use Rattle.client_core.specs.Kept.{states_in}
-use Rattle.client_core.specs.Sound.{AreSound, IsSound}
+use Rattle.client_core.specs.Sound.{AreSound}
 use Rattle.client_core.specs.declared.waiting.States.{States as KeptStates}
-use Rattle.client_core.proofs.CallLemmas.{value}
 
 told_in : (own : Option KeptStates) → IfSome own (λ states. length states.info ≤ 8192) → IfSome (option_map states_in own) (λ states. length states.info ≤ 8192)
 told_in None few = tt

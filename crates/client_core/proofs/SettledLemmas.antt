@@ -2,11 +2,9 @@
 use Rattle.std.proofs.Common.{◌≡◌, refl, ℕ, List, [], ◌∷◌, Option, Some, None, map}
 use Rattle.std.specs.List.{AllByRecursion}
 use Rattle.call_table.specs.declared.call.Fate.{Fate}
-use Rattle.call_table.specs.declared.call.Fate.TheVariants as fate
 use Rattle.call_table.specs.declared.row.Progress.{Progress}
 use Rattle.call_table.specs.declared.row.Progress.TheVariants as progress
 use Rattle.call_table.specs.declared.row.Row.{Row}
-use Rattle.call_table.specs.Kept.{settled_row}
 use Rattle.client_core.specs.Sound.{AreSound, IsSound}
 use Rattle.client_core.specs.declared.settling.Rule.{Rule}
 use Rattle.client_core.specs.declared.settling.Rule.TheVariants as rule

@@ -1,5 +1,5 @@
 -- Which changes keep the calls sound.
-use Rattle.std.proofs.Common.{◌≡◌, ℕ, zero, suc, ◌+◌, ◌<◌, ◌≤◌, List, [], ◌∷◌, ◌++◌, Option, Some, None, length, arith}
+use Rattle.std.proofs.Common.{◌≡◌, ℕ, zero, suc, ◌<◌, ◌≤◌, List, [], ◌∷◌, ◌++◌, Option, Some, None, length, arith}
 use Rattle.std.specs.Prelude.{◌%◌, IfSome}
 use Rattle.std.specs.List.{AllByRecursion}
 use Rattle.call_table.specs.declared.call.CallNo.{CallNo}

@@ -1,5 +1,5 @@
 -- Taking what messages bring is taking the messages, one after the other.
-use Rattle.std.proofs.Common.{◌≡◌, ◌∙◌, ℕ, zero, suc, ◌+◌, ◌<◌, ◌≤◌, Bool, true, false, List, [], ◌∷◌, length, map, fold, ap, refl, sym, Option, Some, None, arith}
+use Rattle.std.proofs.Common.{◌≡◌, ◌∙◌, ℕ, ◌+◌, ◌<◌, ◌≤◌, Bool, true, false, List, [], ◌∷◌, length, map, fold, ap, refl, sym, Option, Some, None, arith}
 use Rattle.std.specs.Prelude.{◌==◌, if◌then◌else◌, nat_eq, nat_le, not, Ok}
 use Rattle.std.specs.List.{AllByRecursion, list_any}
 use Rattle.std.proofs.lemmas.Bool.Decides.{nat_tests}
@@ -8,7 +8,7 @@ use Rattle.service_tl.specs.declared.item.Item.{Item}
 use Rattle.service_tl.specs.declared.item.Item.TheVariants as item
 use Rattle.service_tl.specs.ItemOf.{item_of}
 use Rattle.call_table.specs.declared.call.CallNo.{CallNo}
-use Rattle.call_table.specs.Table.{no_calls, owner}
+use Rattle.call_table.specs.Table.{owner}
 use Rattle.client_rules.specs.Client.{Client, at_moment, calls_of, is_open}
 use Rattle.client_rules.specs.Learning.{ended, learn, learnt_max, learns, with_clock}
 use Rattle.envelope.specs.declared.parts.Envelope.{Envelope}

@@ -1,11 +1,11 @@
 -- The turn of a queued call.
-use Rattle.std.proofs.Common.{◌≡◌, ◌∙◌, ℕ, Bool, true, false, List, [], ◌∷◌, Option, Some, None, ap, refl, sym, subst, arith}
-use Rattle.std.specs.Prelude.{IfSome, option_map, slice_get}
+use Rattle.std.proofs.Common.{◌≡◌, ◌∙◌, Option, Some, None, ap, refl, arith}
+use Rattle.std.specs.Prelude.{IfSome, option_map}
 use Rattle.call_table.specs.declared.call.CallNo.{CallNo}
 use Rattle.call_table.specs.declared.call.Living.{Living}
-use Rattle.call_table.specs.Table.{State, Name, Call, at, living_name}
-use Rattle.client_rules.specs.Client.{Client, calls_of}
-use Rattle.client_rules.specs.Filling.{Turn, living_number, number_of, turn_behind, turn_by, turn_after, turn_of}
+use Rattle.call_table.specs.Table.{State, Name, Call, living_name}
+use Rattle.client_rules.specs.Client.{Client}
+use Rattle.client_rules.specs.Filling.{Turn, living_number, number_of, turn_behind, turn_by, turn_of}
 use Rattle.client_core.proofs.CallLemmas.{value}
 
 -- by the earlier call's state and its living number

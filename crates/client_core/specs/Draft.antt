@@ -1,5 +1,5 @@
 -- A packet that is filled, as it is kept: scaffolding of private functions, and no promise.
-use Rattle.std.specs.Prelude.{◌≡◌, ℕ, suc, slice_get, fold, drop, Option, Some, ◌+◌, ◌*◌, ◌≤◌, ◌<◌, ◌&&◌, not, nat_le, Bool, true, false, List, [], ◌∷◌, length, ⊤}
+use Rattle.std.specs.Prelude.{◌≡◌, ℕ, suc, slice_get, fold, drop, Some, ◌+◌, ◌*◌, ◌≤◌, ◌<◌, ◌&&◌, not, nat_le, Bool, true, false, List, [], ◌∷◌, length, ⊤}
 use Rattle.std.specs.List.{flat_map}
 use Rattle.tl_codec.specs.Standard.{longs_max}
 use Rattle.tl_codec.specs.Spelling.{string_size}

@@ -5,7 +5,7 @@ use Rattle.call_table.specs.declared.call.CallNo.{CallNo}
 use Rattle.call_table.specs.declared.call.Group.TheVariants.{Dropping, Queued}
 use Rattle.call_table.specs.Table.{Call, at, group_of}
 use Rattle.client_rules.specs.Client.{Client, calls_of, is_open}
-use Rattle.client_rules.specs.Filling.{Filling, Turn, Goes as Going, Waits, Never, number_of, says_call, turn_behind, turn_of}
+use Rattle.client_rules.specs.Filling.{Filling, Turn, Goes as Going, Waits, Never, number_of, says_call, turn_of}
 use Rattle.client_core.specs.Asked.{needed_of}
 use Rattle.client_core.specs.Draft.{Goes, nothing_yet, queue}
 use Rattle.client_core.specs.Kept.{Contents}

@@ -1,6 +1,6 @@
 -- What a packet is filled with, item by item, by what waits when an item's turn comes: scaffolding of private functions, and
 -- no promise.
-use Rattle.std.specs.Prelude.{◌≡◌, ℕ, List, [], ◌∷◌, length, fold}
+use Rattle.std.specs.Prelude.{◌≡◌, [], ◌∷◌, length, fold}
 use Rattle.client_rules.specs.Sending.{Setting}
 use Rattle.client_rules.specs.Filling.{Filling, says_acks, says_binding, says_call, says_destroyed, says_drop, says_ping, says_resent, says_salts, says_states, says_told}
 use Rattle.service_tl.specs.declared.lists.Message.{Message}

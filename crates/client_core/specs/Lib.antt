@@ -5,6 +5,9 @@ pub mod Due
 pub mod Filled
 pub mod Flushed
 pub mod Kept
+pub mod Keys
+pub mod One
+pub mod Own
 pub mod Told
 pub mod Rules
 pub mod Numbers

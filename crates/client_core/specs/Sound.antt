@@ -8,7 +8,7 @@ use Rattle.call_table.specs.declared.row.Row.{Row}
 use Rattle.call_table.specs.Kept.{number_in}
 use Rattle.client_rules.specs.Asking.{body_bytes_max}
 use Rattle.client_core.specs.declared.binding.Binding.{Binding}
-use Rattle.client_core.specs.declared.binding.Binding.TheVariants.{Needed, Asked, Held, Bound, Refused}
+use Rattle.client_core.specs.declared.binding.Binding.TheVariants.{Asked}
 use Rattle.client_core.specs.declared.binding.Temporary.{Temporary}
 use Rattle.client_core.specs.declared.waiting.Waiting.{Waiting}
 

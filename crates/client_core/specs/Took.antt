@@ -32,3 +32,15 @@ abbrev pub TookOpen : OpenStep → Client → Client → Type 0
 TookOpen (open_step.Still now) before after = (after.has_ended ≡ false) × Stands now after
 TookOpen (open_step.Ended now) before after = (after.has_ended ≡ true) × Stands now after
 TookOpen (open_step.Memory now) before after = Stands now before
+
+-- the client that a packet leaves
+
+abbrev pub opening_left : OpeningStep → Contents
+opening_left (opening_step.Still now) = now
+opening_left (opening_step.Opened now) = now
+opening_left (opening_step.Memory now) = now
+
+abbrev pub open_left : OpenStep → Contents
+open_left (open_step.Still now) = now
+open_left (open_step.Ended now) = now
+open_left (open_step.Memory now) = now

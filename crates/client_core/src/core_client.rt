@@ -7,7 +7,7 @@ ghost use Rattle.client_rules.specs.Asking.{alone, alone_if_asked, alone_if_sent
 ghost use Rattle.client_core.specs.Kept.{temporary_in};
 ghost use Rattle.client_core.specs.Sound.{AreSound, CanBind};
 ghost use Rattle.client_core.specs.Told.{TellsDrop, TellsFault};
-ghost use Rattle.std.specs.Prelude.{◌≡◌, if◌then◌else◌, ◌<◌, ◌≤◌, ◌%◌, ◌&&◌, ℕ, [], None, option_map, Option, Some, IfOk, IfSome, IsTrue, OnOk, OnErr, length, map};
+ghost use Rattle.std.specs.Prelude.{◌≡◌, if◌then◌else◌, ◌<◌, ◌≤◌, ◌%◌, ◌&&◌, ◌+◌, ℕ, [], None, option_map, Option, Some, IfOk, IfSome, IsTrue, OnOk, OnErr, length, map};
 
 use crate::binding::{BindState, Temporary};
 use crate::fault::{NotSent, SubmitFault};
@@ -90,6 +90,7 @@ impl Core {
     ghost use Rattle.call_table.specs.Kept.{shown as told};
     ghost use Rattle.client_rules.specs.Client.{Client, fresh_client, calls_of};
     ghost use Rattle.client_rules.specs.Asking.{attached, binding_of, can_drop, dropped, submit_fault, submitted, ticked, pinged, salts_asked};
+    ghost use Rattle.client_core.specs.Keys.{keys_in};
     ghost use Rattle.client_core.specs.Kept.{Stands};
     ghost use Rattle.client_core.specs.Told.{shown};
 
@@ -104,6 +105,7 @@ impl Core {
         ensures stands { IfOk result (λ core. Stands core (fresh_client key (option_map temporary_in temporary) (word_after D.step 0 draw.old))) }
         ensures after { OnOk result (draw.new ≡ draw_after D.step 1 draw.old) }
         ensures learnt { IfOk result (λ core. core.rest.learnt ≡ []) }
+        ensures count { IfOk result (λ core. length core.calls.rows ≡ 0) }
     {
         let calls = Calls::new(alloc)?;
         let mut former = NumberList::new(alloc);
@@ -147,7 +149,8 @@ impl Core {
     /// What became of a call.
     pub(crate) fn state(&self, call: CallNo) -> CallState<'_>
         requires given { IsGiven call self.now.calls.rows }
-        ensures { (table : Table) → StandsFor self.now.calls table → state_at call table.calls ≡ Some (told result) }
+        ensures kept { state_in call self.now.calls.rows ≡ Some (told result) }
+        ensures state { (table : Table) → StandsFor self.now.calls table → state_at call table.calls ≡ Some (told result) }
     {
         self.calls.state(call)
     }
@@ -163,6 +166,7 @@ impl Core {
         ensures call { IfOk result (λ call. (client : Client) → Stands self.old client → call ≡ call_no (length (calls_of client))) }
         ensures stands { OnOk result ((client : Client) → Stands self.old client → Stands self.new (submitted body.now after client)) }
         ensures rest { self.new.rest ≡ self.old.rest }
+        ensures count { OnOk result (length self.new.calls.rows ≡ length self.old.calls.rows + 1) }
         ensures given { IfOk result (λ call. IsGiven call self.new.calls.rows) }
         ensures queued { IfOk result (λ call. state_in call self.new.calls.rows ≡ Some Queued) }
         ensures unchanged { OnErr result (self.new ≡ self.old) }
@@ -178,6 +182,9 @@ impl Core {
     #[tactic(auto, using(crate::proofs::TestLemmas::any_of_group))]
     pub(crate) fn tick(&mut self)
         ensures stands { (client : Client) → Stands self.old client → Stands self.new (ticked client) }
+        ensures keys { keys_in self.new ≡ keys_in self.old }
+        ensures session { self.new.rest.session ≡ self.old.rest.session }
+        ensures calls { self.new.calls ≡ self.old.calls }
         ensures learnt { self.new.rest.learnt ≡ self.old.rest.learnt }
     {
         let has_sent = self.calls.members(Group::Outstanding) > 0;
@@ -187,6 +194,9 @@ impl Core {
     /// A ping waits, in place of an earlier one.
     pub(crate) fn ping(&mut self, id: u64)
         ensures stands { (client : Client) → Stands self.old client → Stands self.new (pinged id client) }
+        ensures keys { keys_in self.new ≡ keys_in self.old }
+        ensures session { self.new.rest.session ≡ self.old.rest.session }
+        ensures calls { self.new.calls ≡ self.old.calls }
         ensures learnt { self.new.rest.learnt ≡ self.old.rest.learnt }
     {
         self.waiting.ping = Some(id);
@@ -195,6 +205,9 @@ impl Core {
     /// A request for salts waits, in place of an earlier one.
     pub(crate) fn ask_salts(&mut self, n: u32)
         ensures stands { (client : Client) → Stands self.old client → Stands self.new (salts_asked n client) }
+        ensures keys { keys_in self.new ≡ keys_in self.old }
+        ensures session { self.new.rest.session ≡ self.old.rest.session }
+        ensures calls { self.new.calls ≡ self.old.calls }
         ensures learnt { self.new.rest.learnt ≡ self.old.rest.learnt }
     {
         self.waiting.salts = Some(n);

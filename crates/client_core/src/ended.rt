@@ -24,13 +24,14 @@ impl Model for EndedClient {
 
 impl EndedClient {
     ghost use Rattle.call_table.specs.Table.{IsGiven, state_at};
-    ghost use Rattle.call_table.specs.Kept.{shown};
+    ghost use Rattle.call_table.specs.Kept.{shown, state_in};
     ghost use Rattle.client_rules.specs.Client.{Client, calls_of};
     ghost use Rattle.client_core.specs.Kept.{Stands};
 
     /// The number of the last session.
     pub fn session(&self) -> u64
-        ensures { (client : Client) → Stands self.now client → result ≡ client.session }
+        ensures kept { result ≡ self.now.rest.session }
+        ensures session { (client : Client) → Stands self.now client → result ≡ client.session }
     {
         self.core.session()
     }
@@ -46,7 +47,8 @@ impl EndedClient {
     /// What became of a call that this client gave.
     pub fn state(&self, call: CallNo) -> CallState<'_>
         requires given { IsGiven call self.now.calls.rows }
-        ensures { (client : Client) → Stands self.now client → state_at call (calls_of client) ≡ Some (shown result) }
+        ensures kept { state_in call self.now.calls.rows ≡ Some (shown result) }
+        ensures state { (client : Client) → Stands self.now client → state_at call (calls_of client) ≡ Some (shown result) }
     {
         self.core.state(call)
     }

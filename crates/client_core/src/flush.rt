@@ -1,6 +1,6 @@
 //! What a client sends next.
 
-ghost use Rattle.std.specs.Prelude.{◌≡◌, ◌≤◌, [], None, IfOk, IfSome, IsSome, min, nat_lt, false, true, OnOk, option_map, vec_len, vec_capacity, length};
+ghost use Rattle.std.specs.Prelude.{◌≡◌, ◌≤◌, [], None, IfOk, IfSome, IsSome, min, nat_lt, false, true, OnOk, vec_len, vec_capacity, length};
 ghost use Rattle.auth_keys.specs.Rings.{entry_of};
 ghost use Rattle.call_table.specs.Table.{group_of};
 ghost use Rattle.call_table.specs.Kept.{numbers_in};
@@ -15,6 +15,7 @@ ghost use Rattle.client_core.specs.Asked.{HasRoom};
 ghost use Rattle.client_core.specs.Draft.{nothing_yet};
 ghost use Rattle.client_core.specs.Due.{is_due_beside};
 ghost use Rattle.client_core.specs.Flushed.{Flushes, Sent, setting_of};
+ghost use Rattle.client_core.specs.Keys.{HasKeys, keys_in};
 ghost use Rattle.client_core.specs.Kept.{Stands};
 
 use crate::asking::BindRoom;
@@ -227,7 +228,7 @@ impl OpeningClient {
     /// waits and the queued calls, in order, as far as they fit into one packet. `Nothing` comes exactly where nothing is
     /// to be sent; queued calls whose turn came may have been refused with code 0 by then. `Spent` comes exactly where
     /// something is and there are fewer than 2,048 further numbers, and changes nothing. By `Memory` the client is as it
-    /// was, and so is the draw.
+    /// was, and so is the draw. The seal has the client's key, and the permanent one to which that is to be bound.
     pub fn flush<S: Seal, D: Draw>(
         &mut self,
         alloc: Global,
@@ -235,13 +236,12 @@ impl OpeningClient {
         seal: &S,
         draw: &mut D,
     ) -> Flush
-        requires key { IsSome (entry_of self.old.rest.key (S.keys seal.now)) }
-        requires perm { IfSome self.old.rest.temporary (λ temporary. IsSome (entry_of temporary.perm (S.keys seal.now))) }
+        requires keys { HasKeys (S.keys seal.now) (keys_in self.old) }
         ensures flushes { (client : Client) → Stands self.old client
             → Flushes (setting_of D.step (S.keys seal.now)) S.lock (S.keys seal.now) now client draw.old result self.new draw.new }
-        ensures key { (client : Client) → Stands self.old client → self.new.rest.key ≡ self.old.rest.key }
-        ensures perm { (client : Client) → Stands self.old client
-            → option_map (λ temporary. temporary.perm) self.new.rest.temporary ≡ option_map (λ temporary. temporary.perm) self.old.rest.temporary }
+        ensures keys { keys_in self.new ≡ keys_in self.old }
+        ensures session { self.new.rest.session ≡ self.old.rest.session }
+        ensures count { length self.new.calls.rows ≡ length self.old.calls.rows }
     {
         self.core.flush(alloc, now, seal, draw)
     }
@@ -252,7 +252,7 @@ impl OpenClient {
     /// waits and the queued calls, in order, as far as they fit into one packet. `Nothing` comes exactly where nothing is
     /// to be sent; queued calls whose turn came may have been refused with code 0 by then. `Spent` comes exactly where
     /// something is and there are fewer than 2,048 further numbers, and changes nothing. By `Memory` the client is as it
-    /// was, and so is the draw.
+    /// was, and so is the draw. The seal has the client's key, and the permanent one to which that is to be bound.
     pub fn flush<S: Seal, D: Draw>(
         &mut self,
         alloc: Global,
@@ -260,13 +260,12 @@ impl OpenClient {
         seal: &S,
         draw: &mut D,
     ) -> Flush
-        requires key { IsSome (entry_of self.old.rest.key (S.keys seal.now)) }
-        requires perm { IfSome self.old.rest.temporary (λ temporary. IsSome (entry_of temporary.perm (S.keys seal.now))) }
+        requires keys { HasKeys (S.keys seal.now) (keys_in self.old) }
         ensures flushes { (client : Client) → Stands self.old client
             → Flushes (setting_of D.step (S.keys seal.now)) S.lock (S.keys seal.now) now client draw.old result self.new draw.new }
-        ensures key { (client : Client) → Stands self.old client → self.new.rest.key ≡ self.old.rest.key }
-        ensures perm { (client : Client) → Stands self.old client
-            → option_map (λ temporary. temporary.perm) self.new.rest.temporary ≡ option_map (λ temporary. temporary.perm) self.old.rest.temporary }
+        ensures keys { keys_in self.new ≡ keys_in self.old }
+        ensures session { self.new.rest.session ≡ self.old.rest.session }
+        ensures count { length self.new.calls.rows ≡ length self.old.calls.rows }
     {
         self.core.flush(alloc, now, seal, draw)
     }

@@ -1,13 +1,15 @@
 //! What becomes of a client by a packet, at a renewal and at its end.
 
-ghost use Rattle.std.specs.Prelude.{◌≡◌, ℕ, List, Ok, Some, true};
+ghost use Rattle.std.specs.Prelude.{◌≡◌, ℕ, List, Ok, Some, false, length, true};
 ghost use Rattle.call_table.specs.declared.call.CallNo.{CallNo};
 ghost use Rattle.call_table.specs.Kept.{state_in};
 ghost use Rattle.call_table.specs.Table.{Done};
 ghost use Rattle.client_rules.specs.Client.{Client, is_open};
+ghost use Rattle.client_core.specs.Keys.{keys_in};
 ghost use Rattle.client_core.specs.Kept.{Stands};
+ghost use Rattle.client_core.specs.One.{StandsForOne};
 ghost use Rattle.client_core.specs.Results.{HasDone, HasDoneOpening};
-ghost use Rattle.client_core.specs.Took.{TookBy, TookOpen, TookOpening};
+ghost use Rattle.client_core.specs.Took.{TookBy, TookOpen, TookOpening, open_left, opening_left};
 
 use crate::core_client::Core;
 use crate::ended::EndedClient;
@@ -22,8 +24,10 @@ use std::alloc::Global;
 
 /// A client that has learnt a unique number is open.
 fn opened_or_still(core: Core) -> OpeningStep
+    requires { StandsForOne core }
     ensures taken { (before after : Client) → Stands core after → TookOpening result before after }
     ensures done { (call : CallNo) (answer : List ℕ) → state_in call core.calls.rows ≡ Some (Done answer) → HasDoneOpening call answer result }
+    ensures left { opening_left result ≡ core }
 {
     if core.is_open() {
         OpeningStep::Opened(OpenClient { core })
@@ -34,9 +38,13 @@ fn opened_or_still(core: Core) -> OpeningStep
 
 /// An open client that received a packet, and may have ended by it.
 fn open_or_ended(core: Core, ended: bool) -> OpenStep
-    requires { is_open core.rest ≡ true }
+    requires open { is_open core.rest ≡ true }
+    requires stands { ended ≡ false → StandsForOne core }
     ensures taken { (before after : Client) → TookBy (Ok ended) core before after → TookOpen result before after }
     ensures done { (call : CallNo) (answer : List ℕ) → state_in call core.calls.rows ≡ Some (Done answer) → HasDone call answer result }
+    ensures keys { keys_in (open_left result) ≡ keys_in core }
+    ensures session { (open_left result).rest.session ≡ core.rest.session }
+    ensures count { length (open_left result).calls.rows ≡ length core.calls.rows }
 {
     if ended {
         OpenStep::Ended(EndedClient { core })
@@ -74,6 +82,9 @@ impl OpeningClient {
             → TookOpening result client (at_moment now client) }
         ensures results { (client : Client) (envelope : Envelope) (call : CallNo) (answer : List ℕ) → Stands self client → Opens S.lock (S.keys seal.now) (max client.now now) Down packet.now envelope
             → BringsResult now envelope client call answer → HasDoneOpening call answer result }
+        ensures keys { keys_in (opening_left result) ≡ keys_in self }
+        ensures session { (opening_left result).rest.session ≡ self.rest.session }
+        ensures count { length (opening_left result).calls.rows ≡ length self.calls.rows }
     {
         let OpeningClient { mut core } = self;
         match core.receive(alloc, now, seal, packet) {
@@ -109,6 +120,9 @@ impl OpenClient {
             → TookOpen result client (at_moment now client) }
         ensures results { (client : Client) (envelope : Envelope) (call : CallNo) (answer : List ℕ) → Stands self client → Opens S.lock (S.keys seal.now) (max client.now now) Down packet.now envelope
             → BringsResult now envelope client call answer → HasDone call answer result }
+        ensures keys { keys_in (open_left result) ≡ keys_in self }
+        ensures session { (open_left result).rest.session ≡ self.rest.session }
+        ensures count { length (open_left result).calls.rows ≡ length self.calls.rows }
     {
         let OpenClient { mut core } = self;
         match core.receive(alloc, now, seal, packet) {
@@ -121,6 +135,9 @@ impl OpenClient {
     /// those that are `Held` are `Queued`, and the former session is to be destroyed. Takes no memory.
     pub fn renew<D: Draw>(self, draw: &mut D) -> OpeningClient
         ensures stands { (client : Client) → Stands self client → Stands result (renewed (word_after D.step 0 draw.old) client) }
+        ensures keys { keys_in result ≡ keys_in self }
+        ensures session { result.rest.session ≡ word_after D.step 0 draw.old }
+        ensures count { length result.calls.rows ≡ length self.calls.rows }
         ensures after { draw.new ≡ draw_after D.step 1 draw.old }
     {
         let OpenClient { mut core } = self;
@@ -131,7 +148,10 @@ impl OpenClient {
     /// The client ends: of calls that are `Sent` it isn't known what became, and the others that weren't decided are
     /// `Refused` with code 0. Takes no memory.
     pub fn end(self) -> EndedClient
-        ensures { (client : Client) → Stands self client → Stands result (ended client) }
+        ensures stands { (client : Client) → Stands self client → Stands result (ended client) }
+        ensures keys { keys_in result ≡ keys_in self }
+        ensures session { result.rest.session ≡ self.rest.session }
+        ensures count { length result.calls.rows ≡ length self.calls.rows }
     {
         let OpenClient { mut core } = self;
         core.finish();

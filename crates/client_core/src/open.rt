@@ -1,6 +1,6 @@
 //! A client that has learnt of its present session.
 
-ghost use Rattle.std.specs.Prelude.{◌≡◌, Some, IfOk, OnOk, OnErr, length, option_map};
+ghost use Rattle.std.specs.Prelude.{◌≡◌, ◌+◌, Some, IfOk, OnOk, OnErr, length, option_map};
 
 use crate::binding::BindState;
 use crate::core_client::Core;
@@ -20,12 +20,13 @@ impl Model for OpenClient {
     ghost use Rattle.std.specs.Prelude.{◌≡◌, true};
     ghost use Rattle.client_rules.specs.Client.{is_open};
     ghost use Rattle.client_core.specs.Kept.{Contents};
+    ghost use Rattle.client_core.specs.One.{StandsForOne};
 
     ghost Value = { Contents };
 
     ghost view = { λ client. client.core };
 
-    ghost invariant = { λ client. is_open client.core.rest ≡ true };
+    ghost invariant = { λ client. (is_open client.core.rest ≡ true) × StandsForOne client.core };
 }
 
 impl OpenClient {
@@ -33,12 +34,14 @@ impl OpenClient {
     ghost use Rattle.call_table.specs.Kept.{shown as told, state_in};
     ghost use Rattle.client_rules.specs.Client.{Client, calls_of};
     ghost use Rattle.client_rules.specs.Asking.{attached, binding_of, can_drop, dropped, pinged, salts_asked, submit_fault, submitted, ticked};
+    ghost use Rattle.client_core.specs.Keys.{keys_in};
     ghost use Rattle.client_core.specs.Kept.{Stands};
     ghost use Rattle.client_core.specs.Told.{TellsDrop, TellsFault, shown};
 
     /// The number of the present session.
     pub fn session(&self) -> u64
-        ensures { (client : Client) → Stands self.now client → result ≡ client.session }
+        ensures kept { result ≡ self.now.rest.session }
+        ensures session { (client : Client) → Stands self.now client → result ≡ client.session }
     {
         self.core.session()
     }
@@ -54,7 +57,8 @@ impl OpenClient {
     /// What became of a call that this client gave.
     pub fn state(&self, call: CallNo) -> CallState<'_>
         requires given { IsGiven call self.now.calls.rows }
-        ensures { (client : Client) → Stands self.now client → state_at call (calls_of client) ≡ Some (told result) }
+        ensures kept { state_in call self.now.calls.rows ≡ Some (told result) }
+        ensures state { (client : Client) → Stands self.now client → state_at call (calls_of client) ≡ Some (told result) }
     {
         self.core.state(call)
     }
@@ -76,6 +80,9 @@ impl OpenClient {
         ensures stands { OnOk result ((client : Client) → Stands self.old client → Stands self.new (submitted body.now after client)) }
         ensures given { IfOk result (λ call. IsGiven call self.new.calls.rows) }
         ensures queued { IfOk result (λ call. state_in call self.new.calls.rows ≡ Some Queued) }
+        ensures keys { keys_in self.new ≡ keys_in self.old }
+        ensures session { self.new.rest.session ≡ self.old.rest.session }
+        ensures count { OnOk result (length self.new.calls.rows ≡ length self.old.calls.rows + 1) }
         ensures unchanged { OnErr result (self.new ≡ self.old) }
     {
         self.core.submit(alloc, body, after)
@@ -84,28 +91,40 @@ impl OpenClient {
     /// A connection was opened: the binding that was asked for and all calls that are `Sent` are to be sent again, each
     /// alone and under its number.
     pub fn attach(&mut self)
-        ensures { (client : Client) → Stands self.old client → Stands self.new (attached client) }
+        ensures stands { (client : Client) → Stands self.old client → Stands self.new (attached client) }
+        ensures keys { keys_in self.new ≡ keys_in self.old }
+        ensures session { self.new.rest.session ≡ self.old.rest.session }
+        ensures count { length self.new.calls.rows ≡ length self.old.calls.rows }
     {
         self.core.attach();
     }
 
     /// The server is to be asked how the calls that are sent fared, if there is one.
     pub fn tick(&mut self)
-        ensures { (client : Client) → Stands self.old client → Stands self.new (ticked client) }
+        ensures stands { (client : Client) → Stands self.old client → Stands self.new (ticked client) }
+        ensures keys { keys_in self.new ≡ keys_in self.old }
+        ensures session { self.new.rest.session ≡ self.old.rest.session }
+        ensures count { length self.new.calls.rows ≡ length self.old.calls.rows }
     {
         self.core.tick();
     }
 
     /// The server is to answer a ping of this number. It takes the place of a ping that still waits.
     pub fn ping(&mut self, id: u64)
-        ensures { (client : Client) → Stands self.old client → Stands self.new (pinged id client) }
+        ensures stands { (client : Client) → Stands self.old client → Stands self.new (pinged id client) }
+        ensures keys { keys_in self.new ≡ keys_in self.old }
+        ensures session { self.new.rest.session ≡ self.old.rest.session }
+        ensures count { length self.new.calls.rows ≡ length self.old.calls.rows }
     {
         self.core.ping(id);
     }
 
     /// The server is to tell so many of its next salts. It takes the place of a request for salts that still waits.
     pub fn ask_salts(&mut self, n: u32)
-        ensures { (client : Client) → Stands self.old client → Stands self.new (salts_asked n client) }
+        ensures stands { (client : Client) → Stands self.old client → Stands self.new (salts_asked n client) }
+        ensures keys { keys_in self.new ≡ keys_in self.old }
+        ensures session { self.new.rest.session ≡ self.old.rest.session }
+        ensures count { length self.new.calls.rows ≡ length self.old.calls.rows }
     {
         self.core.ask_salts(n);
     }
@@ -118,6 +137,9 @@ impl OpenClient {
     pub fn drop_answer(&mut self, call: CallNo) -> Result<(), NotSent>
         ensures told { (client : Client) → Stands self.old client → TellsDrop (can_drop call client) result }
         ensures stands { (client : Client) → Stands self.old client → Stands self.new (dropped call client) }
+        ensures keys { keys_in self.new ≡ keys_in self.old }
+        ensures session { self.new.rest.session ≡ self.old.rest.session }
+        ensures count { length self.new.calls.rows ≡ length self.old.calls.rows }
         ensures unchanged { OnErr result (self.new ≡ self.old) }
     {
         self.core.drop_answer(call)

@@ -1,6 +1,6 @@
 //! A client that has learnt nothing of its present session.
 
-ghost use Rattle.std.specs.Prelude.{◌≡◌, ◌<◌, None, Some, IfOk, OnOk, OnErr, length};
+ghost use Rattle.std.specs.Prelude.{◌≡◌, ◌+◌, None, Some, IfOk, OnOk, OnErr, length};
 
 use crate::binding::{Binding, Temporary};
 use crate::core_client::Core;
@@ -22,12 +22,13 @@ pub struct OpeningClient {
 impl Model for OpeningClient {
     ghost use Rattle.std.specs.Prelude.{◌≡◌, []};
     ghost use Rattle.client_core.specs.Kept.{Contents};
+    ghost use Rattle.client_core.specs.One.{StandsForOne};
 
     ghost Value = { Contents };
 
     ghost view = { λ client. client.core };
 
-    ghost invariant = { λ client. client.core.rest.learnt ≡ [] };
+    ghost invariant = { λ client. (client.core.rest.learnt ≡ []) × StandsForOne client.core };
 }
 
 impl OpeningClient {
@@ -36,6 +37,7 @@ impl OpeningClient {
     ghost use Rattle.call_table.specs.Kept.{shown, state_in};
     ghost use Rattle.client_rules.specs.Client.{Client, fresh_client, temporary_of, calls_of};
     ghost use Rattle.client_rules.specs.Asking.{attached, submit_fault, submitted};
+    ghost use Rattle.client_core.specs.Keys.{keys_in};
     ghost use Rattle.client_core.specs.Kept.{Stands};
     ghost use Rattle.client_core.specs.Told.{TellsFault};
 
@@ -46,6 +48,9 @@ impl OpeningClient {
     /// `Memory`: memory ran out.
     pub fn new<D: Draw>(alloc: Global, key: u64, draw: &mut D) -> Result<OpeningClient, Memory>
         ensures stands { IfOk result (λ client. Stands client (fresh_client key None (word_after D.step 0 draw.old))) }
+        ensures keys { IfOk result (λ client. keys_in client ≡ record { key = key; bound_to = None }) }
+        ensures session { IfOk result (λ client. client.rest.session ≡ word_after D.step 0 draw.old) }
+        ensures count { IfOk result (λ client. length client.calls.rows ≡ 0) }
         ensures after { OnOk result (draw.new ≡ draw_after D.step 1 draw.old) }
     {
         Ok(OpeningClient {
@@ -66,6 +71,9 @@ impl OpeningClient {
         draw: &mut D,
     ) -> Result<OpeningClient, Memory>
         ensures stands { IfOk result (λ client. Stands client (fresh_client temp (Some (temporary_of perm expires)) (word_after D.step 0 draw.old))) }
+        ensures keys { IfOk result (λ client. keys_in client ≡ record { key = temp; bound_to = Some (record { perm = perm; expires = expires }) }) }
+        ensures session { IfOk result (λ client. client.rest.session ≡ word_after D.step 0 draw.old) }
+        ensures count { IfOk result (λ client. length client.calls.rows ≡ 0) }
         ensures after { OnOk result (draw.new ≡ draw_after D.step 1 draw.old) }
     {
         let temporary = Temporary {
@@ -81,7 +89,8 @@ impl OpeningClient {
 
     /// The number of the present session.
     pub fn session(&self) -> u64
-        ensures { (client : Client) → Stands self.now client → result ≡ client.session }
+        ensures kept { result ≡ self.now.rest.session }
+        ensures session { (client : Client) → Stands self.now client → result ≡ client.session }
     {
         self.core.session()
     }
@@ -97,7 +106,8 @@ impl OpeningClient {
     /// What became of a call that this client gave.
     pub fn state(&self, call: CallNo) -> CallState<'_>
         requires given { IsGiven call self.now.calls.rows }
-        ensures { (client : Client) → Stands self.now client → state_at call (calls_of client) ≡ Some (shown result) }
+        ensures kept { state_in call self.now.calls.rows ≡ Some (shown result) }
+        ensures state { (client : Client) → Stands self.now client → state_at call (calls_of client) ≡ Some (shown result) }
     {
         self.core.state(call)
     }
@@ -119,6 +129,9 @@ impl OpeningClient {
         ensures stands { OnOk result ((client : Client) → Stands self.old client → Stands self.new (submitted body.now after client)) }
         ensures given { IfOk result (λ call. IsGiven call self.new.calls.rows) }
         ensures queued { IfOk result (λ call. state_in call self.new.calls.rows ≡ Some Queued) }
+        ensures keys { keys_in self.new ≡ keys_in self.old }
+        ensures session { self.new.rest.session ≡ self.old.rest.session }
+        ensures count { OnOk result (length self.new.calls.rows ≡ length self.old.calls.rows + 1) }
         ensures unchanged { OnErr result (self.new ≡ self.old) }
     {
         self.core.submit(alloc, body, after)
@@ -127,7 +140,10 @@ impl OpeningClient {
     /// A connection was opened: the binding that was asked for and all calls that are `Sent` are to be sent again, each
     /// alone and under its number.
     pub fn attach(&mut self)
-        ensures { (client : Client) → Stands self.old client → Stands self.new (attached client) }
+        ensures stands { (client : Client) → Stands self.old client → Stands self.new (attached client) }
+        ensures keys { keys_in self.new ≡ keys_in self.old }
+        ensures session { self.new.rest.session ≡ self.old.rest.session }
+        ensures count { length self.new.calls.rows ≡ length self.old.calls.rows }
     {
         self.core.attach();
     }

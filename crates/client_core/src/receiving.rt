@@ -21,6 +21,7 @@ impl Core {
     ghost use Rattle.client_rules.specs.Client.{Client, at_moment, is_open};
     ghost use Rattle.client_rules.specs.Taking.{is_for, take};
     ghost use Rattle.client_core.specs.Kept.{Stands};
+    ghost use Rattle.client_core.specs.Own.{Came};
     ghost use Rattle.client_core.specs.Results.{BringsResult};
     ghost use Rattle.client_core.specs.Took.{TookBy};
 
@@ -117,6 +118,7 @@ impl Core {
             → TookBy result self.new client (at_moment now client) }
         ensures results { (client : Client) (envelope : Envelope) (call : CallNo) (answer : List ℕ) → Stands self.old client → Opens S.lock (S.keys seal.now) (max client.now now) Down packet.now envelope
             → BringsResult now envelope client call answer → IfOk result (λ ended. state_in call self.new.calls.rows ≡ Some (Done answer)) }
+        ensures came { (client : Client) → Stands self.old client → Came result self.new client }
         ensures open { is_open self.old.rest ≡ true → is_open self.new.rest ≡ true }
         ensures opening { self.old.rest.learnt ≡ [] → IfOk result (λ ended. ended ≡ false) }
         ensures learnt { OnErr result (self.new.rest.learnt ≡ self.old.rest.learnt) }

@@ -1,5 +1,4 @@
-use Rattle.std.proofs.Common.{◌≡◌, ◌∙◌, ap, sym, subst, ◌≤◌, ◌<◌}
-use Rattle.call_table.specs.Kept.{Contents}
+use Rattle.std.proofs.Common.{◌∙◌}
 use Rattle.client_core.proofs.AloneLemmas.{again_stands, count_kept, state_kept}
 use Rattle.client_core.proofs.SoundLemmas.{sound_again, sound_flagged}
 use Rattle.client_core.proofs.calling.go_again.Goals as goal

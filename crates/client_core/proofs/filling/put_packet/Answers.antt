@@ -1,4 +1,4 @@
-use Rattle.std.proofs.Common.{◌≡◌, ◌∙◌, drop, sym, append_assoc, arith}
+use Rattle.std.proofs.Common.{◌∙◌, drop, sym, append_assoc, arith}
 use Rattle.std.proofs.lemmas.List.{length-drop, take_all}
 use Rattle.containers.specs.Container.{head_of}
 use Rattle.client_core.proofs.PacketLemmas.{packed_one, packed_other}

@@ -1,4 +1,4 @@
-use Rattle.std.proofs.Common.{◌≡◌, ◌∙◌, Some, take, ap, sym, arith}
+use Rattle.std.proofs.Common.{◌∙◌, take, ap, sym, arith}
 use Rattle.call_table.specs.Table.{inner_of}
 use Rattle.client_core.specs.Marks.{table_alone}
 use Rattle.client_core.proofs.MarkingLemmas.{fold_all, fold_next_got, got_there, packets_stay}

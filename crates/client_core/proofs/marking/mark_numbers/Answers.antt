@@ -1,4 +1,4 @@
-use Rattle.std.proofs.Common.{◌∙◌, sym, arith}
+use Rattle.std.proofs.Common.{sym, arith}
 use Rattle.client_core.specs.Marks.{table_alone}
 use Rattle.client_core.proofs.MarkingLemmas.{fold_all, fold_next}
 use Rattle.client_core.proofs.marking.mark_numbers.Goals as goal

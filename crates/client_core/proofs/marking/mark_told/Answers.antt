@@ -1,4 +1,4 @@
-use Rattle.std.proofs.Common.{◌∙◌, sym, arith}
+use Rattle.std.proofs.Common.{sym, arith}
 use Rattle.client_core.specs.Marks.{table_told}
 use Rattle.client_core.proofs.MarkingLemmas.{fold_next_both, fold_whole_both}
 use Rattle.client_core.proofs.marking.mark_told.Goals as goal

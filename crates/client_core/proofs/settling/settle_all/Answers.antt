@@ -1,4 +1,4 @@
-use Rattle.std.proofs.Common.{◌∙◌, ap, refl, sym}
+use Rattle.std.proofs.Common.{refl, sym}
 use Rattle.client_core.proofs.RuleLemmas.{calls_ended, calls_learnt_by, calls_renewed, rows_ended, rows_learnt, rows_renewed}
 use Rattle.client_core.proofs.settling.settle_all.Goals as goal
 

@@ -1,4 +1,4 @@
-use Rattle.std.proofs.Common.{◌≡◌, ◌∙◌, ℕ, true, List, [], ◌∷◌, ◌++◌, ap, subst, arith}
+use Rattle.std.proofs.Common.{◌≡◌, ◌∙◌, ℕ, [], ◌∷◌, ◌++◌, ap, subst, arith}
 use Rattle.draws.specs.Draws.{draw_after, next_bytes}
 use Rattle.msg_ids.specs.Counters.{Counters}
 use Rattle.service_tl.specs.declared.lists.Message.{Message}

@@ -1,4 +1,4 @@
-use Rattle.std.proofs.Common.{◌≡◌, ◌∙◌, ℕ, ◌-◌, ◌≤◌, List, length, ap, subst, sym}
+use Rattle.std.proofs.Common.{◌∙◌, ℕ, ◌-◌, ◌≤◌, List, length, ap, subst}
 use Rattle.call_table.specs.declared.row.Row.{Row}
 use Rattle.client_rules.specs.Client.{Client, calls_of}
 use Rattle.client_core.specs.Kept.{Contents}

@@ -1,8 +1,7 @@
-use Rattle.std.proofs.Common.{◌≡◌, ℕ, subst}
+use Rattle.std.proofs.Common.{subst}
 use Rattle.std.specs.Prelude.{IfSome, IsSome}
 use Rattle.auth_keys.specs.Rings.{entry_of}
 use Rattle.client_rules.specs.Client.{Client, at_moment}
-use Rattle.client_core.specs.Due.{CanSay}
 use Rattle.client_core.specs.Flushed.{setting_of}
 use Rattle.client_core.proofs.BoundLemmas.{asked_short}
 use Rattle.client_core.proofs.DueLemmas.{can_at, due_is, quiet_is}

@@ -1,4 +1,4 @@
-use Rattle.std.proofs.Common.{◌≡◌, ◌∙◌, ap, sym, subst}
+use Rattle.std.proofs.Common.{◌∙◌, ap, sym, subst}
 use Rattle.client_rules.specs.Client.{Client}
 use Rattle.client_rules.specs.Filling.{empty}
 use Rattle.client_core.specs.Draft.{Goes}

@@ -1,6 +1,6 @@
 use Rattle.std.proofs.Common.{◌≡◌, ◌∙◌, ◌∷◌, [], Some, ap, sym}
 use Rattle.client_rules.specs.Client.{Asked, Client, at_moment, with_binding}
-use Rattle.client_rules.specs.Flush.{binding_alone, remembers_lone}
+use Rattle.client_rules.specs.Flush.{binding_alone}
 use Rattle.client_core.specs.Flushed.{setting_of}
 use Rattle.client_core.proofs.FlushLemmas.{alone_sent, alone_spent, binding_goes, memory_left}
 use Rattle.client_core.proofs.core_client.Core.flush_binding.Goals as goal

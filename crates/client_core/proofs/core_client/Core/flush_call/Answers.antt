@@ -1,5 +1,5 @@
-use Rattle.std.proofs.Common.{◌≡◌, ◌∙◌, ◌∷◌, [], Some, ap, sym}
-use Rattle.client_rules.specs.Client.{Client, at_moment, with_call}
+use Rattle.std.proofs.Common.{◌∙◌, ◌∷◌, [], ap, sym}
+use Rattle.client_rules.specs.Client.{at_moment, with_call}
 use Rattle.service_tl.specs.declared.lists.Message.{Message}
 use Rattle.client_rules.specs.Flush.{again, gone_again}
 use Rattle.client_core.specs.Calling.{marked_in}

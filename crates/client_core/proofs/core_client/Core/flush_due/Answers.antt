@@ -1,4 +1,4 @@
-use Rattle.std.proofs.Common.{◌≡◌, ◌∙◌, ap, sym}
+use Rattle.std.proofs.Common.{◌∙◌, ap}
 use Rattle.client_rules.specs.Client.{at_moment}
 use Rattle.client_rules.specs.Filling.{Filling, fills}
 use Rattle.client_rules.specs.Flush.{has_any}

@@ -2,7 +2,7 @@ use Rattle.std.proofs.Common.{◌≡◌, ◌∙◌, true, false, ap, refl, sym}
 use Rattle.std.specs.Prelude.{fold}
 use Rattle.client_rules.specs.Client.{at_moment}
 use Rattle.client_rules.specs.Filling.{Filling, empty, says_call}
-use Rattle.client_rules.specs.Flush.{has_any, is_due}
+use Rattle.client_rules.specs.Flush.{has_any}
 use Rattle.client_core.specs.Draft.{queue}
 use Rattle.client_core.specs.Due.{is_due_beside}
 use Rattle.client_core.specs.Flushed.{setting_of}

@@ -1,4 +1,4 @@
-use Rattle.std.proofs.Common.{◌≡◌, ◌∙◌, ap, refl, sym, arith}
+use Rattle.std.proofs.Common.{◌∙◌, refl, arith}
 use Rattle.client_core.proofs.GoesLemmas.{kept_calls}
 use Rattle.client_core.proofs.GivingLemmas.{quiet_all, quiet_none}
 use Rattle.client_core.proofs.core_client.Core.gives_up.Goals as goal

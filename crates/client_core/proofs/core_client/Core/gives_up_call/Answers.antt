@@ -1,11 +1,11 @@
-use Rattle.std.proofs.Common.{◌≡◌, ◌∙◌, ap, refl, sym, subst}
+use Rattle.std.proofs.Common.{◌≡◌, ◌∙◌, refl, sym}
 use Rattle.std.proofs.lemmas.Bool.{true≢false}
 use Rattle.call_table.specs.declared.call.Group.TheVariants as group
 use Rattle.call_table.specs.declared.call.Fate.TheVariants as fate
 use Rattle.call_table.specs.Table.{Call, Queued, at, settled}
-use Rattle.client_rules.specs.Client.{Client, calls_of, with_call}
-use Rattle.client_rules.specs.Filling.{Filling, Never, Waits, Goes as Going}
-use Rattle.client_core.specs.Draft.{Goes, LeavesQueue, nothing_yet}
+use Rattle.client_rules.specs.Client.{calls_of, with_call}
+use Rattle.client_rules.specs.Filling.{Never, Waits, Goes as Going}
+use Rattle.client_core.specs.Draft.{LeavesQueue, nothing_yet}
 use Rattle.client_core.specs.Due.{goes_at}
 use Rattle.client_core.proofs.GivingLemmas.{state_waits}
 use Rattle.client_core.proofs.GoesLemmas.{goes_so, if_any, is_there, turn_any, turn_comes}

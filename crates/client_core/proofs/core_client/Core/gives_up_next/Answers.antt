@@ -1,4 +1,4 @@
-use Rattle.std.proofs.Common.{◌≡◌, ◌∙◌, sym}
+use Rattle.std.proofs.Common.{sym}
 use Rattle.client_core.proofs.GoesLemmas.{kept_calls}
 use Rattle.client_core.proofs.GivingLemmas.{quiet_left, quiet_next, quiet_still, quiet_waits}
 use Rattle.client_core.proofs.core_client.Core.gives_up_next.Goals as goal

@@ -1,4 +1,4 @@
-use Rattle.std.proofs.Common.{◌∙◌, ap, sym}
+use Rattle.std.proofs.Common.{ap, sym}
 use Rattle.client_core.specs.Kept.{Stands}
 use Rattle.client_core.proofs.MarkingLemmas.{told_of_lifted}
 use Rattle.client_core.proofs.core_client.Core.hear_states.Goals as goal

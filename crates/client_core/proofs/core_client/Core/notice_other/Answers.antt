@@ -1,6 +1,6 @@
-use Rattle.std.proofs.Common.{◌≡◌, ◌∙◌, false, ap, sym, Option}
+use Rattle.std.proofs.Common.{◌≡◌, ◌∙◌, false, ap, sym}
 use Rattle.call_table.specs.Table.{inner_of}
-use Rattle.client_rules.specs.Client.{Client, Temporary}
+use Rattle.client_rules.specs.Client.{Client}
 use Rattle.client_rules.specs.Taking.{has_asked}
 use Rattle.client_core.specs.Kept.{Stands}
 use Rattle.client_core.proofs.NoticeLemmas.{noticed_packet, was_packet}

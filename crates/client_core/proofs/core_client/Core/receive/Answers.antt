@@ -1,6 +1,9 @@
-use Rattle.std.proofs.Common.{◌≡◌, ◌∙◌, ap, max, sym}
-use Rattle.client_rules.specs.Client.{Client}
+use Rattle.std.proofs.Common.{◌≡◌, ◌∙◌, ap, false, max, refl}
+use Rattle.client_rules.specs.Client.{Client, at_moment}
+use Rattle.client_rules.specs.Taking.{take}
+use Rattle.client_core.proofs.OwnLemmas.{take_own}
 use Rattle.client_core.proofs.ResultLemmas.{done_by, result_done}
+use Rattle.client_core.proofs.TakingLemmas.{took_ok}
 use Rattle.client_core.proofs.core_client.Core.receive.Goals as goal
 
 pub returns-in-Envelope-clause-opened : goal.returns-in-Envelope-clause-opened
@@ -28,3 +31,22 @@ returns-in-Refused-clause-results g c client envelope call answer stands opens b
     let moment : c.latest.result ≡ max client.now c.args.now = c.latest.ensures.moment ∙ ap (λ (own : Client). max own.now c.args.now) stands.rest in
     let got = rw moment at (rw c.in-Refused.is at c.unseal.ensures.refused) in
     absurd (c.opens_what_it_sealed.ensures.not_both _ _ _ _ envelope _ opens got)
+
+pub returns-in-Envelope-clause-came : goal.returns-in-Envelope-clause-came
+returns-in-Envelope-clause-came g c client stands =
+    record {
+      after = take c.args.now c.in-Envelope.envelope client;
+      took = c.take_envelope.ensures.stands client stands;
+      own = take_own c.args.now c.in-Envelope.envelope client;
+    }
+
+pub returns-in-Refused-clause-came : goal.returns-in-Refused-clause-came
+returns-in-Refused-clause-came g c client stands =
+    record {
+      after = at_moment c.args.now client;
+      took = took_ok false _ client (at_moment c.args.now client) c.reach.ensures.living (c.reach.ensures.stands client stands);
+      own = refl;
+    }
+
+pub returns-in-Memory-clause-came : goal.returns-in-Memory-clause-came
+returns-in-Memory-clause-came g c client stands = record { after = client; took = stands; own = refl }

@@ -1,12 +1,12 @@
-use Rattle.std.proofs.Common.{◌≡◌, ◌∙◌, ℕ, true, false, List, [], ◌∷◌, ◌++◌, ap, sym, subst}
+use Rattle.std.proofs.Common.{◌≡◌, ◌∙◌, ℕ, [], ◌∷◌, ◌++◌, ap, sym, subst}
 use Rattle.msg_ids.specs.Counters.{Counters, after_next}
 use Rattle.service_tl.specs.declared.lists.Message.{Message}
 use Rattle.service_tl.specs.Items.{spelling_of}
 use Rattle.call_table.specs.Table.{no_calls}
 use Rattle.client_rules.specs.Client.{Client, after_message, numbered, time_of}
-use Rattle.client_rules.specs.Filling.{Filling, changes, says}
-use Rattle.client_core.specs.Kept.{Contents, Stands}
-use Rattle.client_core.specs.Draft.{Draft, Goes, Holds, enters, item_of, needs_answer, said_bytes, said_message}
+use Rattle.client_rules.specs.Filling.{changes}
+use Rattle.client_core.specs.Kept.{Stands}
+use Rattle.client_core.specs.Draft.{Goes, Holds, item_of, needs_answer, said_bytes, said_message}
 use Rattle.client_core.proofs.GoesLemmas.{goes_in, goes_out}
 use Rattle.client_core.proofs.core_client.Core.say.Goals as goal
 

@@ -1,7 +1,7 @@
 use Rattle.std.proofs.Common.{◌≡◌, ◌∙◌, ℕ, List, [], length, ap, sym}
 use Rattle.std.specs.Prelude.{◌≢◌}
 use Rattle.client_rules.specs.Client.{Client}
-use Rattle.client_rules.specs.Filling.{Filling, says_acks}
+use Rattle.client_rules.specs.Filling.{says_acks}
 use Rattle.client_core.specs.Kept.{Contents}
 use Rattle.client_core.proofs.GoesLemmas.{acks_go, goes_so, moved, same_goes}
 use Rattle.client_core.proofs.core_client.Core.says_acks.Goals as goal

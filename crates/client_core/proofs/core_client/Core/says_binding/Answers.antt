@@ -1,4 +1,4 @@
-use Rattle.std.proofs.Common.{◌≡◌, ◌∙◌, ℕ, true, List, Option, Some, ap, sym, length}
+use Rattle.std.proofs.Common.{◌≡◌, ◌∙◌, true, List, Some, ap, sym, length}
 use Rattle.auth_keys.specs.declared.ring.RingKey.{RingKey}
 use Rattle.auth_keys.specs.Rings.{entry_of}
 use Rattle.service_tl.specs.declared.lists.Message.{Message}

@@ -1,4 +1,4 @@
-use Rattle.std.proofs.Common.{◌≡◌, ◌∙◌, ap, refl, sym, arith}
+use Rattle.std.proofs.Common.{◌∙◌, ap, refl, sym, arith}
 use Rattle.client_rules.specs.Client.{Client}
 use Rattle.client_core.proofs.GoesLemmas.{kept_calls}
 use Rattle.client_core.proofs.QueueLemmas.{so_far_all, so_far_full, so_far_none}

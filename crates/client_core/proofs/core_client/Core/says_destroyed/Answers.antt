@@ -1,6 +1,6 @@
-use Rattle.std.proofs.Common.{◌≡◌, ◌∙◌, ℕ, Option, Some, None, ap, sym}
+use Rattle.std.proofs.Common.{◌∙◌, ℕ, Option, Some, None, ap, sym}
 use Rattle.client_rules.specs.Client.{Client}
-use Rattle.client_rules.specs.Filling.{Filling, says_destroyed}
+use Rattle.client_rules.specs.Filling.{says_destroyed}
 use Rattle.client_core.proofs.GoesLemmas.{destroys, destroys_not, goes_so, moved, same_goes, told}
 use Rattle.client_core.proofs.core_client.Core.says_destroyed.Goals as goal
 

@@ -1,7 +1,7 @@
-use Rattle.std.proofs.Common.{◌≡◌, ◌∙◌, ℕ, Option, Some, None, ap, sym}
+use Rattle.std.proofs.Common.{◌∙◌, ℕ, Option, Some, sym}
 use Rattle.call_table.specs.Table.{at}
-use Rattle.client_rules.specs.Client.{Client, calls_of, with_call}
-use Rattle.client_rules.specs.Filling.{Filling, number_of, says_drop_of, undropped}
+use Rattle.client_rules.specs.Client.{calls_of, with_call}
+use Rattle.client_rules.specs.Filling.{number_of, says_drop_of, undropped}
 use Rattle.client_core.proofs.GoesLemmas.{drop_leaves, goes_so, kept_calls, moved, same_goes, undropped_stands}
 use Rattle.client_core.proofs.SoundLemmas.{sound_flagged}
 use Rattle.client_core.proofs.TurnLemmas.{number_is}

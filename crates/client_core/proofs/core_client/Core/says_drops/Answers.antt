@@ -1,4 +1,4 @@
-use Rattle.std.proofs.Common.{◌≡◌, ◌∙◌, ap, refl, sym, arith}
+use Rattle.std.proofs.Common.{◌∙◌, ap, refl, sym, arith}
 use Rattle.client_rules.specs.Client.{Client}
 use Rattle.client_core.proofs.DropLemmas.{drops_all, drops_full, drops_none}
 use Rattle.client_core.proofs.GoesLemmas.{kept_calls}

@@ -1,4 +1,4 @@
-use Rattle.std.proofs.Common.{◌≡◌, ◌∙◌, sym}
+use Rattle.std.proofs.Common.{◌∙◌, sym}
 use Rattle.std.proofs.lemmas.Bool.{true≢false, true_from_ne_false}
 use Rattle.client_core.proofs.DropLemmas.{drops_next, drops_there}
 use Rattle.client_core.proofs.GoesLemmas.{kept_calls}

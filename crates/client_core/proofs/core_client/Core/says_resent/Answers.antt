@@ -1,9 +1,7 @@
-use Rattle.std.proofs.Common.{◌≡◌, ◌∙◌, ℕ, List, [], Option, Some, None, ap, sym, subst}
-use Rattle.std.specs.Prelude.{option_map}
+use Rattle.std.proofs.Common.{◌∙◌, ℕ, List, [], ap, sym}
 use Rattle.msg_ids.specs.Counters.{Counters, after_next}
-use Rattle.client_rules.specs.Client.{Client, States, Waiting, after_message, numbered}
-use Rattle.client_rules.specs.Filling.{Filling, changes, says_resent}
-use Rattle.client_core.specs.Kept.{Contents, states_in, waiting_in}
+use Rattle.client_rules.specs.Client.{Client, after_message, numbered}
+use Rattle.client_rules.specs.Filling.{changes, says_resent}
 use Rattle.client_core.specs.Numbers.{Numbers}
 use Rattle.client_core.specs.Draft.{Goes, item_of, needs_answer, said_bytes}
 use Rattle.service_tl.specs.Items.{spelling_of}

@@ -2,7 +2,7 @@ use Rattle.std.proofs.Common.{◌≡◌, ◌∙◌, ℕ, Bool, true, false, List
 use Rattle.std.specs.Prelude.{option_map}
 use Rattle.service_tl.specs.declared.item.Item.TheVariants.{MsgsStateReq}
 use Rattle.client_rules.specs.Client.{Client, StateRequest, calls_of}
-use Rattle.client_rules.specs.Filling.{Filling, asks_states, numbers_max, outstanding, says, says_states}
+use Rattle.client_rules.specs.Filling.{asks_states, numbers_max, outstanding, says, says_states}
 use Rattle.call_table.specs.Kept.{numbers_in}
 use Rattle.client_core.specs.Kept.{Contents, asked_in}
 use Rattle.client_core.proofs.GoesLemmas.{goes_so, kept_calls, moved, same_goes, told}

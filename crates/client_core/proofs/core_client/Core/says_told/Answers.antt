@@ -1,14 +1,14 @@
-use Rattle.std.proofs.Common.{◌≡◌, ◌∙◌, ℕ, List, [], Option, Some, None, ap, sym, subst}
+use Rattle.std.proofs.Common.{◌∙◌, ℕ, List, Option, Some, None, ap, sym}
 use Rattle.std.specs.Prelude.{option_map}
 use Rattle.msg_ids.specs.Counters.{Counters, after_next}
 use Rattle.client_rules.specs.Client.{Client, States, Waiting, after_message, numbered}
-use Rattle.client_rules.specs.Filling.{Filling, changes, says_told}
-use Rattle.client_core.specs.Kept.{Contents, states_in, waiting_in}
+use Rattle.client_rules.specs.Filling.{changes, says_told}
+use Rattle.client_core.specs.Kept.{states_in, waiting_in}
 use Rattle.client_core.specs.Draft.{Goes, item_of, needs_answer, said_bytes}
 use Rattle.service_tl.specs.Items.{spelling_of}
 use Rattle.client_core.specs.declared.saying.Said.{Said}
 use Rattle.client_core.specs.declared.saying.Said.TheVariants as said
-use Rattle.client_core.proofs.GoesLemmas.{goes_out, moved, none_of, resent_go, resent_not, said_in, same_goes, some_of, told}
+use Rattle.client_core.proofs.GoesLemmas.{goes_out, moved, said_in, told}
 use Rattle.client_core.proofs.core_client.Core.says_told.Goals as goal
 
 abbrev change : Client → Client

@@ -1,4 +1,4 @@
-use Rattle.std.proofs.Common.{◌≡◌, ◌∙◌, ap}
+use Rattle.std.proofs.Common.{◌∙◌, ap}
 use Rattle.call_table.specs.Kept.{Contents as Calls}
 use Rattle.client_rules.specs.Client.{Client}
 use Rattle.client_core.proofs.core_client.Core.says_waiting.Goals as goal

@@ -1,4 +1,4 @@
-use Rattle.std.proofs.Common.{◌≡◌, ◌∙◌, ap, sym, Option, option_map}
+use Rattle.std.proofs.Common.{◌∙◌, ap, sym, Option, option_map}
 use Rattle.client_rules.specs.Client.{Client, Temporary, Asked, at_moment, with_binding}
 use Rattle.client_rules.specs.Flush.{binding_alone}
 use Rattle.call_table.specs.Table.{no_calls}

@@ -1,7 +1,7 @@
 use Rattle.std.proofs.Common.{◌≡◌, sym, ℕ, subst, ap}
 use Rattle.client_rules.specs.Client.{Client, at_moment, with_call}
 use Rattle.client_rules.specs.Flush.{gone_again, remembers_lone}
-use Rattle.client_core.specs.Kept.{Contents, Stands}
+use Rattle.client_core.specs.Kept.{Stands}
 use Rattle.client_core.proofs.core_client.Core.send_call.Goals as goal
 
 pub returns-clause-stands : goal.returns-clause-stands

@@ -1,4 +1,4 @@
-use Rattle.std.proofs.Common.{◌≡◌, ◌∙◌, ℕ, false, ap, sym, subst, arith}
+use Rattle.std.proofs.Common.{◌≡◌, ◌∙◌, ℕ, false, ap, subst, arith}
 use Rattle.msg_ids.specs.Counters.{Counters, after_next, next_number, seq_of}
 use Rattle.service_tl.specs.declared.lists.Message.{Message}
 use Rattle.call_table.specs.Table.{no_calls, remembered}
@@ -7,7 +7,7 @@ use Rattle.client_rules.specs.Client.{Client, after_message, numbered, time_of}
 use Rattle.client_rules.specs.Flush.{remembers}
 use Rattle.client_rules.specs.Sending.{draw_after_packet, packet_of}
 use Rattle.client_core.specs.Flushed.{IsSealed, setting_of}
-use Rattle.client_core.specs.Kept.{Contents, Stands}
+use Rattle.client_core.specs.Kept.{Stands}
 use Rattle.client_core.proofs.SoundLemmas.{next_behind, sound_later}
 use Rattle.client_core.proofs.core_client.Core.send_container.Goals as goal
 

@@ -1,4 +1,4 @@
-use Rattle.std.proofs.Common.{◌≡◌, ◌∙◌, ap, sym}
+use Rattle.std.proofs.Common.{◌∙◌}
 use Rattle.client_core.proofs.core_client.Core.send_draft.Goals as goal
 
 pub returns-clause-sent : goal.returns-clause-sent

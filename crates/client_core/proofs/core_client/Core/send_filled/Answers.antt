@@ -1,4 +1,4 @@
-use Rattle.std.proofs.Common.{◌≡◌, ◌∙◌, sym}
+use Rattle.std.proofs.Common.{◌∙◌, sym}
 use Rattle.client_core.specs.Filled.{lone_of}
 use Rattle.client_core.specs.Flushed.{setting_of}
 use Rattle.client_core.proofs.FlushLemmas.{any_some, container_sent, lone_sent}

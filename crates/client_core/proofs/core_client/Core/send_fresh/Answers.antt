@@ -1,4 +1,4 @@
-use Rattle.std.proofs.Common.{◌≡◌, ◌∙◌, sym}
+use Rattle.std.proofs.Common.{sym}
 use Rattle.client_rules.specs.Client.{at_moment}
 use Rattle.client_rules.specs.Filling.{fills}
 use Rattle.client_core.specs.Flushed.{setting_of}

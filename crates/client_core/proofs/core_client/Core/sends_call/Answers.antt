@@ -1,11 +1,11 @@
-use Rattle.std.proofs.Common.{◌≡◌, ◌∙◌, ap, sym, arith}
+use Rattle.std.proofs.Common.{ap, sym, arith}
 use Rattle.msg_ids.specs.Counters.{Counters}
 use Rattle.call_table.specs.Table.{at}
 use Rattle.client_rules.specs.Client.{calls_of}
 use Rattle.client_rules.specs.Filling.{Goes as Going, takes_turn}
 use Rattle.client_core.specs.Draft.{LeavesQueue}
 use Rattle.client_core.proofs.GoesLemmas.{if_body, kept_calls, sent_leaves}
-use Rattle.client_core.proofs.SoundLemmas.{next_behind, sound_below, sound_later, sound_sent}
+use Rattle.client_core.proofs.SoundLemmas.{next_behind, sound_later, sound_sent}
 use Rattle.client_core.proofs.core_client.Core.sends_call.Goals as goal
 
 pub invariant_of-self-in-Some : goal.invariant_of-self-in-Some

@@ -1,4 +1,4 @@
-use Rattle.std.proofs.Common.{◌≡◌, ◌∙◌, sym}
+use Rattle.std.proofs.Common.{◌∙◌, sym}
 use Rattle.client_core.specs.Kept.{Stands}
 use Rattle.client_core.proofs.TakingLemmas.{takes_envelope, takes_moment}
 use Rattle.client_core.proofs.core_client.Core.take_envelope.Goals as goal

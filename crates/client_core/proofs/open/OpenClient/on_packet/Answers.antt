@@ -1,3 +1,7 @@
+use Rattle.std.proofs.Common.{◌∙◌, ap, length}
+use Rattle.client_core.specs.Kept.{Contents}
+use Rattle.client_core.specs.Own.{Own}
+use Rattle.client_core.proofs.OwnLemmas.{came_own}
 use Rattle.client_core.proofs.open.OpenClient.on_packet.Goals as goal
 
 pub returns-in-Ok-clause-opened : goal.returns-in-Ok-clause-opened
@@ -14,3 +18,12 @@ returns-in-Ok-clause-results g c client envelope call answer stands opens brings
 
 pub returns-in-Err-clause-opened : goal.returns-in-Err-clause-opened
 returns-in-Err-clause-opened g c client envelope stands opens = rw c.in-Err.is at (c.receive.ensures.opened client envelope (rw c.self.view_is stands) opens)
+
+pub returns-in-Ok-clause-count : goal.returns-in-Ok-clause-count
+returns-in-Ok-clause-count g c =
+    c.open_or_ended.ensures.count
+    ∙ (ap (λ (own : Own). own.count) (came_own _ _ _ _ c.self.invariant.1.stands (c.receive.ensures.came _ c.self.invariant.1.stands)) ∙ ap (λ (contents : Contents). length contents.calls.rows) c.self.view_is)
+
+pub returns-in-Err-clause-count : goal.returns-in-Err-clause-count
+returns-in-Err-clause-count g c =
+    ap (λ (own : Own). own.count) (came_own _ _ _ _ c.self.invariant.1.stands (c.receive.ensures.came _ c.self.invariant.1.stands)) ∙ ap (λ (contents : Contents). length contents.calls.rows) c.self.view_is

@@ -1,10 +1,14 @@
+use Rattle.std.proofs.Common.{◌∙◌, ap, length}
+use Rattle.client_core.specs.Kept.{Contents}
+use Rattle.client_core.specs.Own.{Own}
+use Rattle.client_core.proofs.OwnLemmas.{came_own}
 use Rattle.client_core.proofs.TakingLemmas.{took_opening}
 use Rattle.client_core.proofs.opening.OpeningClient.on_packet.Goals as goal
 
 pub returns-in-Ok-clause-opened : goal.returns-in-Ok-clause-opened
 returns-in-Ok-clause-opened g c client envelope stands opens =
     c.opened_or_still.ensures.taken client _
-    (took_opening _ _ client _ (rw c.in-Ok.is at (c.receive.ensures.opening c.self.invariant)) (rw c.in-Ok.is at (c.receive.ensures.opened client envelope (rw c.self.view_is stands) opens)))
+    (took_opening _ _ client _ (rw c.in-Ok.is at (c.receive.ensures.opening c.self.invariant.0)) (rw c.in-Ok.is at (c.receive.ensures.opened client envelope (rw c.self.view_is stands) opens)))
 
 pub returns-in-Err-clause-opened : goal.returns-in-Err-clause-opened
 returns-in-Err-clause-opened g c client envelope stands opens = rw c.in-Err.is at (c.receive.ensures.opened client envelope (rw c.self.view_is stands) opens)
@@ -12,3 +16,12 @@ returns-in-Err-clause-opened g c client envelope stands opens = rw c.in-Err.is a
 pub returns-in-Ok-clause-results : goal.returns-in-Ok-clause-results
 returns-in-Ok-clause-results g c client envelope call answer stands opens brings =
     c.opened_or_still.ensures.done call answer (rw c.in-Ok.is at (c.receive.ensures.results client envelope call answer (rw c.self.view_is stands) opens brings))
+
+pub returns-in-Ok-clause-count : goal.returns-in-Ok-clause-count
+returns-in-Ok-clause-count g c =
+    ap (λ (contents : Contents). length contents.calls.rows) c.opened_or_still.ensures.left
+    ∙ (ap (λ (own : Own). own.count) (came_own _ _ _ _ c.self.invariant.1.stands (c.receive.ensures.came _ c.self.invariant.1.stands)) ∙ ap (λ (contents : Contents). length contents.calls.rows) c.self.view_is)
+
+pub returns-in-Err-clause-count : goal.returns-in-Err-clause-count
+returns-in-Err-clause-count g c =
+    ap (λ (own : Own). own.count) (came_own _ _ _ _ c.self.invariant.1.stands (c.receive.ensures.came _ c.self.invariant.1.stands)) ∙ ap (λ (contents : Contents). length contents.calls.rows) c.self.view_is

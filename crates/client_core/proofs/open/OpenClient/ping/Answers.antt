@@ -1,0 +1,6 @@
+use Rattle.client_rules.specs.Asking.{pinged}
+use Rattle.client_core.proofs.OwnLemmas.{keeps_one}
+use Rattle.client_core.proofs.open.OpenClient.ping.Goals as goal
+
+pub invariant_of-self : goal.invariant_of-self
+invariant_of-self c = (rw (c.ping.ensures.learnt) c.self.invariant.0, keeps_one _ _ (pinged c.args.id) c.self.invariant.1 c.ping.ensures.stands)
