@@ -19,7 +19,7 @@ use Rattle.inbox.specs.Judging.{judgements, session_after}
 use Rattle.outbox.specs.Replies.{IsWithin, kept_bytes_max}
 use Rattle.waits.specs.declared.job.Job.{Job}
 use Rattle.waits.specs.declared.job.Unfinished.{Unfinished}
-use Rattle.waits.specs.Jobs.{Queue, AreWithinLimits, accepted as with_job, has_failed, is_overdue, without_first, ready_job, without_ready}
+use Rattle.waits.specs.Jobs.{Queue, AreWithinLimits, accepted as with_job, has_failed, is_call, is_overdue, without_first, ready_job, without_ready}
 use Rattle.server_rules.specs.Server.{Name, Server, Session, Reply, has_accepted, is_kept, kept_replies, name_of, is_named, session_named, with_session, without_session, remembered, sessions_max}
 use Rattle.server_rules.specs.Event.{Setting, State, Speaker, Envelope, Owed, speaker_in, spoken, spoken_by, speaks, lost}
 use Rattle.server_rules.specs.Speaking.{says, says_again, says_it_is_new, has_said, owes_message, message_of, answers, msg_wait_failed, msg_wait_timeout}
@@ -67,7 +67,9 @@ module _ {S : Type 0} (H J : Type 0) (fit : AnswersFit S) (setting : Setting S) 
     kept = λ reply n x there is p. cond_both (has_said reply.number x) x (owes_message (message_of reply) x) (P n) (λ is. p) (λ is. p);
     fated = λ change n x only p. (λ h. drops-within change only x.session.replies (p.0 h), p.1);
     joined = λ job n x room p. (p.0, λ j. accepted-within job x room (p.1 j));
-    taken = λ test n x p. (p.0, λ j. first-within test x.jobs (p.1 j));
+    ended = λ job request content n x fine p.
+        let left : Speaker S = record x { jobs = without_first (is_call job.key job.session job.number) x.jobs } in
+        (λ h. fit setting job.number content left (fine h job.number), λ j. first-within (is_call job.key job.session job.number) x.jobs (p.1 j));
     told = λ number n x p. (p.0, λ j. told-within (outlook x.session x.jobs number) x.session number x.jobs (p.1 j));
     bound = λ bindings n x p. p;
     past = λ history n x p. p;

@@ -14,7 +14,7 @@ use Rattle.inbox.specs.declared.judged.Verdict.{Verdict}
 use Rattle.inbox.specs.declared.judged.Verdict.TheVariants.{Accepted, Again, Noticed}
 use Rattle.waits.specs.declared.job.Job.{Job}
 use Rattle.waits.specs.declared.job.Unfinished.{Unfinished}
-use Rattle.waits.specs.Jobs.{Queue, accepted as with_job, after_answer, first_job, has_failed, is_overdue, is_ready, without_first, without_ready, without_session as without_jobs_of, is_of}
+use Rattle.waits.specs.Jobs.{Queue, accepted as with_job, after_answer, first_job, has_failed, is_call, is_overdue, is_ready, without_first, without_ready, without_session as without_jobs_of, is_of}
 use Rattle.server_rules.specs.Server.{Name, Session, Reply, IsKept, is_kept, is_same, is_named, name_of, session_named, without_session, has_accepted}
 use Rattle.server_rules.specs.Event.{Setting, State, Speaker, Owed, Entry, speaker_in, spoken_by, speaks, lost}
 use Rattle.server_rules.specs.Speaking.{says, says_again, says_it_is_new, has_said, owes_message, message_of, answers, answers_in_place, records, needs_salts, msg_wait_failed, msg_wait_timeout}
@@ -210,7 +210,9 @@ module _ {S : Type 0} (laws : Speak S) (setting : Setting S) (own : Name) where
     kept = kept-p;
     fated = fated-p;
     joined = λ job n x room p. joined-p job n x p;
-    taken = taken-p;
+    ended = λ job request content n x fine p.
+        let test = is_call job.key job.session job.number in
+        placed-p false job.number request content n (record x { jobs = without_first test x.jobs }) (taken-p test n x p);
     told = told-p;
     bound = λ bindings n x p. as-it-is n x (record x { bindings = bindings }) refl refl refl refl refl refl p;
     past = λ history n x p. as-it-is n x (record x { session = record x.session { history = history } }) refl refl refl refl refl refl p;

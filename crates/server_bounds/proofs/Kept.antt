@@ -16,9 +16,9 @@ kept-first reply replies is = rw is refl
 pub kept-other : (reply : Reply) (replies : List Reply) → is_kept reply ≡ false → kept_replies (reply ∷ replies) ≡ kept_replies replies
 kept-other reply replies is = rw is refl
 
--- a reply stays as it is, or is kept no more
+-- a reply stays as it is, or is kept no more, and stays that to its call
 abbrev pub OnlyDrops : (Reply → Reply) → Type 0
-OnlyDrops change = (reply : Reply) → (change reply ≡ reply) ⊎ (is_kept (change reply) ≡ false)
+OnlyDrops change = (reply : Reply) → ((change reply).call ≡ reply.call) × ((change reply ≡ reply) ⊎ (is_kept (change reply) ≡ false))
 
 abbrev IsLess : Replies → Replies → Type 0
 IsLess one other = (length one ≤ length other) × (bytes_of one ≤ bytes_of other)
@@ -57,7 +57,7 @@ drops-less change only [] = (omega arith, omega arith)
 drops-less change only (reply ∷ replies) =
     let rest = drops-less change only replies in
     let P : Reply → Type 0 = λ first. IsLess (kept_replies (first ∷ map change replies)) (kept_replies (reply ∷ replies)) in
-    elim (only reply) [
+    elim (only reply).1 [
       | inl same ↦ subst P (sym same) (same-less reply (map change replies) replies rest)
       | inr fails ↦
           let Q : Replies → Type 0 = λ one. IsLess one (kept_replies (reply ∷ replies)) in
@@ -74,15 +74,15 @@ drops-within change only replies within =
 -- ---- the changes that are
 
 abbrev Same : Reply → Reply → Type 0
-Same reply changed = (changed ≡ reply) ⊎ (is_kept changed ≡ false)
+Same reply changed = (changed.call ≡ reply.call) × ((changed ≡ reply) ⊎ (is_kept changed ≡ false))
 
 dropped-only : (reply : Reply) → Same reply (dropped reply)
-dropped-only reply = cond_both (is_kept reply) _ reply (Same reply) (λ is. inr refl) (λ is. inl refl)
+dropped-only reply = cond_both (is_kept reply) _ reply (Same reply) (λ is. (refl, inr refl)) (λ is. (refl, inl refl))
 
 pub dropped_at-only : (number : ℕ) → OnlyDrops (λ other. cond (eqb other.number number) (dropped other) other)
 dropped_at-only number = λ reply.
-    cond_both (eqb reply.number number) (dropped reply) reply (Same reply) (λ is. dropped-only reply) (λ is. inl refl)
+    cond_both (eqb reply.number number) (dropped reply) reply (Same reply) (λ is. dropped-only reply) (λ is. (refl, inl refl))
 
 pub acked-only : (numbers : List ℕ) → OnlyDrops (acked_by numbers)
 acked-only numbers = λ reply.
-    cond_both (is_kept reply && list_any (λ number. number == reply.number) numbers) (record reply { fate = WasAcked }) reply (Same reply) (λ is. inr refl) (λ is. inl refl)
+    cond_both (is_kept reply && list_any (λ number. number == reply.number) numbers) (record reply { fate = WasAcked }) reply (Same reply) (λ is. (refl, inr refl)) (λ is. (refl, inl refl))

@@ -9,4 +9,5 @@ pub mod Unsaid
 pub mod Counted
 pub mod Sent
 pub mod Given
+pub mod Answered
 pub mod Taking

@@ -27,6 +27,14 @@ cases_name one other =
 pub found-named : (name : Name) (sessions : List Session) (session : Session) → session_named name sessions ≡ Some session → name_of session ≡ name
 found-named name sessions session is = sym (same-names name (name_of session) (find-holds (is_named name) sessions session is).1)
 
+pub lost-none : (name : Name) (sessions : List Session) → session_named name (without_session name sessions) ≡ None
+lost-none name [] = refl
+lost-none name (first ∷ sessions) =
+    elim (cases_Bool (is_named name first)) [
+      | inl holds ↦ rw holds (lost-none name sessions)
+      | inr fails ↦ rw (fails, fails) (lost-none name sessions)
+    ]
+
 -- where one of another name is lost, the one of this name stands as before
 pub lost-named : (lost name : Name) (sessions : List Session) → name ≢ lost → session_named name (without_session lost sessions) ≡ session_named name sessions
 lost-named lost name [] apart = refl

@@ -46,7 +46,8 @@ pub record Steps (S : Type 0) (setting : Setting S) (F : List ℕ → Type 0) (P
   pub fated : (change : Reply → Reply) (n : ℕ) (x : Speaker S) → OnlyDrops change → P n x
       → P n (record x { session = record x.session { replies = map change x.session.replies } })
   pub joined : (job : Job) (n : ℕ) (x : Speaker S) → is_full job x ≡ false → P n x → P (suc n) (record x { jobs = with_job job x.jobs })
-  pub taken : (test : Unfinished → Bool) (n : ℕ) (x : Speaker S) → P n x → P n (record x { jobs = without_first test x.jobs })
+  pub ended : (job : Job) (request content : List ℕ) (n : ℕ) (x : Speaker S) → F content → P n x
+      → P (suc n) (answers_in_place setting job.number request content (record x { jobs = without_first (is_call job.key job.session job.number) x.jobs }))
   pub told : (number n : ℕ) (x : Speaker S) → P n x → P n (tells_of number x)
   pub bound : (bindings : List Binding) (n : ℕ) (x : Speaker S) → P n x → P n (record x { bindings = bindings })
   pub past : (history : History) (n : ℕ) (x : Speaker S) → P n x → P n (record x { session = record x.session { history = history } })
@@ -127,8 +128,7 @@ module _ {S : Type 0} (setting : Setting S) (F : List ℕ → Type 0) (P : ℕ �
       let test = is_call job.key job.session job.number in
       let rest : Speaker S = record own { jobs = without_first test own.jobs } in
       steps.told job.number (suc (suc n)) (answers_in_place setting job.number job.request dropped_running rest)
-      (steps.placed false job.number job.request dropped_running (suc n) rest fine
-      (steps.taken test (suc n) own (steps.answered number dropped_running n x fine p)))
+      (steps.ended job job.request dropped_running (suc n) own fine (steps.answered number dropped_running n x fine p))
 
   reply-dropped : (number : ℕ) (reply : Reply) (n : ℕ) (x : Speaker S) → P n x → P (suc n) (drops_kept setting number reply x)
   reply-dropped number reply n x p =

@@ -32,13 +32,14 @@ use Rattle.server_rules.specs.Rows.{acknowledges, acks_of, destroys, is_verdict_
 use Rattle.server_rules.specs.Calls.{each_once}
 use Rattle.server_rules.specs.Sending.{all_sent, messages_by, names_in, seals, sends}
 use Rattle.server_rules.specs.Answer.{after_packet, begun, hears, is_spent, message_in, messages_judged, name_in, opens, takes, takes_by, without_spent}
-use Rattle.server_laws.specs.Order.{WasAccepted}
+use Rattle.server_laws.specs.Order.{WasAccepted, is_for_service}
 use Rattle.server_laws.specs.Speech.{SaidFor}
 use Rattle.server_bounds.specs.Taking.{IsAcknowledged, IsTaken}
 use Rattle.server_bounds.proofs.Lists.{none-some, some-same}
-use Rattle.server_bounds.proofs.Names.{cases_name, found-named, lost-named, named}
+use Rattle.server_bounds.proofs.Names.{cases_name, found-named, lost-named, lost-none, named}
 use Rattle.server_bounds.proofs.Unsaid.{not-true}
 use Rattle.server_bounds.proofs.Counted.{Speak}
+use Rattle.server_bounds.proofs.Answered as call
 
 -- ---- what is recorded
 
@@ -270,14 +271,6 @@ module _ {S : Type 0} (laws : Speak S) (setting : Setting S) (speech : Speech se
 
 -- ---- the end
 
-lost-none : (name : Name) (sessions : List Session) → session_named name (without_session name sessions) ≡ None
-lost-none name [] = refl
-lost-none name (first ∷ sessions) =
-    elim (cases_Bool (is_named name first)) [
-      | inl holds ↦ rw holds (lost-none name sessions)
-      | inr fails ↦ rw (fails, fails) (lost-none name sessions)
-    ]
-
 one-left : (own lost_name : Name) (sessions : List Session) (after : Session) → session_named own (without_session lost_name sessions) ≡ Some after → session_named own sessions ≡ Some after
 one-left own lost_name sessions after is =
     elim (cases_name own lost_name) [
@@ -332,6 +325,24 @@ taken-by {S} laws setting speech envelope session state is acceptance =
     let F : Name → Type 0 = λ name. Stands laws setting speech own later envelope.number (is_odd envelope.seq ≡ true) (fold (settles setting name) (speaks name speak state) pairs) in
     subst F (sym named_so) (all-settled laws setting speech own later envelope.number (is_odd envelope.seq ≡ true) pairs (speaks own speak state) here)
 
+answered-by : {S : Type 0} (laws : Speak S) (setting : Setting S) (envelope : Envelope) (session : Session) (state : State S)
+    → session_named (name_in envelope) state.sessions ≡ Some session
+    → judge (InEnvelope setting.now session.salts envelope.salt) (remembered session) (message_in envelope) ≡ Accepted (item_told envelope.body)
+    → is_for_service (item_told envelope.body) ≡ true
+    → call.Good laws setting (name_in envelope) envelope.number (takes_by setting envelope (Some session) state)
+answered-by {S} laws setting envelope session state is accepted service =
+    let own = name_in envelope in
+    let way = InEnvelope setting.now session.salts envelope.salt in
+    let message = message_in envelope in
+    let judged = judgements way (remembered session) message in
+    let later = (session_after way (remembered session) message).history in
+    let verdict = judge way (remembered session) message in
+    let first = judgement_on way (remembered session) message in
+    let others = zip (inner_judgements (judged_session way (remembered session) message) (unfolded verdict message)) (map (λ one. one.body) (unfolded verdict message)) in
+    let F : Name → Type 0 = λ name. call.Good laws setting own envelope.number (fold (settles setting name) (speaks name (opens setting later judged) state) ((first, message.body) ∷ others)) in
+    subst F (sym (found-named own state.sessions session is))
+    (call.first-settled laws setting own envelope.number (item_told envelope.body) first message.body others (speaks own (opens setting later judged) state) service refl accepted)
+
 pub event-taken : {S : Type 0} (laws : Speak S) (setting : Setting S) (speech : Speech setting) (envelope : Envelope) (server : Server) (draw : S) (session : Session)
     → session_named (name_in envelope) (hears setting envelope (begun server draw)).sessions ≡ Some session
     → Acceptance (remembered session) setting.now session.salts envelope.salt (message_in envelope) → IsTaken S setting envelope server draw
@@ -344,6 +355,7 @@ event-taken {S} laws setting speech envelope server draw session is acceptance =
     let odd = is_odd envelope.seq ≡ true in
     let Holds : State S → Type 0 = λ state. Stands laws setting speech own later envelope.number odd state in
     let R : Option Session → Type 0 = λ found. Holds (takes_by setting envelope found heard) in
+    let Q : Option Session → Type 0 = λ found. call.Good laws setting own envelope.number (takes_by setting envelope found heard) in
     let taken : Holds (takes setting envelope (begun server draw)) = subst R (sym is) (taken-by laws setting speech envelope session heard is acceptance) in
     let state = takes setting envelope (begun server draw) in
     let sent : Holds (all_sent setting state) = all-sent laws setting speech own later envelope.number odd state.owed (names_in state.owed) state taken in
@@ -361,4 +373,8 @@ event-taken {S} laws setting speech envelope server draw session is acceptance =
           let same = some-same sent.stands.0 after (sym sent.stands.1 ∙ before) in
           subst W (ap (λ (session : Session). session.history) same) last;
       acknowledged = taken.said;
+      answered = λ service after there.
+          call.all-spent laws setting own envelope.number (filter is_spent (all_sent setting state).sessions) (all_sent setting state)
+          (call.all-sent laws setting own envelope.number state.owed (names_in state.owed) state
+          (subst Q (sym is) (answered-by laws setting envelope session heard is acceptance.accepted service))) after there;
     }

@@ -96,7 +96,7 @@ pub unsaid-changed : (change : Reply → Reply) → OnlyDrops change → (name :
 unsaid-changed change only name owed [] = omega arith
 unsaid-changed change only name owed (reply ∷ replies) =
     let rest = unsaid-changed change only name owed replies in
-    let first = changed name owed reply (change reply) (only reply) in
+    let first = changed name owed reply (change reply) (only reply).1 in
     omega (arith, rest, first)
 
 abbrev Same : Reply → Reply → Type 0
