@@ -1,0 +1,18 @@
+use Rattle.std.proofs.Common.{◌≡◌, IsSome}
+use Rattle.client_core.specs.Flushed.{setting_of}
+use Rattle.client_node.specs.Course.{Course}
+use Rattle.client_node.specs.Flow.{SoFar}
+use Rattle.client_node.specs.Standing.{HasKeys, StandsAs}
+use Rattle.client_node.proofs.flushing.flush_all.Given as goal
+
+-- so many packets were sent, and a flush may find more
+abbrev pub invariant-flushes : goal.invariant-flushes
+invariant-flushes g l = record {
+  so_far : SoFar (setting_of g.D.Draw.step (g.S.Seal.keys l.seal)) g.S.Seal.lock (g.S.Seal.keys l.seal) l.now l.fn.client l.fn.draw l.fn.wire (g.L.Link.told l.fn.link) l._count l.client l.draw l.wire (g.L.Link.told l.link);
+  keys : HasKeys (g.S.Seal.keys l.seal) l.client;
+  known : (course : Course g.row.D.Denot) × StandsAs l.client l.draw course;
+  goes_on : IsSome (g.L.Link.told l.fn.link) → IsSome (g.L.Link.told l.link);
+  faults : g.L.Link.faults l.link ≡ g.L.Link.faults l.fn.link;
+  place : g.L.Link.place l.link ≡ g.L.Link.place l.fn.link;
+  same_in : (l.wire.form ≡ l.fn.wire.form) × (l.wire.held ≡ l.fn.wire.held) × (l.wire.reading ≡ l.fn.wire.reading);
+}

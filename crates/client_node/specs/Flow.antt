@@ -1,0 +1,117 @@
+-- What is sent before the next piece is read.
+use Rattle.std.specs.Prelude.{◌≡◌, ◌<◌, ◌⊎◌, ℕ, Bool, true, false, List, [], ◌++◌, length, Option, IfOk, IfSome, IsSomeAnd, OnOk, Result, Ok, Err, ⊤}
+use Rattle.auth_keys.specs.declared.ring.RingKey.{RingKey}
+use Rattle.envelope.specs.Packet.{Lock}
+use Rattle.cipher_modes.specs.CounterMode.{CtrState}
+use Rattle.mt_edge.specs.Faults.{one_more}
+use Rattle.mt_edge.specs.Links.{Told}
+use Rattle.transport.specs.Wires.{Line, Tells}
+use Rattle.client_rules.specs.Sending.{Setting}
+use Rattle.client_core.specs.Flushed.{TellsFlush}
+use Rattle.client_core.specs.declared.flush.Flush.TheVariants as told
+use Rattle.client_core.specs.declared.holder.Holder.{Holder}
+use Rattle.client_node.specs.Course.{AreSent, Course, flush_of, flushes, is_decided, sends_all}
+use Rattle.client_node.specs.Standing.{StandsAs}
+use Rattle.client_node.specs.Writes.{Wrote, WroteFront, TellsMore}
+use Rattle.client_node.specs.declared.end.End.{End}
+use Rattle.client_node.specs.declared.end.End.TheVariants.{Decided, Lost, TurnsSpent, Spent, Memory}
+
+-- The course after these packets, and after a last flush that found nothing due, where there was one.
+abbrev pub flowed : {S : Type 0} → Setting S → ℕ → Course S → List (List ℕ) → Bool → Course S
+flowed setting now course sent false = sends_all setting now course sent
+flowed setting now course sent true = flushes setting now (sends_all setting now course sent)
+
+-- that flush found nothing due
+abbrev pub FoundNothing : {S : Type 0} → Setting S → Lock → List RingKey → ℕ → Course S → Bool → Type 0
+FoundNothing setting lock keys now course false = ⊤
+FoundNothing setting lock keys now course true = TellsFlush lock keys (flush_of setting now course).answer told.Nothing
+
+-- Why it stopped: nothing is due; each call is decided; a write failed, and a call isn't decided; a flush answered that
+-- numbers are spent. Where memory ran out nothing more is said.
+abbrev pub StoppedBy : {S : Type 0} → {X : Type 0} → Setting S → Lock → List RingKey → ℕ → Course S → Result X End → Type 0
+StoppedBy setting lock keys now course (Ok done) = is_decided course.client ≡ false
+StoppedBy setting lock keys now course (Err Decided) = is_decided course.client ≡ true
+StoppedBy setting lock keys now course (Err Lost) = is_decided course.client ≡ false
+StoppedBy setting lock keys now course (Err Spent) = TellsFlush lock keys (flush_of setting now course).answer told.Spent
+StoppedBy setting lock keys now course (Err TurnsSpent) = ⊥
+StoppedBy setting lock keys now course (Err Memory) = ⊤
+
+-- of these bytes: all are written; a front of them, where a write may have failed or memory ran out
+abbrev pub FlowedBy : {X : Type 0} → Result X End → List ℕ → Told → Told → Type 0
+FlowedBy (Ok done) bytes before after = Wrote bytes before after
+FlowedBy (Err Spent) bytes before after = Wrote bytes before after
+FlowedBy (Err end) bytes before after = WroteFront bytes before after
+
+-- how a flush that gave a packet ends, by whether each call is decided then and what its write came to
+abbrev pub ended_by : Bool → Result Unit End → Result Bool End
+ended_by is_decided (Err Memory) = Err Memory
+ended_by true sent = Err Decided
+ended_by false (Ok done) = Ok true
+ended_by false (Err end) = Err end
+
+-- A course that was followed over a wire to a client and a draw, with these packets.
+pub record Follows {S : Type 0} (setting : Setting S) (lock : Lock) (keys : List RingKey) (now : ℕ) (course : Course S) (packets : List (List ℕ)) (is_done : Bool) (kept : Holder) (draw : S) : Type 0 where
+  pub sent : AreSent setting lock keys now course packets
+  pub nothing : FoundNothing setting lock keys now (sends_all setting now course packets) is_done
+  pub stands : StandsAs kept draw (flowed setting now course packets is_done)
+
+-- What was sent from a client, a draw, a wire and what a link told to others: the packets, whether a last flush found nothing
+-- due, and the bytes of the packets' frames.
+pub record Flow {S : Type 0} {X : Type 0} (setting : Setting S) (lock : Lock) (keys : List RingKey) (now : ℕ) (kept : Holder) (draw : S) (wire : Line) (link : Option Told) (result : Result X End) (kept_then : Holder) (draw_then : S) (wire_then : Line) (link_then : Option Told) : Type 0 where
+  pub sent : List (List ℕ)
+  pub is_done : Bool
+  pub bytes : List ℕ
+  pub course : (course : Course S) → StandsAs kept draw course → Follows setting lock keys now course sent is_done kept_then draw_then
+  pub tells : TellsMore result ((to : Option CtrState) (packets : List (List ℕ)) (before : List ℕ) → Tells wire to packets before → Tells wire_then to (packets ++ sent) (before ++ bytes))
+  pub written : IfSome link_then (λ after. IsSomeAnd link (λ before. FlowedBy result bytes before after))
+
+-- why it stopped then, for each course that it began as
+abbrev pub Stops : {S : Type 0} → {X : Type 0} → Setting S → Lock → List RingKey → ℕ → Holder → S → List (List ℕ) → Bool → Result X End → Type 0
+Stops {S} setting lock keys now kept draw sent is_done result =
+    (course : Course S) → StandsAs kept draw course → StoppedBy setting lock keys now (flowed setting now course sent is_done) result
+
+-- one flush: it sent a packet, so that more may be due, or found nothing due
+abbrev pub IsOne : Bool → Bool → List (List ℕ) → Type 0
+IsOne true is_done sent = (is_done ≡ false) × (length sent ≡ 1)
+IsOne false is_done sent = (is_done ≡ true) × (sent ≡ [])
+
+-- the most packets that are sent before the next piece is read
+abbrev pub flushes_max : ℕ
+flushes_max = 262144
+
+-- flushes until nothing is due, or the most that there may be
+abbrev pub IsAll : Bool → List (List ℕ) → Type 0
+IsAll is_done sent = (is_done ≡ true) ⊎ (length sent ≡ flushes_max)
+
+-- What one flush did over a wire.
+pub record OneFlush {S : Type 0} (setting : Setting S) (lock : Lock) (keys : List RingKey) (now : ℕ) (kept : Holder) (draw : S) (wire : Line) (link : Option Told) (result : Result Bool End) (kept_then : Holder) (draw_then : S) (wire_then : Line) (link_then : Option Told) : Type 0 where
+  pub flow : Flow setting lock keys now kept draw wire link result kept_then draw_then wire_then link_then
+  pub stops : Stops setting lock keys now kept draw flow.sent flow.is_done result
+  pub one : IfOk result (λ more. IsOne more flow.is_done flow.sent)
+
+-- a packet was sent, and more may be due
+abbrev pub went_on : Result Bool End
+went_on = Ok true
+
+-- So many flushes, each of which sent a packet.
+pub record SoFar {S : Type 0} (setting : Setting S) (lock : Lock) (keys : List RingKey) (now : ℕ) (kept : Holder) (draw : S) (wire : Line) (link : Option Told) (times : ℕ) (kept_then : Holder) (draw_then : S) (wire_then : Line) (link_then : Option Told) : Type 0 where
+  pub flow : Flow setting lock keys now kept draw wire link went_on kept_then draw_then wire_then link_then
+  pub goes : flow.is_done ≡ false
+  pub count : length flow.sent ≡ times
+  pub undecided : 0 < times → Stops setting lock keys now kept draw flow.sent false went_on
+
+-- What all flushes did.
+pub record AllFlushes {S : Type 0} (setting : Setting S) (lock : Lock) (keys : List RingKey) (now : ℕ) (kept : Holder) (draw : S) (wire : Line) (link : Option Told) (result : Result Unit End) (kept_then : Holder) (draw_then : S) (wire_then : Line) (link_then : Option Told) : Type 0 where
+  pub flow : Flow setting lock keys now kept draw wire link result kept_then draw_then wire_then link_then
+  pub stops : Stops setting lock keys now kept draw flow.sent flow.is_done result
+  pub all : OnOk result (IsAll flow.is_done flow.sent)
+
+-- the count of the link's faults by how the flushes ended: the connection is lost exactly where a write failed, unless each
+-- call is decided by then
+abbrev pub CountsEnd : {X : Type 0} → Result X End → ℕ → ℕ → Type 0
+CountsEnd (Ok done) before after = after ≡ before
+CountsEnd (Err Lost) before after = after ≡ one_more before
+CountsEnd (Err Decided) before after = (after ≡ before) ⊎ (after ≡ one_more before)
+CountsEnd (Err Spent) before after = after ≡ before
+CountsEnd (Err Memory) before after = after ≡ before
+CountsEnd (Err TurnsSpent) before after = ⊥

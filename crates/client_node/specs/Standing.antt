@@ -1,0 +1,64 @@
+-- A client as it is kept, and the course that it stands for.
+use Rattle.std.specs.Prelude.{◌≡◌, ℕ, Option, Some, None, Result, Ok, Err, List}
+use Rattle.auth_keys.specs.declared.ring.RingKey.{RingKey}
+use Rattle.octets.specs.declared.memory.Memory.{Memory}
+use Rattle.envelope.specs.declared.parts.Envelope.{Envelope}
+use Rattle.envelope.specs.declared.parts.Dir.TheVariants.{Down}
+use Rattle.envelope.specs.Opening.{Opens}
+use Rattle.envelope.specs.Packet.{Lock}
+use Rattle.client_rules.specs.Client.{Client}
+use Rattle.client_rules.specs.Sending.{Setting}
+use Rattle.client_core.specs.Keys.{HasKeys as HasKeysOf, keys_in}
+use Rattle.client_core.specs.Kept.{Contents, Stands}
+use Rattle.client_core.specs.Flushed.{Leaves, TellsFlush}
+use Rattle.client_core.specs.declared.flush.Flush.{Flush}
+use Rattle.client_core.specs.declared.holder.Holder.{Holder}
+use Rattle.client_core.specs.declared.holder.Holder.TheVariants as holder
+use Rattle.client_node.specs.Course.{Phase, Opening, Open, Ended, Course, Reading, flush_of, phase_after}
+
+abbrev pub phase_of : Holder → Phase
+phase_of (holder.Opening kept) = Opening
+phase_of (holder.Open kept) = Open
+phase_of (holder.Ended kept) = Ended
+
+abbrev pub kept_of : Holder → Contents
+kept_of (holder.Opening kept) = kept
+kept_of (holder.Open kept) = kept
+kept_of (holder.Ended kept) = kept
+
+-- it stands for this client
+abbrev pub StandsFor : Holder → Client → Type 0
+StandsFor kept client = Stands (kept_of kept) client
+
+-- a client and a draw stand for a course
+pub record StandsAs {S : Type 0} (kept : Holder) (drawn : S) (course : Course S) : Type 0 where
+  pub phase : phase_of kept ≡ course.phase
+  pub client : StandsFor kept course.client
+  pub draw : drawn ≡ course.draw
+
+-- the ring has the client's key, and the permanent one to which that is to be bound; an ended client needs none
+abbrev pub HasKeys : List RingKey → Holder → Type 0
+HasKeys keys (holder.Opening kept) = HasKeysOf keys (keys_in kept)
+HasKeys keys (holder.Open kept) = HasKeysOf keys (keys_in kept)
+HasKeys keys (holder.Ended kept) = Unit {0}
+
+-- ---- what a call of the client tells
+
+-- a flush of a client in its state, that answers and leaves so
+pub record FlushedAs {S : Type 0} (setting : Setting S) (lock : Lock) (keys : List RingKey) (now : ℕ) (course : Course S) (answer : Flush) (kept : Holder) (draw : S) : Type 0 where
+  pub phase : phase_of kept ≡ course.phase
+  pub told : TellsFlush lock keys (flush_of setting now course).answer answer
+  pub leaves : Leaves answer (kept_of kept) draw course.client course.draw (flush_of setting now course)
+
+-- a reading tells what each packet opens to, of those that come from a server
+abbrev pub IsOpened : Lock → List RingKey → ℕ → List ℕ → Option Envelope → Type 0
+IsOpened lock keys now packet (Some envelope) = Opens lock keys now Down packet envelope
+IsOpened lock keys now packet None = (envelope : Envelope) → Opens lock keys now Down packet envelope → ⊥
+
+abbrev pub IsReading : Lock → List RingKey → Reading → Type 0
+IsReading lock keys reading = (now : ℕ) (packet : List ℕ) → IsOpened lock keys now packet (reading now packet)
+
+-- a client that was in a state and heard a packet, or is as it was where memory ran out
+abbrev pub HeardAs : Phase → Client → Client → Holder → Result Unit Memory → Type 0
+HeardAs phase before after kept (Ok done) = (phase_of kept ≡ phase_after phase after) × StandsFor kept after
+HeardAs phase before after kept (Err memory) = (phase_of kept ≡ phase) × StandsFor kept before

@@ -1,0 +1,54 @@
+-- What is written over a link.
+use Rattle.std.specs.Prelude.{◌≡◌, ℕ, List, ◌++◌, Result, Ok, Err, ⊤}
+use Rattle.mt_edge.specs.Links.{Told}
+use Rattle.mt_edge.specs.Faults.{one_more}
+use Rattle.transport.specs.Directions.{through}
+use Rattle.transport.specs.Forms.{frame_of}
+use Rattle.transport.specs.Wires.{Line}
+use Rattle.client_node.specs.declared.end.End.{End}
+use Rattle.client_node.specs.declared.end.End.TheVariants.{Decided, Lost, TurnsSpent, Spent, Memory}
+
+-- these bytes were written, and nothing was read
+pub record Wrote (bytes : List ℕ) (before after : Told) : Type 0 where
+  pub written : after.written ≡ before.written ++ bytes
+  pub came : after.came ≡ before.came
+  pub left : after.left ≡ before.left
+  pub reads : after.reads ≡ before.reads
+
+-- a front of these bytes was written
+pub record WroteFront (bytes : List ℕ) (before after : Told) : Type 0 where
+  pub front : List ℕ
+  pub rest : List ℕ
+  pub whole : bytes ≡ front ++ rest
+  pub wrote : Wrote front before after
+
+-- by how it ended: all of them; a front of them, where a write failed; nothing, where memory ran out before
+abbrev pub WroteBy : {X : Type 0} → Result X End → List ℕ → Told → Told → Type 0
+WroteBy (Ok done) bytes before after = Wrote bytes before after
+WroteBy (Err Lost) bytes before after = WroteFront bytes before after
+WroteBy (Err Memory) bytes before after = after ≡ before
+WroteBy (Err Decided) bytes before after = ⊥
+WroteBy (Err TurnsSpent) bytes before after = ⊥
+WroteBy (Err Spent) bytes before after = ⊥
+
+-- the count of the link's faults: a write failed exactly where the connection is lost
+abbrev pub CountsBy : {X : Type 0} → Result X End → ℕ → ℕ → Type 0
+CountsBy (Ok done) before after = after ≡ before
+CountsBy (Err Lost) before after = after ≡ one_more before
+CountsBy (Err Memory) before after = after ≡ before
+CountsBy (Err Decided) before after = ⊥
+CountsBy (Err TurnsSpent) before after = ⊥
+CountsBy (Err Spent) before after = ⊥
+
+-- the frame of a packet as it goes over a wire
+abbrev pub framed : Line → List ℕ → List ℕ
+framed line packet = through line.writing (frame_of line.form line.number packet)
+
+-- what went out before tells of a packet more, unless memory ran out
+abbrev pub TellsMore : {X : Type 0} → Result X End → Type 0 → Type 0
+TellsMore (Err Memory) more = ⊤
+TellsMore (Ok done) more = more
+TellsMore (Err Lost) more = more
+TellsMore (Err Decided) more = more
+TellsMore (Err TurnsSpent) more = more
+TellsMore (Err Spent) more = more

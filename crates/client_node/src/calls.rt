@@ -1,0 +1,91 @@
+//! What became of a client's calls, whatever state it is in.
+
+ghost use Rattle.std.specs.Prelude.{◌≡◌, length};
+ghost use Rattle.call_table.specs.Kept.{shown};
+ghost use Rattle.call_table.specs.Table.{IsGiven, state_at};
+ghost use Rattle.client_rules.specs.Client.{Client, calls_of};
+ghost use Rattle.client_node.specs.Course.{is_decided, must_renew};
+ghost use Rattle.client_node.specs.Kinds.{is_kind, is_kind_at, has_kind};
+ghost use Rattle.client_node.specs.Standing.{StandsFor, kept_of, phase_of};
+
+use client_core::{BindState, CallNo, CallState, Holder};
+
+/// A kind of calls.
+#[derive(Clone, Copy, Debug, PartialEq, Eq)]
+pub(crate) enum Kind {
+    /// It isn't decided yet what became of them: they are queued, sent or held.
+    Undecided,
+    /// They are sent.
+    Sent,
+    /// They are held.
+    Held,
+}
+
+/// How many calls a client has.
+pub(crate) fn count(client: &Holder) -> u32
+    ensures kept { result ≡ length (kept_of client.now).calls.rows }
+    ensures count { (whole : Client) → StandsFor client.now whole → result ≡ length (calls_of whole) }
+{
+    match client {
+        Holder::Opening(client) => client.calls(),
+        Holder::Open(client) => client.calls(),
+        Holder::Ended(client) => client.calls(),
+    }
+}
+
+/// Whether a call in this state is of a kind.
+fn is_of(state: &CallState<'_>, kind: Kind) -> bool
+    ensures { result ≡ is_kind kind (shown state.now) }
+{
+    match state {
+        CallState::Queued => kind == Kind::Undecided,
+        CallState::Sent => kind != Kind::Held,
+        CallState::Held => kind != Kind::Sent,
+        CallState::Done(_) | CallState::Refused(_) | CallState::Unknown(_) => false,
+    }
+}
+
+/// Whether a call of a client is of a kind.
+fn is_one(client: &Holder, call: CallNo, kind: Kind) -> bool
+    requires given { IsGiven call (kept_of client.now).calls.rows }
+    ensures { (whole : Client) → StandsFor client.now whole → is_kind_at kind (state_at call (calls_of whole)) ≡ result }
+{
+    match client {
+        Holder::Opening(client) => is_of(&client.state(call), kind),
+        Holder::Open(client) => is_of(&client.state(call), kind),
+        Holder::Ended(client) => is_of(&client.state(call), kind),
+    }
+}
+
+/// Whether a client has a call of a kind.
+pub(crate) fn has(client: &Holder, kind: Kind) -> bool
+    ensures { (whole : Client) → StandsFor client.now whole → result ≡ has_kind kind (calls_of whole) }
+{
+    for place in 0..count(client) {
+        let call = CallNo {
+            n: place as u64 + 1,
+        };
+        if is_one(client, call, kind) {
+            return true;
+        }
+    }
+    false
+}
+
+/// Whether each call is decided.
+pub(crate) fn is_decided(client: &Holder) -> bool
+    ensures { (whole : Client) → StandsFor client.now whole → result ≡ is_decided whole }
+{
+    !has(client, Kind::Undecided)
+}
+
+/// Whether the client goes on in another session: it is open, a call or the binding waits for one, and no call is sent.
+pub(crate) fn must_renew(client: &Holder) -> bool
+    ensures { (whole : Client) → StandsFor client.now whole → result ≡ must_renew (phase_of client.now) whole }
+{
+    let Holder::Open(open) = client else {
+        return false;
+    };
+    let is_held = matches!(open.binding(), Some(BindState::Held));
+    (is_held || has(client, Kind::Held)) && !has(client, Kind::Sent)
+}

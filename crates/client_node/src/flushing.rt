@@ -1,0 +1,118 @@
+//! What a client sends before the next piece is read.
+
+ghost use Rattle.std.specs.Prelude.{◌≡◌, IfOk, IsSome, OnOk};
+ghost use Rattle.client_rules.specs.Client.{Client};
+ghost use Rattle.client_core.specs.Flushed.{setting_of};
+ghost use Rattle.client_node.specs.Course.{Course, is_decided};
+ghost use Rattle.client_node.specs.Flow.{AllFlushes, CountsEnd, OneFlush, ended_by};
+ghost use Rattle.client_node.specs.Standing.{HasKeys, StandsAs, StandsFor};
+
+use crate::calls::is_decided;
+use crate::end::End;
+use crate::holding::flush;
+use crate::sending::send_packet;
+use client_core::{Flush, Holder};
+use draws::Draw;
+use envelope::Seal;
+use envelope::laws::opens_what_it_sealed;
+use msg_ids::Moment;
+use mt_edge::Link;
+use std::alloc::Global;
+use transport::{Framed, Wire};
+
+/// The most packets that are sent before the next piece is read. More are never due: each call is sent, sent again and
+/// dropped once at most, and beside that a client has only a few items that wait.
+const FLUSHES_MAX: u32 = 262_144;
+
+/// How a flush that gave a packet ends, by whether each call is decided now and what its write came to.
+fn end_of(is_decided: bool, sent: Result<(), End>) -> Result<bool, End>
+    ensures { result ≡ ended_by is_decided sent }
+{
+    match sent {
+        Err(End::Memory) => Err(End::Memory),
+        _ if is_decided => Err(End::Decided),
+        Ok(()) => Ok(true),
+        Err(end) => Err(end),
+    }
+}
+
+/// Flushes once: whether a packet was sent, so that more may be due.
+///
+/// # Errors
+///
+/// Why the connection ends: by `Decided` and `Lost` once the packet is written, as far as writes don't fail.
+#[tactic(auto, using(crate::proofs::Flowing::flow_packet, crate::proofs::Flowing::flush_nothing, crate::proofs::Flowing::flush_spent, crate::proofs::Flowing::flush_memory, crate::proofs::Flowing::ended_counts, crate::proofs::Sendable::flushed_sendable))]
+fn flush_once<L: Link, S: Seal, D: Draw>(
+    client: &mut Holder,
+    alloc: Global,
+    now: Moment,
+    wire: &mut Wire<Framed>,
+    link: &mut L,
+    seal: &S,
+    draw: &mut D,
+) -> Result<bool, End>
+    requires keys { HasKeys (S.keys seal.now) client.old }
+    requires known { (course : Course D) × StandsAs client.old draw.old course }
+    ensures flow { OneFlush (setting_of D.step (S.keys seal.now)) S.lock (S.keys seal.now) now client.old draw.old wire.old (L.told link.old) result client.new draw.new wire.new (L.told link.new) }
+    ensures keys { HasKeys (S.keys seal.now) client.new }
+    ensures goes_on { IsSome (L.told link.old) → OnOk result (IsSome (L.told link.new)) }
+    ensures first_fault { IsSome (L.told link.old) → L.faults link.old ≡ 0 → IsSome (L.told link.new) }
+    ensures counted { CountsEnd result (L.faults link.old) (L.faults link.new) }
+    ensures same_place { L.place link.new ≡ L.place link.old }
+    ensures same_in { (wire.new.form ≡ wire.old.form) × (wire.new.held ≡ wire.old.held) × (wire.new.reading ≡ wire.old.reading) }
+{
+    opens_what_it_sealed::<S>();
+    match flush(client, alloc, now, seal, draw) {
+        Flush::Packet(packet) => {
+            let is_decided = is_decided(client);
+            end_of(
+                is_decided,
+                send_packet(alloc, wire, link, packet.as_slice()),
+            )
+        }
+        Flush::Nothing => {
+            if is_decided(client) {
+                Err(End::Decided)
+            } else {
+                Ok(false)
+            }
+        }
+        Flush::Spent => Err(End::Spent),
+        Flush::Memory => Err(End::Memory),
+    }
+}
+
+/// Flushes until nothing is due.
+///
+/// # Errors
+///
+/// Why the connection ends.
+#[tactic(auto, using(crate::proofs::AllFlowing::so_far_none, crate::proofs::AllFlowing::so_far_more, crate::proofs::AllFlowing::all_done, crate::proofs::AllFlowing::all_sent, crate::proofs::AllFlowing::all_failed, crate::proofs::Flowing::counts_from))]
+pub(crate) fn flush_all<L: Link, S: Seal, D: Draw>(
+    client: &mut Holder,
+    alloc: Global,
+    now: Moment,
+    wire: &mut Wire<Framed>,
+    link: &mut L,
+    seal: &S,
+    draw: &mut D,
+) -> Result<(), End>
+    requires keys { HasKeys (S.keys seal.now) client.old }
+    requires known { (course : Course D) × StandsAs client.old draw.old course }
+    ensures flow { AllFlushes (setting_of D.step (S.keys seal.now)) S.lock (S.keys seal.now) now client.old draw.old wire.old (L.told link.old) result client.new draw.new wire.new (L.told link.new) }
+    ensures keys { HasKeys (S.keys seal.now) client.new }
+    ensures goes_on { IsSome (L.told link.old) → OnOk result (IsSome (L.told link.new)) }
+    ensures first_fault { IsSome (L.told link.old) → L.faults link.old ≡ 0 → IsSome (L.told link.new) }
+    ensures counted { CountsEnd result (L.faults link.old) (L.faults link.new) }
+    ensures same_place { L.place link.new ≡ L.place link.old }
+    ensures same_in { (wire.new.form ≡ wire.old.form) × (wire.new.held ≡ wire.old.held) × (wire.new.reading ≡ wire.old.reading) }
+{
+    'flushes: for _count in 0..FLUSHES_MAX {
+        match flush_once(client, alloc, now, wire, link, seal, draw) {
+            Ok(true) => {}
+            Ok(false) => return Ok(()),
+            Err(end) => return Err(end),
+        }
+    }
+    Ok(())
+}

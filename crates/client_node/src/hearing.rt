@@ -1,0 +1,118 @@
+//! What a client hears in a piece.
+
+ghost use Rattle.std.specs.Prelude.{◌≡◌, IfErr};
+ghost use Rattle.client_node.specs.Course.{Course, Reading};
+ghost use Rattle.client_node.specs.Standing.{IsReading, StandsAs};
+ghost use Rattle.client_node.specs.Took.{CameNext, IsHeardEnd, IsNextEnd, TookPacket, TookPiece};
+
+use crate::calls::is_decided;
+use crate::end::End;
+use crate::holding::{hear, renew};
+use client_core::Holder;
+use draws::Draw;
+use envelope::Seal;
+use msg_ids::Moment;
+use octets::Memory;
+use std::alloc::Global;
+use transport::{Framed, Next, Wire};
+
+/// The bytes of a transport error.
+const ERROR_BYTES: usize = 4;
+
+/// The client hears a packet, and goes on in another session where it has to.
+///
+/// # Errors
+///
+/// Why the connection ends.
+#[tactic(auto, using(crate::proofs::PacketLemmas::packet_memory, crate::proofs::PacketLemmas::packet_decided, crate::proofs::PacketLemmas::packet_goes))]
+fn take_packet<S: Seal, D: Draw>(
+    client: Holder,
+    alloc: Global,
+    now: Moment,
+    packet: &[u8],
+    seal: &S,
+    draw: &mut D,
+) -> (Holder, Result<(), End>)
+    ensures took { (reading : Reading) (course : Course D) → IsReading S.lock (S.keys seal.now) reading → StandsAs client draw.old course
+        → TookPacket D.step reading now course packet.now result.1 result.0 draw.new }
+    ensures ends { IfErr result.1 IsHeardEnd }
+{
+    let (client, heard) = hear(client, alloc, now, seal, packet);
+    match heard {
+        Err(Memory) => (client, Err(End::Memory)),
+        Ok(()) => {
+            if is_decided(&client) {
+                return (client, Err(End::Decided));
+            }
+            (renew(client, draw), Ok(()))
+        }
+    }
+}
+
+/// What comes next in the piece: a packet is heard, and a transport error or a frame fault loses the connection. It says
+/// whether there was a packet, so that there may be another.
+///
+/// # Errors
+///
+/// Why the connection ends.
+fn take_next<S: Seal, D: Draw>(
+    client: Holder,
+    alloc: Global,
+    now: Moment,
+    wire: &mut Wire<Framed>,
+    seal: &S,
+    draw: &mut D,
+) -> (Holder, Result<bool, End>)
+    ensures ends { IfErr result.1 IsNextEnd }
+    ensures next { CameNext D.step S.lock (S.keys seal.now) now client draw.old wire.old result.1 result.0 draw.new wire.new }
+    ensures same_out { (wire.new.form ≡ wire.old.form) × (wire.new.writing ≡ wire.old.writing) × (wire.new.number ≡ wire.old.number) }
+{
+    match wire.next() {
+        Next::Packet(packet) => {
+            if packet.len() == ERROR_BYTES {
+                return (client, Err(End::Lost));
+            }
+            let (client, taken) = take_packet(client, alloc, now, packet, seal, draw);
+            match taken {
+                Ok(()) => (client, Ok(true)),
+                Err(end) => (client, Err(end)),
+            }
+        }
+        Next::More => (client, Ok(false)),
+        Next::Fault(_) => (client, Err(End::Lost)),
+    }
+}
+
+/// The client hears the packets that are whole with this piece. A frame has more than a byte, so there are no more of them
+/// than bytes.
+///
+/// # Errors
+///
+/// Why the connection ends.
+pub(crate) fn take_piece<S: Seal, D: Draw>(
+    client: Holder,
+    alloc: Global,
+    now: Moment,
+    wire: &mut Wire<Framed>,
+    piece: &[u8],
+    seal: &S,
+    draw: &mut D,
+) -> (Holder, Result<(), End>)
+    ensures took { TookPiece D.step S.lock (S.keys seal.now) now client draw.old wire.old piece.now result.1 result.0 draw.new wire.new }
+    ensures same_out { (wire.new.form ≡ wire.old.form) × (wire.new.writing ≡ wire.old.writing) × (wire.new.number ≡ wire.old.number) }
+{
+    if let Err(Memory) = wire.feed(alloc, piece) {
+        return (client, Err(End::Memory));
+    }
+    let mut client = client;
+    'packets: for _count in 0..piece.len() {
+        let (next, taken) = take_next(client, alloc, now, wire, seal, draw);
+        client = next;
+        match taken {
+            Ok(true) => {}
+            Ok(false) => return (client, Ok(())),
+            Err(end) => return (client, Err(end)),
+        }
+    }
+    (client, Ok(()))
+}

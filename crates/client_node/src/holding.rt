@@ -1,0 +1,124 @@
+//! The events of a client, whatever state it is in.
+
+ghost use Rattle.std.specs.Prelude.{◌≡◌, max, Option};
+ghost use Rattle.envelope.specs.declared.parts.Envelope.{Envelope};
+ghost use Rattle.client_rules.specs.Client.{Client};
+ghost use Rattle.client_rules.specs.Events.{takes};
+ghost use Rattle.client_core.specs.Flushed.{setting_of};
+ghost use Rattle.client_core.specs.Kept.{Stands};
+ghost use Rattle.client_node.specs.Course.{Course, Opening, Open, attached_in, heard_in, renews};
+ghost use Rattle.client_node.specs.Standing.{FlushedAs, HasKeys, HeardAs, IsOpened, StandsAs, StandsFor, kept_of, phase_of};
+
+use crate::calls::must_renew;
+use client_core::{Flush, Holder, OpenClient, OpenStep, OpeningClient, OpeningStep};
+use draws::Draw;
+use envelope::Seal;
+use msg_ids::Moment;
+use octets::Memory;
+use std::alloc::Global;
+
+/// A connection was opened. An ended client sends nothing again.
+pub(crate) fn attach(client: &mut Holder)
+    ensures stands { (whole : Client) → StandsFor client.old whole → StandsFor client.new (attached_in (phase_of client.old) whole) }
+    ensures phase { phase_of client.new ≡ phase_of client.old }
+{
+    match client {
+        Holder::Opening(client) => client.attach(),
+        Holder::Open(client) => client.attach(),
+        Holder::Ended(_) => {}
+    }
+}
+
+/// What is sent next. An ended client sends nothing.
+#[tactic(auto, using(crate::proofs::HolderLemmas::opening_flushed, crate::proofs::HolderLemmas::open_flushed, crate::proofs::HolderLemmas::ended_flushed, crate::proofs::HolderLemmas::keys_kept))]
+pub(crate) fn flush<S: Seal, D: Draw>(
+    client: &mut Holder,
+    alloc: Global,
+    now: Moment,
+    seal: &S,
+    draw: &mut D,
+) -> Flush
+    requires keys { HasKeys (S.keys seal.now) client.old }
+    ensures flushes { (course : Course D) → StandsAs client.old draw.old course
+        → FlushedAs (setting_of D.step (S.keys seal.now)) S.lock (S.keys seal.now) now course result client.new draw.new }
+    ensures keys { HasKeys (S.keys seal.now) client.new }
+{
+    match client {
+        Holder::Opening(client) => client.flush(alloc, now, seal, draw),
+        Holder::Open(client) => client.flush(alloc, now, seal, draw),
+        Holder::Ended(_) => Flush::Nothing,
+    }
+}
+
+/// The client goes on in another session where it has to.
+#[tactic(auto, using(crate::proofs::HolderLemmas::stays, crate::proofs::HolderLemmas::goes_on))]
+pub(crate) fn renew<D: Draw>(client: Holder, draw: &mut D) -> Holder
+    ensures { (course : Course D) → StandsAs client draw.old course → StandsAs result draw.new (renews D.step course) }
+{
+    if !must_renew(&client) {
+        return client;
+    }
+    match client {
+        Holder::Open(client) => Holder::Opening(client.renew(draw)),
+        Holder::Opening(client) => Holder::Opening(client),
+        Holder::Ended(client) => Holder::Ended(client),
+    }
+}
+
+/// What an opening client becomes by a packet.
+fn opening_hears<S: Seal>(
+    client: OpeningClient,
+    alloc: Global,
+    now: Moment,
+    seal: &S,
+    packet: &[u8],
+) -> (Holder, Result<(), Memory>)
+    ensures { (whole : Client) (opened : Option Envelope) → Stands client whole → IsOpened S.lock (S.keys seal.now) (max whole.now now) packet.now opened
+        → HeardAs Opening whole (takes now opened whole) result.0 result.1 }
+{
+    match client.on_packet(alloc, now, seal, packet) {
+        OpeningStep::Still(client) => (Holder::Opening(client), Ok(())),
+        OpeningStep::Opened(client) => (Holder::Open(client), Ok(())),
+        OpeningStep::Memory(client) => (Holder::Opening(client), Err(Memory)),
+    }
+}
+
+/// What an open client becomes by a packet.
+fn open_hears<S: Seal>(
+    client: OpenClient,
+    alloc: Global,
+    now: Moment,
+    seal: &S,
+    packet: &[u8],
+) -> (Holder, Result<(), Memory>)
+    ensures { (whole : Client) (opened : Option Envelope) → Stands client whole → IsOpened S.lock (S.keys seal.now) (max whole.now now) packet.now opened
+        → HeardAs Open whole (takes now opened whole) result.0 result.1 }
+{
+    match client.on_packet(alloc, now, seal, packet) {
+        OpenStep::Still(client) => (Holder::Open(client), Ok(())),
+        OpenStep::Ended(client) => (Holder::Ended(client), Ok(())),
+        OpenStep::Memory(client) => (Holder::Open(client), Err(Memory)),
+    }
+}
+
+/// A packet came. An ended client takes none.
+///
+/// # Errors
+///
+/// `Memory`: memory ran out, and the client is as it was.
+pub(crate) fn hear<S: Seal>(
+    client: Holder,
+    alloc: Global,
+    now: Moment,
+    seal: &S,
+    packet: &[u8],
+) -> (Holder, Result<(), Memory>)
+    ensures { (whole : Client) (opened : Option Envelope) → StandsFor client whole → IsOpened S.lock (S.keys seal.now) (max whole.now now) packet.now opened
+        → HeardAs (phase_of client) whole (heard_in (phase_of client) now opened whole) result.0 result.1 }
+{
+    match client {
+        Holder::Opening(client) => opening_hears(client, alloc, now, seal, packet),
+        Holder::Open(client) => open_hears(client, alloc, now, seal, packet),
+        Holder::Ended(client) => (Holder::Ended(client), Ok(())),
+    }
+}

@@ -1,0 +1,63 @@
+//! What is sent over a connection.
+
+ghost use Rattle.std.specs.Prelude.{◌≡◌, ◌++◌, ◌∷◌, [], ℕ, List, Option, IfSome, IsSome, IsSomeAnd, OnOk};
+ghost use Rattle.cipher_modes.specs.CounterMode.{CtrState};
+ghost use Rattle.transport.specs.Forms.{IsSent};
+ghost use Rattle.transport.specs.Wires.{Tells};
+ghost use Rattle.client_node.specs.Writes.{CountsBy, TellsMore, WroteBy, framed};
+
+use crate::end::End;
+use mt_edge::{Link, Put};
+use octets::{Memory, Octets};
+use std::alloc::Global;
+use transport::{Framed, Wire};
+
+/// Writes a whole piece to a link.
+///
+/// # Errors
+///
+/// `Lost`: a write failed, and what is written is a front of the piece.
+pub(crate) fn send<L: Link>(link: &mut L, piece: &[u8]) -> Result<(), End>
+    ensures told { IfSome (L.told link.new) (λ after. IsSomeAnd (L.told link.old) (λ before. WroteBy result piece.now before after)) }
+    ensures goes_on { IsSome (L.told link.old) → OnOk result (IsSome (L.told link.new)) }
+    ensures first_fault { IsSome (L.told link.old) → L.faults link.old ≡ 0 → IsSome (L.told link.new) }
+    ensures same_place { L.place link.new ≡ L.place link.old }
+    ensures counted { CountsBy result (L.faults link.old) (L.faults link.new) }
+{
+    let mut rest = piece;
+    while !rest.is_empty() {
+        match link.write(rest) {
+            Put::Took(count) => rest = &rest[count..],
+            Put::Failed => return Err(End::Lost),
+        }
+    }
+    Ok(())
+}
+
+/// Sends a packet in a frame.
+///
+/// # Errors
+///
+/// `Lost`: a write failed. `Memory`: memory ran out, and nothing is written.
+pub(crate) fn send_packet<L: Link>(
+    alloc: Global,
+    wire: &mut Wire<Framed>,
+    link: &mut L,
+    packet: &[u8],
+) -> Result<(), End>
+    requires sent { IsSent wire.old.form packet.now }
+    ensures told { IfSome (L.told link.new) (λ after. IsSomeAnd (L.told link.old) (λ before. WroteBy result (framed wire.old packet.now) before after)) }
+    ensures goes_on { IsSome (L.told link.old) → OnOk result (IsSome (L.told link.new)) }
+    ensures first_fault { IsSome (L.told link.old) → L.faults link.old ≡ 0 → IsSome (L.told link.new) }
+    ensures same_place { L.place link.new ≡ L.place link.old }
+    ensures counted { CountsBy result (L.faults link.old) (L.faults link.new) }
+    ensures tells { TellsMore result ((to : Option CtrState) (packets : List (List ℕ)) (bytes : List ℕ) → Tells wire.old to packets bytes
+        → Tells wire.new to (packets ++ packet.now ∷ []) (bytes ++ framed wire.old packet.now)) }
+    ensures same_in { (wire.new.form ≡ wire.old.form) × (wire.new.held ≡ wire.old.held) × (wire.new.reading ≡ wire.old.reading) }
+{
+    let mut frame = Octets::new(alloc);
+    match wire.put(alloc, packet, &mut frame) {
+        Ok(()) => send(link, frame.as_slice()),
+        Err(Memory) => Err(End::Memory),
+    }
+}
