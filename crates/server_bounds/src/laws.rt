@@ -55,8 +55,8 @@ pub fn events_give_few<D: Draw, V>()
 }
 
 /// A packet's message that nothing refuses is accepted in that event: its session, which stands until all is sent, has
-/// recorded its number, and acknowledges it where its seq is odd. Only where the session has no room for further numbers
-/// is it lost in the end.
+/// recorded its number, and acknowledges it where its seq is odd. A call for the service is a job then or has a reply, unless
+/// the session is lost in the end.
 pub fn lawful_messages_are_taken<D: Draw>()
     ensures { (setting : Setting D) (envelope : Envelope) (server : Server) (draw : D) (session : Session)
         → session_named (name_in envelope) (hears setting envelope (begun server draw)).sessions ≡ Some session
