@@ -1,6 +1,6 @@
 //! A desk: what takes the packets of connections to a server.
 
-ghost use Rattle.std.specs.Prelude.{◌≡◌, ◌≢◌, ◌<◌, max, IfErr, IfOk, OnErr, OnOk};
+ghost use Rattle.std.specs.Prelude.{◌≡◌, ◌<◌, max, IfErr, IfOk, OnOk};
 ghost use Rattle.envelope.specs.declared.parts.Dir.TheVariants.{Up};
 ghost use Rattle.envelope.specs.declared.parts.Envelope.{Envelope as Sealed};
 ghost use Rattle.envelope.specs.declared.refusal.Refusal.{Refusal as Refused};
@@ -30,6 +30,7 @@ pub trait Desk {
     ghost use Rattle.std.specs.Prelude.{ℕ, List};
     ghost use Rattle.auth_keys.specs.declared.ring.RingKey.{RingKey};
     ghost use Rattle.server_rules.specs.Server.{Server};
+    ghost use Rattle.server_core.specs.declared.desk.DeskFault.{DeskFault};
 
     /// What seals its packets.
     type S: Seal;
@@ -49,6 +50,9 @@ pub trait Desk {
     /// How many jobs are ready.
     ghost ready_jobs: { Self → ℕ };
 
+    /// The faults that its calls may answer.
+    ghost MayAnswer: { DeskFault → Type 0 };
+
     /// A packet comes, as to [`Server::on_packet`](crate::Server::on_packet).
     ///
     /// # Errors
@@ -66,6 +70,7 @@ pub trait Desk {
             → IfOk result (λ reply. Does (StandsFor self.new) Self.S.lock (keys self.old) (drawn self.new) (effects_in reply)
             (after_packet (setting_of (max server.now now) Self.D.step ring) (brought_in envelope) server (drawn self.old))) }
         ensures unchanged_on_memory { (server : Rules) → StandsFor self.old server → IfErr result (λ fault. fault ≡ faults.Memory → StandsFor self.new server) }
+        ensures faults { IfErr result MayAnswer }
         ensures same_keys { keys self.new ≡ keys self.old };
 
     /// How many jobs are ready.
@@ -94,6 +99,7 @@ pub trait Desk {
             → OnOk result (service.new ≡ (after_work (setting_of (max server.now now) Self.D.step ring) k V.step service.old server (drawn self.old)).1) }
         ensures unchanged_on_memory { (server : Rules) → StandsFor self.old server → IfErr result (λ fault. fault ≡ faults.Memory → StandsFor self.new server) }
         ensures same_service_on_memory { IfErr result (λ fault. fault ≡ faults.Memory → service.new ≡ service.old) }
+        ensures faults { IfErr result MayAnswer }
         ensures same_keys { keys self.new ≡ keys self.old };
 
     /// Answers the jobs that have waited too long, as [`Server::tick`](crate::Server::tick).
@@ -106,6 +112,7 @@ pub trait Desk {
             → IfOk result (λ effects. Does (StandsFor self.new) Self.S.lock (keys self.old) (drawn self.new) effects
             (after_tick (setting_of (max server.now now) Self.D.step ring) server (drawn self.old))) }
         ensures unchanged_on_memory { (server : Rules) → StandsFor self.old server → IfErr result (λ fault. fault ≡ faults.Memory → StandsFor self.new server) }
+        ensures faults { IfErr result MayAnswer }
         ensures same_keys { keys self.new ≡ keys self.old };
 
     /// A connection is opened for the session of this name, as [`Server::attach`](crate::Server::attach).
@@ -124,6 +131,7 @@ pub trait Desk {
             → IfOk result (λ effects. Does (StandsFor self.new) Self.S.lock (keys self.old) (drawn self.new) effects
             (after_attach (setting_of (max server.now now) Self.D.step ring) (record { key = key; session = session }) server (drawn self.old))) }
         ensures unchanged_on_memory { (server : Rules) → StandsFor self.old server → IfErr result (λ fault. fault ≡ faults.Memory → StandsFor self.new server) }
+        ensures faults { IfErr result MayAnswer }
         ensures same_keys { keys self.new ≡ keys self.old };
 
     /// A law: a server that a desk stands for is in order. Does nothing.

@@ -1,8 +1,9 @@
 //! A desk that keeps nothing beside its server.
 
-ghost use Rattle.std.specs.Prelude.{◌≤◌};
+ghost use Rattle.std.specs.Prelude.{◌≡◌, ◌≤◌};
 ghost use Rattle.msg_ids.specs.Moments.{latest_moment};
 ghost use Rattle.waits.specs.Jobs.{ready_count};
+ghost use Rattle.server_core.specs.declared.desk.DeskFault.TheVariants as faults;
 ghost use Rattle.server_core.specs.Desks.{IsBetweenEvents};
 ghost use Rattle.server_core.specs.Server.{Stands};
 
@@ -39,6 +40,8 @@ impl<'a, S: Seal, D: Draw> Desk for Plain<'a, S, D> {
     ghost drawn = { λ desk. desk.draw.now };
 
     ghost ready_jobs = { λ desk. ready_count desk.server.now.jobs };
+
+    ghost MayAnswer = { λ fault. fault ≡ faults.Memory };
 
     fn on_packet(&mut self, alloc: Global, now: Moment, packet: &[u8]) -> Result<Reply, DeskFault> {
         events_keep_order::<D>();
