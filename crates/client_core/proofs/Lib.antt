@@ -27,6 +27,7 @@ pub mod PacketLemmas
 pub mod QueueLemmas
 pub mod QuietLemmas
 pub mod SayLemmas
+pub mod SealLemmas
 pub mod SizeLemmas
 pub mod SoundLemmas
 pub mod TurnLemmas

@@ -16,3 +16,4 @@ pub mod Marks
 pub mod Took
 pub mod Sound
 pub mod Results
+pub mod Sealing

@@ -17,6 +17,7 @@ ghost use Rattle.client_core.specs.Due.{is_due_beside};
 ghost use Rattle.client_core.specs.Flushed.{Flushes, Sent, setting_of};
 ghost use Rattle.client_core.specs.Keys.{HasKeys, keys_in};
 ghost use Rattle.client_core.specs.Kept.{Stands};
+ghost use Rattle.client_core.specs.Sealing.{TellsSealed};
 
 use crate::asking::BindRoom;
 use crate::calling::call_alone;
@@ -239,6 +240,7 @@ impl OpeningClient {
         requires keys { HasKeys (S.keys seal.now) (keys_in self.old) }
         ensures flushes { (client : Client) → Stands self.old client
             → Flushes (setting_of D.step (S.keys seal.now)) S.lock (S.keys seal.now) now client draw.old result self.new draw.new }
+        ensures sealed { TellsSealed S.lock (S.keys seal.now) result }
         ensures keys { keys_in self.new ≡ keys_in self.old }
         ensures session { self.new.rest.session ≡ self.old.rest.session }
         ensures count { length self.new.calls.rows ≡ length self.old.calls.rows }
@@ -263,6 +265,7 @@ impl OpenClient {
         requires keys { HasKeys (S.keys seal.now) (keys_in self.old) }
         ensures flushes { (client : Client) → Stands self.old client
             → Flushes (setting_of D.step (S.keys seal.now)) S.lock (S.keys seal.now) now client draw.old result self.new draw.new }
+        ensures sealed { TellsSealed S.lock (S.keys seal.now) result }
         ensures keys { keys_in self.new ≡ keys_in self.old }
         ensures session { self.new.rest.session ≡ self.old.rest.session }
         ensures count { length self.new.calls.rows ≡ length self.old.calls.rows }

@@ -3,6 +3,7 @@ use Rattle.client_core.specs.Flushed.{setting_of}
 use Rattle.client_core.specs.Own.{Own, own_in}
 use Rattle.client_core.proofs.KeyLemmas.{flush_own, flush_stands}
 use Rattle.client_core.proofs.OwnLemmas.{perm_known}
+use Rattle.client_core.proofs.SealLemmas.{told_sealed}
 use Rattle.client_core.proofs.open.OpenClient.flush.Goals as goal
 
 pub flush-requires-clause-key : goal.flush-requires-clause-key
@@ -14,6 +15,9 @@ flush-requires-clause-perm g c = rw (c.self.view_is) (perm_known (g.S.Seal.keys 
 pub invariant_of-self : goal.invariant_of-self
 invariant_of-self g c =
     (rw (c.flush.ensures.learnt) c.self.invariant.0, flush_stands _ _ _ _ _ _ (c.flush.ensures.flushes c.self.invariant.1.client c.self.invariant.1.stands).leaves)
+
+pub returns-clause-sealed : goal.returns-clause-sealed
+returns-clause-sealed g c = told_sealed _ _ _ _ (c.flush.ensures.flushes c.self.invariant.1.client c.self.invariant.1.stands).told
 
 pub returns-clause-keys : goal.returns-clause-keys
 returns-clause-keys g c =
