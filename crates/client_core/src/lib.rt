@@ -47,6 +47,3 @@ pub use holder::Holder;
 pub use open::OpenClient;
 pub use opening::OpeningClient;
 pub use step::{OpenStep, OpeningStep};
-
-#[cfg(test)]
-mod tests;

@@ -23,8 +23,6 @@ pub mod Ordered
 pub mod HearLemmas
 pub mod DestroyLemmas
 pub mod Pairs
-pub mod Remembering
-pub mod JudgeLemmas
 pub mod LeaveLemmas
 pub mod Quiet
 pub mod Shares
@@ -50,4 +48,5 @@ pub mod Left
 pub mod Taken
 pub mod HeardLemmas
 pub mod PacketDues
-pub mod BeginsSettling
+pub mod BetweenEvents
+pub mod Desked

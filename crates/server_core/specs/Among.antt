@@ -9,7 +9,7 @@ use Rattle.inbox.specs.declared.judged.Judgement.{Judgement}
 use Rattle.inbox.specs.Judging.{judgements, session_after}
 use Rattle.inbox.specs.Refusals.{InEnvelope}
 use Rattle.waits.specs.Jobs.{without_session as without_jobs_of}
-use Rattle.server_rules.specs.Server.{Name, Server, Session, name_of, remembered, session_named, with_session, without_session}
+use Rattle.server_rules.specs.Server.{Name, Server, Session, name_of, remembered, session_named, without_session}
 use Rattle.server_rules.specs.Event.{Envelope, Setting, Speaker, State, speaker_in}
 use Rattle.server_rules.specs.Speaking.{says}
 use Rattle.server_rules.specs.Waiting.{tells_of}
@@ -74,10 +74,7 @@ heard_by setting envelope None state =
 abbrev pub heard_among : {S : Type 0} → Setting S → Envelope → State S → Among S
 heard_among setting envelope state = heard_by setting envelope (session_named (name_in envelope) state.sessions) state
 
--- the server whose session has this history, and the session with it
-abbrev pub with_history : Session → History → Server → Server
-with_history session history server = record server { sessions = with_session (record session { history = history }) server.sessions }
-
+-- it has this history
 abbrev pub remembers_among : {S : Type 0} → History → Among S → Among S
 remembers_among history among = record among { speaker = record among.speaker { session = record among.speaker.session { history = history } } }
 

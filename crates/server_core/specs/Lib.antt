@@ -17,3 +17,4 @@ pub mod Reserving
 pub mod SettlingAll
 pub mod Room
 pub mod Packets
+pub mod Desks

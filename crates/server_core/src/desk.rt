@@ -3,9 +3,7 @@
 ghost use Rattle.std.specs.Prelude.{◌≡◌};
 ghost use Rattle.server_core.specs.declared.desk.DeskFault.TheVariants as faults;
 
-use crate::server::Server;
-use draws::Draw;
-use envelope::{Refusal, Seal};
+use envelope::Refusal;
 use octets::Memory;
 use owing::Outs;
 use rows::Entries;
@@ -62,13 +60,4 @@ impl From<Memory> for DeskFault {
     fn from(_memory: Memory) -> DeskFault {
         DeskFault::Memory
     }
-}
-
-/// A server that keeps nothing beside itself, with what it draws from.
-#[derive(Debug, Drop)]
-pub struct Plain<'a, S: Seal, D: Draw> {
-    /// The server.
-    pub server: &'a mut Server<S>,
-    /// What it draws from.
-    pub draw: &'a mut D,
 }

@@ -2,60 +2,24 @@
 
 ghost use Rattle.std.specs.Prelude.{◌≡◌, ◌≢◌, ◌<◌, ℕ, [], All, IfOk, OnErr, OnOk, Some, length, slice_index_or};
 ghost use Rattle.std.specs.List.{position, remove};
-ghost use Rattle.inbox.specs.Inbox.{message_in};
-ghost use Rattle.inbox.specs.Judging.{judgements, session_after};
-ghost use Rattle.inbox.specs.Refusals.{InEnvelope};
-ghost use Rattle.server_laws.specs.Order.{IsOrderly, jobs_of};
-ghost use Rattle.server_rules.specs.Server.{Name, Server as Rules, Session, remembered, session_named};
+ghost use Rattle.server_rules.specs.Server.{Name, Server as Rules};
 ghost use Rattle.server_rules.specs.Event.{Envelope, Setting, State};
 ghost use Rattle.server_rules.specs.Answer.{begun, name_in, with_place as place_made};
 ghost use Rattle.standing.specs.declared.standing.Standing.{Standing as One};
 ghost use Rattle.standing.specs.Names.{name_kept};
-ghost use Rattle.standing.specs.Standing.{IsAt};
 ghost use Rattle.server_core.specs.Sessions.{AreApart, AreKept, is_kept_as, without_kept};
-ghost use Rattle.server_core.specs.Among.{heard_among, with_history};
+ghost use Rattle.server_core.specs.Among.{heard_among};
 ghost use Rattle.server_core.specs.Hearing.{IsHeard};
 ghost use Rattle.server_core.specs.Others.{first_lost, with_place, without_lost};
 
 use crate::others::Others;
 use crate::sessions::Sessions;
 use draws::Draw;
-use inbox::{Judged, Outer};
-use msg_ids::Moment;
 use octets::Memory;
 use standing::Standing;
 use standing::laws::sessions_stand_later;
 use std::alloc::Global;
 use waits::Jobs;
-
-/// The session at this place judges what an envelope brought, and remembers it. All memory is taken before.
-///
-/// # Errors
-///
-/// `Memory`, and then all are as they were.
-pub(crate) fn judges_known(
-    sessions: &mut Sessions,
-    alloc: Global,
-    place: usize,
-    now: Moment,
-    outer: &Outer,
-) -> Result<Judged, Memory>
-    requires place { place < length sessions.old }
-    requires at { All (IsAt now) sessions.old }
-    ensures judged { (name : Name) (server : Rules) (session : Session) → AreKept now sessions.old server.sessions
-        → position (is_kept_as name) sessions.old ≡ Some place → session_named name server.sessions ≡ Some session
-        → IfOk result (λ judged. judged ≡ judgements (InEnvelope now session.salts outer.now.salt) (remembered session) (message_in outer.now)) }
-    ensures kept { (name : Name) (server : Rules) (session : Session) → AreKept now sessions.old server.sessions
-        → position (is_kept_as name) sessions.old ≡ Some place → session_named name server.sessions ≡ Some session
-        → IsOrderly session.history session.replies session.counters.last (jobs_of name server.jobs)
-        → OnOk result (AreKept now sessions.new
-        (with_history session (session_after (InEnvelope now session.salts outer.now.salt) (remembered session) (message_in outer.now)).history server).sessions) }
-    ensures unchanged_on_memory { OnErr result (sessions.new ≡ sessions.old) }
-{
-    sessions_stand_later();
-    let judged = sessions.judges(alloc, place, now, outer)?;
-    Ok(judged)
-}
 
 /// The session at this place is heard, and speaks among the others. Takes no memory.
 pub(crate) fn hears_known<D: Draw>(

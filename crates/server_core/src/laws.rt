@@ -13,7 +13,7 @@ ghost use Rattle.server_rules.specs.Waiting.{after_failures};
 ghost use Rattle.server_rules.specs.Answer.{after_packet, after_work, begun, is_spent, name_in, opens, runs};
 ghost use Rattle.server_core.specs.Working.{run_entry};
 ghost use Rattle.server_core.specs.One.{AreOwnFailures, fails_all, finishes_all};
-ghost use Rattle.server_core.specs.Among.{Among, IsAlone, IsInOrder, IsOrderlySpeaker, heard_among, packet_among, remembers_among, settles_among, speaks_among, with_history};
+ghost use Rattle.server_core.specs.Among.{Among, IsAlone, IsInOrder, IsOrderlySpeaker, heard_among, packet_among, settles_among, speaks_among};
 
 use draws::Draw;
 use server_laws::laws::{
@@ -82,13 +82,3 @@ pub fn one_session_stays_in_order<D: Draw>()
     rows_keep_order::<D>();
     taken_jobs_are_open::<D>();
 }
-
-/// A session that has judged, and remembers what it judged, is heard as it is then: with the same others, and it opens in the
-/// same way.
-pub fn one_session_remembers<D: Draw>()
-    ensures heard { (setting : Setting D) (envelope : Envelope) (server : Server) (draw : D) (session : Session) (history : History)
-        → session_named (name_in envelope) server.sessions ≡ Some session
-        → heard_among setting envelope (begun (with_history session history server) draw) ≡ remembers_among history (heard_among setting envelope (begun server draw)) }
-    ensures opens { (setting : Setting D) (history : History) (judged : List Judgement) (among : Among D)
-        → speaks_among (opens setting history judged) (remembers_among history among) ≡ speaks_among (opens setting history judged) among }
-{}

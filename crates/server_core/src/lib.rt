@@ -6,6 +6,7 @@
 mod again;
 mod attaching;
 mod desk;
+mod desks;
 mod destroying;
 mod effects;
 mod failures;
@@ -13,10 +14,12 @@ mod hearing;
 pub mod laws;
 mod leaving;
 mod losing;
+pub mod order_laws;
 mod others;
 mod outgoing;
 mod packet_answers;
 mod packets;
+mod plain;
 mod reserving;
 mod room;
 mod server;
@@ -30,8 +33,10 @@ mod voices;
 mod work;
 mod working;
 
-pub use desk::{DeskFault, Heard, Plain, Reply};
+pub use desk::{DeskFault, Heard, Reply};
+pub use desks::Desk;
 pub use effects::Effects;
+pub use plain::Plain;
 pub use server::Server;
 pub use sessions::Sessions;
 

@@ -1,6 +1,6 @@
 //! The sessions that a server keeps.
 
-ghost use Rattle.std.specs.Prelude.{◌≡◌, ◌<◌, ◌≤◌, ℕ, [], All, IfOk, OnErr, OnOk, Some, length, nat_lt, slice_index_or, slice_set, vec_capacity, vec_len};
+ghost use Rattle.std.specs.Prelude.{◌≡◌, ◌<◌, ◌≤◌, [], All, IfOk, OnErr, OnOk, Some, length, nat_lt, slice_index_or, slice_set, vec_capacity, vec_len};
 ghost use Rattle.std.specs.List.{position, remove};
 ghost use Rattle.standing.specs.declared.standing.Standing.{Standing as One};
 ghost use Rattle.standing.specs.Standing.{IsAt, Stands, numbers_left};
@@ -9,12 +9,7 @@ ghost use Rattle.standing.specs.Says.{Keys, setting_of};
 ghost use Rattle.owing.specs.Outs.{AreSent};
 ghost use Rattle.server_rules.specs.Answer.{room_min};
 ghost use Rattle.server_rules.specs.Event.{Speaker};
-ghost use Rattle.server_rules.specs.Server.{Name, Session, remembered};
-ghost use Rattle.server_laws.specs.Order.{IsOrderly};
-ghost use Rattle.inbox.specs.Inbox.{message_in};
-ghost use Rattle.inbox.specs.Judging.{judgements, session_after};
-ghost use Rattle.inbox.specs.Refusals.{InEnvelope};
-ghost use Rattle.waits.specs.Jobs.{Queue};
+ghost use Rattle.server_rules.specs.Server.{Name};
 ghost use Rattle.server_core.specs.Sessions.{AreApart, is_kept_as, kept_as, without_kept};
 ghost use Rattle.server_core.specs.Server.{CanSpeak};
 ghost use Rattle.server_core.specs.Speech.{Begins, CanAttach, attached};
@@ -24,7 +19,6 @@ use crate::others::Others;
 use crate::speech::Speech;
 use draws::Draw;
 use envelope::Seal;
-use inbox::{Judged, Outer};
 use msg_ids::Moment;
 use octets::Memory;
 use owing::Outs;
@@ -149,35 +143,6 @@ impl Sessions {
     {
         let standing = &mut self.list[place];
         attaching::attaches(standing, now, speech, seal, draw)
-    }
-
-    /// The session at this place judges a message that an envelope brought, and where it is accepted the messages inside it. All
-    /// memory is taken before.
-    ///
-    /// # Errors
-    ///
-    /// `Memory`, and then all are as they were.
-    pub(crate) fn judges(
-        &mut self,
-        alloc: Global,
-        place: usize,
-        now: Moment,
-        outer: &Outer,
-    ) -> Result<Judged, Memory>
-        requires place { place < length self.old }
-        requires at { All (IsAt now) self.old }
-        ensures judged { (d : One) (session : Session) → Stands now (slice_index_or self.old place d) session
-            → IfOk result (λ judged. judged ≡ judgements (InEnvelope now session.salts outer.now.salt) (remembered session) (message_in outer.now)) }
-        ensures stands { (d : One) (session : Session) (jobs : Queue) → Stands now (slice_index_or self.old place d) session
-            → IsOrderly session.history session.replies session.counters.last jobs
-            → OnOk result (Stands now (slice_index_or self.new place d) (record session { history = (session_after (InEnvelope now session.salts outer.now.salt) (remembered session) (message_in outer.now)).history })) }
-        ensures others { (d : One) → self.new ≡ slice_set self.old place (slice_index_or self.new place d) }
-        ensures apart { AreApart self.old }
-        ensures unchanged_on_memory { OnErr result (self.new ≡ self.old) }
-    {
-        let standing = &mut self.list[place];
-        let judged = standing.judges(alloc, now, outer)?;
-        Ok(judged)
     }
 
     /// Whether the session at this place has no room for the numbers of a further event.

@@ -1,10 +1,13 @@
 //! What a server does that no session has come to.
 
-use crate::Server;
+ghost use Rattle.std.specs.Prelude.{◌≡◌, IfErr};
+
+use crate::{Desk, DeskFault, Plain, Server};
 use auth_keys::Ring;
 use draws::StepDraw;
 use envelope::{MtSeal, Seal};
 use msg_ids::Moment;
+use regs_service::{Regs, Service};
 use std::alloc::Global;
 use std::test::*;
 
@@ -50,5 +53,48 @@ fn a_tick_with_nothing_due_says_nothing(rt: HostRuntime) -> Result<(), Fail> {
     let effects = server.tick(alloc, Moment::new(30), &mut draw)?;
     assert_eq!(rt; effects.out.as_slice().len(), 0);
     assert_eq!(rt; effects.entries.as_slice().len(), 0);
+    Ok(())
+}
+
+// A packet comes to any desk, then a ready job runs and a tick comes: how many packets go out.
+fn serves<K: Desk, V: Service>(
+    alloc: Global,
+    desk: &mut K,
+    service: &mut V,
+    now: Moment,
+    packet: &[u8],
+) -> Result<usize, DeskFault>
+    ensures same_keys { K.keys desk.new ≡ K.keys desk.old }
+    ensures faults { IfErr result K.MayAnswer }
+{
+    let reply = desk.on_packet(alloc, now, packet)?;
+    let mut sent = reply.out.as_slice().len();
+    if desk.ready() > 0 {
+        let run = desk.work(alloc, 0, service, now)?;
+        sent = sent.saturating_add(run.out.as_slice().len());
+    }
+    let tick = desk.tick(alloc, now)?;
+    Ok(sent.saturating_add(tick.out.as_slice().len()))
+}
+
+#[test]
+fn a_plain_desk_drops_what_does_not_open(rt: HostRuntime) -> Result<(), Fail> {
+    let alloc = rt.alloc();
+    let mut server = Server::new(alloc, MtSeal::new(ring(alloc)?));
+    let mut draw = StepDraw::new();
+    let mut service = Regs::fresh(alloc);
+    let mut desk = Plain {
+        server: &mut server,
+        draw: &mut draw,
+    };
+    let sent = serves(
+        alloc,
+        &mut desk,
+        &mut service,
+        Moment::new(30),
+        b"too short",
+    )?;
+    assert_eq!(rt; sent, 0);
+    assert_eq!(rt; desk.ready(), 0);
     Ok(())
 }

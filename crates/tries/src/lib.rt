@@ -7,6 +7,8 @@ mod calls;
 #[cfg(test)]
 mod envelopes;
 #[cfg(test)]
+mod flushes;
+#[cfg(test)]
 mod forgetting;
 #[cfg(test)]
 mod keys;
@@ -16,5 +18,7 @@ mod owed;
 mod servers;
 #[cfg(test)]
 mod sessions;
+#[cfg(test)]
+mod submits;
 #[cfg(test)]
 mod wires;

@@ -1,0 +1,13 @@
+pub mod Lists
+pub mod Jobs
+pub mod Kept
+pub mod Contents
+pub mod Rows
+pub mod Bounded
+pub mod Names
+pub mod Unsaid
+pub mod Counted
+pub mod Sent
+pub mod Given
+pub mod Answered
+pub mod Taking

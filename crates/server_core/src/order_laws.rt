@@ -1,0 +1,33 @@
+//! Laws of a server between events, each the contract of a function that does nothing.
+
+ghost use Rattle.std.specs.Prelude.{◌≤◌, ℕ};
+ghost use Rattle.msg_ids.specs.Moments.{latest_moment};
+ghost use Rattle.regs_service.specs.Served.{Step};
+ghost use Rattle.server_rules.specs.Answer.{after_attach, after_packet, after_tick, after_work};
+ghost use Rattle.server_rules.specs.Event.{Envelope, Setting};
+ghost use Rattle.server_rules.specs.Server.{Name, Server, fresh_server};
+ghost use Rattle.server_core.specs.Desks.{IsBetweenEvents};
+
+use draws::Draw;
+use server_laws::laws::servers_stay_in_order;
+
+/// A fresh server is in order, and after a packet, a tick and an attach a server that was in order is so.
+pub fn events_keep_order<D: Draw>()
+    ensures fresh { IsBetweenEvents fresh_server }
+    ensures packet { (setting : Setting D) (envelope : Envelope) (server : Server) (draw : D) → setting.now ≤ latest_moment → IsBetweenEvents server
+        → IsBetweenEvents (after_packet setting envelope server draw).server }
+    ensures tick { (setting : Setting D) (server : Server) (draw : D) → setting.now ≤ latest_moment → IsBetweenEvents server
+        → IsBetweenEvents (after_tick setting server draw).server }
+    ensures attach { (setting : Setting D) (name : Name) (server : Server) (draw : D) → setting.now ≤ latest_moment → IsBetweenEvents server
+        → IsBetweenEvents (after_attach setting name server draw).server }
+{
+    servers_stay_in_order::<D, D>();
+}
+
+/// After a run a server that was in order is so.
+pub fn runs_keep_order<D: Draw, V>()
+    ensures { (setting : Setting D) (place : ℕ) (serve : Step V) (service : V) (server : Server) (draw : D) → setting.now ≤ latest_moment → IsBetweenEvents server
+        → IsBetweenEvents (after_work setting place serve service server draw).0.server }
+{
+    servers_stay_in_order::<D, V>();
+}
