@@ -2,10 +2,10 @@
 
 ghost use Rattle.std.specs.Prelude.{◌≡◌, None, IfOk, IsSome};
 ghost use Rattle.auth_keys.specs.Rings.{entry_of};
-ghost use Rattle.client_core.specs.Keys.{HasKeys, keys_in};
+ghost use Rattle.client_core.specs.Keys.{keys_in};
 
 use crate::keys::{KEY_ID, ring};
-use client_core::{Flush, OpenClient, OpeningClient, OpeningStep};
+use client_core::{Flush, OpeningClient};
 use draws::{Draw, StepDraw};
 use envelope::{Dir, Envelope, MtSeal, Opened, Seal};
 use msg_ids::Moment;

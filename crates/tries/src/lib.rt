@@ -3,6 +3,8 @@
 #![tactic(auto)]
 
 #[cfg(test)]
+mod bindings;
+#[cfg(test)]
 mod calls;
 #[cfg(test)]
 mod envelopes;
@@ -20,5 +22,7 @@ mod servers;
 mod sessions;
 #[cfg(test)]
 mod submits;
+#[cfg(test)]
+mod talks;
 #[cfg(test)]
 mod wires;
