@@ -122,11 +122,10 @@ pub(crate) fn talk<L: Link, S: Seal, C: Clock, D: Draw>(
     ensures same_place { L.place link.new ≡ L.place link.old }
 {
     let now = clock.now();
-    let (mut wire, start) =
-        match Wire::<Framed>::client(alloc, plan.form, plan.obfuscate, draw) {
-            Ok(begun) => begun,
-            Err(Memory) => return (client, End::Memory),
-        };
+    let (mut wire, start) = match Wire::<Framed>::client(alloc, plan.form, plan.obfuscate, draw) {
+        Ok(begun) => begun,
+        Err(Memory) => return (client, End::Memory),
+    };
     if let Err(end) = send(link, start.as_slice()) {
         return (client, end);
     }
