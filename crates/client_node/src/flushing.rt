@@ -20,8 +20,8 @@ use mt_edge::Link;
 use std::alloc::Global;
 use transport::{Framed, Wire};
 
-/// The most packets that are sent before the next piece is read. More are never due: each call is sent, sent again and
-/// dropped once at most, and beside that a client has only a few items that wait.
+/// The most packets that are sent before the next piece is read. More should never be due, which isn't proved: each call is
+/// sent, sent again and dropped once at most, and beside that a client has only a few items that wait.
 const FLUSHES_MAX: u32 = 262_144;
 
 /// How a flush that gave a packet ends, by whether each call is decided now and what its write came to.
