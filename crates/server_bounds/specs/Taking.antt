@@ -35,10 +35,10 @@ pub record IsTaken (S : Type 0) (setting : Setting S) (envelope : Envelope) (ser
   -- its session stands until all is sent, and has accepted its number
   pub recorded : (last : Session) × (session_named (name_in envelope) (all_sent setting (takes setting envelope (begun server draw))).sessions ≡ Some last)
       × WasAccepted envelope.number last.history
-  -- so it has in the end, unless it is lost then, where it has no room for further numbers
+  -- so it has in the end, unless it is lost then
   pub stays : (after : Session) → session_named (name_in envelope) (after_packet setting envelope server draw).server.sessions ≡ Some after
       → WasAccepted envelope.number after.history
-  -- where its seq is odd, it is acknowledged in the same event
+  -- where its seq is odd, its acknowledgement is owed in the same event
   pub acknowledged : is_odd envelope.seq ≡ true → IsAcknowledged (name_in envelope) envelope.number (takes setting envelope (begun server draw)).owed
   -- where it is a call for the service, it is an unfinished job or was answered then
   pub answered : is_for_service (item_told envelope.body) ≡ true

@@ -39,8 +39,9 @@ pub fn jobs_are_few<D: Draw, V>()
     server_rules::laws::oldest_replies_are_dropped::<D>();
 }
 
-/// One event of a server whose sessions keep no more than that gives at most 8,192 packets more than there were unfinished
-/// jobs before it, and at most as many entries. So does each event after every list of events.
+/// One event of a server whose sessions keep at most 4,096 replies each gives at most 8,192 packets more than there were
+/// unfinished jobs before it, and at most as many entries. So does each event after a list in which runs are as short as
+/// `replies_are_few` asks.
 pub fn events_give_few<D: Draw, V>()
     ensures event { (setting : Setting D) (serve : Step V) (service : V) (course : Course D V) (event : Event)
         → All (λ session. IsWithin (kept_replies session.replies)) course.server.sessions
@@ -55,7 +56,7 @@ pub fn events_give_few<D: Draw, V>()
 }
 
 /// A packet's message that nothing refuses is accepted in that event: its session, which stands until all is sent, has
-/// recorded its number, and acknowledges it where its seq is odd. A call for the service is a job then or has a reply, unless
+/// recorded its number, and owes its acknowledgement where its seq is odd. A call for the service is a job then or has a reply, unless
 /// the session is lost in the end.
 pub fn lawful_messages_are_taken<D: Draw>()
     ensures { (setting : Setting D) (envelope : Envelope) (server : Server) (draw : D) (session : Session)

@@ -34,7 +34,7 @@ pub struct Reply {
     pub entries: Entries,
 }
 
-/// Why a desk does nothing.
+/// Why a call of a desk gives nothing.
 #[derive(Clone, Copy, Debug, PartialEq, Eq, Error)]
 pub enum DeskFault {
     /// An earlier call came to a fault of the disk; nothing is done any more.
@@ -49,7 +49,7 @@ pub enum DeskFault {
     /// The disk failed.
     #[error("the disk failed")]
     Disk,
-    /// Memory ran out, and nothing was done.
+    /// Memory ran out: the desk stands for what it stood for.
     #[error("out of memory")]
     Memory,
 }
