@@ -1,0 +1,5 @@
+pub mod Entries
+pub mod Bag
+pub mod Counts
+pub mod Clients
+pub mod Faults
