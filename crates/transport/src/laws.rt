@@ -58,21 +58,22 @@ pub fn what_is_told_is_heard()
     streams_go_on::<Form>();
 }
 
-/// A server's end that was given a client's first bytes, its first packet among them, knows the form, whatever follows. It
-/// hears what that client tells, and what it tells goes through the stream that the client hears: the law above goes on
-/// from there, in both directions.
+/// A server's end that was given a client's first bytes, however many of them so far, refuses none, and once it knows the
+/// form it hears what that client tells, and what it tells goes through the stream that the client hears: the law above
+/// goes on from there, in both directions. Where the first packet is among them it knows the form, whatever follows.
 pub fn ends_meet()
     ensures not_awaited { (client : Line) (form : Framings) (obfuscate : Bool) (drawn start packet more bytes : List ℕ)
         → (obfuscate ≡ true → form ≢ forms.Full) → HasBegun client form start → IsSentStart obfuscate form drawn start → IsSent form packet
         → bytes ≡ start ++ (through client.writing (frame_of form client.number packet) ++ more) → IsAwaited bytes → ⊥ }
-    ensures not_refused { (client : Line) (form : Framings) (obfuscate : Bool) (drawn start packet more bytes wire : List ℕ)
+    ensures not_refused { (client : Line) (form : Framings) (obfuscate : Bool) (drawn start packet more bytes later wire : List ℕ)
         → (obfuscate ≡ true → form ≢ forms.Full) → HasBegun client form start → IsSentStart obfuscate form drawn start → IsSent form packet
-        → bytes ≡ start ++ (through client.writing (frame_of form client.number packet) ++ more) → IsRefused bytes wire → ⊥ }
-    ensures meets { (client server : Line) (form : Framings) (obfuscate : Bool) (drawn start packet more bytes : List ℕ)
+        → bytes ++ later ≡ start ++ (through client.writing (frame_of form client.number packet) ++ more) → IsRefused bytes wire → ⊥ }
+    ensures meets { (client server : Line) (form : Framings) (obfuscate : Bool) (drawn start packet more bytes later : List ℕ)
         → (obfuscate ≡ true → form ≢ forms.Full) → (begun : HasBegun client form start) → IsSentStart obfuscate form drawn start → IsSent form packet
-        → bytes ≡ start ++ (through client.writing (frame_of form client.number packet) ++ more) → HasStarted server bytes
+        → bytes ++ later ≡ start ++ (through client.writing (frame_of form client.number packet) ++ more) → (started : HasStarted server bytes)
         → (server.form ≡ client.form)
-        × Hears server begun.opening.up [] (through client.writing (frame_of form client.number packet) ++ more)
+        × (started.rest ++ later ≡ through client.writing (frame_of form client.number packet) ++ more)
+        × Hears server begun.opening.up [] started.rest
         × Tells server begun.opening.down [] [] }
 {
     one_answer();
