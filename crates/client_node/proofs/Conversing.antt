@@ -1,5 +1,5 @@
 -- All of a connection, and all attempts of a batch.
-use Rattle.std.proofs.Common.{◌≡◌, ◌≤◌, ◌+◌, ℕ, true, List, [], ◌∷◌, ◌++◌, length, Option, Some, None, IfSome, IsSome, IsSomeAnd, Err, ◌⊎◌, inl, inr, refl, sym, ap, subst, ◌∙◌, append_assoc, append-nil, arith}
+use Rattle.std.proofs.Common.{◌≡◌, ◌≤◌, ◌+◌, ℕ, true, false, List, [], ◌∷◌, ◌++◌, length, Option, Some, None, IfSome, IsSome, IsSomeAnd, Err, ◌⊎◌, inl, inr, refl, sym, ap, subst, ◌∙◌, append_assoc, append-nil, arith}
 use Rattle.auth_keys.specs.declared.ring.RingKey.{RingKey}
 use Rattle.draws.specs.Draws.{draw_after, next_bytes}
 use Rattle.envelope.specs.Packet.{Lock}
@@ -19,7 +19,7 @@ use Rattle.client_node.specs.Ends.{batch_by}
 use Rattle.client_node.specs.Runs.{Conversed, Gave, HasOpened, LostSoFar, Talked, Tried}
 use Rattle.client_node.specs.Standing.{StandsAs, StandsFor, phase_of}
 use Rattle.client_node.specs.Talks.{Began, Close, Connection, FailsWriting, Heard, IsStart, Passed, PassedFront, Passes, Place, Refused, Rules, Shows, ShowsClose, Stopped, TurnsDone, Unread, Unstarted, began, begun, drawn, rules_of}
-use Rattle.client_node.specs.Trace.{AreNoted, Attempt, ClientTrace, IsNoted, Made, NoLink, after_all, all_moments}
+use Rattle.client_node.specs.Trace.{AreNoted, Attempt, ClientTrace, IsNoted, Made, NoLink, UndecidedIn, after_all, all_moments}
 use Rattle.client_node.specs.Writes.{Seen, Writes, WroteFront, seen}
 use Rattle.client_node.specs.declared.end.End.{End}
 use Rattle.client_node.specs.declared.end.End.TheVariants as ends
@@ -29,6 +29,7 @@ use Rattle.client_node.specs.declared.plan.Plan.{Plan}
 use Rattle.client_node.proofs.Connecting.{closes_last}
 use Rattle.client_node.proofs.Flowing.{map_told}
 use Rattle.client_node.proofs.Passing.{gave_more, gave_none, passes_behind, passes_none, reading_behind, writing_behind}
+use Rattle.client_node.proofs.Undecided.{last_undecided}
 
 -- ---- a connection without a talk
 
@@ -254,11 +255,11 @@ lost_more rules plan course times first middle last given given_between given_th
     }
 
 pub traced : {S : Type 0} (rules : Rules S) (plan : Plan) (course : Course S) (times : ℕ) (first middle last : Option (List NetCall)) (given given_between given_then : Option (List ℕ)) (kept left : Holder) (draw drew : S) (end : End)
-    → times ≤ plan.retries → (batch_by end ≡ batch.LinkLost → times ≡ plan.retries)
+    → is_decided course.client ≡ false → times ≤ plan.retries → (batch_by end ≡ batch.LinkLost → times ≡ plan.retries)
     → (before : LostSoFar rules plan course times first given kept draw middle given_between)
     → Tried rules plan (after_all rules plan course before.attempts) middle given_between end left drew last given_then
     → ClientTrace rules plan course (batch_by end) first last given given_then left drew
-traced rules plan course times first middle last given given_between given_then kept left draw drew end most many before one =
+traced rules plan course times first middle last given given_between given_then kept left draw drew end some most many before one =
     record {
       attempts = one.attempt ∷ before.attempts;
       ended = (
@@ -268,6 +269,7 @@ traced rules plan course times first middle last given given_between given_then 
         subst (λ (count : ℕ). count ≤ plan.retries) (sym before.count) most,
         λ lost. before.count ∙ many lost,
       );
+      undecided = last_undecided rules plan course before.attempts one.attempt end some before.lost one.is one.ends_so;
       stands = one.stands;
       noted = made_more rules plan course before.attempts one.attempt first middle last before.noted one.noted;
       moments = gave_more (all_moments rules plan course before.attempts) _ given given_between given_then before.gave one.gave;
@@ -275,7 +277,7 @@ traced rules plan course times first middle last given given_between given_then 
 
 -- nothing was connected to
 pub untraced : {S : Type 0} (rules : Rules S) (plan : Plan) (course : Course S) (calls : Option (List NetCall)) (given : Option (List ℕ)) (kept : Holder) (draw : S) (end : Batch)
-    → StandsAs kept draw course → ((end ≡ batch.Decided) × (is_decided course.client ≡ true)) ⊎ (end ≡ batch.Memory)
+    → StandsAs kept draw course → UndecidedIn end course.client → ((end ≡ batch.Decided) × (is_decided course.client ≡ true)) ⊎ (end ≡ batch.Memory)
     → ClientTrace rules plan course end calls calls given given kept draw
-untraced rules plan course calls given kept draw end stands why =
-    record { attempts = []; ended = why; stands = stands; noted = made_none rules plan course calls; moments = gave_none given }
+untraced rules plan course calls given kept draw end stands none why =
+    record { attempts = []; ended = why; undecided = none; stands = stands; noted = made_none rules plan course calls; moments = gave_none given }

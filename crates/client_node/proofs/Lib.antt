@@ -11,4 +11,5 @@ pub mod Reading
 pub mod Sendable
 pub mod Talking
 pub mod Turning
+pub mod Undecided
 pub mod Writing

@@ -14,6 +14,7 @@ use Rattle.mt_edge.specs.Links.{Told}
 use Rattle.mt_edge.specs.declared.link_read.LinkRead.{LinkRead}
 use Rattle.mt_edge.specs.declared.source.Got.{Got}
 use Rattle.mt_edge.specs.declared.source.Got.TheVariants as got
+use Rattle.client_rules.specs.Client.{Client}
 use Rattle.client_rules.specs.Sending.{Setting}
 use Rattle.client_core.specs.Flushed.{setting_of}
 use Rattle.client_node.specs.Course.{AreSent, Course, Reading, attaches, is_decided, renews, sends_all}
@@ -194,6 +195,14 @@ IsClosed rules opening count place said (Heard piece moment heard end) =
     (count < turns_max) × IsReady rules place said × (0 < length piece) × (length piece ≤ piece_bytes) × All IsNoError heard
     × EndsHearing rules opening (gets piece moment (says rules said place)) heard end
 IsClosed rules opening count place said TurnsDone = (count ≡ turns_max) × IsReady rules place said
+
+-- a call isn't decided where the connection is lost, or gave as many pieces as one gives
+abbrev pub UndecidedBy : End → Client → Type 0
+UndecidedBy ends.Lost client = is_decided client ≡ false
+UndecidedBy ends.TurnsSpent client = is_decided client ≡ false
+UndecidedBy ends.Decided client = ⊤
+UndecidedBy ends.Spent client = ⊤
+UndecidedBy ends.Memory client = ⊤
 
 -- ---- what its link shows
 

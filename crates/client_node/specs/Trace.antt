@@ -1,9 +1,10 @@
 -- The trace of a client: what a batch does, one connection after another (core.telegram.org/mtproto/mtproto-transports).
-use Rattle.std.specs.Prelude.{◌≡◌, ◌⊎◌, ◌≤◌, ℕ, true, List, [], ◌∷◌, ◌++◌, length, Option, Some, IfSome, IsSomeAnd, ⊤}
+use Rattle.std.specs.Prelude.{◌≡◌, ◌⊎◌, ◌≤◌, ℕ, true, false, List, [], ◌∷◌, ◌++◌, length, Option, Some, IfSome, IsSomeAnd, ⊤}
 use Rattle.mt_edge.specs.Links.{IsFresh, Told}
 use Rattle.mt_edge.specs.declared.net_call.NetCall.{NetCall}
 use Rattle.mt_edge.specs.declared.net_call.NetCall.TheVariants.{Connect}
 use Rattle.mt_edge.specs.declared.net_call.Outcome.TheVariants.{Failed, Done}
+use Rattle.client_rules.specs.Client.{Client}
 use Rattle.client_core.specs.declared.holder.Holder.{Holder}
 use Rattle.client_node.specs.Course.{Course, is_decided}
 use Rattle.client_node.specs.Ends.{batch_by}
@@ -79,6 +80,14 @@ EndsBy rules plan course end (last ∷ earlier) =
     AreLost rules plan course earlier × IsAttempt rules plan (after_all rules plan course earlier) last
     × (batch_by (end_of_attempt last) ≡ end) × (length earlier ≤ plan.retries) × (end ≡ batch.LinkLost → length earlier ≡ plan.retries)
 
+-- where connections lost or pieces given end it, a call isn't decided
+abbrev pub UndecidedIn : Batch → Client → Type 0
+UndecidedIn batch.LinkLost client = is_decided client ≡ false
+UndecidedIn batch.TurnsSpent client = is_decided client ≡ false
+UndecidedIn batch.Decided client = ⊤
+UndecidedIn batch.Spent client = ⊤
+UndecidedIn batch.Memory client = ⊤
+
 -- ---- the trace
 
 -- What a batch did from a client and what is drawn after it (a course), by what its net and its clock told before and after it,
@@ -86,6 +95,7 @@ EndsBy rules plan course end (last ∷ earlier) =
 pub record ClientTrace {S : Type 0} (rules : Rules S) (plan : Plan) (course : Course S) (end : Batch) (calls calls_then : Option (List NetCall)) (given given_then : Option (List ℕ)) (kept : Holder) (draw : S) : Type 0 where
   pub attempts : List Attempt
   pub ended : EndsBy rules plan course end attempts
+  pub undecided : UndecidedIn end (after_all rules plan course attempts).client
   pub stands : StandsAs kept draw (after_all rules plan course attempts)
   pub noted : IfSome calls_then (λ after. IsSomeAnd calls (λ before. (made : List NetCall) × (after ≡ before ++ made) × AreNoted rules plan course attempts made))
   pub moments : IfSome given_then (λ after. IsSomeAnd given (λ before. after ≡ before ++ all_moments rules plan course attempts))

@@ -19,14 +19,14 @@ lost-init g c =
     }
 
 pub returns-then-not-is_lost-clause-trace : goal.returns-then-not-is_lost-clause-trace
-returns-then-not-is_lost-clause-trace g c course reading read_so stands =
+returns-then-not-is_lost-clause-trace g c course reading read_so stands some =
     let rules_so = rules_of g.D.Draw.step g.S.Seal.lock (g.S.Seal.keys c.args.seal.now) reading in
     let before = c.lost.invariant.so_far course reading read_so stands in
     subst (λ (end : Batch). ClientTrace rules_so c.args.plan.now course end (g.N.Net.calls c.args.net.now) (g.N.Net.calls c.connect-next.new.net) (g.C.Clock.given c.args.clock.now) (g.C.Clock.given c.connect-next.new.clock) c.connect-next.result.0 c.connect-next.new.draw)
     (sym c.batch_of.ensures)
     (traced rules_so c.args.plan.now course c.lost._count (g.N.Net.calls c.args.net.now) (g.N.Net.calls c.lost.net) (g.N.Net.calls c.connect-next.new.net)
     (g.C.Clock.given c.args.clock.now) (g.C.Clock.given c.lost.clock) (g.C.Clock.given c.connect-next.new.clock) c.lost.client c.connect-next.result.0 c.lost.draw c.connect-next.new.draw c.connect-next.result.1
-    (omega (arith, c.lost-test.true)) (not_link_lost c.connect-next.result.1 (c.is_lost.ensures.other c.if-not-is_lost.true) _)
+    some (omega (arith, c.lost-test.true)) (not_link_lost c.connect-next.result.1 (c.is_lost.ensures.other c.if-not-is_lost.true) _)
     before (c.connect-next.ensures.tried (after_all rules_so c.args.plan.now course before.attempts) reading read_so before.stands))
 
 pub lost-preserved : goal.lost-preserved
@@ -49,12 +49,12 @@ lost-preserved g c =
     }
 
 pub returns-clause-trace : goal.returns-clause-trace
-returns-clause-trace g c course reading read_so stands =
+returns-clause-trace g c course reading read_so stands some =
     let rules_so = rules_of g.D.Draw.step g.S.Seal.lock (g.S.Seal.keys c.args.seal.now) reading in
     let before = c.lost.invariant.so_far course reading read_so stands in
     subst (λ (end : Batch). ClientTrace rules_so c.args.plan.now course end (g.N.Net.calls c.args.net.now) (g.N.Net.calls c.connect-client.new.net) (g.C.Clock.given c.args.clock.now) (g.C.Clock.given c.connect-client.new.clock) c.connect-client.result.0 c.connect-client.new.draw)
     (sym c.batch_of-2.ensures)
     (traced rules_so c.args.plan.now course c.lost._count (g.N.Net.calls c.args.net.now) (g.N.Net.calls c.lost.net) (g.N.Net.calls c.connect-client.new.net)
     (g.C.Clock.given c.args.clock.now) (g.C.Clock.given c.lost.clock) (g.C.Clock.given c.connect-client.new.clock) c.lost.client c.connect-client.result.0 c.lost.draw c.connect-client.new.draw c.connect-client.result.1
-    (omega (arith, c.lost-test.false, c.lost.auto._count-end)) (λ lost. omega (arith, c.lost-test.false, c.lost.auto._count-end))
+    some (omega (arith, c.lost-test.false, c.lost.auto._count-end)) (λ lost. omega (arith, c.lost-test.false, c.lost.auto._count-end))
     before (c.connect-client.ensures.tried (after_all rules_so c.args.plan.now course before.attempts) reading read_so before.stands))
