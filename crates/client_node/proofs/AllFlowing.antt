@@ -2,7 +2,7 @@
 use Rattle.std.proofs.Common.{◌≡◌, ◌+◌, ℕ, Bool, false, List, ◌++◌, length, Option, Result, Ok, Err, inl, inr, refl, sym, ap, subst, ◌∙◌, length-append, arith}
 use Rattle.auth_keys.specs.declared.ring.RingKey.{RingKey}
 use Rattle.envelope.specs.Packet.{Lock}
-use Rattle.mt_edge.specs.Links.{Told}
+use Rattle.client_node.specs.Writes.{Seen}
 use Rattle.transport.specs.Wires.{Line}
 use Rattle.client_rules.specs.Sending.{Setting}
 use Rattle.client_core.specs.declared.holder.Holder.{Holder}
@@ -13,29 +13,29 @@ use Rattle.client_node.specs.declared.end.End.{End}
 use Rattle.client_node.specs.declared.end.End.TheVariants as ends
 use Rattle.client_node.proofs.Flowing.{stands_first, flow_both, no_flow, stops_both}
 
-pub so_far_none : {S : Type 0} (setting : Setting S) (lock : Lock) (keys : List RingKey) (now : ℕ) (kept : Holder) (draw : S) (line : Line) (link : Option Told)
+pub so_far_none : {S : Type 0} (setting : Setting S) (lock : Lock) (keys : List RingKey) (now : ℕ) (kept : Holder) (draw : S) (line : Line) (link : Seen)
     → SoFar setting lock keys now kept draw line link 0 kept draw line link
 so_far_none setting lock keys now kept draw line link =
     record { flow = no_flow setting lock keys now kept draw line link; goes = refl; count = refl; undecided = λ some. absurd (omega (arith, some)) }
 
 -- the course after the packets so far
-stands_then : {S : Type 0} (setting : Setting S) (lock : Lock) (keys : List RingKey) (now : ℕ) (kept : Holder) (draw : S) (line : Line) (link : Option Told) (times : ℕ)
-    (middle : Holder) (between : S) (line_between : Line) (link_between : Option Told)
+stands_then : {S : Type 0} (setting : Setting S) (lock : Lock) (keys : List RingKey) (now : ℕ) (kept : Holder) (draw : S) (line : Line) (link : Seen) (times : ℕ)
+    (middle : Holder) (between : S) (line_between : Line) (link_between : Seen)
     → (before : SoFar setting lock keys now kept draw line link times middle between line_between link_between)
     → (course : Course S) → StandsAs kept draw course → StandsAs middle between (sends_all setting now course before.flow.sent)
 stands_then setting lock keys now kept draw line link times middle between line_between link_between before course stands =
     stands_first setting lock keys now course before.flow.sent before.flow.is_done middle between before.goes (before.flow.course course stands)
 
-abbrev joined : {S X : Type 0} (setting : Setting S) (lock : Lock) (keys : List RingKey) (now : ℕ) (kept : Holder) (draw : S) (line : Line) (link : Option Told) (times : ℕ)
-    (middle : Holder) (between : S) (line_between : Line) (link_between : Option Told) (left : Holder) (drawn : S) (line_then : Line) (link_then : Option Told) (result : Result X End)
+abbrev joined : {S X : Type 0} (setting : Setting S) (lock : Lock) (keys : List RingKey) (now : ℕ) (kept : Holder) (draw : S) (line : Line) (link : Seen) (times : ℕ)
+    (middle : Holder) (between : S) (line_between : Line) (link_between : Seen) (left : Holder) (drawn : S) (line_then : Line) (link_then : Seen) (result : Result X End)
     → SoFar setting lock keys now kept draw line link times middle between line_between link_between
     → Flow setting lock keys now middle between line_between link_between result left drawn line_then link_then
     → Flow setting lock keys now kept draw line link result left drawn line_then link_then
 joined setting lock keys now kept draw line link times middle between line_between link_between left drawn line_then link_then result before after =
     flow_both setting lock keys now kept draw line link middle between line_between link_between left drawn line_then link_then result before.flow before.goes after
 
-stopped : {S X : Type 0} (setting : Setting S) (lock : Lock) (keys : List RingKey) (now : ℕ) (kept : Holder) (draw : S) (line : Line) (link : Option Told) (times : ℕ)
-    (middle : Holder) (between : S) (line_between : Line) (link_between : Option Told) (result : Result X End) (sent : List (List ℕ)) (is_done : Bool)
+stopped : {S X : Type 0} (setting : Setting S) (lock : Lock) (keys : List RingKey) (now : ℕ) (kept : Holder) (draw : S) (line : Line) (link : Seen) (times : ℕ)
+    (middle : Holder) (between : S) (line_between : Line) (link_between : Seen) (result : Result X End) (sent : List (List ℕ)) (is_done : Bool)
     → (before : SoFar setting lock keys now kept draw line link times middle between line_between link_between)
     → Stops setting lock keys now middle between sent is_done result
     → Stops setting lock keys now kept draw (before.flow.sent ++ sent) is_done result
@@ -43,8 +43,8 @@ stopped setting lock keys now kept draw line link times middle between line_betw
     stops_both setting lock keys now kept draw middle between before.flow.sent sent is_done result
     (stands_then setting lock keys now kept draw line link times middle between line_between link_between before) stops
 
-pub so_far_more : {S : Type 0} (setting : Setting S) (lock : Lock) (keys : List RingKey) (now : ℕ) (kept : Holder) (draw : S) (line : Line) (link : Option Told) (times : ℕ)
-    (middle : Holder) (between : S) (line_between : Line) (link_between : Option Told) (left : Holder) (drawn : S) (line_then : Line) (link_then : Option Told)
+pub so_far_more : {S : Type 0} (setting : Setting S) (lock : Lock) (keys : List RingKey) (now : ℕ) (kept : Holder) (draw : S) (line : Line) (link : Seen) (times : ℕ)
+    (middle : Holder) (between : S) (line_between : Line) (link_between : Seen) (left : Holder) (drawn : S) (line_then : Line) (link_then : Seen)
     → SoFar setting lock keys now kept draw line link times middle between line_between link_between
     → OneFlush setting lock keys now middle between line_between link_between went_on left drawn line_then link_then
     → SoFar setting lock keys now kept draw line link (times + 1) left drawn line_then link_then
@@ -62,22 +62,22 @@ abbrev all_well : Result Unit End
 all_well = Ok tt
 
 -- the last flush found nothing due
-pub all_done : {S : Type 0} (setting : Setting S) (lock : Lock) (keys : List RingKey) (now : ℕ) (kept : Holder) (draw : S) (line : Line) (link : Option Told) (times : ℕ)
-    (middle : Holder) (between : S) (line_between : Line) (link_between : Option Told) (left : Holder) (drawn : S) (line_then : Line) (link_then : Option Told)
+pub all_done : {S : Type 0} (setting : Setting S) (lock : Lock) (keys : List RingKey) (now : ℕ) (kept : Holder) (draw : S) (line : Line) (link : Seen) (times : ℕ)
+    (middle : Holder) (between : S) (line_between : Line) (link_between : Seen) (left : Holder) (drawn : S) (line_then : Line) (link_then : Seen)
     → SoFar setting lock keys now kept draw line link times middle between line_between link_between
     → OneFlush setting lock keys now middle between line_between link_between (Ok false) left drawn line_then link_then
     → AllFlushes setting lock keys now kept draw line link (Ok tt) left drawn line_then link_then
 all_done setting lock keys now kept draw line link times middle between line_between link_between left drawn line_then link_then before one =
     let whole = joined setting lock keys now kept draw line link times middle between line_between link_between left drawn line_then link_then (Ok false) before one.flow in
     record {
-      flow = record { sent = whole.sent; is_done = whole.is_done; bytes = whole.bytes; course = whole.course; tells = whole.tells; written = whole.written };
+      flow = record { sent = whole.sent; framed = whole.framed; all = whole.all; is_done = whole.is_done; bytes = whole.bytes; course = whole.course; tells = whole.tells; written = whole.written };
       stops = stopped setting lock keys now kept draw line link times middle between line_between link_between all_well one.flow.sent one.flow.is_done before one.stops;
       all = inl one.one.0;
     }
 
 -- as many packets were sent as there may be
-pub all_sent : {S : Type 0} (setting : Setting S) (lock : Lock) (keys : List RingKey) (now : ℕ) (kept : Holder) (draw : S) (line : Line) (link : Option Told) (times : ℕ)
-    (left : Holder) (drawn : S) (line_then : Line) (link_then : Option Told)
+pub all_sent : {S : Type 0} (setting : Setting S) (lock : Lock) (keys : List RingKey) (now : ℕ) (kept : Holder) (draw : S) (line : Line) (link : Seen) (times : ℕ)
+    (left : Holder) (drawn : S) (line_then : Line) (link_then : Seen)
     → times ≡ 262144
     → SoFar setting lock keys now kept draw line link times left drawn line_then link_then
     → AllFlushes setting lock keys now kept draw line link (Ok tt) left drawn line_then link_then
@@ -85,7 +85,7 @@ all_sent setting lock keys now kept draw line link times left drawn line_then li
     let whole = before.flow in
     let undecided = before.undecided (omega (arith, most)) in
     record {
-      flow = record { sent = whole.sent; is_done = whole.is_done; bytes = whole.bytes; course = whole.course; tells = whole.tells; written = whole.written };
+      flow = record { sent = whole.sent; framed = whole.framed; all = whole.all; is_done = whole.is_done; bytes = whole.bytes; course = whole.course; tells = whole.tells; written = whole.written };
       stops = subst (λ is_done. Stops setting lock keys now kept draw before.flow.sent is_done went_on) (sym before.goes) undecided;
       all = inr (before.count ∙ most);
     }
@@ -94,24 +94,24 @@ all_sent setting lock keys now kept draw line link times left drawn line_then li
 abbrev one_err : End → Result Bool End
 one_err end = Err end
 
-failed_as : {S : Type 0} (setting : Setting S) (lock : Lock) (keys : List RingKey) (now : ℕ) (kept : Holder) (draw : S) (line : Line) (link : Option Told)
-    (left : Holder) (drawn : S) (line_then : Line) (link_then : Option Told) (end : End)
+failed_as : {S : Type 0} (setting : Setting S) (lock : Lock) (keys : List RingKey) (now : ℕ) (kept : Holder) (draw : S) (line : Line) (link : Seen)
+    (left : Holder) (drawn : S) (line_then : Line) (link_then : Seen) (end : End)
     → (flow : Flow setting lock keys now kept draw line link (one_err end) left drawn line_then link_then)
     → Stops setting lock keys now kept draw flow.sent flow.is_done (one_err end)
     → AllFlushes setting lock keys now kept draw line link (Err end) left drawn line_then link_then
 failed_as setting lock keys now kept draw line link left drawn line_then link_then ends.Decided flow stops =
-    record { flow = record { sent = flow.sent; is_done = flow.is_done; bytes = flow.bytes; course = flow.course; tells = flow.tells; written = flow.written }; stops = stops; all = tt }
+    record { flow = record { sent = flow.sent; framed = flow.framed; all = flow.all; is_done = flow.is_done; bytes = flow.bytes; course = flow.course; tells = flow.tells; written = flow.written }; stops = stops; all = tt }
 failed_as setting lock keys now kept draw line link left drawn line_then link_then ends.Lost flow stops =
-    record { flow = record { sent = flow.sent; is_done = flow.is_done; bytes = flow.bytes; course = flow.course; tells = flow.tells; written = flow.written }; stops = stops; all = tt }
+    record { flow = record { sent = flow.sent; framed = flow.framed; all = flow.all; is_done = flow.is_done; bytes = flow.bytes; course = flow.course; tells = flow.tells; written = flow.written }; stops = stops; all = tt }
 failed_as setting lock keys now kept draw line link left drawn line_then link_then ends.TurnsSpent flow stops =
-    record { flow = record { sent = flow.sent; is_done = flow.is_done; bytes = flow.bytes; course = flow.course; tells = flow.tells; written = flow.written }; stops = stops; all = tt }
+    record { flow = record { sent = flow.sent; framed = flow.framed; all = flow.all; is_done = flow.is_done; bytes = flow.bytes; course = flow.course; tells = flow.tells; written = flow.written }; stops = stops; all = tt }
 failed_as setting lock keys now kept draw line link left drawn line_then link_then ends.Spent flow stops =
-    record { flow = record { sent = flow.sent; is_done = flow.is_done; bytes = flow.bytes; course = flow.course; tells = flow.tells; written = flow.written }; stops = stops; all = tt }
+    record { flow = record { sent = flow.sent; framed = flow.framed; all = flow.all; is_done = flow.is_done; bytes = flow.bytes; course = flow.course; tells = flow.tells; written = flow.written }; stops = stops; all = tt }
 failed_as setting lock keys now kept draw line link left drawn line_then link_then ends.Memory flow stops =
-    record { flow = record { sent = flow.sent; is_done = flow.is_done; bytes = flow.bytes; course = flow.course; tells = flow.tells; written = flow.written }; stops = stops; all = tt }
+    record { flow = record { sent = flow.sent; framed = flow.framed; all = flow.all; is_done = flow.is_done; bytes = flow.bytes; course = flow.course; tells = flow.tells; written = flow.written }; stops = stops; all = tt }
 
-pub all_failed : {S : Type 0} (setting : Setting S) (lock : Lock) (keys : List RingKey) (now : ℕ) (kept : Holder) (draw : S) (line : Line) (link : Option Told) (times : ℕ)
-    (middle : Holder) (between : S) (line_between : Line) (link_between : Option Told) (left : Holder) (drawn : S) (line_then : Line) (link_then : Option Told) (end : End)
+pub all_failed : {S : Type 0} (setting : Setting S) (lock : Lock) (keys : List RingKey) (now : ℕ) (kept : Holder) (draw : S) (line : Line) (link : Seen) (times : ℕ)
+    (middle : Holder) (between : S) (line_between : Line) (link_between : Seen) (left : Holder) (drawn : S) (line_then : Line) (link_then : Seen) (end : End)
     → SoFar setting lock keys now kept draw line link times middle between line_between link_between
     → OneFlush setting lock keys now middle between line_between link_between (Err end) left drawn line_then link_then
     → AllFlushes setting lock keys now kept draw line link (Err end) left drawn line_then link_then

@@ -20,7 +20,7 @@ use Rattle.client_node.specs.declared.plan.Plan.{Plan}
 -- ---- one connection
 
 -- it is the last of the record when it's given back
-closes_last : (calls : List NetCall) (port : ℕ) (told : Told) (faults : ℕ) → closed_at (length calls) told faults (calls ++ Connect port Open ∷ []) ≡ calls ++ Connect port (Done told faults) ∷ []
+pub closes_last : (calls : List NetCall) (port : ℕ) (told : Told) (faults : ℕ) → closed_at (length calls) told faults (calls ++ Connect port Open ∷ []) ≡ calls ++ Connect port (Done told faults) ∷ []
 closes_last [] port told faults = refl
 closes_last (call ∷ calls) port told faults = ap (λ (rest : List NetCall). call ∷ rest) (closes_last calls port told faults)
 
@@ -141,7 +141,7 @@ IsDecidedEnd batch.TurnsSpent = ⊥
 IsDecidedEnd batch.Spent = ⊥
 IsDecidedEnd batch.Memory = ⊥
 
-not_link_lost : (end : End) → (end ≡ ends.Lost → ⊥) → (X : Type 0) → batch_by end ≡ batch.LinkLost → X
+pub not_link_lost : (end : End) → (end ≡ ends.Lost → ⊥) → (X : Type 0) → batch_by end ≡ batch.LinkLost → X
 not_link_lost ends.Lost other X same = absurd (other refl)
 not_link_lost ends.Decided other X same = absurd (subst IsLinkLost (sym same) tt)
 not_link_lost ends.TurnsSpent other X same = absurd (subst IsLinkLost (sym same) tt)

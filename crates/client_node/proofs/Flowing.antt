@@ -15,9 +15,10 @@ use Rattle.client_rules.specs.Sending.{Setting}
 use Rattle.client_core.specs.declared.flush.Flush.TheVariants as answers
 use Rattle.client_core.specs.declared.holder.Holder.{Holder}
 use Rattle.client_node.specs.Course.{AreSent, Course, Phase, Opening, Open, Ended, flushed_in, flushes, is_decided, sends_all}
-use Rattle.client_node.specs.Flow.{CountsEnd, Flow, FlowedBy, Follows, FoundNothing, OneFlush, StoppedBy, Stops, ended_by, flowed, went_on}
+use Rattle.client_node.specs.Flow.{CountsEnd, Flow, FlowedBy, Follows, FramedBy, FoundNothing, OneFlush, StoppedBy, Stops, ended_by, flowed, went_on}
 use Rattle.client_node.specs.Standing.{AllDecided, DecidedBy, FlushedAs, StandsAs, StandsFor}
-use Rattle.client_node.specs.Writes.{CountsBy, TellsMore, Wrote, WroteBy, WroteFront}
+use Rattle.mt_edge.specs.Faults.{one_more}
+use Rattle.client_node.specs.Writes.{Breaks, CountsBy, Seen, StaysBy, TellsMore, Writes, Wrote, WroteBy, WroteFront}
 use Rattle.client_node.specs.declared.end.End.{End}
 use Rattle.client_node.specs.declared.end.End.TheVariants as ends
 
@@ -41,22 +42,50 @@ wrote_front one other first middle last before after =
       wrote = wrote_both one after.front first middle last before after.wrote;
     }
 
-pub flowed_both : {X : Type 0} (result : Result X End) (one other : List ℕ) (first middle last : Told) → Wrote one first middle → FlowedBy result other middle last → FlowedBy result (one ++ other) first last
-flowed_both (Ok done) = wrote_both
-flowed_both (Err ends.Spent) = wrote_both
-flowed_both (Err ends.Decided) = wrote_front
-flowed_both (Err ends.Lost) = wrote_front
-flowed_both (Err ends.TurnsSpent) = wrote_front
-flowed_both (Err ends.Memory) = wrote_front
+-- what is told in two steps, where it tells
+pub told_both : (P Q R : Told → Told → Type 0) → ((first middle last : Told) → P first middle → Q middle last → R first last) → (first middle last : Option Told)
+    → IfSome middle (λ after. IsSomeAnd first (λ before. P before after))
+    → IfSome last (λ after. IsSomeAnd middle (λ before. Q before after))
+    → IfSome last (λ after. IsSomeAnd first (λ before. R before after))
+told_both P Q R both first middle None before after = tt
+told_both P Q R both first None (Some last) before after = absurd after
+told_both P Q R both None (Some middle) (Some last) before after = absurd before
+told_both P Q R both (Some first) (Some middle) (Some last) before after = both first middle last before after
 
-pub written_both : {X : Type 0} (result : Result X End) (one other : List ℕ) (first middle last : Option Told)
-    → IfSome middle (λ after. IsSomeAnd first (λ before. Wrote one before after))
-    → IfSome last (λ after. IsSomeAnd middle (λ before. FlowedBy result other before after))
-    → IfSome last (λ after. IsSomeAnd first (λ before. FlowedBy result (one ++ other) before after))
-written_both result one other first middle None before after = tt
-written_both result one other first None (Some last) before after = absurd after
-written_both result one other None (Some middle) (Some last) before after = absurd before
-written_both result one other (Some first) (Some middle) (Some last) before after = flowed_both result one other first middle last before after
+pub writes_both : (one other : List ℕ) (first middle last : Seen) → Writes one first middle → Writes other middle last → Writes (one ++ other) first last
+writes_both one other first middle last before after =
+    record {
+      told = told_both (Wrote one) (Wrote other) (Wrote (one ++ other)) (wrote_both one other) first.told middle.told last.told before.told after.told;
+      faults = after.faults ∙ before.faults;
+    }
+
+pub breaks_both : (one other : List ℕ) (first middle last : Seen) → Writes one first middle → Breaks other middle last → Breaks (one ++ other) first last
+breaks_both one other first middle last before after =
+    record {
+      told = told_both (Wrote one) (WroteFront other) (WroteFront (one ++ other)) (wrote_front one other) first.told middle.told last.told before.told after.told;
+      faults = after.faults ∙ ap (λ (count : ℕ). one_more count) before.faults;
+    }
+
+both_same : (sent framed others those : List (List ℕ)) → sent ≡ framed → others ≡ those → sent ++ others ≡ framed ++ those
+both_same sent framed others those before after = ap (λ (all : List (List ℕ)). all ++ others) before ∙ ap (λ (all : List (List ℕ)). framed ++ all) after
+
+pub flowed_both : {X : Type 0} (result : Result X End) (one other : List ℕ) (first middle last : Seen) → Writes one first middle → FlowedBy result other middle last → FlowedBy result (one ++ other) first last
+flowed_both (Ok done) one other first middle last before after = writes_both one other first middle last before after
+flowed_both (Err ends.Spent) one other first middle last before after = writes_both one other first middle last before after
+flowed_both (Err ends.Memory) one other first middle last before after = writes_both one other first middle last before after
+flowed_both (Err ends.Decided) one other first middle last before (inl after) = inl (writes_both one other first middle last before after)
+flowed_both (Err ends.Decided) one other first middle last before (inr after) = inr (breaks_both one other first middle last before after)
+flowed_both (Err ends.Lost) one other first middle last before after = breaks_both one other first middle last before after
+flowed_both (Err ends.TurnsSpent) one other first middle last before after = absurd after
+
+pub framed_both : {X : Type 0} (result : Result X End) (sent framed others those : List (List ℕ)) → sent ≡ framed → FramedBy result others those → FramedBy result (sent ++ others) (framed ++ those)
+framed_both (Ok done) sent framed others those before after = both_same sent framed others those before after
+framed_both (Err ends.Spent) sent framed others those before after = both_same sent framed others those before after
+framed_both (Err ends.Decided) sent framed others those before after = both_same sent framed others those before after
+framed_both (Err ends.Lost) sent framed others those before after = both_same sent framed others those before after
+framed_both (Err ends.TurnsSpent) sent framed others those before after = both_same sent framed others those before after
+framed_both (Err ends.Memory) sent framed others those before (rest, after) =
+    (rest, both_same sent framed others (those ++ rest) before after ∙ sym (append_assoc framed those rest))
 
 -- ---- what the wire tells
 
@@ -66,17 +95,6 @@ pub tells_after : (first middle last : Line) (one other : List (List ℕ)) (byte
     → ((to : Option CtrState) (packets : List (List ℕ)) (before : List ℕ) → Tells first to packets before → Tells last to (packets ++ (one ++ other)) (before ++ (bytes ++ more)))
 tells_after first middle last one other bytes more before after to packets text tells =
     rw (sym (append_assoc packets one other), sym (append_assoc text bytes more)) (after to (packets ++ one) (text ++ bytes) (before to packets text tells))
-
-pub tells_both : {X : Type 0} (result : Result X End) (first middle last : Line) (one other : List (List ℕ)) (bytes more : List ℕ)
-    → ((to : Option CtrState) (packets : List (List ℕ)) (before : List ℕ) → Tells first to packets before → Tells middle to (packets ++ one) (before ++ bytes))
-    → TellsMore result ((to : Option CtrState) (packets : List (List ℕ)) (before : List ℕ) → Tells middle to packets before → Tells last to (packets ++ other) (before ++ more))
-    → TellsMore result ((to : Option CtrState) (packets : List (List ℕ)) (before : List ℕ) → Tells first to packets before → Tells last to (packets ++ (one ++ other)) (before ++ (bytes ++ more)))
-tells_both (Ok done) first middle last one other bytes more before after = tells_after first middle last one other bytes more before after
-tells_both (Err ends.Spent) first middle last one other bytes more before after = tells_after first middle last one other bytes more before after
-tells_both (Err ends.Decided) first middle last one other bytes more before after = tells_after first middle last one other bytes more before after
-tells_both (Err ends.Lost) first middle last one other bytes more before after = tells_after first middle last one other bytes more before after
-tells_both (Err ends.TurnsSpent) first middle last one other bytes more before after = tells_after first middle last one other bytes more before after
-tells_both (Err ends.Memory) first middle last one other bytes more before after = tt
 
 -- ---- the course
 
@@ -111,9 +129,9 @@ follows_both setting lock keys now course one other is_done middle kept between 
 
 -- what was sent in two steps, the first of which went on
 abbrev pub flow_both : {S X : Type 0} (setting : Setting S) (lock : Lock) (keys : List RingKey) (now : ℕ)
-    (kept : Holder) (draw : S) (line : Line) (link : Option Told)
-    (middle : Holder) (between : S) (line_between : Line) (link_between : Option Told)
-    (left : Holder) (drawn : S) (line_then : Line) (link_then : Option Told) (result : Result X End)
+    (kept : Holder) (draw : S) (line : Line) (link : Seen)
+    (middle : Holder) (between : S) (line_between : Line) (link_between : Seen)
+    (left : Holder) (drawn : S) (line_then : Line) (link_then : Seen) (result : Result X End)
     → (before : Flow setting lock keys now kept draw line link went_on middle between line_between link_between)
     → before.is_done ≡ false
     → Flow setting lock keys now middle between line_between link_between result left drawn line_then link_then
@@ -121,13 +139,15 @@ abbrev pub flow_both : {S X : Type 0} (setting : Setting S) (lock : Lock) (keys 
 flow_both setting lock keys now kept draw line link middle between line_between link_between left drawn line_then link_then result before goes after =
     record {
       sent = before.sent ++ after.sent;
+      framed = before.framed ++ after.framed;
       is_done = after.is_done;
       bytes = before.bytes ++ after.bytes;
+      all = framed_both result before.sent before.framed after.sent after.framed before.all after.all;
       course = λ course stands.
           let first = subst (λ is_done. Follows setting lock keys now course before.sent is_done middle between) goes (before.course course stands) in
           follows_both setting lock keys now course before.sent after.sent after.is_done middle left between drawn first (after.course _ first.stands);
-      tells = tells_both result line line_between line_then before.sent after.sent before.bytes after.bytes before.tells after.tells;
-      written = written_both result before.bytes after.bytes link link_between link_then before.written after.written;
+      tells = tells_after line line_between line_then before.framed after.framed before.bytes after.bytes before.tells after.tells;
+      written = flowed_both result before.bytes after.bytes link link_between link_then before.written after.written;
     }
 
 pub stops_both : {S X : Type 0} (setting : Setting S) (lock : Lock) (keys : List RingKey) (now : ℕ)
@@ -146,17 +166,8 @@ stands_first setting lock keys now course sent is_done middle between goes follo
 
 -- ---- nothing was sent yet
 
-tells_as_before : (line : Line) (to : Option CtrState) (packets : List (List ℕ)) (before : List ℕ) → Tells line to packets before → Tells line to (packets ++ []) (before ++ [])
+pub tells_as_before : (line : Line) (to : Option CtrState) (packets : List (List ℕ)) (before : List ℕ) → Tells line to packets before → Tells line to (packets ++ []) (before ++ [])
 tells_as_before line to packets before tells = rw (append-nil packets, append-nil before) tells
-
-pub tells_nothing : {X : Type 0} (result : Result X End) (line : Line)
-    → TellsMore result ((to : Option CtrState) (packets : List (List ℕ)) (before : List ℕ) → Tells line to packets before → Tells line to (packets ++ []) (before ++ []))
-tells_nothing (Ok done) line = tells_as_before line
-tells_nothing (Err ends.Spent) line = tells_as_before line
-tells_nothing (Err ends.Decided) line = tells_as_before line
-tells_nothing (Err ends.Lost) line = tells_as_before line
-tells_nothing (Err ends.TurnsSpent) line = tells_as_before line
-tells_nothing (Err ends.Memory) line = tt
 
 -- ---- one packet
 
@@ -167,22 +178,22 @@ map_told P Q change first None told = tt
 map_told P Q change None (Some last) told = absurd told
 map_told P Q change (Some first) (Some last) told = change first last told
 
-front_of_all : (bytes : List ℕ) (before after : Told) → Wrote bytes before after → WroteFront bytes before after
-front_of_all bytes before after wrote = record { front = bytes; rest = []; whole = sym (append-nil bytes); wrote = wrote }
-
-no_front : (bytes : List ℕ) (before after : Told) → after ≡ before → WroteFront bytes before after
-no_front bytes before after same =
+-- nothing was written
+wrote_nothing : (before after : Told) → after ≡ before → Wrote [] before after
+wrote_nothing before after same =
     record {
-      front = [];
-      rest = bytes;
-      whole = refl;
-      wrote = record {
-        written = ap (λ one. one.written) same ∙ sym (append-nil before.written);
-        came = ap (λ one. one.came) same;
-        left = ap (λ one. one.left) same;
-        reads = ap (λ one. one.reads) same;
-      };
+      written = ap (λ one. one.written) same ∙ sym (append-nil before.written);
+      came = ap (λ one. one.came) same;
+      left = ap (λ one. one.left) same;
+      reads = ap (λ one. one.reads) same;
     }
+
+nothing_told : (link : Option Told) → IfSome link (λ after. IsSomeAnd link (λ before. Wrote [] before after))
+nothing_told None = tt
+nothing_told (Some link) = wrote_nothing link link refl
+
+pub writes_nothing : (link : Seen) → Writes [] link link
+writes_nothing link = record { told = nothing_told link.told; faults = refl }
 
 pub follows_packet : {S : Type 0} (setting : Setting S) (lock : Lock) (keys : List RingKey) (now : ℕ) (course : Course S) (packet : List ℕ)
     (left : Holder) (drawn : S)
@@ -195,17 +206,20 @@ follows_packet setting lock keys now course packet left drawn flushed =
       stands = record { phase = flushed.phase; client = flushed.leaves.0; draw = flushed.leaves.1 };
     }
 
-abbrev flow_of_packet : {S : Type 0} (setting : Setting S) (lock : Lock) (keys : List RingKey) (now : ℕ) (kept : Holder) (draw : S) (line : Line) (link : Option Told)
-    (packet bytes : List ℕ) (result : Result Bool End) (left : Holder) (drawn : S) (line_then : Line) (link_then : Option Told)
+abbrev flow_of_packet : {S : Type 0} (setting : Setting S) (lock : Lock) (keys : List RingKey) (now : ℕ) (kept : Holder) (draw : S) (line : Line) (link : Seen)
+    (packet bytes : List ℕ) (framed : List (List ℕ)) (result : Result Bool End) (left : Holder) (drawn : S) (line_then : Line) (link_then : Seen)
     → ((course : Course S) → StandsAs kept draw course → FlushedAs setting lock keys now course (answers.Packet packet) left drawn)
-    → IfSome link_then (λ after. IsSomeAnd link (λ before. FlowedBy result bytes before after))
-    → TellsMore result ((to : Option CtrState) (packets : List (List ℕ)) (text : List ℕ) → Tells line to packets text → Tells line_then to (packets ++ packet ∷ []) (text ++ bytes))
+    → FramedBy result (packet ∷ []) framed
+    → FlowedBy result bytes link link_then
+    → ((to : Option CtrState) (packets : List (List ℕ)) (text : List ℕ) → Tells line to packets text → Tells line_then to (packets ++ framed) (text ++ bytes))
     → Flow setting lock keys now kept draw line link result left drawn line_then link_then
-flow_of_packet setting lock keys now kept draw line link packet bytes result left drawn line_then link_then flushed written tells =
+flow_of_packet setting lock keys now kept draw line link packet bytes framed result left drawn line_then link_then flushed all written tells =
     record {
       sent = packet ∷ [];
+      framed = framed;
       is_done = false;
       bytes = bytes;
+      all = all;
       course = λ course stands. follows_packet setting lock keys now course packet left drawn (flushed course stands);
       tells = tells;
       written = written;
@@ -218,87 +232,74 @@ decided_so : {S : Type 0} (setting : Setting S) (lock : Lock) (keys : List RingK
 decided_so setting lock keys now kept draw packet decided left drawn flushed decided_now course stands =
     sym (decided_now _ (flushed course stands).leaves.0)
 
+-- memory ran out before the packet was in a frame
+unframed : (line line_then : Line) → line_then ≡ line → (to : Option CtrState) (packets : List (List ℕ)) (text : List ℕ) → Tells line to packets text → Tells line_then to (packets ++ []) (text ++ [])
+unframed line line_then same to packets text tells =
+    subst (λ (one : Line). Tells one to (packets ++ []) (text ++ [])) (sym same) (tells_as_before line to packets text tells)
+
 -- a flush that gave a packet, by whether each call is decided then and what its write came to
-pub flow_packet : {S : Type 0} (setting : Setting S) (lock : Lock) (keys : List RingKey) (now : ℕ) (kept : Holder) (draw : S) (line : Line) (link : Option Told)
-    (packet bytes : List ℕ) (decided : Bool) (sent : Result Unit End) (few many : ℕ) (left : Holder) (drawn : S) (line_then : Line) (link_then : Option Told)
+pub flow_packet : {S : Type 0} (setting : Setting S) (lock : Lock) (keys : List RingKey) (now : ℕ) (kept : Holder) (draw : S) (line : Line) (link : Seen)
+    (packet bytes : List ℕ) (decided : Bool) (sent : Result Unit End) (left : Holder) (drawn : S) (line_then : Line) (link_then : Seen)
     → ((course : Course S) → StandsAs kept draw course → FlushedAs setting lock keys now course (answers.Packet packet) left drawn)
     → ((whole : Client) → StandsFor left whole → decided ≡ is_decided whole)
-    → IfSome link_then (λ after. IsSomeAnd link (λ before. WroteBy sent bytes before after))
-    → CountsBy sent few many
+    → IfSome link_then.told (λ after. IsSomeAnd link.told (λ before. WroteBy sent bytes before after))
+    → CountsBy sent link.faults link_then.faults
     → TellsMore sent ((to : Option CtrState) (packets : List (List ℕ)) (text : List ℕ) → Tells line to packets text → Tells line_then to (packets ++ packet ∷ []) (text ++ bytes))
+    → StaysBy sent (line_then ≡ line)
     → OneFlush setting lock keys now kept draw line link (ended_by decided sent) left drawn line_then link_then
-flow_packet setting lock keys now kept draw line link packet bytes decided (Err ends.Decided) few many left drawn line_then link_then flushed decided_now written counted tells = absurd counted
-flow_packet setting lock keys now kept draw line link packet bytes decided (Err ends.TurnsSpent) few many left drawn line_then link_then flushed decided_now written counted tells = absurd counted
-flow_packet setting lock keys now kept draw line link packet bytes decided (Err ends.Spent) few many left drawn line_then link_then flushed decided_now written counted tells = absurd counted
-flow_packet setting lock keys now kept draw line link packet bytes decided (Err ends.Memory) few many left drawn line_then link_then flushed decided_now written counted tells =
+flow_packet setting lock keys now kept draw line link packet bytes decided (Err ends.Decided) left drawn line_then link_then flushed decided_now written counted tells stays = absurd counted
+flow_packet setting lock keys now kept draw line link packet bytes decided (Err ends.TurnsSpent) left drawn line_then link_then flushed decided_now written counted tells stays = absurd counted
+flow_packet setting lock keys now kept draw line link packet bytes decided (Err ends.Spent) left drawn line_then link_then flushed decided_now written counted tells stays = absurd counted
+flow_packet setting lock keys now kept draw line link packet bytes decided (Err ends.Memory) left drawn line_then link_then flushed decided_now written counted tells stays =
     record {
-      flow = flow_of_packet setting lock keys now kept draw line link packet bytes (Err ends.Memory) left drawn line_then link_then flushed
-          (map_told (λ before after. after ≡ before) (WroteFront bytes) (no_front bytes) link link_then written) tt;
+      flow = flow_of_packet setting lock keys now kept draw line link packet [] [] (Err ends.Memory) left drawn line_then link_then flushed (packet ∷ [], refl)
+          (record { told = map_told (λ before after. after ≡ before) (Wrote []) wrote_nothing link.told link_then.told written; faults = counted }) (unframed line line_then stays);
       stops = λ course stands. tt;
       one = tt;
     }
-flow_packet setting lock keys now kept draw line link packet bytes false (Ok done) few many left drawn line_then link_then flushed decided_now written counted tells =
+flow_packet setting lock keys now kept draw line link packet bytes false (Ok done) left drawn line_then link_then flushed decided_now written counted tells stays =
     record {
-      flow = flow_of_packet setting lock keys now kept draw line link packet bytes (Ok true) left drawn line_then link_then flushed written tells;
+      flow = flow_of_packet setting lock keys now kept draw line link packet bytes (packet ∷ []) (Ok true) left drawn line_then link_then flushed refl (record { told = written; faults = counted }) tells;
       stops = decided_so setting lock keys now kept draw packet false left drawn flushed decided_now;
       one = (refl, refl);
     }
-flow_packet setting lock keys now kept draw line link packet bytes false (Err ends.Lost) few many left drawn line_then link_then flushed decided_now written counted tells =
+flow_packet setting lock keys now kept draw line link packet bytes false (Err ends.Lost) left drawn line_then link_then flushed decided_now written counted tells stays =
     record {
-      flow = flow_of_packet setting lock keys now kept draw line link packet bytes (Err ends.Lost) left drawn line_then link_then flushed written tells;
+      flow = flow_of_packet setting lock keys now kept draw line link packet bytes (packet ∷ []) (Err ends.Lost) left drawn line_then link_then flushed refl (record { told = written; faults = counted }) tells;
       stops = decided_so setting lock keys now kept draw packet false left drawn flushed decided_now;
       one = tt;
     }
-flow_packet setting lock keys now kept draw line link packet bytes true (Ok done) few many left drawn line_then link_then flushed decided_now written counted tells =
+flow_packet setting lock keys now kept draw line link packet bytes true (Ok done) left drawn line_then link_then flushed decided_now written counted tells stays =
     record {
-      flow = flow_of_packet setting lock keys now kept draw line link packet bytes (Err ends.Decided) left drawn line_then link_then flushed
-          (map_told (Wrote bytes) (WroteFront bytes) (front_of_all bytes) link link_then written) tells;
+      flow = flow_of_packet setting lock keys now kept draw line link packet bytes (packet ∷ []) (Err ends.Decided) left drawn line_then link_then flushed refl (inl (record { told = written; faults = counted })) tells;
       stops = decided_so setting lock keys now kept draw packet true left drawn flushed decided_now;
       one = tt;
     }
-flow_packet setting lock keys now kept draw line link packet bytes true (Err ends.Lost) few many left drawn line_then link_then flushed decided_now written counted tells =
+flow_packet setting lock keys now kept draw line link packet bytes true (Err ends.Lost) left drawn line_then link_then flushed decided_now written counted tells stays =
     record {
-      flow = flow_of_packet setting lock keys now kept draw line link packet bytes (Err ends.Decided) left drawn line_then link_then flushed written tells;
+      flow = flow_of_packet setting lock keys now kept draw line link packet bytes (packet ∷ []) (Err ends.Decided) left drawn line_then link_then flushed refl (inr (record { told = written; faults = counted })) tells;
       stops = decided_so setting lock keys now kept draw packet true left drawn flushed decided_now;
       one = tt;
     }
 
 -- ---- no packet
 
-pub nothing_told : (link : Option Told) → IfSome link (λ after. IsSomeAnd link (λ before. after ≡ before))
-nothing_told None = tt
-nothing_told (Some link) = refl
-
-wrote_nothing : (before after : Told) → after ≡ before → Wrote [] before after
-wrote_nothing before after same =
-    record {
-      written = ap (λ one. one.written) same ∙ sym (append-nil before.written);
-      came = ap (λ one. one.came) same;
-      left = ap (λ one. one.left) same;
-      reads = ap (λ one. one.reads) same;
-    }
-
-pub flowed_nothing : {X : Type 0} (result : Result X End) (before after : Told) → after ≡ before → FlowedBy result [] before after
-flowed_nothing (Ok done) = wrote_nothing
-flowed_nothing (Err ends.Spent) = wrote_nothing
-flowed_nothing (Err ends.Decided) = no_front []
-flowed_nothing (Err ends.Lost) = no_front []
-flowed_nothing (Err ends.TurnsSpent) = no_front []
-flowed_nothing (Err ends.Memory) = no_front []
-
 -- a flush that gave no packet, or none at all, leaves the wire and the link as they were
-abbrev pub flow_nothing : {S X : Type 0} (setting : Setting S) (lock : Lock) (keys : List RingKey) (now : ℕ) (kept : Holder) (draw : S) (line : Line) (link : Option Told)
+abbrev pub flow_nothing : {S X : Type 0} (setting : Setting S) (lock : Lock) (keys : List RingKey) (now : ℕ) (kept : Holder) (draw : S) (line : Line) (link : Seen)
     (is_done : Bool) (result : Result X End) (left : Holder) (drawn : S)
+    → FramedBy result [] [] → FlowedBy result [] link link
     → ((course : Course S) → StandsAs kept draw course → Follows setting lock keys now course [] is_done left drawn)
     → Flow setting lock keys now kept draw line link result left drawn line link
-flow_nothing setting lock keys now kept draw line link is_done result left drawn follows =
+flow_nothing setting lock keys now kept draw line link is_done result left drawn all written follows =
     record {
       sent = [];
+      framed = [];
       is_done = is_done;
       bytes = [];
+      all = all;
       course = follows;
-      tells = tells_nothing result line;
-      written = map_told (λ before after. after ≡ before) (FlowedBy result []) (flowed_nothing result) link link (nothing_told link);
+      tells = tells_as_before line;
+      written = written;
     }
 
 pub follows_nothing : {S : Type 0} (setting : Setting S) (lock : Lock) (keys : List RingKey) (now : ℕ) (course : Course S) (left : Holder) (drawn : S)
@@ -318,20 +319,20 @@ nothing_stops : {S : Type 0} (setting : Setting S) (lock : Lock) (keys : List Ri
 nothing_stops setting lock keys now kept draw true left drawn flushed decided_now course stands = sym (decided_now _ (flushed course stands).leaves.0)
 nothing_stops setting lock keys now kept draw false left drawn flushed decided_now course stands = sym (decided_now _ (flushed course stands).leaves.0)
 
-pub flush_nothing : {S : Type 0} (setting : Setting S) (lock : Lock) (keys : List RingKey) (now : ℕ) (kept : Holder) (draw : S) (line : Line) (link : Option Told)
+pub flush_nothing : {S : Type 0} (setting : Setting S) (lock : Lock) (keys : List RingKey) (now : ℕ) (kept : Holder) (draw : S) (line : Line) (link : Seen)
     (decided : Bool) (left : Holder) (drawn : S)
     → ((course : Course S) → StandsAs kept draw course → FlushedAs setting lock keys now course answers.Nothing left drawn)
     → ((whole : Client) → StandsFor left whole → decided ≡ is_decided whole)
     → OneFlush setting lock keys now kept draw line link (nothing_by decided) left drawn line link
 flush_nothing setting lock keys now kept draw line link true left drawn flushed decided_now =
     record {
-      flow = flow_nothing setting lock keys now kept draw line link true (Err ends.Decided) left drawn (λ course stands. follows_nothing setting lock keys now course left drawn (flushed course stands));
+      flow = flow_nothing setting lock keys now kept draw line link true (Err ends.Decided) left drawn refl (inl (writes_nothing link)) (λ course stands. follows_nothing setting lock keys now course left drawn (flushed course stands));
       stops = nothing_stops setting lock keys now kept draw true left drawn flushed decided_now;
       one = tt;
     }
 flush_nothing setting lock keys now kept draw line link false left drawn flushed decided_now =
     record {
-      flow = flow_nothing setting lock keys now kept draw line link true (Ok false) left drawn (λ course stands. follows_nothing setting lock keys now course left drawn (flushed course stands));
+      flow = flow_nothing setting lock keys now kept draw line link true (Ok false) left drawn refl (writes_nothing link) (λ course stands. follows_nothing setting lock keys now course left drawn (flushed course stands));
       stops = nothing_stops setting lock keys now kept draw false left drawn flushed decided_now;
       one = (refl, refl);
     }
@@ -377,25 +378,25 @@ spent_stands setting lock keys now course left drawn flushed =
       draw = flushed.leaves.1 ∙ same.1;
     }
 
-pub flush_spent : {S : Type 0} (setting : Setting S) (lock : Lock) (keys : List RingKey) (now : ℕ) (kept : Holder) (draw : S) (line : Line) (link : Option Told)
+pub flush_spent : {S : Type 0} (setting : Setting S) (lock : Lock) (keys : List RingKey) (now : ℕ) (kept : Holder) (draw : S) (line : Line) (link : Seen)
     (left : Holder) (drawn : S)
     → ((course : Course S) → StandsAs kept draw course → FlushedAs setting lock keys now course answers.Spent left drawn)
     → OneFlush setting lock keys now kept draw line link (Err ends.Spent) left drawn line link
 flush_spent setting lock keys now kept draw line link left drawn flushed =
     record {
-      flow = flow_nothing setting lock keys now kept draw line link false (Err ends.Spent) left drawn
+      flow = flow_nothing setting lock keys now kept draw line link false (Err ends.Spent) left drawn refl (writes_nothing link)
           (λ course stands. follows_none setting lock keys now course left drawn (spent_stands setting lock keys now course left drawn (flushed course stands)));
       stops = λ course stands. (flushed course stands).told;
       one = tt;
     }
 
-pub flush_memory : {S : Type 0} (setting : Setting S) (lock : Lock) (keys : List RingKey) (now : ℕ) (kept : Holder) (draw : S) (line : Line) (link : Option Told)
+pub flush_memory : {S : Type 0} (setting : Setting S) (lock : Lock) (keys : List RingKey) (now : ℕ) (kept : Holder) (draw : S) (line : Line) (link : Seen)
     (left : Holder) (drawn : S)
     → ((course : Course S) → StandsAs kept draw course → FlushedAs setting lock keys now course answers.Memory left drawn)
     → OneFlush setting lock keys now kept draw line link (Err ends.Memory) left drawn line link
 flush_memory setting lock keys now kept draw line link left drawn flushed =
     record {
-      flow = flow_nothing setting lock keys now kept draw line link false (Err ends.Memory) left drawn
+      flow = flow_nothing setting lock keys now kept draw line link false (Err ends.Memory) left drawn ([], refl) (writes_nothing link)
           (λ course stands. follows_none setting lock keys now course left drawn
           (record { phase = (flushed course stands).phase; client = (flushed course stands).leaves.0; draw = (flushed course stands).leaves.1 }));
       stops = λ course stands. tt;
@@ -404,10 +405,10 @@ flush_memory setting lock keys now kept draw line link left drawn flushed =
 
 -- ---- all flushes
 
-abbrev pub no_flow : {S : Type 0} (setting : Setting S) (lock : Lock) (keys : List RingKey) (now : ℕ) (kept : Holder) (draw : S) (line : Line) (link : Option Told)
+abbrev pub no_flow : {S : Type 0} (setting : Setting S) (lock : Lock) (keys : List RingKey) (now : ℕ) (kept : Holder) (draw : S) (line : Line) (link : Seen)
     → Flow setting lock keys now kept draw line link went_on kept draw line link
 no_flow setting lock keys now kept draw line link =
-    flow_nothing setting lock keys now kept draw line link false (Ok true) kept draw (λ course stands. follows_none setting lock keys now course kept draw stands)
+    flow_nothing setting lock keys now kept draw line link false (Ok true) kept draw refl (writes_nothing link) (λ course stands. follows_none setting lock keys now course kept draw stands)
 
 -- ---- the count of faults
 

@@ -1,10 +1,15 @@
 pub mod AllFlowing
 pub mod Connecting
+pub mod Conversing
 pub mod Flowing
 pub mod HearingSteps
 pub mod HolderLemmas
 pub mod KindLemmas
 pub mod PacketLemmas
+pub mod Passing
+pub mod Reading
 pub mod Sendable
 pub mod Talking
+pub mod Turning
+pub mod Undecided
 pub mod Writing

@@ -1,10 +1,9 @@
 -- What is sent before the next piece is read.
-use Rattle.std.specs.Prelude.{◌≡◌, ◌<◌, ◌⊎◌, ℕ, Bool, true, false, List, [], ◌++◌, length, Option, IfOk, IfSome, IsSomeAnd, OnOk, Result, Ok, Err, ⊤}
+use Rattle.std.specs.Prelude.{◌≡◌, ◌<◌, ◌⊎◌, ℕ, Bool, true, false, List, [], ◌++◌, length, Option, IfOk, OnOk, Result, Ok, Err, ⊤}
 use Rattle.auth_keys.specs.declared.ring.RingKey.{RingKey}
 use Rattle.envelope.specs.Packet.{Lock}
 use Rattle.cipher_modes.specs.CounterMode.{CtrState}
 use Rattle.mt_edge.specs.Faults.{one_more}
-use Rattle.mt_edge.specs.Links.{Told}
 use Rattle.transport.specs.Wires.{Line, Tells}
 use Rattle.client_rules.specs.Sending.{Setting}
 use Rattle.client_core.specs.Flushed.{TellsFlush}
@@ -12,7 +11,7 @@ use Rattle.client_core.specs.declared.flush.Flush.TheVariants as told
 use Rattle.client_core.specs.declared.holder.Holder.{Holder}
 use Rattle.client_node.specs.Course.{AreSent, Course, flush_of, flushes, is_decided, sends_all}
 use Rattle.client_node.specs.Standing.{StandsAs}
-use Rattle.client_node.specs.Writes.{Wrote, WroteFront, TellsMore}
+use Rattle.client_node.specs.Writes.{Breaks, Seen, Writes}
 use Rattle.client_node.specs.declared.end.End.{End}
 use Rattle.client_node.specs.declared.end.End.TheVariants.{Decided, Lost, TurnsSpent, Spent, Memory}
 
@@ -36,11 +35,23 @@ StoppedBy setting lock keys now course (Err Spent) = TellsFlush lock keys (flush
 StoppedBy setting lock keys now course (Err TurnsSpent) = ⊥
 StoppedBy setting lock keys now course (Err Memory) = ⊤
 
--- of these bytes: all are written; a front of them, where a write may have failed or memory ran out
-abbrev pub FlowedBy : {X : Type 0} → Result X End → List ℕ → Told → Told → Type 0
-FlowedBy (Ok done) bytes before after = Wrote bytes before after
-FlowedBy (Err Spent) bytes before after = Wrote bytes before after
-FlowedBy (Err end) bytes before after = WroteFront bytes before after
+-- of these bytes: all are written; a front of them, where a write failed
+abbrev pub FlowedBy : {X : Type 0} → Result X End → List ℕ → Seen → Seen → Type 0
+FlowedBy (Ok done) bytes before after = Writes bytes before after
+FlowedBy (Err Spent) bytes before after = Writes bytes before after
+FlowedBy (Err Memory) bytes before after = Writes bytes before after
+FlowedBy (Err Decided) bytes before after = Writes bytes before after ⊎ Breaks bytes before after
+FlowedBy (Err Lost) bytes before after = Breaks bytes before after
+FlowedBy (Err TurnsSpent) bytes before after = ⊥
+
+-- the packets that were put into frames: all that were sent, unless memory ran out
+abbrev pub FramedBy : {X : Type 0} → Result X End → List (List ℕ) → List (List ℕ) → Type 0
+FramedBy (Ok done) sent framed = sent ≡ framed
+FramedBy (Err Spent) sent framed = sent ≡ framed
+FramedBy (Err Decided) sent framed = sent ≡ framed
+FramedBy (Err Lost) sent framed = sent ≡ framed
+FramedBy (Err TurnsSpent) sent framed = sent ≡ framed
+FramedBy (Err Memory) sent framed = (rest : List (List ℕ)) × (sent ≡ framed ++ rest)
 
 -- how a flush that gave a packet ends, by whether each call is decided then and what its write came to
 abbrev pub ended_by : Bool → Result Unit End → Result Bool End
@@ -55,15 +66,17 @@ pub record Follows {S : Type 0} (setting : Setting S) (lock : Lock) (keys : List
   pub nothing : FoundNothing setting lock keys now (sends_all setting now course packets) is_done
   pub stands : StandsAs kept draw (flowed setting now course packets is_done)
 
--- What was sent from a client, a draw, a wire and what a link told to others: the packets, whether a last flush found nothing
--- due, and the bytes of the packets' frames.
-pub record Flow {S : Type 0} {X : Type 0} (setting : Setting S) (lock : Lock) (keys : List RingKey) (now : ℕ) (kept : Holder) (draw : S) (wire : Line) (link : Option Told) (result : Result X End) (kept_then : Holder) (draw_then : S) (wire_then : Line) (link_then : Option Told) : Type 0 where
+-- What was sent from a client, a draw, a wire and what a link told to others: the packets, those of them that were put into
+-- frames, whether a last flush found nothing due, and the bytes of the frames.
+pub record Flow {S : Type 0} {X : Type 0} (setting : Setting S) (lock : Lock) (keys : List RingKey) (now : ℕ) (kept : Holder) (draw : S) (wire : Line) (link : Seen) (result : Result X End) (kept_then : Holder) (draw_then : S) (wire_then : Line) (link_then : Seen) : Type 0 where
   pub sent : List (List ℕ)
+  pub framed : List (List ℕ)
   pub is_done : Bool
   pub bytes : List ℕ
+  pub all : FramedBy result sent framed
   pub course : (course : Course S) → StandsAs kept draw course → Follows setting lock keys now course sent is_done kept_then draw_then
-  pub tells : TellsMore result ((to : Option CtrState) (packets : List (List ℕ)) (before : List ℕ) → Tells wire to packets before → Tells wire_then to (packets ++ sent) (before ++ bytes))
-  pub written : IfSome link_then (λ after. IsSomeAnd link (λ before. FlowedBy result bytes before after))
+  pub tells : (to : Option CtrState) (packets : List (List ℕ)) (before : List ℕ) → Tells wire to packets before → Tells wire_then to (packets ++ framed) (before ++ bytes)
+  pub written : FlowedBy result bytes link link_then
 
 -- why it stopped then, for each course that it began as
 abbrev pub Stops : {S : Type 0} → {X : Type 0} → Setting S → Lock → List RingKey → ℕ → Holder → S → List (List ℕ) → Bool → Result X End → Type 0
@@ -84,7 +97,7 @@ abbrev pub IsAll : Bool → List (List ℕ) → Type 0
 IsAll is_done sent = (is_done ≡ true) ⊎ (length sent ≡ flushes_max)
 
 -- What one flush did over a wire.
-pub record OneFlush {S : Type 0} (setting : Setting S) (lock : Lock) (keys : List RingKey) (now : ℕ) (kept : Holder) (draw : S) (wire : Line) (link : Option Told) (result : Result Bool End) (kept_then : Holder) (draw_then : S) (wire_then : Line) (link_then : Option Told) : Type 0 where
+pub record OneFlush {S : Type 0} (setting : Setting S) (lock : Lock) (keys : List RingKey) (now : ℕ) (kept : Holder) (draw : S) (wire : Line) (link : Seen) (result : Result Bool End) (kept_then : Holder) (draw_then : S) (wire_then : Line) (link_then : Seen) : Type 0 where
   pub flow : Flow setting lock keys now kept draw wire link result kept_then draw_then wire_then link_then
   pub stops : Stops setting lock keys now kept draw flow.sent flow.is_done result
   pub one : IfOk result (λ more. IsOne more flow.is_done flow.sent)
@@ -94,14 +107,14 @@ abbrev pub went_on : Result Bool End
 went_on = Ok true
 
 -- So many flushes, each of which sent a packet.
-pub record SoFar {S : Type 0} (setting : Setting S) (lock : Lock) (keys : List RingKey) (now : ℕ) (kept : Holder) (draw : S) (wire : Line) (link : Option Told) (times : ℕ) (kept_then : Holder) (draw_then : S) (wire_then : Line) (link_then : Option Told) : Type 0 where
+pub record SoFar {S : Type 0} (setting : Setting S) (lock : Lock) (keys : List RingKey) (now : ℕ) (kept : Holder) (draw : S) (wire : Line) (link : Seen) (times : ℕ) (kept_then : Holder) (draw_then : S) (wire_then : Line) (link_then : Seen) : Type 0 where
   pub flow : Flow setting lock keys now kept draw wire link went_on kept_then draw_then wire_then link_then
   pub goes : flow.is_done ≡ false
   pub count : length flow.sent ≡ times
   pub undecided : 0 < times → Stops setting lock keys now kept draw flow.sent false went_on
 
 -- What all flushes did.
-pub record AllFlushes {S : Type 0} (setting : Setting S) (lock : Lock) (keys : List RingKey) (now : ℕ) (kept : Holder) (draw : S) (wire : Line) (link : Option Told) (result : Result Unit End) (kept_then : Holder) (draw_then : S) (wire_then : Line) (link_then : Option Told) : Type 0 where
+pub record AllFlushes {S : Type 0} (setting : Setting S) (lock : Lock) (keys : List RingKey) (now : ℕ) (kept : Holder) (draw : S) (wire : Line) (link : Seen) (result : Result Unit End) (kept_then : Holder) (draw_then : S) (wire_then : Line) (link_then : Seen) : Type 0 where
   pub flow : Flow setting lock keys now kept draw wire link result kept_then draw_then wire_then link_then
   pub stops : Stops setting lock keys now kept draw flow.sent flow.is_done result
   pub all : OnOk result (IsAll flow.is_done flow.sent)

@@ -3,6 +3,9 @@ pub mod Course
 pub mod Ends
 pub mod Flow
 pub mod Kinds
+pub mod Runs
 pub mod Standing
+pub mod Talks
 pub mod Took
+pub mod Trace
 pub mod Writes

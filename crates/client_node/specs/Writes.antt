@@ -1,5 +1,5 @@
 -- What is written over a link.
-use Rattle.std.specs.Prelude.{◌≡◌, ℕ, List, ◌++◌, Result, Ok, Err, ⊤}
+use Rattle.std.specs.Prelude.{◌≡◌, ℕ, List, ◌++◌, Option, IfSome, IsSomeAnd, Result, Ok, Err, ⊤}
 use Rattle.mt_edge.specs.Links.{Told}
 use Rattle.mt_edge.specs.Faults.{one_more}
 use Rattle.transport.specs.Directions.{through}
@@ -21,6 +21,24 @@ pub record WroteFront (bytes : List ℕ) (before after : Told) : Type 0 where
   pub rest : List ℕ
   pub whole : bytes ≡ front ++ rest
   pub wrote : Wrote front before after
+
+-- what a link tells, where it does, and its count of faults
+pub record Seen : Type 0 where
+  pub told : Option Told
+  pub faults : ℕ
+
+abbrev pub seen : Option Told → ℕ → Seen
+seen told faults = record { told = told; faults = faults }
+
+-- these bytes were written, and no call failed
+pub record Writes (bytes : List ℕ) (before after : Seen) : Type 0 where
+  pub told : IfSome after.told (λ last. IsSomeAnd before.told (λ first. Wrote bytes first last))
+  pub faults : after.faults ≡ before.faults
+
+-- a front of these bytes was written, and then a write failed
+pub record Breaks (bytes : List ℕ) (before after : Seen) : Type 0 where
+  pub told : IfSome after.told (λ last. IsSomeAnd before.told (λ first. WroteFront bytes first last))
+  pub faults : after.faults ≡ one_more before.faults
 
 -- by how it ended: all of them; a front of them, where a write failed; nothing, where memory ran out before
 abbrev pub WroteBy : {X : Type 0} → Result X End → List ℕ → Told → Told → Type 0
@@ -52,3 +70,12 @@ TellsMore (Err Lost) more = more
 TellsMore (Err Decided) more = more
 TellsMore (Err TurnsSpent) more = more
 TellsMore (Err Spent) more = more
+
+-- where memory ran out, this stays the same
+abbrev pub StaysBy : {X : Type 0} → Result X End → Type 0 → Type 0
+StaysBy (Err Memory) same = same
+StaysBy (Ok done) same = ⊤
+StaysBy (Err Lost) same = ⊤
+StaysBy (Err Decided) same = ⊤
+StaysBy (Err TurnsSpent) same = ⊤
+StaysBy (Err Spent) same = ⊤

@@ -1,15 +1,17 @@
 //! A batch of calls.
 
-ghost use Rattle.std.specs.Prelude.{◌≡◌, ◌≢◌, ◌<◌, ◌≤◌, IfSome, IsSome, IsSomeAnd, length, true};
+ghost use Rattle.std.specs.Prelude.{◌≡◌, ◌≢◌, ◌≤◌, IfSome, IsSome, IsSomeAnd, false, length, true};
 ghost use Rattle.transport.specs.declared.form.Form.TheVariants as forms;
 ghost use Rattle.client_rules.specs.Client.{Client};
 ghost use Rattle.client_node.specs.Connects.{Connects, Uses};
-ghost use Rattle.client_node.specs.Course.{is_decided};
-ghost use Rattle.client_node.specs.Standing.{AllDecided, HasKeys, StandsFor};
+ghost use Rattle.client_node.specs.Course.{Course, Reading, is_decided};
+ghost use Rattle.client_node.specs.Standing.{AllDecided, HasKeys, IsReading, StandsAs, StandsFor};
+ghost use Rattle.client_node.specs.Talks.{piece_bytes, rules_of};
+ghost use Rattle.client_node.specs.Trace.{ClientTrace};
 
 use crate::calls::is_decided;
 use crate::connection::connect;
-use crate::end::{End, batch_of};
+use crate::end::{batch_of, is_lost};
 use crate::plan::{Batch, Plan};
 use client_core::Holder;
 use draws::Draw;
@@ -34,17 +36,19 @@ fn connect_all<N: Net, S: Seal, C: Clock, D: Draw>(
 ) -> (Holder, Batch)
     requires full_is_plain { plan.now.obfuscate ≡ true → plan.now.form ≢ forms.Full }
     requires keys { HasKeys (S.keys seal.now) client }
-    requires room { 0 < length into.old }
+    requires room { length into.old ≡ piece_bytes }
     ensures keys { HasKeys (S.keys seal.now) result.0 }
     ensures decided { result.1 ≡ Batch.Decided → AllDecided result.0 }
     ensures connects { IfSome (N.calls net.new) (λ after. IsSomeAnd (N.calls net.old) (λ before. Connects plan.now result.1 before after)) }
     ensures goes_on { IsSome (N.calls net.old) → N.faults net.old ≡ 0 → N.faults net.new ≤ 1 → IsSome (N.calls net.new) }
+    ensures trace { (course : Course D) (reading : Reading) → IsReading S.lock (S.keys seal.now) reading → StandsAs client draw.old course → is_decided course.client ≡ false
+        → ClientTrace (rules_of D.step S.lock (S.keys seal.now) reading) plan.now course result.1 (N.calls net.old) (N.calls net.new) (C.given clock.old) (C.given clock.new) result.0 draw.new }
 {
     let mut client = client;
     'lost: for _count in 0..plan.retries {
         let (next, end) = connect(client, alloc, plan, net, into, seal, clock, draw);
         client = next;
-        if end != End::Lost {
+        if !is_lost(end) {
             return (client, batch_of(end));
         }
     }
@@ -54,7 +58,7 @@ fn connect_all<N: Net, S: Seal, C: Clock, D: Draw>(
 
 /// Runs a client's calls over connections of a net, one after the other, and says how that ended. With no call to decide it
 /// connects to nothing. Each connection is to the plan's port, and is closed and given back before the next one and at the
-/// end.
+/// end. What it sends, reads and hears over each is the trace of the client (`specs/Trace.antt`), up to the answer and its cause.
 pub fn run_batch<N: Net, S: Seal, C: Clock, D: Draw>(
     alloc: Global,
     client: Holder,
@@ -72,6 +76,8 @@ pub fn run_batch<N: Net, S: Seal, C: Clock, D: Draw>(
     ensures uses { IfSome (N.calls net.new) (λ after. IsSomeAnd (N.calls net.old) (λ before. Uses plan.now result.1 before after)) }
     ensures goes_on { IsSome (N.calls net.old) → N.faults net.old ≡ 0 → N.faults net.new ≤ 1 → IsSome (N.calls net.new) }
     ensures keys { HasKeys (S.keys seal.now) result.0 }
+    ensures trace { (course : Course D) (reading : Reading) → IsReading S.lock (S.keys seal.now) reading → StandsAs client draw.old course
+        → ClientTrace (rules_of D.step S.lock (S.keys seal.now) reading) plan.now course result.1 (N.calls net.old) (N.calls net.new) (C.given clock.old) (C.given clock.new) result.0 draw.new }
 {
     if is_decided(&client) {
         return (client, Batch::Decided);

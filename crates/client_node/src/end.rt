@@ -1,6 +1,6 @@
 //! How a connection ended.
 
-ghost use Rattle.std.specs.Prelude.{◌≡◌};
+ghost use Rattle.std.specs.Prelude.{◌≡◌, ◌≢◌, false, true};
 ghost use Rattle.client_node.specs.Ends.{batch_by};
 
 use crate::plan::Batch;
@@ -18,6 +18,14 @@ pub(crate) enum End {
     Spent,
     /// Memory ran out.
     Memory,
+}
+
+/// Whether the connection is lost.
+pub(crate) fn is_lost(end: End) -> bool
+    ensures lost { result ≡ true → end ≡ End.Lost }
+    ensures other { result ≡ false → end ≢ End.Lost }
+{
+    end == End::Lost
 }
 
 /// How the batch ends by it, where it goes no further.

@@ -6,6 +6,7 @@ ghost use Rattle.client_core.specs.Flushed.{setting_of};
 ghost use Rattle.client_node.specs.Course.{is_decided};
 ghost use Rattle.client_node.specs.Flow.{AllFlushes, CountsEnd, OneFlush, ended_by};
 ghost use Rattle.client_node.specs.Standing.{DecidedBy, HasKeys, StandsFor};
+ghost use Rattle.client_node.specs.Writes.{seen};
 
 use crate::calls::is_decided;
 use crate::end::End;
@@ -52,7 +53,7 @@ fn flush_once<L: Link, S: Seal, D: Draw>(
     draw: &mut D,
 ) -> Result<bool, End>
     requires keys { HasKeys (S.keys seal.now) client.old }
-    ensures flow { OneFlush (setting_of D.step (S.keys seal.now)) S.lock (S.keys seal.now) now client.old draw.old wire.old (L.told link.old) result client.new draw.new wire.new (L.told link.new) }
+    ensures flow { OneFlush (setting_of D.step (S.keys seal.now)) S.lock (S.keys seal.now) now client.old draw.old wire.old (seen (L.told link.old) (L.faults link.old)) result client.new draw.new wire.new (seen (L.told link.new) (L.faults link.new)) }
     ensures keys { HasKeys (S.keys seal.now) client.new }
     ensures decided { DecidedBy result client.new }
     ensures goes_on { IsSome (L.told link.old) → OnOk result (IsSome (L.told link.new)) }
@@ -98,7 +99,7 @@ pub(crate) fn flush_all<L: Link, S: Seal, D: Draw>(
     draw: &mut D,
 ) -> Result<(), End>
     requires keys { HasKeys (S.keys seal.now) client.old }
-    ensures flow { AllFlushes (setting_of D.step (S.keys seal.now)) S.lock (S.keys seal.now) now client.old draw.old wire.old (L.told link.old) result client.new draw.new wire.new (L.told link.new) }
+    ensures flow { AllFlushes (setting_of D.step (S.keys seal.now)) S.lock (S.keys seal.now) now client.old draw.old wire.old (seen (L.told link.old) (L.faults link.old)) result client.new draw.new wire.new (seen (L.told link.new) (L.faults link.new)) }
     ensures keys { HasKeys (S.keys seal.now) client.new }
     ensures decided { DecidedBy result client.new }
     ensures goes_on { IsSome (L.told link.old) → OnOk result (IsSome (L.told link.new)) }

@@ -1,10 +1,10 @@
 //! What is sent over a connection.
 
-ghost use Rattle.std.specs.Prelude.{◌≡◌, ◌++◌, ◌∷◌, [], ℕ, List, Option, IfSome, IsSome, IsSomeAnd, OnOk};
+ghost use Rattle.std.specs.Prelude.{◌≡◌, ◌++◌, ◌∷◌, [], ℕ, List, Option, IfErr, IfSome, IsSome, IsSomeAnd, OnOk};
 ghost use Rattle.cipher_modes.specs.CounterMode.{CtrState};
 ghost use Rattle.transport.specs.Forms.{IsSent};
 ghost use Rattle.transport.specs.Wires.{Tells};
-ghost use Rattle.client_node.specs.Writes.{CountsBy, TellsMore, WroteBy, framed};
+ghost use Rattle.client_node.specs.Writes.{CountsBy, StaysBy, TellsMore, WroteBy, framed};
 
 use crate::end::End;
 use mt_edge::{Link, Put};
@@ -23,6 +23,7 @@ pub(crate) fn send<L: Link>(link: &mut L, piece: &[u8]) -> Result<(), End>
     ensures first_fault { IsSome (L.told link.old) → L.faults link.old ≡ 0 → IsSome (L.told link.new) }
     ensures same_place { L.place link.new ≡ L.place link.old }
     ensures counted { CountsBy result (L.faults link.old) (L.faults link.new) }
+    ensures fails { IfErr result (λ end. end ≡ End.Lost) }
 {
     let mut rest = piece;
     while !rest.is_empty() {
@@ -39,6 +40,7 @@ pub(crate) fn send<L: Link>(link: &mut L, piece: &[u8]) -> Result<(), End>
 /// # Errors
 ///
 /// `Lost`: a write failed. `Memory`: memory ran out, and nothing is written.
+#[tactic(auto, using(crate::proofs::Writing::stays_unless_memory))]
 pub(crate) fn send_packet<L: Link>(
     alloc: Global,
     wire: &mut Wire<Framed>,
@@ -53,6 +55,7 @@ pub(crate) fn send_packet<L: Link>(
     ensures counted { CountsBy result (L.faults link.old) (L.faults link.new) }
     ensures tells { TellsMore result ((to : Option CtrState) (packets : List (List ℕ)) (bytes : List ℕ) → Tells wire.old to packets bytes
         → Tells wire.new to (packets ++ packet.now ∷ []) (bytes ++ framed wire.old packet.now)) }
+    ensures unchanged_on_memory { StaysBy result (wire.new ≡ wire.old) }
     ensures same_in { (wire.new.form ≡ wire.old.form) × (wire.new.held ≡ wire.old.held) × (wire.new.reading ≡ wire.old.reading) }
 {
     let mut frame = Octets::new(alloc);

@@ -1,9 +1,14 @@
 //! A connection that is open.
 
-ghost use Rattle.std.specs.Prelude.{◌≡◌, ◌≢◌, ◌<◌, IsSome, OnOk, length, true};
+ghost use Rattle.std.specs.Prelude.{◌≡◌, ◌≢◌, IsSome, OnOk, length, true};
+ghost use Rattle.transport.specs.Starts.{Opening};
 ghost use Rattle.transport.specs.declared.form.Form.TheVariants as forms;
+ghost use Rattle.client_node.specs.Course.{Course, Reading};
 ghost use Rattle.client_node.specs.Ends.{CountsLink, CountsTurn};
-ghost use Rattle.client_node.specs.Standing.{DecidedBy, DecidedIn, HasKeys, KeepsKeys};
+ghost use Rattle.client_node.specs.Runs.{Conversed, HasOpened, Talked, TookTurn};
+ghost use Rattle.client_node.specs.Standing.{DecidedBy, DecidedIn, HasKeys, IsReading, KeepsKeys, StandsAs};
+ghost use Rattle.client_node.specs.Talks.{began, piece_bytes, rules_of};
+ghost use Rattle.client_node.specs.Writes.{seen};
 
 use crate::end::End;
 use crate::flushing::flush_all;
@@ -39,13 +44,15 @@ fn take_turn<L: Link, S: Seal, C: Clock, D: Draw>(
     clock: &mut C,
     draw: &mut D,
 ) -> (Holder, Result<Moment, End>)
-    requires room { 0 < length into.old }
+    requires room { length into.old ≡ piece_bytes }
     ensures keys { KeepsKeys client result.0 }
     ensures decided { DecidedBy result.1 result.0 }
     ensures goes_on { IsSome (L.told link.old) → OnOk result.1 (IsSome (L.told link.new)) }
     ensures first_fault { IsSome (L.told link.old) → L.faults link.old ≡ 0 → IsSome (L.told link.new) }
     ensures counted { CountsTurn result.1 (L.faults link.old) (L.faults link.new) }
     ensures same_place { L.place link.new ≡ L.place link.old }
+    ensures turn { TookTurn D.step S.lock (S.keys seal.now) client draw.old wire.old (seen (L.told link.old) (L.faults link.old)) (C.given clock.old) result.1 result.0 draw.new wire.new (seen (L.told link.new) (L.faults link.new)) (C.given clock.new) }
+    ensures same_out { (wire.new.form ≡ wire.old.form) × (wire.new.writing ≡ wire.old.writing) × (wire.new.number ≡ wire.old.number) }
 {
     match link.read(into) {
         Got::Bytes(count) => {
@@ -74,12 +81,15 @@ fn take_turns<L: Link, S: Seal, C: Clock, D: Draw>(
     draw: &mut D,
 ) -> (Holder, End)
     requires keys { HasKeys (S.keys seal.now) client }
-    requires room { 0 < length into.old }
+    requires room { length into.old ≡ piece_bytes }
     ensures keys { HasKeys (S.keys seal.now) result.0 }
     ensures decided { DecidedIn result.1 result.0 }
     ensures first_fault { IsSome (L.told link.old) → L.faults link.old ≡ 0 → IsSome (L.told link.new) }
     ensures counted { CountsLink result.1 (L.faults link.old) (L.faults link.new) }
     ensures same_place { L.place link.new ≡ L.place link.old }
+    ensures talked { (course : Course D) (reading : Reading) (opening : Opening) → IsReading S.lock (S.keys seal.now) reading
+        → StandsAs client draw.old course → HasOpened wire.old opening
+        → Talked (rules_of D.step S.lock (S.keys seal.now) reading) opening (began first course) (seen (L.told link.old) (L.faults link.old)) (C.given clock.old) result.1 result.0 draw.new (seen (L.told link.new) (L.faults link.new)) (C.given clock.new) }
 {
     let mut client = client;
     let mut now = first;
@@ -114,12 +124,14 @@ pub(crate) fn talk<L: Link, S: Seal, C: Clock, D: Draw>(
 ) -> (Holder, End)
     requires full_is_plain { plan.now.obfuscate ≡ true → plan.now.form ≢ forms.Full }
     requires keys { HasKeys (S.keys seal.now) client }
-    requires room { 0 < length into.old }
+    requires room { length into.old ≡ piece_bytes }
     ensures keys { HasKeys (S.keys seal.now) result.0 }
     ensures decided { DecidedIn result.1 result.0 }
     ensures first_fault { IsSome (L.told link.old) → L.faults link.old ≡ 0 → IsSome (L.told link.new) }
     ensures counted { CountsLink result.1 (L.faults link.old) (L.faults link.new) }
     ensures same_place { L.place link.new ≡ L.place link.old }
+    ensures conversed { (course : Course D) (reading : Reading) → IsReading S.lock (S.keys seal.now) reading → StandsAs client draw.old course
+        → Conversed (rules_of D.step S.lock (S.keys seal.now) reading) plan.now course (seen (L.told link.old) (L.faults link.old)) (C.given clock.old) result.1 result.0 draw.new (seen (L.told link.new) (L.faults link.new)) (C.given clock.new) }
 {
     let now = clock.now();
     let (mut wire, start) = match Wire::<Framed>::client(alloc, plan.form, plan.obfuscate, draw) {

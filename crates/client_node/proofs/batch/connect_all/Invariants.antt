@@ -1,5 +1,8 @@
 use Rattle.std.proofs.Common.{◌≡◌, ◌<◌, ◌≤◌, IsSome, length}
-use Rattle.client_node.specs.Standing.{HasKeys}
+use Rattle.client_node.specs.Course.{Course, Reading}
+use Rattle.client_node.specs.Runs.{LostSoFar}
+use Rattle.client_node.specs.Standing.{HasKeys, IsReading, StandsAs}
+use Rattle.client_node.specs.Talks.{piece_bytes, rules_of}
 use Rattle.client_node.proofs.Connecting.{SomeLost}
 use Rattle.client_node.proofs.batch.connect_all.Given as goal
 
@@ -7,7 +10,9 @@ use Rattle.client_node.proofs.batch.connect_all.Given as goal
 abbrev pub invariant-lost : goal.invariant-lost
 invariant-lost g l = record {
   keys : HasKeys (g.S.Seal.keys l.seal) l.client;
-  room : 0 < length l.into;
+  room : length l.into ≡ piece_bytes;
   lost : SomeLost l.plan.port l._count (g.N.Net.calls l.fn.net) (g.N.Net.calls l.net);
   tells : IsSome (g.N.Net.calls l.fn.net) → g.N.Net.faults l.fn.net ≡ 0 → g.N.Net.faults l.net ≤ 1 → IsSome (g.N.Net.calls l.net);
+  so_far : (course : Course g.row.D.Denot) (reading : Reading) → IsReading g.S.Seal.lock (g.S.Seal.keys l.seal) reading → StandsAs l.fn.client l.fn.draw course
+      → LostSoFar (rules_of g.D.Draw.step g.S.Seal.lock (g.S.Seal.keys l.seal) reading) l.plan course l._count (g.N.Net.calls l.fn.net) (g.C.Clock.given l.fn.clock) l.client l.draw (g.N.Net.calls l.net) (g.C.Clock.given l.clock);
 }

@@ -1,0 +1,179 @@
+-- What a link and a clock tell of several steps.
+use Rattle.std.proofs.Common.{◌≡◌, ℕ, List, [], ◌∷◌, ◌++◌, length, Option, Some, None, IfNone, IfSome, IsSomeAnd, refl, sym, ap, subst, ◌∙◌, append_assoc, append-nil}
+use Rattle.cipher_modes.specs.CounterMode.{CtrState}
+use Rattle.framing.specs.Held.{Held}
+use Rattle.framing.specs.Holding.{Stands}
+use Rattle.framing.specs.Streams.{Frames}
+use Rattle.transport.specs.Directions.{behind, through}
+use Rattle.transport.specs.Forms.{framing_of}
+use Rattle.transport.specs.Wires.{Hears, IsNumbered, Line, Tells}
+use Rattle.mt_edge.specs.Faults.{one_more}
+use Rattle.mt_edge.specs.Links.{Told}
+use Rattle.mt_edge.specs.declared.link_read.LinkRead.{LinkRead}
+use Rattle.mt_edge.specs.declared.source.Got.{Got}
+use Rattle.client_node.specs.Runs.{Gave, ReadBy, ReadsBy}
+use Rattle.client_node.specs.Talks.{FailsReading, FailsWriting, Passed, PassedFront, Passes, Place, Rules, Said, piece_bytes, says}
+use Rattle.client_node.specs.Writes.{Breaks, Seen, Writes, Wrote, WroteFront}
+use Rattle.client_node.proofs.Flowing.{told_both}
+
+-- ---- a wire, by what stays of it
+
+pub hears_as : (one other : Line) (from : Option CtrState) (packets : List (List ℕ)) (bytes : List ℕ)
+    → (other.form ≡ one.form) × (other.held ≡ one.held) × (other.reading ≡ one.reading) → Hears one from packets bytes → Hears other from packets bytes
+hears_as one other from packets bytes same hears =
+    record {
+      stands = subst (λ form. Stands (framing_of form) other.held packets (through from bytes)) (sym same.0)
+          (subst (λ (held : Held). Stands (framing_of one.form) held packets (through from bytes)) (sym same.1) hears.stands);
+      place = subst (λ (held : Held). IfNone held.fault (other.reading ≡ behind from (length bytes))) (sym same.1)
+          (subst (λ (reading : Option CtrState). IfNone one.held.fault (reading ≡ behind from (length bytes))) (sym same.2) hears.place);
+    }
+
+pub tells_as : (one other : Line) (to : Option CtrState) (packets : List (List ℕ)) (bytes : List ℕ)
+    → (other.form ≡ one.form) × (other.writing ≡ one.writing) × (other.number ≡ one.number) → Tells one to packets bytes → Tells other to packets bytes
+tells_as one other to packets bytes same tells =
+    record {
+      frames = subst (λ form. Frames (framing_of form) 0 packets (through to bytes)) (sym same.0) tells.frames;
+      number = subst (λ form. IsNumbered form other.number (length packets)) (sym same.0)
+          (subst (λ (number : ℕ). IsNumbered one.form number (length packets)) (sym same.2) tells.number);
+      place = same.1 ∙ tells.place;
+    }
+
+-- ---- a clock
+
+pub gave_none : (given : Option (List ℕ)) → Gave [] given given
+gave_none None = tt
+gave_none (Some given) = sym (append-nil given)
+
+pub gave_more : (one other : List ℕ) (first middle last : Option (List ℕ)) → Gave one first middle → Gave other middle last → Gave (one ++ other) first last
+gave_more one other first middle None before after = tt
+gave_more one other first None (Some last) before after = absurd after
+gave_more one other None (Some middle) (Some last) before after = absurd before
+gave_more one other (Some first) (Some middle) (Some last) before after =
+    after ∙ ap (λ (moments : List ℕ). moments ++ other) before ∙ append_assoc first one other
+
+-- ---- a link: nothing yet
+
+passed_none : {S : Type 0} (place : Place S) → place.came ≡ [] → place.reads ≡ [] → (told : Told) → Passed [] place told told
+passed_none place came reads told =
+    record {
+      written = sym (append-nil told.written);
+      came = sym (append-nil told.came) ∙ ap (λ (bytes : List ℕ). told.came ++ bytes) (sym came);
+      reads = sym (append-nil told.reads) ∙ ap (λ (all : List LinkRead). told.reads ++ all) (sym reads);
+    }
+
+told_none : {S : Type 0} (place : Place S) → place.came ≡ [] → place.reads ≡ [] → (link : Option Told) → IfSome link (λ last. IsSomeAnd link (λ first. Passed [] place first last))
+told_none place came reads None = tt
+told_none place came reads (Some told) = passed_none place came reads told
+
+pub passes_none : {S : Type 0} (place : Place S) → place.came ≡ [] → place.reads ≡ [] → (link : Seen) → Passes [] place link link
+passes_none place came reads link = record { told = told_none place came reads link.told; faults = refl }
+
+-- ---- a link: what is written behind the rest
+
+passed_said : {S : Type 0} (rules : Rules S) (said : Said) (bytes more : List ℕ) (place : Place S) (first middle last : Told)
+    → Passed bytes place first middle → Wrote more middle last → Passed (bytes ++ more) (says rules said place) first last
+passed_said rules said bytes more place first middle last before after =
+    record {
+      written = after.written ∙ ap (λ (text : List ℕ). text ++ more) before.written ∙ append_assoc first.written bytes more;
+      came = after.came ∙ before.came;
+      reads = after.reads ∙ before.reads;
+    }
+
+front_said : {S : Type 0} (rules : Rules S) (said : Said) (bytes more : List ℕ) (place : Place S) (first middle last : Told)
+    → Passed bytes place first middle → WroteFront more middle last → PassedFront (bytes ++ more) (says rules said place) first last
+front_said rules said bytes more place first middle last before after =
+    record {
+      front = bytes ++ after.front;
+      rest = after.rest;
+      whole = ap (λ (text : List ℕ). bytes ++ text) after.whole ∙ sym (append_assoc bytes after.front after.rest);
+      passed = passed_said rules said bytes after.front place first middle last before after.wrote;
+    }
+
+pub passes_said : {S : Type 0} (rules : Rules S) (said : Said) (bytes more : List ℕ) (place : Place S) (first middle last : Seen)
+    → Passes bytes place first middle → Writes more middle last → Passes (bytes ++ more) (says rules said place) first last
+passes_said rules said bytes more place first middle last before after =
+    record {
+      told = told_both (Passed bytes place) (Wrote more) (Passed (bytes ++ more) (says rules said place)) (passed_said rules said bytes more place) first.told middle.told last.told before.told after.told;
+      faults = after.faults ∙ before.faults;
+    }
+
+pub fails_said : {S : Type 0} (rules : Rules S) (said : Said) (bytes more : List ℕ) (place : Place S) (first middle last : Seen)
+    → Passes bytes place first middle → Breaks more middle last → FailsWriting (bytes ++ more) (says rules said place) first last
+fails_said rules said bytes more place first middle last before after =
+    record {
+      told = told_both (Passed bytes place) (WroteFront more) (PassedFront (bytes ++ more) (says rules said place)) (front_said rules said bytes more place) first.told middle.told last.told before.told after.told;
+      faults = after.faults ∙ ap (λ (count : ℕ). one_more count) before.faults;
+    }
+
+-- ---- a link: a read
+
+passed_read : {S : Type 0} (bytes piece : List ℕ) (answer : Got) (place other : Place S)
+    → other.came ≡ place.came ++ piece → other.reads ≡ place.reads ++ record { room = piece_bytes; answer = answer } ∷ []
+    → (first middle last : Told) → Passed bytes place first middle → ReadBy answer piece middle last → Passed bytes other first last
+passed_read bytes piece answer place other came reads first middle last before after =
+    record {
+      written = after.written ∙ before.written;
+      came = after.came ∙ ap (λ (text : List ℕ). text ++ piece) before.came ∙ append_assoc first.came place.came piece
+          ∙ ap (λ (text : List ℕ). first.came ++ text) (sym came);
+      reads = after.reads ∙ ap (λ (all : List LinkRead). all ++ record { room = piece_bytes; answer = answer } ∷ []) before.reads
+          ∙ append_assoc first.reads place.reads (record { room = piece_bytes; answer = answer } ∷ [])
+          ∙ ap (λ (all : List LinkRead). first.reads ++ all) (sym reads);
+    }
+
+pub passes_read : {S : Type 0} (bytes piece : List ℕ) (answer : Got) (place other : Place S)
+    → other.came ≡ place.came ++ piece → other.reads ≡ place.reads ++ record { room = piece_bytes; answer = answer } ∷ []
+    → (first middle last : Seen) → Passes bytes place first middle → ReadsBy answer piece middle.told last.told → last.faults ≡ middle.faults → Passes bytes other first last
+passes_read bytes piece answer place other came reads first middle last before after faults =
+    record {
+      told = told_both (Passed bytes place) (ReadBy answer piece) (Passed bytes other) (passed_read bytes piece answer place other came reads) first.told middle.told last.told before.told after;
+      faults = faults ∙ before.faults;
+    }
+
+pub fails_read : {S : Type 0} (bytes piece : List ℕ) (answer : Got) (place other : Place S)
+    → other.came ≡ place.came ++ piece → other.reads ≡ place.reads ++ record { room = piece_bytes; answer = answer } ∷ []
+    → (first middle last : Seen) → Passes bytes place first middle → ReadsBy answer piece middle.told last.told → last.faults ≡ one_more middle.faults → FailsReading bytes other first last
+fails_read bytes piece answer place other came reads first middle last before after faults =
+    record {
+      told = told_both (Passed bytes place) (ReadBy answer piece) (Passed bytes other) (passed_read bytes piece answer place other came reads) first.told middle.told last.told before.told after;
+      faults = faults ∙ ap (λ (count : ℕ). one_more count) before.faults;
+    }
+
+-- ---- a link: what was written before the rest
+
+passed_behind : {S : Type 0} (start bytes : List ℕ) (place : Place S) (first middle last : Told) → Wrote start first middle → Passed bytes place middle last → Passed (start ++ bytes) place first last
+passed_behind start bytes place first middle last before after =
+    record {
+      written = after.written ∙ ap (λ (text : List ℕ). text ++ bytes) before.written ∙ append_assoc first.written start bytes;
+      came = after.came ∙ ap (λ (text : List ℕ). text ++ place.came) before.came;
+      reads = after.reads ∙ ap (λ (all : List LinkRead). all ++ place.reads) before.reads;
+    }
+
+front_behind : {S : Type 0} (start bytes : List ℕ) (place : Place S) (first middle last : Told) → Wrote start first middle → PassedFront bytes place middle last → PassedFront (start ++ bytes) place first last
+front_behind start bytes place first middle last before after =
+    record {
+      front = start ++ after.front;
+      rest = after.rest;
+      whole = ap (λ (text : List ℕ). start ++ text) after.whole ∙ sym (append_assoc start after.front after.rest);
+      passed = passed_behind start after.front place first middle last before after.passed;
+    }
+
+pub passes_behind : {S : Type 0} (start bytes : List ℕ) (place : Place S) (first middle last : Seen) → Writes start first middle → Passes bytes place middle last → Passes (start ++ bytes) place first last
+passes_behind start bytes place first middle last before after =
+    record {
+      told = told_both (Wrote start) (Passed bytes place) (Passed (start ++ bytes) place) (passed_behind start bytes place) first.told middle.told last.told before.told after.told;
+      faults = after.faults ∙ before.faults;
+    }
+
+pub reading_behind : {S : Type 0} (start bytes : List ℕ) (place : Place S) (first middle last : Seen) → Writes start first middle → FailsReading bytes place middle last → FailsReading (start ++ bytes) place first last
+reading_behind start bytes place first middle last before after =
+    record {
+      told = told_both (Wrote start) (Passed bytes place) (Passed (start ++ bytes) place) (passed_behind start bytes place) first.told middle.told last.told before.told after.told;
+      faults = after.faults ∙ ap (λ (count : ℕ). one_more count) before.faults;
+    }
+
+pub writing_behind : {S : Type 0} (start bytes : List ℕ) (place : Place S) (first middle last : Seen) → Writes start first middle → FailsWriting bytes place middle last → FailsWriting (start ++ bytes) place first last
+writing_behind start bytes place first middle last before after =
+    record {
+      told = told_both (Wrote start) (PassedFront bytes place) (PassedFront (start ++ bytes) place) (front_behind start bytes place) first.told middle.told last.told before.told after.told;
+      faults = after.faults ∙ ap (λ (count : ℕ). one_more count) before.faults;
+    }

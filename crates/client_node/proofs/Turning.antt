@@ -1,0 +1,387 @@
+-- One turn more of a connection, and how it ends.
+use Rattle.std.proofs.Common.{◌≡◌, ◌<◌, ◌≤◌, ◌+◌, ℕ, Bool, List, [], ◌∷◌, ◌++◌, length, All, MatchOption, Option, Some, None, Result, Ok, Err, inl, inr, refl, sym, ap, subst, ◌∙◌, append_assoc, append-nil, arith}
+use Rattle.auth_keys.specs.declared.ring.RingKey.{RingKey}
+use Rattle.envelope.specs.Packet.{Lock}
+use Rattle.cipher_modes.specs.CounterMode.{CtrState}
+use Rattle.tl_codec.specs.declared.fault.FrameFault.{FrameFault}
+use Rattle.framing.specs.Holding.{IsBehind, Stands}
+use Rattle.framing.specs.Streams.{Begins, Faulty, Form, Frames, Stream}
+use Rattle.transport.specs.Directions.{through}
+use Rattle.transport.specs.Forms.{framing_of}
+use Rattle.transport.specs.Starts.{Opening}
+use Rattle.transport.specs.Wires.{Hears, Line, Tells}
+use Rattle.mt_edge.specs.Faults.{one_more}
+use Rattle.mt_edge.specs.declared.source.Got.{Got}
+use Rattle.mt_edge.specs.declared.source.Got.TheVariants as got
+use Rattle.client_rules.specs.Sending.{Setting}
+use Rattle.client_core.specs.Flushed.{setting_of}
+use Rattle.client_core.specs.declared.holder.Holder.{Holder}
+use Rattle.client_node.specs.Course.{Course, Reading}
+use Rattle.client_node.specs.Flow.{AllFlushes, FlowedBy, Follows, FramedBy}
+use Rattle.client_node.specs.Runs.{Gave, GotPiece, MissedPiece, ReadsBy, Talked, TookTurn, TurnsSoFar}
+use Rattle.client_node.specs.Standing.{IsReading, StandsAs}
+use Rattle.client_node.specs.Talks.{AreFramed, AreWhole, Close, EndsHearing, Heard, IsNoPiece, IsReady, IsSaid, IsText, IsTurn, Loses, Passes, Place, Rules, Said, ShowsClose, Stopped, Talk, Turn, TurnsDone, Unread, closes, gets, hears_all, reads, rules_of, says, turned, turns_from, turns_max}
+use Rattle.client_node.specs.Took.{CameAll, IsDone, IsLost, TookAll, takes_all}
+use Rattle.client_node.specs.Writes.{Seen, Writes}
+use Rattle.client_node.specs.declared.end.End.{End}
+use Rattle.client_node.specs.declared.end.End.TheVariants as ends
+use Rattle.client_node.proofs.Passing.{fails_read, fails_said, gave_more, gave_none, hears_as, passes_none, passes_read, passes_said, tells_as}
+
+-- ---- the packets of what came
+
+begins_behind : (form : Form) (packets : List (List ℕ)) (left bytes : List ℕ) → IsBehind form packets left bytes → Begins form packets bytes
+begins_behind form packets left bytes behind = record { frames = behind.frames; rest = left; each = behind.each; whole = behind.whole }
+
+begins_faulty : (form : Form) (packets : List (List ℕ)) (fault : FrameFault) (bytes : List ℕ) → Faulty form packets fault bytes → Begins form packets bytes
+begins_faulty form packets fault bytes faulty = record { frames = faulty.frames; rest = faulty.rest; each = faulty.each; whole = faulty.whole }
+
+begins_by : (form : Form) (fault : Option FrameFault) (packets : List (List ℕ)) (left bytes : List ℕ)
+    → MatchOption fault (IsBehind form packets left bytes) (λ fault. Faulty form packets fault bytes) → Begins form packets bytes
+begins_by form None packets left bytes stands = begins_behind form packets left bytes stands
+begins_by form (Some fault) packets left bytes stands = begins_faulty form packets fault bytes stands
+
+begins_as : (line : Line) (opening : Opening) (packets : List (List ℕ)) (bytes : List ℕ) → line.form ≡ opening.form → Hears line opening.down packets bytes
+    → Begins (framing_of opening.form) packets (through opening.down bytes)
+begins_as line opening packets bytes same hears =
+    subst (λ form. Begins (framing_of form) packets (through opening.down bytes)) same
+    (begins_by (framing_of line.form) line.held.fault packets line.held.left (through opening.down bytes) hears.stands.text)
+
+-- by how a piece came
+whole_by : (first last : Line) (opening : Opening) (packets heard : List (List ℕ)) (bytes : List ℕ) (size : ℕ)
+    → first.form ≡ opening.form → last.form ≡ opening.form → IsDone first opening.down packets bytes heard size last
+    → AreWhole opening (packets ++ heard) bytes (length heard) size
+whole_by first last opening packets heard bytes size form form_then (inl idle) =
+    inl (idle.rest, subst (λ one. Stream (framing_of one) (packets ++ heard) idle.rest (through opening.down bytes)) form idle.stream)
+whole_by first last opening packets heard bytes size form form_then (inr (count, hears)) =
+    inr (count, begins_as last opening (packets ++ heard) bytes form_then hears)
+
+hears_by : (first last : Line) (from : Option CtrState) (packets heard : List (List ℕ)) (bytes : List ℕ) (size : ℕ)
+    → IsDone first from packets bytes heard size last → Hears last from (packets ++ heard) bytes
+hears_by first last from packets heard bytes size (inl idle) = idle.hears
+hears_by first last from packets heard bytes size (inr (count, hears)) = hears
+
+loses_by : (line : Line) (opening : Opening) (packets : List (List ℕ)) (bytes : List ℕ) → line.form ≡ opening.form → IsLost line opening.down packets bytes → Loses opening packets bytes
+loses_by line opening packets bytes form (inl lost) =
+    inl (lost.error, lost.size, subst (λ one. Begins (framing_of one) (packets ++ lost.error ∷ []) (through opening.down bytes)) form lost.next)
+loses_by line opening packets bytes form (inr lost) =
+    inr (lost.fault, subst (λ one. Faulty (framing_of one) packets lost.fault (through opening.down bytes)) form lost.shown)
+
+text_by : (line : Line) (opening : Opening) (packets : List (List ℕ)) (bytes : List ℕ) → line.form ≡ opening.form → Tells line opening.up packets bytes → IsText opening packets bytes
+text_by line opening packets bytes form tells = subst (λ one. Frames (framing_of one) 0 packets (through opening.up bytes)) form tells.frames
+
+-- ---- what was said
+
+is_said : {S : Type 0} (step : S → ℕ × S) (lock : Lock) (keys : List RingKey) (reading : Reading) (place : Place S) (packets : List (List ℕ)) (is_done : Bool) (left : Holder) (drawn : S)
+    → Follows (setting_of step keys) lock keys place.now place.course packets is_done left drawn
+    → IsSaid (rules_of step lock keys reading) place (record { packets = packets; is_done = is_done })
+is_said step lock keys reading place packets is_done left drawn follows = record { sent = follows.sent; nothing = follows.nothing }
+
+is_ready : {S : Type 0} (step : S → ℕ × S) (lock : Lock) (keys : List RingKey) (reading : Reading) (place : Place S) (kept : Holder) (draw : S) (line : Line) (link : Seen)
+    (left : Holder) (drawn : S) (line_then : Line) (link_then : Seen)
+    → StandsAs kept draw place.course
+    → (flushes : AllFlushes (setting_of step keys) lock keys place.now kept draw line link (Ok tt) left drawn line_then link_then)
+    → IsReady (rules_of step lock keys reading) place (record { packets = flushes.flow.sent; is_done = flushes.flow.is_done })
+is_ready step lock keys reading place kept draw line link left drawn line_then link_then stands flushes =
+    record {
+      sent = is_said step lock keys reading place flushes.flow.sent flushes.flow.is_done left drawn (flushes.flow.course place.course stands);
+      all = flushes.all;
+      undecided = flushes.stops place.course stands;
+    }
+
+-- ---- one turn more
+
+pub no_turns : {S : Type 0} (rules : Rules S) (opening : Opening) (place : Place S) (kept : Holder) (draw : S) (line : Line) (link : Seen) (given : Option (List ℕ))
+    → place.came ≡ [] → place.reads ≡ [] → place.heard ≡ [] → place.sent ≡ [] → place.moments ≡ []
+    → StandsAs kept draw place.course → line.form ≡ opening.form → Hears line opening.down [] [] → Tells line opening.up [] []
+    → TurnsSoFar rules opening place 0 place.now kept draw line link given link given
+no_turns rules opening place kept draw line link given came reads heard sent moments stands form hears tells =
+    record {
+      turns = [];
+      bytes = [];
+      count = refl;
+      are = tt;
+      moment = refl;
+      stands = stands;
+      hears = subst (λ (packets : List (List ℕ)). Hears line opening.down packets place.came) (sym heard) (subst (λ (bytes : List ℕ). Hears line opening.down [] bytes) (sym came) hears);
+      tells = subst (λ (packets : List (List ℕ)). Tells line opening.up packets []) (sym sent) tells;
+      form = form;
+      passes = passes_none place came reads link;
+      gave = subst (λ (all : List ℕ). Gave all given given) (sym moments) (gave_none given);
+    }
+
+pub turn_more : {S : Type 0} (step : S → ℕ × S) (lock : Lock) (keys : List RingKey) (reading : Reading) (opening : Opening) (place : Place S) (times now : ℕ)
+    (kept : Holder) (draw : S) (line : Line) (link : Seen) (given : Option (List ℕ)) (link_first : Seen) (given_first : Option (List ℕ))
+    (middle : Holder) (between : S) (line_between : Line) (link_between : Seen)
+    (piece : List ℕ) (moment : ℕ) (left : Holder) (drawn : S) (line_then : Line) (link_then : Seen) (given_then : Option (List ℕ))
+    → IsReading lock keys reading
+    → TurnsSoFar (rules_of step lock keys reading) opening place times now kept draw line link given link_first given_first
+    → AllFlushes (setting_of step keys) lock keys now kept draw line link (Ok tt) middle between line_between link_between
+    → (line_between.form ≡ line.form) × (line_between.held ≡ line.held) × (line_between.reading ≡ line.reading)
+    → GotPiece step lock keys middle between line_between link_between given piece moment (Ok tt) left drawn line_then link_then given_then
+    → (line_then.form ≡ line_between.form) × (line_then.writing ≡ line_between.writing) × (line_then.number ≡ line_between.number)
+    → TurnsSoFar (rules_of step lock keys reading) opening place (times + 1) moment left drawn line_then link_then given_then link_first given_first
+turn_more step lock keys reading opening place times now kept draw line link given link_first given_first middle between line_between link_between piece moment left drawn line_then link_then given_then read_so before flushes same_in gets_it same_out =
+    let rules = rules_of step lock keys reading in
+    let here = turns_from rules place before.turns in
+    let flushed = subst (λ (at : ℕ). AllFlushes (setting_of step keys) lock keys at kept draw line link (Ok tt) middle between line_between link_between) (sym before.moment) flushes in
+    let follows = flushed.flow.course here.course before.stands in
+    let said : Said = record { packets = flushed.flow.sent; is_done = flushed.flow.is_done } in
+    let mid = says rules said here in
+    let heard = gets_it.took.heard in
+    let took = gets_it.took.took reading mid.course read_so follows.stands in
+    let form = same_in.0 ∙ before.form in
+    let form_then = same_out.0 ∙ form in
+    let came = gets_it.took.came opening.down here.heard here.came (hears_as line line_between opening.down here.heard here.came same_in before.hears) in
+    let tells = subst (λ (all : List (List ℕ)). Tells line_between opening.up (here.sent ++ all) (before.bytes ++ flushed.flow.bytes)) (sym flushed.flow.all)
+    (flushed.flow.tells opening.up here.sent before.bytes before.tells) in
+    let turn : Turn = record { said = said; piece = piece; moment = moment; heard = heard } in
+    record {
+      turns = turn ∷ before.turns;
+      bytes = before.bytes ++ flushed.flow.bytes;
+      count = omega (arith, before.count);
+      are = (
+        before.are,
+        record {
+          ready = is_ready step lock keys reading here kept draw line link middle between line_between link_between before.stands flushed;
+          some = gets_it.some;
+          most = gets_it.most;
+          sizes = gets_it.took.sizes;
+          none = took.0;
+          whole = whole_by line_between line_then opening here.heard heard (here.came ++ piece) (length piece) form form_then came;
+        },
+      );
+      moment = refl;
+      stands = took.1;
+      hears = hears_by line_between line_then opening.down here.heard heard (here.came ++ piece) (length piece) came;
+      tells = tells_as line_between line_then opening.up (here.sent ++ flushed.flow.sent) (before.bytes ++ flushed.flow.bytes) same_out tells;
+      form = form_then;
+      passes = passes_read (before.bytes ++ flushed.flow.bytes) piece (got.Bytes (length piece)) mid (turned rules turn here) refl refl link_first link_between link_then
+          (passes_said rules said before.bytes flushed.flow.bytes here link_first link link_between before.passes flushed.flow.written) gets_it.told gets_it.faults;
+      gave = gave_more here.moments (moment ∷ []) given_first given given_then before.gave gets_it.gave;
+    }
+
+-- ---- the end
+
+framed_stopped : (X : Type 0) (end : End) (before sent framed : List (List ℕ)) → FramedBy {X = X} (Err end) sent framed → AreFramed (Stopped end) (before ++ sent) (before ++ framed)
+framed_stopped X ends.Memory before sent framed (rest, same) =
+    (rest, ap (λ (all : List (List ℕ)). before ++ all) same ∙ sym (append_assoc before framed rest))
+framed_stopped X ends.Lost before sent framed same = ap (λ (all : List (List ℕ)). before ++ all) same
+framed_stopped X ends.Decided before sent framed same = ap (λ (all : List (List ℕ)). before ++ all) same
+framed_stopped X ends.Spent before sent framed same = ap (λ (all : List (List ℕ)). before ++ all) same
+framed_stopped X ends.TurnsSpent before sent framed same = ap (λ (all : List (List ℕ)). before ++ all) same
+
+shows_stopped : {S : Type 0} (X : Type 0) (rules : Rules S) (said : Said) (end : End) (bytes more : List ℕ) (place : Place S) (first middle last : Seen)
+    → Passes bytes place first middle → FlowedBy {X = X} (Err end) more middle last → ShowsClose (Stopped end) (bytes ++ more) (says rules said place) first last
+shows_stopped X rules said ends.Lost bytes more place first middle last before after = fails_said rules said bytes more place first middle last before after
+shows_stopped X rules said ends.Decided bytes more place first middle last before (inl after) = inl (passes_said rules said bytes more place first middle last before after)
+shows_stopped X rules said ends.Decided bytes more place first middle last before (inr after) = inr (fails_said rules said bytes more place first middle last before after)
+shows_stopped X rules said ends.Spent bytes more place first middle last before after = passes_said rules said bytes more place first middle last before after
+shows_stopped X rules said ends.Memory bytes more place first middle last before after = passes_said rules said bytes more place first middle last before after
+shows_stopped X rules said ends.TurnsSpent bytes more place first middle last before after = absurd after
+
+-- the flushes ended it
+pub stopped : {S : Type 0} (step : S → ℕ × S) (lock : Lock) (keys : List RingKey) (reading : Reading) (opening : Opening) (place : Place S) (times now : ℕ)
+    (kept : Holder) (draw : S) (line : Line) (link : Seen) (given : Option (List ℕ)) (link_first : Seen) (given_first : Option (List ℕ))
+    (end : End) (left : Holder) (drawn : S) (line_then : Line) (link_then : Seen)
+    → times ≤ turns_max
+    → TurnsSoFar (rules_of step lock keys reading) opening place times now kept draw line link given link_first given_first
+    → AllFlushes (setting_of step keys) lock keys now kept draw line link (Err end) left drawn line_then link_then
+    → line_then.form ≡ line.form
+    → Talked (rules_of step lock keys reading) opening place link_first given_first end left drawn link_then given
+stopped step lock keys reading opening place times now kept draw line link given link_first given_first end left drawn line_then link_then most before flushes same =
+    let rules = rules_of step lock keys reading in
+    let here = turns_from rules place before.turns in
+    let flushed = subst (λ (at : ℕ). AllFlushes (setting_of step keys) lock keys at kept draw line link (Err end) left drawn line_then link_then) (sym before.moment) flushes in
+    let follows = flushed.flow.course here.course before.stands in
+    let said : Said = record { packets = flushed.flow.sent; is_done = flushed.flow.is_done } in
+    let framed = here.sent ++ flushed.flow.framed in
+    let bytes = before.bytes ++ flushed.flow.bytes in
+    record {
+      talk = record { turns = before.turns; said = said; close = Stopped end; framed = framed; bytes = bytes };
+      is = record {
+        turns = before.are;
+        closed = (
+          subst (λ (count : ℕ). count ≤ turns_max) (sym before.count) most,
+          is_said step lock keys reading here flushed.flow.sent flushed.flow.is_done left drawn follows,
+          flushed.stops here.course before.stands,
+        );
+        framed = framed_stopped Unit end here.sent flushed.flow.sent flushed.flow.framed flushed.flow.all;
+        text = text_by line_then opening framed bytes (same ∙ before.form) (flushed.flow.tells opening.up here.sent before.bytes before.tells);
+      };
+      ends_so = refl;
+      stands = follows.stands;
+      shows = shows_stopped Unit rules said end before.bytes flushed.flow.bytes here link_first link link_then before.passes flushed.flow.written;
+      gave = before.gave;
+    }
+
+shows_unread : {S : Type 0} (answer : Got) (bytes : List ℕ) (place : Place S) (first middle last : Seen)
+    → IsNoPiece answer → Passes bytes place first middle → ReadsBy answer [] middle.told last.told
+    → (answer ≡ got.End → last.faults ≡ middle.faults) → (answer ≡ got.Failed → last.faults ≡ one_more middle.faults)
+    → ShowsClose (Unread answer) bytes (reads answer place) first last
+shows_unread (got.Bytes count) bytes place first middle last none before after ended failed = absurd none
+shows_unread got.End bytes place first middle last none before after ended failed =
+    passes_read bytes [] got.End place (reads got.End place) (sym (append-nil place.came)) refl first middle last before after (ended refl)
+shows_unread got.Failed bytes place first middle last none before after ended failed =
+    fails_read bytes [] got.Failed place (reads got.Failed place) (sym (append-nil place.came)) refl first middle last before after (failed refl)
+
+-- the read behind the flushes gave no piece
+pub unread : {S : Type 0} (step : S → ℕ × S) (lock : Lock) (keys : List RingKey) (reading : Reading) (opening : Opening) (place : Place S) (times now : ℕ)
+    (kept : Holder) (draw : S) (line : Line) (link : Seen) (given : Option (List ℕ)) (link_first : Seen) (given_first : Option (List ℕ))
+    (middle : Holder) (between : S) (line_between : Line) (link_between : Seen)
+    (answer : Got) (left : Holder) (drawn : S) (link_then : Seen) (given_then : Option (List ℕ))
+    → times < turns_max
+    → TurnsSoFar (rules_of step lock keys reading) opening place times now kept draw line link given link_first given_first
+    → AllFlushes (setting_of step keys) lock keys now kept draw line link (Ok tt) middle between line_between link_between
+    → line_between.form ≡ line.form
+    → MissedPiece middle between link_between given answer left drawn link_then given_then
+    → Talked (rules_of step lock keys reading) opening place link_first given_first ends.Lost left drawn link_then given_then
+unread step lock keys reading opening place times now kept draw line link given link_first given_first middle between line_between link_between answer left drawn link_then given_then few before flushes same missed =
+    let rules = rules_of step lock keys reading in
+    let here = turns_from rules place before.turns in
+    let flushed = subst (λ (at : ℕ). AllFlushes (setting_of step keys) lock keys at kept draw line link (Ok tt) middle between line_between link_between) (sym before.moment) flushes in
+    let follows = flushed.flow.course here.course before.stands in
+    let said : Said = record { packets = flushed.flow.sent; is_done = flushed.flow.is_done } in
+    let mid = says rules said here in
+    let framed = here.sent ++ flushed.flow.framed in
+    let bytes = before.bytes ++ flushed.flow.bytes in
+    record {
+      talk = record { turns = before.turns; said = said; close = Unread answer; framed = framed; bytes = bytes };
+      is = record {
+        turns = before.are;
+        closed = (
+          subst (λ (count : ℕ). count < turns_max) (sym before.count) few,
+          is_ready step lock keys reading here kept draw line link middle between line_between link_between before.stands flushed,
+          missed.none,
+        );
+        framed = ap (λ (all : List (List ℕ)). here.sent ++ all) flushed.flow.all;
+        text = text_by line_between opening framed bytes (same ∙ before.form) (flushed.flow.tells opening.up here.sent before.bytes before.tells);
+      };
+      ends_so = refl;
+      stands = subst (λ (one : Holder). StandsAs one drawn mid.course) (sym missed.same_kept) (subst (λ one. StandsAs middle one mid.course) (sym missed.same_draw) follows.stands);
+      shows = shows_unread answer bytes mid link_first link_between link_then missed.none
+          (passes_said rules said before.bytes flushed.flow.bytes here link_first link link_between before.passes flushed.flow.written) missed.told missed.ended missed.failed;
+      gave = subst (λ (all : Option (List ℕ)). Gave here.moments given_first all) (sym missed.same_given) before.gave;
+    }
+
+heard_stands : {S : Type 0} (step : S → ℕ × S) (reading : Reading) (now : ℕ) (course : Course S) (heard : List (List ℕ)) (end : End) (kept : Holder) (draw : S)
+    → TookAll step reading now course heard (Err end) kept draw → StandsAs kept draw (takes_all step reading now course heard)
+heard_stands step reading now course heard ends.Decided kept draw took = took.5
+heard_stands step reading now course heard ends.Lost kept draw took = took.1
+heard_stands step reading now course heard ends.Memory kept draw took = took.1
+heard_stands step reading now course heard ends.TurnsSpent kept draw took = absurd took
+heard_stands step reading now course heard ends.Spent kept draw took = absurd took
+
+ends_hearing : {S : Type 0} (step : S → ℕ × S) (lock : Lock) (keys : List RingKey) (reading : Reading) (opening : Opening) (place : Place S) (first last : Line) (heard : List (List ℕ)) (size : ℕ) (end : End) (kept : Holder) (draw : S)
+    → first.form ≡ opening.form → last.form ≡ opening.form
+    → TookAll step reading place.now place.course heard (Err end) kept draw
+    → CameAll first opening.down place.heard place.came heard size (Err end) last
+    → EndsHearing (rules_of step lock keys reading) opening place heard end
+ends_hearing step lock keys reading opening place first last heard size ends.Decided kept draw form form_then took came =
+    (took.0, took.1, took.2, took.3, took.4, begins_as last opening (place.heard ++ heard) place.came form_then came)
+ends_hearing step lock keys reading opening place first last heard size ends.Lost kept draw form form_then took came =
+    (took.0, loses_by first opening (place.heard ++ heard) place.came form came)
+ends_hearing step lock keys reading opening place first last heard size ends.Memory kept draw form form_then took came = took.0
+ends_hearing step lock keys reading opening place first last heard size ends.TurnsSpent kept draw form form_then took came = absurd took
+ends_hearing step lock keys reading opening place first last heard size ends.Spent kept draw form form_then took came = absurd took
+
+-- the piece that was read behind the flushes ended it
+pub heard_last : {S : Type 0} (step : S → ℕ × S) (lock : Lock) (keys : List RingKey) (reading : Reading) (opening : Opening) (place : Place S) (times now : ℕ)
+    (kept : Holder) (draw : S) (line : Line) (link : Seen) (given : Option (List ℕ)) (link_first : Seen) (given_first : Option (List ℕ))
+    (middle : Holder) (between : S) (line_between : Line) (link_between : Seen)
+    (piece : List ℕ) (moment : ℕ) (end : End) (left : Holder) (drawn : S) (line_then : Line) (link_then : Seen) (given_then : Option (List ℕ))
+    → times < turns_max
+    → IsReading lock keys reading
+    → TurnsSoFar (rules_of step lock keys reading) opening place times now kept draw line link given link_first given_first
+    → AllFlushes (setting_of step keys) lock keys now kept draw line link (Ok tt) middle between line_between link_between
+    → (line_between.form ≡ line.form) × (line_between.held ≡ line.held) × (line_between.reading ≡ line.reading)
+    → GotPiece step lock keys middle between line_between link_between given piece moment (Err end) left drawn line_then link_then given_then
+    → line_then.form ≡ line_between.form
+    → Talked (rules_of step lock keys reading) opening place link_first given_first end left drawn link_then given_then
+heard_last step lock keys reading opening place times now kept draw line link given link_first given_first middle between line_between link_between piece moment end left drawn line_then link_then given_then few read_so before flushes same_in gets_it same_out =
+    let rules = rules_of step lock keys reading in
+    let here = turns_from rules place before.turns in
+    let flushed = subst (λ (at : ℕ). AllFlushes (setting_of step keys) lock keys at kept draw line link (Ok tt) middle between line_between link_between) (sym before.moment) flushes in
+    let follows = flushed.flow.course here.course before.stands in
+    let said : Said = record { packets = flushed.flow.sent; is_done = flushed.flow.is_done } in
+    let mid = says rules said here in
+    let got_it = gets piece moment mid in
+    let heard = gets_it.took.heard in
+    let took = gets_it.took.took reading mid.course read_so follows.stands in
+    let form = same_in.0 ∙ before.form in
+    let came = gets_it.took.came opening.down here.heard here.came (hears_as line line_between opening.down here.heard here.came same_in before.hears) in
+    let framed = here.sent ++ flushed.flow.framed in
+    let bytes = before.bytes ++ flushed.flow.bytes in
+    record {
+      talk = record { turns = before.turns; said = said; close = Heard piece moment heard end; framed = framed; bytes = bytes };
+      is = record {
+        turns = before.are;
+        closed = (
+          subst (λ (count : ℕ). count < turns_max) (sym before.count) few,
+          is_ready step lock keys reading here kept draw line link middle between line_between link_between before.stands flushed,
+          gets_it.some,
+          gets_it.most,
+          gets_it.took.sizes,
+          ends_hearing step lock keys reading opening got_it line_between line_then heard (length piece) end left drawn form (same_out ∙ form) took came,
+        );
+        framed = ap (λ (all : List (List ℕ)). here.sent ++ all) flushed.flow.all;
+        text = text_by line_between opening framed bytes form (flushed.flow.tells opening.up here.sent before.bytes before.tells);
+      };
+      ends_so = refl;
+      stands = heard_stands step reading moment mid.course heard end left drawn took;
+      shows = passes_read bytes piece (got.Bytes (length piece)) mid (hears_all rules heard got_it) refl refl link_first link_between link_then
+          (passes_said rules said before.bytes flushed.flow.bytes here link_first link link_between before.passes flushed.flow.written) gets_it.told gets_it.faults;
+      gave = gave_more here.moments (moment ∷ []) given_first given given_then before.gave gets_it.gave;
+    }
+
+-- it gave as many pieces as one connection gives
+pub turns_done : {S : Type 0} (step : S → ℕ × S) (lock : Lock) (keys : List RingKey) (reading : Reading) (opening : Opening) (place : Place S) (times now : ℕ)
+    (kept : Holder) (draw : S) (line : Line) (link : Seen) (given : Option (List ℕ)) (link_first : Seen) (given_first : Option (List ℕ))
+    (left : Holder) (drawn : S) (line_then : Line) (link_then : Seen)
+    → times ≡ turns_max
+    → TurnsSoFar (rules_of step lock keys reading) opening place times now kept draw line link given link_first given_first
+    → AllFlushes (setting_of step keys) lock keys now kept draw line link (Ok tt) left drawn line_then link_then
+    → line_then.form ≡ line.form
+    → Talked (rules_of step lock keys reading) opening place link_first given_first ends.TurnsSpent left drawn link_then given
+turns_done step lock keys reading opening place times now kept draw line link given link_first given_first left drawn line_then link_then most before flushes same =
+    let rules = rules_of step lock keys reading in
+    let here = turns_from rules place before.turns in
+    let flushed = subst (λ (at : ℕ). AllFlushes (setting_of step keys) lock keys at kept draw line link (Ok tt) left drawn line_then link_then) (sym before.moment) flushes in
+    let follows = flushed.flow.course here.course before.stands in
+    let said : Said = record { packets = flushed.flow.sent; is_done = flushed.flow.is_done } in
+    let framed = here.sent ++ flushed.flow.framed in
+    let bytes = before.bytes ++ flushed.flow.bytes in
+    record {
+      talk = record { turns = before.turns; said = said; close = TurnsDone; framed = framed; bytes = bytes };
+      is = record {
+        turns = before.are;
+        closed = (
+          before.count ∙ most,
+          is_ready step lock keys reading here kept draw line link left drawn line_then link_then before.stands flushed,
+        );
+        framed = ap (λ (all : List (List ℕ)). here.sent ++ all) flushed.flow.all;
+        text = text_by line_then opening framed bytes (same ∙ before.form) (flushed.flow.tells opening.up here.sent before.bytes before.tells);
+      };
+      ends_so = refl;
+      stands = follows.stands;
+      shows = passes_said rules said before.bytes flushed.flow.bytes here link_first link link_then before.passes flushed.flow.written;
+      gave = before.gave;
+    }
+
+-- a turn that ended it
+pub turn_ended : {S : Type 0} (step : S → ℕ × S) (lock : Lock) (keys : List RingKey) (reading : Reading) (opening : Opening) (place : Place S) (times now : ℕ)
+    (kept : Holder) (draw : S) (line : Line) (link : Seen) (given : Option (List ℕ)) (link_first : Seen) (given_first : Option (List ℕ))
+    (middle : Holder) (between : S) (line_between : Line) (link_between : Seen)
+    (end : End) (left : Holder) (drawn : S) (line_then : Line) (link_then : Seen) (given_then : Option (List ℕ))
+    → times < turns_max
+    → IsReading lock keys reading
+    → TurnsSoFar (rules_of step lock keys reading) opening place times now kept draw line link given link_first given_first
+    → AllFlushes (setting_of step keys) lock keys now kept draw line link (Ok tt) middle between line_between link_between
+    → (line_between.form ≡ line.form) × (line_between.held ≡ line.held) × (line_between.reading ≡ line.reading)
+    → TookTurn step lock keys middle between line_between link_between given (Err end) left drawn line_then link_then given_then
+    → line_then.form ≡ line_between.form
+    → Talked (rules_of step lock keys reading) opening place link_first given_first end left drawn link_then given_then
+turn_ended step lock keys reading opening place times now kept draw line link given link_first given_first middle between line_between link_between end left drawn line_then link_then given_then few read_so before flushes same_in (inl (lost, (answer, missed))) same_out =
+    subst (λ (how : End). Talked (rules_of step lock keys reading) opening place link_first given_first how left drawn link_then given_then) (sym lost)
+    (unread step lock keys reading opening place times now kept draw line link given link_first given_first middle between line_between link_between answer left drawn link_then given_then few before flushes same_in.0 missed)
+turn_ended step lock keys reading opening place times now kept draw line link given link_first given_first middle between line_between link_between end left drawn line_then link_then given_then few read_so before flushes same_in (inr (piece, moment, gets_it)) same_out =
+    heard_last step lock keys reading opening place times now kept draw line link given link_first given_first middle between line_between link_between piece moment end left drawn line_then link_then given_then few read_so before flushes same_in gets_it same_out
