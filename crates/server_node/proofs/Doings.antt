@@ -1,0 +1,144 @@
+-- What events do one after the other.
+use Rattle.std.proofs.Common.{◌≡◌, ◌+◌, zero, suc, arith, ℕ, Bool, true, false, List, [], ◌∷◌, ◌++◌, Option, Some, None, IfSome, IsSomeAnd, refl, sym, ap, subst, ◌∙◌, append_assoc, append-nil}
+use Rattle.auth_keys.specs.declared.ring.RingKey.{RingKey}
+use Rattle.cipher_modes.specs.CounterMode.{CtrState}
+use Rattle.envelope.specs.Packet.{Lock}
+use Rattle.mt_edge.specs.Links.{Told}
+use Rattle.regs_service.specs.Served.{Step}
+use Rattle.server_node.specs.Doing.{Did, Due, Followed, IsPart, Side, Stands, StandsBy, rules_of, then_due}
+use Rattle.server_node.specs.Steps.{LineTells, SentBy}
+use Rattle.server_node.specs.Trace.{Act, IsOutside, Outside, Rules, Run, Talk, Tick, after_acts, runs, work_acts}
+use Rattle.server_node.specs.Writes.{WrittenBy, Wrote, WroteBy, WroteFront}
+use Rattle.server_node.specs.declared.conn.ConnEnd.{ConnEnd}
+use Rattle.server_node.specs.declared.conn.ConnEnd.TheVariants as ends
+
+-- ---- what is written
+
+wrote_both : (one other : List ℕ) (first middle last : Told) → Wrote one first middle → Wrote other middle last → Wrote (one ++ other) first last
+wrote_both one other first middle last before after =
+    record {
+      written = after.written ∙ ap (λ bytes. bytes ++ other) before.written ∙ append_assoc first.written one other;
+      came = after.came ∙ before.came;
+      left = after.left ∙ before.left;
+      reads = after.reads ∙ before.reads;
+    }
+
+wrote_front : (one other : List ℕ) (first middle last : Told) → Wrote one first middle → WroteFront other middle last → WroteFront (one ++ other) first last
+wrote_front one other first middle last before after =
+    record {
+      front = one ++ after.front;
+      rest = after.rest;
+      whole = ap (λ bytes. one ++ bytes) after.whole ∙ sym (append_assoc one after.front after.rest);
+      wrote = wrote_both one after.front first middle last before after.wrote;
+    }
+
+wrote_by : (end : Option ConnEnd) (one other : List ℕ) (first middle last : Told) → Wrote one first middle → WroteBy end other middle last → WroteBy end (one ++ other) first last
+wrote_by None = wrote_both
+wrote_by (Some ends.LinkFault) = wrote_front
+wrote_by (Some ends.Ended) = wrote_both
+wrote_by (Some (ends.Frame fault)) = wrote_both
+wrote_by (Some ends.Start) = wrote_both
+wrote_by (Some ends.TurnsSpent) = wrote_both
+wrote_by (Some ends.Stopped) = wrote_both
+wrote_by (Some (ends.Journal fault)) = wrote_both
+wrote_by (Some ends.Memory) = wrote_both
+
+pub written_both : (end : Option ConnEnd) (one other : List ℕ) (first middle last : Option Told)
+    → WrittenBy None one first middle → WrittenBy end other middle last → WrittenBy end (one ++ other) first last
+written_both end one other first middle None before after = tt
+written_both end one other first None (Some last) before after = absurd after
+written_both end one other None (Some middle) (Some last) before after = absurd before
+written_both end one other (Some first) (Some middle) (Some last) before after = wrote_by end one other first middle last before after
+
+-- ---- the events
+
+pub acts_both : {S V : Type 0} (rules : Rules S V) (talk : Talk S V) (one other : List Act) → after_acts rules talk (one ++ other) ≡ after_acts rules (after_acts rules talk one) other
+acts_both rules talk [] other = refl
+acts_both rules talk (act ∷ acts) other = acts_both rules (after_acts rules talk (act ∷ [])) acts other
+
+part_both : (end : Option ConnEnd) (whole acts more done : List Act) → whole ≡ acts → IsPart end more done → IsPart end (whole ++ more) (acts ++ done)
+part_both None whole acts more done same part = ap (λ (some : List Act). some ++ more) same ∙ ap (λ (some : List Act). acts ++ some) part
+part_both (Some end) whole acts more done same (rest, part) =
+    (rest, ap (λ (some : List Act). some ++ more) same ∙ ap (λ (some : List Act). acts ++ some) part ∙ sym (append_assoc acts done rest))
+
+-- the events of two parts, of which the first went on
+pub did_both : {S V : Type 0} (step : S → ℕ × S) (serve : Step V) (lock : Lock) (ring : List RingKey) (side middle later : Side S V) (first second : Due S V) (end : Option ConnEnd)
+    → Did step serve lock ring side first None middle → Did step serve lock ring middle second end later → Did step serve lock ring side (then_due first second) end later
+did_both {S} {V} step serve lock ring side middle later first second end before next = record {
+  acts = before.acts ++ next.acts;
+  bytes = before.bytes ++ next.bytes;
+  follows = λ outside talk is stands.
+      let rules : Rules S V = rules_of step serve outside in
+      let one = before.follows outside talk is stands in
+      let between : Talk S V = after_acts rules talk before.acts in
+      let two = next.follows outside between is one.stands in
+      let same : after_acts rules talk (before.acts ++ next.acts) ≡ after_acts rules between next.acts = acts_both rules talk before.acts next.acts in
+      record {
+        part = part_both end (first rules talk) before.acts (second rules (after_acts rules talk (first rules talk))) next.acts one.part
+            (subst (λ (acts : List Act). IsPart end (second rules (after_acts rules talk acts)) next.acts) (sym one.part) two.part);
+        stands = subst (λ (then : Talk S V). StandsBy end later then) (sym same) two.stands;
+        sends = λ to text tells.
+            subst (λ (then : Talk S V). SentBy end later.line to then.sent (text ++ (before.bytes ++ next.bytes))) (sym same)
+            (subst (λ (all : List ℕ). SentBy end later.line to (after_acts rules between next.acts).sent all) (append_assoc text before.bytes next.bytes)
+            (two.sends to (text ++ before.bytes) (one.sends to text tells)));
+      };
+  written = written_both end before.bytes next.bytes side.told middle.told later.told before.written next.written;
+}
+
+-- the events of the first part, which ended the connection
+pub did_first : {S V : Type 0} (step : S → ℕ × S) (serve : Step V) (lock : Lock) (ring : List RingKey) (side later : Side S V) (first second : Due S V) (end : ConnEnd)
+    → Did step serve lock ring side first (Some end) later → Did step serve lock ring side (then_due first second) (Some end) later
+did_first {S} {V} step serve lock ring side later first second end before = record {
+  acts = before.acts;
+  bytes = before.bytes;
+  follows = λ outside talk is stands.
+      let rules : Rules S V = rules_of step serve outside in
+      let one = before.follows outside talk is stands in
+      let more : List Act = second rules (after_acts rules talk (first rules talk)) in
+      record {
+        part = (one.part.0 ++ more, ap (λ (some : List Act). some ++ more) one.part.1 ∙ append_assoc before.acts one.part.0 more);
+        stands = one.stands;
+        sends = one.sends;
+      };
+  written = before.written;
+}
+
+-- the same events, told otherwise
+pub did_as : {S V : Type 0} (step : S → ℕ × S) (serve : Step V) (lock : Lock) (ring : List RingKey) (side later : Side S V) (due other : Due S V) (end : Option ConnEnd)
+    → ((rules : Rules S V) (talk : Talk S V) → due rules talk ≡ other rules talk)
+    → Did step serve lock ring side due end later → Did step serve lock ring side other end later
+did_as step serve lock ring side later due other end same did = record {
+  acts = did.acts;
+  bytes = did.bytes;
+  follows = λ outside talk is stands.
+      let one = did.follows outside talk is stands in
+      record {
+        part = subst (λ (acts : List Act). IsPart end acts did.acts) (same (rules_of step serve outside) talk) one.part;
+        stands = one.stands;
+        sends = one.sends;
+      };
+  written = did.written;
+}
+
+-- the keys of its ring are the same
+pub did_under : {S V : Type 0} (step : S → ℕ × S) (serve : Step V) (lock : Lock) (ring other : List RingKey) (side later : Side S V) (due : Due S V) (end : Option ConnEnd)
+    → other ≡ ring → Did step serve lock other side due end later → Did step serve lock ring side due end later
+did_under step serve lock ring other side later due end same did = subst (λ (keys : List RingKey). Did step serve lock keys side due end later) same did
+
+-- ---- work
+
+runs_more : (now count : ℕ) → runs now count ++ Run now ∷ [] ≡ runs now (count + 1)
+runs_more now zero = refl
+runs_more now (suc count) = let e : suc count + 1 ≡ suc (count + 1) = omega arith in rw e (ap (λ acts. Run now ∷ acts) (runs_more now count))
+
+-- a further run
+pub did_more : {S V : Type 0} (step : S → ℕ × S) (serve : Step V) (lock : Lock) (ring other : List RingKey) (side middle later : Side S V) (now count : ℕ) (end : Option ConnEnd)
+    → other ≡ ring
+    → Did step serve lock ring side (λ rules talk. work_acts now count) None middle
+    → Did step serve lock other middle (λ rules talk. Run now ∷ []) end later
+    → Did step serve lock ring side (λ rules talk. work_acts now (count + 1)) end later
+did_more {S} {V} step serve lock ring other side middle later now count end same before next =
+    did_as step serve lock ring side later (then_due (λ rules talk. work_acts now count) (λ rules talk. Run now ∷ [])) (λ rules talk. work_acts now (count + 1)) end
+    (λ rules talk. ap (λ acts. Tick now ∷ acts) (runs_more now count))
+    (did_both step serve lock ring side middle later (λ rules talk. work_acts now count) (λ rules talk. Run now ∷ []) end before
+    (did_under step serve lock ring other middle later (λ rules talk. Run now ∷ []) end same next))

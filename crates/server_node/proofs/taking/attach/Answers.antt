@@ -1,0 +1,13 @@
+use Rattle.std.proofs.Common.{refl}
+use Rattle.server_node.proofs.Events.{did_attach, did_fail}
+use Rattle.server_node.proofs.taking.attach.Goals as goal
+
+pub returns-in-Ok-clause-did : goal.returns-in-Ok-clause-did
+returns-in-Ok-clause-did g c service =
+    did_attach g.K.D.Draw.step g.V.Service.step g.K.S.Seal.lock (g.K.Desk.keys c.args.desk.now) _ _ c.args.now c.args.name _ c.in-Ok.effects
+    c.opens_what_it_sealed.ensures c.say_framed.ensures.ends c.say_framed.ensures.said c.say_framed.ensures.same_in refl refl (λ keys server stands. c.in-Ok.ensures.given keys server stands)
+
+pub returns-in-Err-clause-did : goal.returns-in-Err-clause-did
+returns-in-Err-clause-did g c service =
+    did_fail g.K.D.Draw.step g.V.Service.step g.K.S.Seal.lock (g.K.Desk.keys c.args.desk.now) _ _ _ c.in-Err.fault _
+    c.end_of.ensures refl refl (λ server stands memory. c.in-Err.ensures.unchanged_on_memory server stands memory) (λ memory. refl)

@@ -1,0 +1,173 @@
+-- What the events of a connection do, over a desk, a line and a link: scaffolding of proofs, and no promise.
+use Rattle.std.specs.Prelude.{◌≡◌, ◌≢◌, ◌⊎◌, ℕ, max, List, [], ◌∷◌, ◌++◌, zero, suc, Option, Some, None, Result, Ok, Err, ⊤}
+use Rattle.auth_keys.specs.declared.ring.RingKey.{RingKey}
+use Rattle.cipher_modes.specs.CounterMode.{CtrState}
+use Rattle.envelope.specs.Packet.{Lock}
+use Rattle.mt_edge.specs.Links.{Told}
+use Rattle.regs_service.specs.Served.{Step}
+use Rattle.server_rules.specs.Server.{Server}
+use Rattle.server_core.specs.declared.desk.DeskFault.{DeskFault}
+use Rattle.server_core.specs.declared.desk.DeskFault.TheVariants as faults
+use Rattle.server_node.specs.Steps.{IsQuiet, LineTells, SentBy}
+use Rattle.server_node.specs.Trace.{Act, IsOutside, Outside, Rules, Talk, after_acts, work_acts}
+use Rattle.server_node.specs.Writes.{WrittenBy}
+use Rattle.server_node.specs.declared.conn.ConnEnd.{ConnEnd}
+use Rattle.server_node.specs.declared.conn.ConnEnd.TheVariants as ends
+use Rattle.server_node.specs.declared.heard.SessionName.{SessionName}
+use Rattle.server_node.specs.declared.line.Line.{Line}
+
+-- where a connection stands: the servers that its desk stands for, its draw, the service, the sessions that were heard, the
+-- line, and what the link tells
+pub record Side (S V : Type 0) : Type 1 where
+  pub desk : Server → Type 0
+  pub drawn : S
+  pub service : V
+  pub heard : List SessionName
+  pub line : Line
+  pub told : Option Told
+
+-- its desk, its draw and its service are those of this talk
+pub record Serves {S V : Type 0} (side : Side S V) (talk : Talk S V) : Type 0 where
+  pub server : side.desk talk.server
+  pub drawn : side.drawn ≡ talk.draw
+  pub service : side.service ≡ talk.service
+
+-- it stands for this talk
+pub record Stands {S V : Type 0} (side : Side S V) (talk : Talk S V) : Type 0 where
+  pub serves : Serves side talk
+  pub heard : side.heard ≡ talk.heard
+  pub quiet : IsQuiet side.line side.heard
+
+-- Where the connection ended its desk and service are still those of the talk, but words may have been drawn in vain where
+-- memory ran out. After another fault of the desk nothing is known of it.
+abbrev pub StandsBy : {S V : Type 0} → Option ConnEnd → Side S V → Talk S V → Type 0
+StandsBy None side talk = Stands side talk
+StandsBy (Some ends.Memory) side talk = side.desk talk.server × (side.service ≡ talk.service)
+StandsBy (Some (ends.Journal fault)) side talk = ⊤
+StandsBy (Some ends.LinkFault) side talk = Serves side talk
+StandsBy (Some ends.Ended) side talk = Serves side talk
+StandsBy (Some (ends.Frame fault)) side talk = Serves side talk
+StandsBy (Some ends.Start) side talk = Serves side talk
+StandsBy (Some ends.TurnsSpent) side talk = Serves side talk
+StandsBy (Some ends.Stopped) side talk = Serves side talk
+
+-- all these events came, or a front of them where the connection ended
+abbrev pub IsPart : Option ConnEnd → List Act → List Act → Type 0
+IsPart None whole acts = whole ≡ acts
+IsPart (Some end) whole acts = (rest : List Act) × (whole ≡ acts ++ rest)
+
+-- the events that are due, which hang on the rules and on where they begin
+abbrev pub Due : Type 0 → Type 0 → Type 0
+Due S V = Rules S V → Talk S V → List Act
+
+abbrev pub then_due : {S V : Type 0} → Due S V → Due S V → Due S V
+then_due first second rules talk = first rules talk ++ second rules (after_acts rules talk (first rules talk))
+
+pub record Followed {S V : Type 0} (rules : Rules S V) (side : Side S V) (due : Due S V) (end : Option ConnEnd) (later : Side S V) (acts : List Act) (bytes : List ℕ) (talk : Talk S V) : Type 0 where
+  pub part : IsPart end (due rules talk) acts
+  pub stands : StandsBy end later (after_acts rules talk acts)
+  pub sends : (to : Option CtrState) (text : List ℕ) → LineTells side.line to talk.sent text → SentBy end later.line to (after_acts rules talk acts).sent (text ++ bytes)
+
+abbrev pub rules_of : {S V : Type 0} → (S → ℕ × S) → Step V → Outside → Rules S V
+rules_of step serve outside = record { step = step; serve = serve; outside = outside }
+
+-- These events came, and their packets were written, for whatever this stood for.
+pub record Did {S V : Type 0} (step : S → ℕ × S) (serve : Step V) (lock : Lock) (ring : List RingKey) (side : Side S V) (due : Due S V) (end : Option ConnEnd) (later : Side S V) : Type 0 where
+  pub acts : List Act
+  pub bytes : List ℕ
+  pub follows : (outside : Outside) (talk : Talk S V) → IsOutside lock ring outside → Stands side talk
+      → Followed (rules_of step serve outside) side due end later acts bytes talk
+  pub written : WrittenBy end bytes side.told later.told
+
+-- ---- work
+
+-- the most runs after a piece
+abbrev pub runs_max : ℕ
+runs_max = 1048576
+
+-- no job is ready then, or as many ran as there may be
+abbrev pub IsAll : Option ConnEnd → ℕ → ℕ → Type 0
+IsAll None ready count = (ready ≡ 0) ⊎ (count ≡ runs_max)
+IsAll (Some end) ready count = ⊤
+
+-- A tick came, and so many runs.
+pub record Worked {S V : Type 0} (step : S → ℕ × S) (serve : Step V) (lock : Lock) (ring : List RingKey) (side : Side S V) (now ready : ℕ) (end : Option ConnEnd) (later : Side S V) : Type 0 where
+  pub count : ℕ
+  pub did : Did step serve lock ring side (λ rules talk. work_acts now count) end later
+  pub all : IsAll end ready count
+
+-- ---- how events end a connection
+
+-- by the desk, or by what is sent
+abbrev pub IsEventEnd : (DeskFault → Type 0) → Option ConnEnd → Type 0
+IsEventEnd MayAnswer None = ⊤
+IsEventEnd MayAnswer (Some ends.LinkFault) = ⊤
+IsEventEnd MayAnswer (Some ends.Memory) = ⊤
+IsEventEnd MayAnswer (Some (ends.Journal fault)) = MayAnswer fault × (fault ≢ faults.Memory)
+IsEventEnd MayAnswer (Some ends.Ended) = ⊥
+IsEventEnd MayAnswer (Some (ends.Frame fault)) = ⊥
+IsEventEnd MayAnswer (Some ends.Start) = ⊥
+IsEventEnd MayAnswer (Some ends.TurnsSpent) = ⊥
+IsEventEnd MayAnswer (Some ends.Stopped) = ⊥
+
+-- how a fault of the desk ends it
+abbrev pub end_by : DeskFault → ConnEnd
+end_by faults.Memory = ends.Memory
+end_by faults.Closed = ends.Journal faults.Closed
+end_by (faults.Full len) = ends.Journal (faults.Full len)
+end_by faults.Disk = ends.Journal faults.Disk
+
+-- ---- how packets and pieces end a connection
+
+abbrev pub IsPacketEnd : (DeskFault → Type 0) → Option ConnEnd → Type 0
+IsPacketEnd MayAnswer None = ⊤
+IsPacketEnd MayAnswer (Some ends.LinkFault) = ⊤
+IsPacketEnd MayAnswer (Some ends.Memory) = ⊤
+IsPacketEnd MayAnswer (Some (ends.Journal fault)) = MayAnswer fault × (fault ≢ faults.Memory)
+IsPacketEnd MayAnswer (Some (ends.Frame fault)) = ⊤
+IsPacketEnd MayAnswer (Some ends.Ended) = ⊥
+IsPacketEnd MayAnswer (Some ends.Start) = ⊥
+IsPacketEnd MayAnswer (Some ends.TurnsSpent) = ⊥
+IsPacketEnd MayAnswer (Some ends.Stopped) = ⊥
+
+abbrev pub IsPieceEnd : (DeskFault → Type 0) → Option ConnEnd → Type 0
+IsPieceEnd MayAnswer None = ⊤
+IsPieceEnd MayAnswer (Some ends.LinkFault) = ⊤
+IsPieceEnd MayAnswer (Some ends.Memory) = ⊤
+IsPieceEnd MayAnswer (Some (ends.Journal fault)) = MayAnswer fault × (fault ≢ faults.Memory)
+IsPieceEnd MayAnswer (Some (ends.Frame fault)) = ⊤
+IsPieceEnd MayAnswer (Some ends.Start) = ⊤
+IsPieceEnd MayAnswer (Some ends.Stopped) = ⊤
+IsPieceEnd MayAnswer (Some ends.Ended) = ⊥
+IsPieceEnd MayAnswer (Some ends.TurnsSpent) = ⊥
+
+abbrev pub IsTurnEnd : (DeskFault → Type 0) → Option ConnEnd → Type 0
+IsTurnEnd MayAnswer None = ⊤
+IsTurnEnd MayAnswer (Some ends.LinkFault) = ⊤
+IsTurnEnd MayAnswer (Some ends.Memory) = ⊤
+IsTurnEnd MayAnswer (Some (ends.Journal fault)) = MayAnswer fault × (fault ≢ faults.Memory)
+IsTurnEnd MayAnswer (Some (ends.Frame fault)) = ⊤
+IsTurnEnd MayAnswer (Some ends.Start) = ⊤
+IsTurnEnd MayAnswer (Some ends.Stopped) = ⊤
+IsTurnEnd MayAnswer (Some ends.Ended) = ⊤
+IsTurnEnd MayAnswer (Some ends.TurnsSpent) = ⊥
+
+-- how a fed line ends one
+abbrev pub IsFeedEnd : Option ConnEnd → Type 0
+IsFeedEnd None = ⊤
+IsFeedEnd (Some ends.Memory) = ⊤
+IsFeedEnd (Some ends.Start) = ⊤
+IsFeedEnd (Some ends.LinkFault) = ⊥
+IsFeedEnd (Some (ends.Journal fault)) = ⊥
+IsFeedEnd (Some (ends.Frame fault)) = ⊥
+IsFeedEnd (Some ends.Stopped) = ⊥
+IsFeedEnd (Some ends.Ended) = ⊥
+IsFeedEnd (Some ends.TurnsSpent) = ⊥
+
+-- ---- packets that may still be answered
+
+-- the last of them was answered
+abbrev pub stop_by : Option ℕ → Result Unit ConnEnd
+stop_by None = Ok tt
+stop_by (Some zero) = Err ends.Stopped
+stop_by (Some (suc left)) = Ok tt

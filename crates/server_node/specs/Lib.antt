@@ -1,0 +1,6 @@
+pub mod Names
+pub mod Writes
+pub mod Record
+pub mod Steps
+pub mod Trace
+pub mod Doing

@@ -1,0 +1,71 @@
+-- What is written over a link, by how the connection ended then, if it did.
+use Rattle.std.specs.Prelude.{◌≡◌, ℕ, List, [], ◌++◌, Option, Some, None, IfSome, IsSome, IsSomeAnd, Result, Ok, Err}
+use Rattle.mt_edge.specs.Faults.{one_more}
+use Rattle.mt_edge.specs.Links.{Told}
+use Rattle.server_node.specs.declared.conn.ConnEnd.{ConnEnd}
+use Rattle.server_node.specs.declared.conn.ConnEnd.TheVariants as ends
+
+-- how it ended, if it did
+abbrev pub end_in : {X : Type 0} → Result X ConnEnd → Option ConnEnd
+end_in (Ok done) = None
+end_in (Err end) = Some end
+
+-- these bytes were written, and nothing was read
+pub record Wrote (bytes : List ℕ) (before after : Told) : Type 0 where
+  pub written : after.written ≡ before.written ++ bytes
+  pub came : after.came ≡ before.came
+  pub left : after.left ≡ before.left
+  pub reads : after.reads ≡ before.reads
+
+-- a front of these bytes was written
+pub record WroteFront (bytes : List ℕ) (before after : Told) : Type 0 where
+  pub front : List ℕ
+  pub rest : List ℕ
+  pub whole : bytes ≡ front ++ rest
+  pub wrote : Wrote front before after
+
+-- a front of them, where a write failed; else all of them
+abbrev pub WroteBy : Option ConnEnd → List ℕ → Told → Told → Type 0
+WroteBy (Some ends.LinkFault) bytes before after = WroteFront bytes before after
+WroteBy None bytes before after = Wrote bytes before after
+WroteBy (Some ends.Ended) bytes before after = Wrote bytes before after
+WroteBy (Some (ends.Frame fault)) bytes before after = Wrote bytes before after
+WroteBy (Some ends.Start) bytes before after = Wrote bytes before after
+WroteBy (Some ends.TurnsSpent) bytes before after = Wrote bytes before after
+WroteBy (Some ends.Stopped) bytes before after = Wrote bytes before after
+WroteBy (Some (ends.Journal fault)) bytes before after = Wrote bytes before after
+WroteBy (Some ends.Memory) bytes before after = Wrote bytes before after
+
+abbrev pub WrittenBy : Option ConnEnd → List ℕ → Option Told → Option Told → Type 0
+WrittenBy end bytes before after = IfSome after (λ last. IsSomeAnd before (λ first. WroteBy end bytes first last))
+
+-- the count of the link's faults: one call failed exactly where the connection ended by that
+abbrev pub CountsBy : Option ConnEnd → ℕ → ℕ → Type 0
+CountsBy (Some ends.LinkFault) before after = after ≡ one_more before
+CountsBy None before after = after ≡ before
+CountsBy (Some ends.Ended) before after = after ≡ before
+CountsBy (Some (ends.Frame fault)) before after = after ≡ before
+CountsBy (Some ends.Start) before after = after ≡ before
+CountsBy (Some ends.TurnsSpent) before after = after ≡ before
+CountsBy (Some ends.Stopped) before after = after ≡ before
+CountsBy (Some (ends.Journal fault)) before after = after ≡ before
+CountsBy (Some ends.Memory) before after = after ≡ before
+
+-- nothing was read, and bytes may have been written
+pub record OnlyWrites (before after : Told) : Type 0 where
+  pub bytes : List ℕ
+  pub wrote : Wrote bytes before after
+
+-- it goes on telling where no call failed
+abbrev pub GoesOn : Option ConnEnd → Option Told → Option Told → Type 0
+GoesOn None before after = IsSome before → IsSome after
+GoesOn (Some end) before after = Unit {0}
+
+-- What a link is after writes: it is in its place, one call failed exactly where the connection ended by that, and it goes on
+-- telling unless a call failed, and through the first one that fails.
+pub record Goes (end : Option ConnEnd) (place faults : ℕ) (told : Option Told) (place_then faults_then : ℕ) (told_then : Option Told) : Type 0 where
+  pub same_place : place_then ≡ place
+  pub counted : CountsBy end faults faults_then
+  pub writes : IfSome told_then (λ last. IsSomeAnd told (λ first. OnlyWrites first last))
+  pub first_fault : IsSome told → faults ≡ 0 → IsSome told_then
+  pub goes_on : GoesOn end told told_then

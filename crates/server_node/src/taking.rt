@@ -1,0 +1,199 @@
+//! What a connection brings.
+
+ghost use Rattle.std.specs.Prelude.{◌≡◌, ◌≢◌, ◌∷◌, []};
+ghost use Rattle.server_node.specs.Doing.{Did, IsEventEnd, IsPacketEnd, IsPieceEnd, end_by, stop_by};
+ghost use Rattle.server_node.specs.Record.{Answered, counted_down};
+ghost use Rattle.server_node.specs.Steps.{HearsAlike, IsSameIn};
+ghost use Rattle.server_node.specs.Trace.{Attach};
+ghost use Rattle.server_node.specs.Writes.{Goes, end_in};
+
+use crate::conn::ConnEnd;
+use crate::heard::{HeardSessions, SessionName};
+use crate::line::Line;
+use crate::sending::{say_framed, say_unknown};
+use envelope::Refusal;
+use envelope::laws::opens_what_it_sealed;
+use msg_ids::Moment;
+use mt_edge::Link;
+use octets::{Memory, Octets};
+use regs_service::Service;
+use server_core::{Desk, DeskFault, Heard};
+use std::alloc::Global;
+use transport::{Framed, Next, Wire};
+
+/// How a connection ends by a fault of the desk.
+pub(crate) fn end_of(fault: DeskFault) -> ConnEnd
+    ensures { result ≡ end_by fault }
+{
+    match fault {
+        DeskFault::Memory => ConnEnd::Memory,
+        fault => ConnEnd::Journal(fault),
+    }
+}
+
+// A connection is opened for the session of this name, and what it owes is sent.
+#[tactic(auto, using(crate::proofs::Events::fault_is_end, crate::proofs::Events::send_is_end))]
+fn attach<L: Link, K: Desk, V: Service>(
+    alloc: Global,
+    desk: &mut K,
+    name: SessionName,
+    now: Moment,
+    wire: &mut Wire<Framed>,
+    link: &mut L,
+    heard: &HeardSessions,
+    text: &mut Octets,
+) -> Result<(), ConnEnd>
+    ensures did { (service : V) → Did K.D.step V.step K.S.lock (K.keys desk.old)
+        (record { desk = K.StandsFor desk.old; drawn = K.drawn desk.old; service = service; heard = heard.now; line = Line.Framed wire.old; told = L.told link.old })
+        (λ rules talk. Attach now name ∷ []) (end_in result)
+        (record { desk = K.StandsFor desk.new; drawn = K.drawn desk.new; service = service; heard = heard.now; line = Line.Framed wire.new; told = L.told link.new }) }
+    ensures goes { Goes (end_in result) (L.place link.old) (L.faults link.old) (L.told link.old) (L.place link.new) (L.faults link.new) (L.told link.new) }
+    ensures ends { IsEventEnd K.MayAnswer (end_in result) }
+    ensures same_in { IsSameIn wire.old wire.new }
+    ensures same_keys { K.keys desk.new ≡ K.keys desk.old }
+{
+    opens_what_it_sealed::<K::S>();
+    match desk.attach(alloc, name.key, name.session, now) {
+        Ok(effects) => say_framed(alloc, wire, link, heard, &effects.out, text),
+        Err(fault) => Err(end_of(fault)),
+    }
+}
+
+/// What came next over a connection.
+#[derive(Clone, Copy, Debug, PartialEq, Eq)]
+enum Came {
+    /// No further packet is whole.
+    Nothing,
+    /// A packet.
+    Packet,
+    /// The first packet of this session.
+    First(SessionName),
+}
+
+// The desk takes the next packet of the connection, where one is whole, and what it owes is sent.
+#[tactic(auto, using(crate::proofs::Events::fault_is_packet_end, crate::proofs::Events::send_is_packet_end, crate::proofs::Events::fault_of_desk, crate::proofs::Goings::goes_same))]
+fn hear<L: Link, K: Desk>(
+    alloc: Global,
+    desk: &mut K,
+    now: Moment,
+    wire: &mut Wire<Framed>,
+    link: &mut L,
+    heard: &mut HeardSessions,
+    text: &mut Octets,
+) -> Result<Came, ConnEnd>
+    ensures goes { Goes (end_in result) (L.place link.old) (L.faults link.old) (L.told link.old) (L.place link.new) (L.faults link.new) (L.told link.new) }
+    ensures ends { IsPacketEnd K.MayAnswer (end_in result) }
+    ensures same_keys { K.keys desk.new ≡ K.keys desk.old }
+{
+    let reply = match wire.next() {
+        Next::Packet(packet) => match desk.on_packet(alloc, now, packet) {
+            Ok(reply) => reply,
+            Err(fault) => return Err(end_of(fault)),
+        },
+        Next::More => return Ok(Came::Nothing),
+        Next::Fault(fault) => return Err(ConnEnd::Frame(fault)),
+    };
+    match reply.heard {
+        Heard::NotOpened(Refusal::NoKey { id: _ }) => {
+            say_unknown(alloc, wire, link, text)?;
+            Ok(Came::Packet)
+        }
+        Heard::NotOpened(_) => Ok(Came::Packet),
+        Heard::Judged { key, session } => {
+            let name = SessionName { key, session };
+            let is_first = match heard.note(name) {
+                Ok(is_first) => is_first,
+                Err(Memory) => return Err(ConnEnd::Memory),
+            };
+            say_framed(alloc, wire, link, heard, &reply.out, text)?;
+            Ok(if is_first {
+                Came::First(name)
+            } else {
+                Came::Packet
+            })
+        }
+    }
+}
+
+// The next packet of the connection comes, and what it owes is sent; directly after a session's first packet comes its
+// attach. It says whether there was a packet.
+#[tactic(auto, using(crate::proofs::Goings::event_is_packet_end, crate::proofs::Goings::goes_both))]
+fn take_packet<L: Link, K: Desk, V: Service>(
+    alloc: Global,
+    desk: &mut K,
+    now: Moment,
+    wire: &mut Wire<Framed>,
+    link: &mut L,
+    heard: &mut HeardSessions,
+    text: &mut Octets,
+) -> Result<bool, ConnEnd>
+    ensures goes { Goes (end_in result) (L.place link.old) (L.faults link.old) (L.told link.old) (L.place link.new) (L.faults link.new) (L.told link.new) }
+    ensures ends { IsPacketEnd K.MayAnswer (end_in result) }
+    ensures same_keys { K.keys desk.new ≡ K.keys desk.old }
+{
+    match hear(alloc, desk, now, wire, link, heard, text) {
+        Ok(Came::Nothing) => Ok(false),
+        Ok(Came::Packet) => Ok(true),
+        Ok(Came::First(name)) => {
+            match attach::<L, K, V>(alloc, desk, name, now, wire, link, heard, text) {
+                Ok(()) => Ok(true),
+                Err(end) => Err(end),
+            }
+        }
+        Err(end) => Err(end),
+    }
+}
+
+// One packet more was answered.
+fn count_down(left: &mut Option<u64>) -> Result<(), ConnEnd>
+    requires some { left.old ≢ Some 0 }
+    ensures counted { left.new ≡ counted_down left.old }
+    ensures stops { result ≡ stop_by left.new }
+{
+    match *left {
+        Some(count) => {
+            *left = Some(count - 1);
+            if count == 1 {
+                return Err(ConnEnd::Stopped);
+            }
+            Ok(())
+        }
+        None => Ok(()),
+    }
+}
+
+/// The packets that are whole come, one after the other.
+///
+/// # Errors
+///
+/// Why the connection ends.
+#[tactic(auto, using(crate::proofs::Goings::goes_both, crate::proofs::Goings::one_fewer, crate::proofs::Goings::still_left, crate::proofs::Goings::packet_is_piece_end))]
+pub(crate) fn take_packets<L: Link, K: Desk, V: Service>(
+    alloc: Global,
+    desk: &mut K,
+    now: Moment,
+    wire: &mut Wire<Framed>,
+    link: &mut L,
+    heard: &mut HeardSessions,
+    text: &mut Octets,
+    left: &mut Option<u64>,
+    most: usize,
+) -> Result<(), ConnEnd>
+    requires some { left.old ≢ Some 0 }
+    ensures goes { Goes (end_in result) (L.place link.old) (L.faults link.old) (L.told link.old) (L.place link.new) (L.faults link.new) (L.told link.new) }
+    ensures ends { IsPieceEnd K.MayAnswer (end_in result) }
+    ensures left { Answered (end_in result) left.old left.new }
+    ensures same_keys { K.keys desk.new ≡ K.keys desk.old }
+{
+    'packets: for _count in 0..most {
+        match take_packet::<L, K, V>(alloc, desk, now, wire, link, heard, text) {
+            Ok(true) => {}
+            Ok(false) => return Ok(()),
+            Err(end) => return Err(end),
+        }
+        if let Err(end) = count_down(left) {
+            return Err(end);
+        }
+    }
+    Ok(())
+}
