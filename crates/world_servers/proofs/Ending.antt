@@ -29,7 +29,7 @@ use Rattle.world_servers.proofs.Speaking.{AnySaid}
 use Rattle.world_servers.proofs.Speech.{Adds}
 use Rattle.world_servers.proofs.Found.{found_in}
 use Rattle.world_servers.proofs.Sending.{sends_on}
-use Rattle.world_servers.proofs.Gone.{AreNamedApart, apart_lines, lost_named, named_apart, none_are_lost, none_lost}
+use Rattle.world_servers.proofs.Gone.{apart_lines, lost_named, named_apart, none_are_lost, none_lost}
 use Rattle.world_servers.proofs.Events.{IsItsOwn, all_mapped, and_first, lines_put, lost_on, mapped_in, name_is, speaks_with}
 
 -- ---- what a session owes
@@ -272,7 +272,7 @@ module _ {S : Type 0} (adds : Adds) (extends : (w : World) (list : List Move) �
   abbrev one_lost : State S → Session → State S
   one_lost so_far session = lost (name_of session) so_far
 
-  module _ (said : List Session) (said_apart : AreNamedApart said) where
+  module _ (said : List Session) (said_apart : AreApart said) where
     -- all that are there have spoken, and are as they were then
     abbrev EndsSo : World → State S → Type 0
     EndsSo w state = EventEnds w gone lines said state
@@ -289,9 +289,10 @@ module _ {S : Type 0} (adds : Adds) (extends : (w : World) (list : List Move) �
           gives = record {
             more = h.more ++ more;
             stands = subst (λ (all : List Session). EventStands (after_all w l.moves) (record gone { lost = all }) lines (one_lost state session)) (append_assoc gone.lost h.more more) l.gives;
-            lost = lost_named lines said state.sessions h.more n said_apart (λ o there is. each_of (Contains said) state.sessions h.kept o there) h.lost;
+            lost = lost_named lines said state.sessions h.more n (named_apart said said_apart) (λ o there is. each_of (Contains said) state.sessions h.kept o there) h.lost;
             kept = all_of (Contains said) (without_session n state.sessions)
                 (λ o there. each_of (Contains said) state.sessions h.kept o (from_filter (λ (o : Session). not (is_named n o)) state.sessions o there).0);
+            apart = said_apart;
             out = all_still w l.moves l.lawful state.sent h.out;
           };
         }
@@ -315,11 +316,12 @@ ends_on adds extends on any whole setting gone lines w state reached h go out =
     (sends_names adds extends on any whole setting gone lines owed (names_in owed) w state reached (record { stands = h; same = refl; go = go; out = out }))
     (λ later reached k.
     let apart : AreApart end.sessions = apart_lines lines end.sessions k.stands.stands.apart in
-    loses_all adds extends on any whole setting gone lines owed end.sessions (named_apart end.sessions apart) (filter is_spent end.sessions) later end reached
+    loses_all adds extends on any whole setting gone lines owed end.sessions apart (filter is_spent end.sessions) later end reached
     (record {
       more = [];
       stands = none_lost later gone lines end k.stands;
       lost = none_are_lost (lined lines) end.sessions;
       kept = all_of (Contains end.sessions) end.sessions (λ o there. there);
+      apart = apart;
       out = k.out;
     }))

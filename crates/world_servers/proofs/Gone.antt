@@ -1,16 +1,17 @@
 -- Sessions that are there, or lost, by their names.
-use Rattle.std.proofs.Common.{◌≡◌, ℕ, zero, suc, Option, None, Some, length, ◌≢◌, ◌<◌, ◌||◌, not, Bool, true, false, List, [], ◌∷◌, ◌++◌, filter, map, inl, inr, refl, sym, ap, subst, ◌∙◌, arith}
+use Rattle.std.proofs.Common.{◌≡◌, ℕ, zero, suc, Option, None, Some, length, ◌≢◌, ◌<◌, ◌||◌, not, Bool, true, false, List, [], ◌∷◌, ◌++◌, filter, if◌then◌else◌, map, inl, inr, refl, sym, ap, subst, ◌∙◌, arith}
 use Rattle.std.specs.Prelude.{◌⊎◌}
 use Rattle.std.specs.List.{AllByRecursion, Contains}
 use Rattle.std.proofs.lemmas.Bool.{cases_Bool}
 use Rattle.std.proofs.lemmas.List.Elements.{Contains-append_left, Contains-append_right}
 use Rattle.salt_line.specs.Line.{Line}
 use Rattle.waits.specs.declared.job.Job.{Job}
-use Rattle.waits.specs.Jobs.{Queue}
+use Rattle.waits.specs.Jobs.{Queue, without_ready}
 use Rattle.server_rules.specs.Server.{Name, Session, is_named, is_same, name_of, session_named, with_session, without_session}
 use Rattle.server_rules.specs.Event.{Setting, Speaker, State, speaker_in, speaks, spoken_by}
-use Rattle.server_rules.specs.Speaking.{msg_wait_failed}
-use Rattle.server_rules.specs.Waiting.{after_failures, all_given_up, first_failed, first_given_up, given_up, gives_up}
+use Rattle.server_rules.specs.Speaking.{msg_wait_failed, msg_wait_timeout}
+use Rattle.server_rules.specs.Waiting.{after_failures, after_timeouts, all_given_up, first_failed, first_given_up, first_overdue, given_up, gives_up}
+use Rattle.server_rules.specs.Answer.{finishes, runs, ticks}
 use Rattle.world_rules.specs.World.{has_named}
 use Rattle.session_moves.specs.World.{World}
 use Rattle.world_servers.specs.Servers.{AreApart, Past, ServerStands, with_lost}
@@ -72,7 +73,7 @@ none_are_lost told sessions = record {
 
 -- ---- names that stay, and one that goes
 
-still_none : (name other : Name) (sessions : List Session) → has_named name sessions ≡ false → has_named name (without_session other sessions) ≡ false
+pub still_none : (name other : Name) (sessions : List Session) → has_named name sessions ≡ false → has_named name (without_session other sessions) ≡ false
 still_none name other sessions is =
     none_has name (without_session other sessions)
     (λ o there. has_none name sessions is o (from_filter (λ (o : Session). not (is_named other o)) sessions o there).0)
@@ -136,6 +137,21 @@ has_put name b (o ∷ sessions) =
     ap (λ (n : Name). is_same name n || has_named name (with_session b sessions)) (put_name b o)
     ∙ ap (λ (h : Bool). is_named name o || h) (has_put name b sessions)
 
+-- the one that has its name is it
+pub only_put : (b : Session) (sessions : List Session) (z : Session) → Contains (with_session b sessions) z → name_of z ≡ name_of b → z ≡ b
+only_put b [] z there is = absurd (empty_has z there)
+only_put b (o ∷ sessions) z there is =
+    elim (first_or z (put b o) (with_session b sessions) there) [
+      | inl same ↦
+          elim (cases_Bool (is_named (name_of b) o)) [
+            | inl named ↦ sym same ∙ ap (λ (c : Bool). if c then b else o) named
+            | inr fails ↦
+                let its : name_of o ≡ name_of b = sym (put_name b o) ∙ ap (λ (s : Session). name_of s) same ∙ is in
+                let e : false ≡ true = sym fails ∙ ap (λ (n : Name). is_same (name_of b) n) its ∙ named_itself b in absurd (cc)
+          ]
+      | inr other ↦ only_put b sessions z other is
+    ]
+
 has_by : {S : Type 0} (name : Name) (speak : Speaker S → Speaker S) (state : State S) (found : Option Session) → has_named name (spoken_by found speak state).sessions ≡ has_named name state.sessions
 has_by name speak state None = refl
 has_by name speak state (Some y) = has_put name (speak (speaker_in state y)).session state.sessions
@@ -155,6 +171,17 @@ has_all_given setting content first name (suc n) state =
 
 pub has_failures : {S : Type 0} (setting : Setting S) (name : Name) (state : State S) → has_named name (after_failures setting state).sessions ≡ has_named name state.sessions
 has_failures setting name state = has_all_given setting msg_wait_failed first_failed name (length state.jobs) state
+
+pub has_ticked : {S : Type 0} (setting : Setting S) (name : Name) (state : State S) → has_named name (ticks setting state).sessions ≡ has_named name state.sessions
+has_ticked setting name state =
+    has_failures setting name (after_timeouts setting state) ∙ has_all_given setting msg_wait_timeout (first_overdue setting.now) name (length state.jobs) state
+
+pub has_run : {S : Type 0} (setting : Setting S) (place : ℕ) (job : Job) (reply : List ℕ) (name : Name) (state : State S)
+    → has_named name (runs setting place job reply state).sessions ≡ has_named name state.sessions
+has_run setting place job reply name state =
+    let rest : State _ = record state { jobs = without_ready place state.jobs } in
+    let at : Name = record { key = job.key; session = job.session } in
+    has_failures setting name (speaks at (finishes setting job reply) rest) ∙ has_spoken name at (finishes setting job reply) rest
 
 -- the session of a name is lost, as it was before
 pub lost_named : (lines : Name → Line) (from now more : List Session) (name : Name) → AreNamedApart from → ((o : Session) → Contains now o → is_named name o ≡ true → Contains from o)

@@ -31,7 +31,7 @@ use Rattle.world_servers.proofs.Losing.{append_nothing}
 abbrev pub Grown : Session → Session → Type 0
 Grown before after = (more : List Row) × (after.salts ≡ record before.salts { rows = before.salts.rows ++ more })
 
-abbrev with_line_rows : Line → List Row → Line
+abbrev pub with_line_rows : Line → List Row → Line
 with_line_rows line rows = record line { rows = rows }
 
 pub grown_itself : (x : Session) → Grown x x

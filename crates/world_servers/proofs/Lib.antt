@@ -33,3 +33,8 @@ pub mod Taking
 pub mod PacketEnd
 pub mod Hearing
 pub mod Growth
+pub mod Fresh
+pub mod Chosen
+pub mod Drawn
+pub mod Whole
+pub mod Served

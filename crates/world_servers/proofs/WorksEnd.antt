@@ -69,6 +69,12 @@ module _ {S : Type 0} (adds : Adds) (extends : (w : World) (list : List Move) �
       → Leads later (Ends state)
   ends_so state go none later reached k = ends_on adds extends on any whole setting gone lines later state reached k go (none_out later state.sent none)
 
+  -- an event that does nothing
+  pub idle_ends : Leads w (Ends start)
+  idle_ends =
+      goes_on on w Begun (Ends start) reached (begins_on on w gone lines more server draw reached s h)
+      (λ later reached k. ends_so start (all_of (MayAllGo []) (with_lines lines server.sessions) (λ o there. tt)) refl later reached k)
+
   pub run_ends : GivesUpAlone S → FinishesAlone S → (place : ℕ) (job : Job) (reply : List ℕ) → ready_job place server.jobs ≡ Some job → Leads w (Ends (runs setting place job reply start))
   run_ends alone finishing place job reply is =
       let state : State S = runs setting place job reply start in

@@ -13,7 +13,7 @@ use Rattle.salt_line.specs.Line.{Line}
 use Rattle.server_rules.specs.Event.{Envelope, Owed, State}
 use Rattle.server_rules.specs.Sending.{messages_by}
 use Rattle.session_moves.specs.Table.Status.{Unmade}
-use Rattle.world_servers.specs.Servers.{HasSalt, Past, with_lost}
+use Rattle.world_servers.specs.Servers.{AreApart, HasSalt, Past, with_lost}
 use Rattle.world_servers.specs.Events.{AreLost, EventStands, lined}
 
 -- each message spells its item
@@ -53,10 +53,12 @@ pub record WentOut (w : World) (envelope : Envelope) : Type 0 where
   pub session : (w.servers unique).session ≡ envelope.session
 
 -- An event has come so far that all was said by these sessions and packets went out: the server stands there, with those of
--- the sessions that are lost by now; the others are as they were then.
+-- the sessions that are lost by now; the others are as they were then, and no two have one
+-- session number.
 pub record EventEnds {S : Type 0} (w : World) (past : Past) (lines : Name → Line) (said : List Session) (state : State S) : Type 0 where
   pub more : List Session
   pub stands : EventStands w (with_lost more past) lines state
   pub lost : AreLost (lined lines) said state.sessions more
   pub kept : AllByRecursion (Contains said) state.sessions
+  pub apart : AreApart said
   pub out : AllByRecursion (λ sent. WentOut w sent.envelope) state.sent

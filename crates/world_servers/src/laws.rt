@@ -40,6 +40,12 @@ ghost use Rattle.world_servers.specs.Events.{AreLines, AreLost, AreOpenJobs, Eve
 ghost use Rattle.server_laws.specs.Order.{AreOrdered, IsGoingOn};
 ghost use Rattle.world_servers.specs.Speaking.{IsDue, IsOpen, IsSaid, IsWithin, SpeaksThere, with_line};
 ghost use Rattle.world_servers.specs.Servers.{AreNewSalts, AsksThere, CanSay, GoOn, HasForgotten, IsAcceptedThere, IsJobOf, IsNewSalt, IsSuch, IsUp, Past, ServerStands, WasAnswered, WasJudged, with_entries, with_history, with_lost, with_replies, with_row, with_rows};
+ghost use Rattle.server_rules.specs.Events.{Attach, Loss, Packet as Comes, Restart, Tick, Work};
+ghost use Rattle.world_rules.specs.World as rules;
+ghost use Rattle.world_rules.specs.Setting as settings;
+ghost use Rattle.world_rules.specs.Ends.{serves};
+ghost use Rattle.world_rules.specs.Premises.{Fresh};
+ghost use Rattle.world_servers.specs.Worlds.{HasServed, StandsIn};
 
 use draws::Draw;
 use id_window::laws::others_are_not_above_the_floor;
@@ -377,4 +383,34 @@ pub fn packets_are_taken_by_moves<D: Draw>()
     packing::laws::packets_have_all_messages();
     server_laws::laws::new_sessions_say_so::<D>();
     server_lives::laws::new_sessions_owe_little::<D>();
+}
+
+/// What the server of a world does in an event is a list of lawful moves, after which the server behind the event stands
+/// there, with all that was lost and entered by then, and each packet that it made went out there: a run, a tick, a
+/// connection that is opened, a loss, a restart, and a packet that doesn't open, which is no move. The server is in order, and
+/// the words drawn for session numbers, unique numbers and salts differ.
+pub fn events_of_worlds_are_moves<D: Draw, V>()
+    ensures work { (w : World) (setting : settings.Setting D V) (world : rules.World D V) (moment place : ℕ) → Reached w → StandsIn w world
+        → AreOrdered world.server.sessions world.server.jobs → Fresh (serves setting (Work moment place) world)
+        → Leads w (λ later. HasServed later world (serves setting (Work moment place) world)) }
+    ensures tick { (w : World) (setting : settings.Setting D V) (world : rules.World D V) (moment : ℕ) → Reached w → StandsIn w world
+        → AreOrdered world.server.sessions world.server.jobs → Fresh (serves setting (Tick moment) world)
+        → Leads w (λ later. HasServed later world (serves setting (Tick moment) world)) }
+    ensures attach { (w : World) (setting : settings.Setting D V) (world : rules.World D V) (moment : ℕ) (name : Name) → Reached w → StandsIn w world
+        → AreOrdered world.server.sessions world.server.jobs → Fresh (serves setting (Attach moment name) world)
+        → Leads w (λ later. HasServed later world (serves setting (Attach moment name) world)) }
+    ensures loss { (w : World) (setting : settings.Setting D V) (world : rules.World D V) (name : Name) → StandsIn w world
+        → Leads w (λ later. HasServed later world (serves setting (Loss name) world)) }
+    ensures restart { (w : World) (setting : settings.Setting D V) (world : rules.World D V) → Reached w → StandsIn w world
+        → Leads w (λ later. HasServed later world (serves setting Restart world)) }
+    ensures unopened { (w : World) (setting : settings.Setting D V) (world : rules.World D V) (moment : ℕ) → StandsIn w world
+        → HasServed w world (serves setting (Comes moment None) world) }
+{
+    moves_only_add();
+    moves_go_on();
+    numbers_are_given_once();
+    what_was_not_made_is_blank();
+    packing::laws::packets_have_all_messages();
+    server_laws::laws::sessions_speak_for_themselves::<D>();
+    server_laws::laws::new_sessions_say_so::<D>();
 }
