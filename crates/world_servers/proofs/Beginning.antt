@@ -99,7 +99,7 @@ put_between (o ∷ done) x new rest key number h =
     ap (λ (z : Session). z ∷ with_session new (done ++ x ∷ rest)) (put_other new o (λ same. differs (sym number ∙ sym same)))
     ∙ ap (λ (l : List Session). o ∷ l) (put_between done x new rest key number h.1)
 
-draws_each : GoOn → (w : World) (gone : Past) (done rest : List Session) (jobs : Queue) (lines : Name → Line) (more : Name → List Row) → Reached w → ServerStands w gone (done ++ rest) jobs
+pub draws_each : GoOn → (w : World) (gone : Past) (done rest : List Session) (jobs : Queue) (lines : Name → Line) (more : Name → List Row) → Reached w → ServerStands w gone (done ++ rest) jobs
     → AreLines w lines more rest → Leads w (λ later. ServerStands later gone (done ++ with_lines lines rest) jobs)
 draws_each on w gone done [] jobs lines more reached s h = stays w (λ later. ServerStands later gone (done ++ []) jobs) s
 draws_each on w gone done (x ∷ rest) jobs lines more reached s h =

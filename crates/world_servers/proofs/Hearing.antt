@@ -140,9 +140,12 @@ module _ {S : Type 0} (on : GoOn) (blank : (w : World) (unique : ℕ) → Reache
         let none = blank w z.unique reached unmade in
         makes_with w gone state.sessions state.jobs h bare refl refl refl some unmade (record { salts = none.0; judged = none.1; forgotten = none.2 }) owner differ no_jobs on reached first_row fresh
 
+    abbrev AreThereOr : List Session → List Session → List Session → Type 0
+    AreThereOr before now more = AllByRecursion (λ (o : Session). Contains now o ⊎ Contains more o) before
+
     -- it stands there, where some sessions were lost
     abbrev Stands : State S → World → Type 0
-    Stands s later = (more : List Session) × ServerStands later (with_lost more gone) s.sessions s.jobs × AreLost (λ o. o) state.sessions s.sessions more
+    Stands s later = (more : List Session) × ServerStands later (with_lost more gone) s.sessions s.jobs × AreLost (λ o. o) state.sessions s.sessions more × AreThereOr state.sessions s.sessions more
 
     all_there : (rest : List Session) → ((o : Session) → Contains state.sessions o → Contains rest o) → AreLost (λ o. o) state.sessions rest []
     all_there rest there = record {
@@ -157,6 +160,7 @@ module _ {S : Type 0} (on : GoOn) (blank : (w : World) (unique : ℕ) → Reache
           [],
           nothing_lost later gone (state.sessions ++ z ∷ []) state.jobs k,
           all_there (state.sessions ++ z ∷ []) (λ o among. Contains-append_left state.sessions (z ∷ []) o among),
+          all_of (λ (o : Session). Contains (state.sessions ++ z ∷ []) o ⊎ Contains [] o) state.sessions (λ o among. inl (Contains-append_left state.sessions (z ∷ []) o among)),
         )) made
 
     -- the one heard least recently is lost
@@ -217,6 +221,15 @@ module _ {S : Type 0} (on : GoOn) (blank : (w : World) (unique : ℕ) → Reache
             ]);
       }
 
+      there_or : AreThereOr state.sessions left more
+      there_or =
+          all_of (λ (o : Session). Contains left o ⊎ Contains more o) state.sessions
+          (λ o among.
+          elim (cases_Bool (is_named n o)) [
+            | inl named ↦ inr (kept_in (is_named n) (state.sessions ++ z ∷ []) o (Contains-append_left state.sessions (z ∷ []) o among) named)
+            | inr not_so ↦ inl (Contains-append_left (without_session n state.sessions) (z ∷ []) o (kept_in (λ (o : Session). not (is_named n o)) state.sessions o among (ap not not_so)))
+          ])
+
       lost_first : Leads w (Stands (makes setting envelope (lost n state)))
       lost_first =
           goes_on on w (λ later. ServerStands later gone (state.sessions ++ z ∷ []) state.jobs) (Stands (makes setting envelope (lost n state))) reached made
@@ -226,6 +239,7 @@ module _ {S : Type 0} (on : GoOn) (blank : (w : World) (unique : ℕ) → Reache
             more,
             subst (λ (l : List Session). ServerStands last (with_lost more gone) l (without_jobs_of n.key n.session state.jobs)) (filtered_last (λ o. not (is_named n o)) state.sessions z (ap not not_z)) m,
             are_lost,
+            there_or,
           ))
           (loses later gone (state.sessions ++ z ∷ []) state.jobs n k))
 

@@ -38,3 +38,5 @@ pub mod Chosen
 pub mod Drawn
 pub mod Whole
 pub mod Served
+pub mod Heard
+pub mod Comes

@@ -388,3 +388,29 @@ module _ {S : Type 0} (adds : Adds) (on : MovesGoOn) (alone : GivesUpAlone S) (o
         goes_on on w (λ later. Going later (opens_of judged) next × AreJudged later judged bodies) (λ later. (opened : List ℕ) × Going later opened (fold (settles setting name) next (zip judged bodies))) reached
         (record { moves = l.moves; lawful = l.lawful; own = l.own; gives = (l.gives, all_still w l.moves l.lawful judged bodies are.1) })
         (λ later reached k. all_settle judged bodies later next reached k.0 (All-tail P judgement judged told) k.1 within)
+
+    -- the order and the session itself, whatever stands there
+
+    pub order_fold : (judged : List Judgement) (bodies : List (List ℕ)) (state : State S) → IsGoingOn past (open_only name (opens_of judged)) state.sessions state.jobs
+        → All (λ judgement. IsTold judgement.number judgement.verdict (past name)) judged
+        → (opened : List ℕ) × IsGoingOn past (open_only name opened) (fold (settles setting name) state (zip judged bodies)).sessions (fold (settles setting name) state (zip judged bodies)).jobs
+    order_fold [] bodies state h told = ([], h)
+    order_fold (judgement ∷ judged) [] state h told = (opens_of (judgement ∷ judged), h)
+    order_fold (judgement ∷ judged) (body ∷ bodies) state h told =
+        let P : Judgement → Type 0 = λ judgement. IsTold judgement.number judgement.verdict (past name) in
+        let done : State S = rowed judgement body state in
+        let heard : State S = speaks name (tells_of judgement.number) done in
+        order_fold judged bodies (after_failures setting heard)
+        (orders.failures setting past (open_only name (opens_of judged)) heard
+        (orders.tells name judgement.number past (opens_of judged) done
+        (orders.row setting name judgement.number judgement.seq judgement.verdict body past (opens_of judged) state (All-head P judgement judged told) h)))
+        (All-tail P judgement judged told)
+
+    pub there_fold : (judged : List Judgement) (bodies : List (List ℕ)) (state : State S) → There state → There (fold (settles setting name) state (zip judged bodies))
+    there_fold [] bodies state h = h
+    there_fold (judgement ∷ judged) [] state h = h
+    there_fold (judgement ∷ judged) (body ∷ bodies) state h =
+        let done : State S = rowed judgement body state in
+        let heard : State S = speaks name (tells_of judgement.number) done in
+        there_fold judged bodies (after_failures setting heard)
+        (failures_there said name unique alone setting heard (tells_there judgement.number done (row_there judgement.number judgement.seq judgement.verdict body state h)))

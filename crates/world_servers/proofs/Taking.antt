@@ -54,12 +54,12 @@ use Rattle.world_servers.proofs.Events.{IsItsOwn, all_mapped, lines_put, mapped_
 use Rattle.world_servers.proofs.Gone.{AreNamedApart, has_spoken, lost_alike, none_are_lost, none_lost}
 use Rattle.world_servers.proofs.Quiet.{FailedOwn, IsOther, none_failed, own_speaks}
 use Rattle.world_servers.proofs.Jobs.{GivesUpAlone}
-use Rattle.world_servers.proofs.Named.{Speaks, Within, none_all, one_all}
+use Rattle.world_servers.proofs.Named.{IsThere, Speaks, Within, none_all, one_all}
 use Rattle.world_servers.proofs.Noticing.{AreNoticed, NoticedIn, packet_noticed}
 use Rattle.world_servers.proofs.PacketEnd.{Begins, ByName, OthersHeard, OwesSo, begins_fold, found_itself, others_fold}
 use Rattle.world_servers.proofs.HeardOwe.{OwesHeard, heard_may_go}
 use Rattle.world_servers.proofs.WorksEnd.{same_itself}
-use Rattle.world_servers.proofs.Settling.{AreJudged, Asks, Going, IsJudged, Orders, OwesAlone, all_settle, all_still, all_within}
+use Rattle.world_servers.proofs.Settling.{AreJudged, Asks, Going, IsJudged, Orders, OwesAlone, all_settle, all_still, all_within, order_fold, there_fold}
 
 -- ---- what a packet opens with
 
@@ -305,6 +305,27 @@ module _ {S : Type 0} (adds : Adds) (on : MovesGoOn) (alone : GivesUpAlone S) (o
 
   abbrev pub Ends : World → Type 0
   Ends later = (numbers : List ℕ) × GoesOn later numbers done
+
+  told_all : All (λ (judgement : Judgement). IsTold judgement.number judgement.verdict (past name)) judged
+  told_all =
+      subst (λ (history : History). All (λ (judgement : Judgement). IsTold judgement.number judgement.verdict history) judged) (sym (opening.own_past name later_history (past_in heard.sessions)))
+      (opening.told way x message (jobs_of name heard.jobs) orderly)
+
+  -- whatever stands there, the event keeps the order, and the session is there in the end
+  done_order : (numbers : List ℕ) × IsGoingOn past (open_only name numbers) done.sessions done.jobs
+  done_order =
+      order_fold adds on alone owing said orders setting lines name x.unique past gone heard.sessions heard_apart judged bodies opened (opening.opens setting way message heard x found order) told_all
+
+  pub done_apart : AreNamedApart done.sessions
+  done_apart one other a b same =
+      let names = done_order.1.names in
+      some_same one other
+      (sym (found_itself done.sessions names one a) ∙ ap (λ (n : Name). session_named n done.sessions) same ∙ found_itself done.sessions names other b)
+
+  pub done_there : IsThere said name x.unique done
+  done_there =
+      there_fold adds on alone owing said orders setting lines name x.unique past gone heard.sessions heard_apart judged bodies opened
+      (record { x = b.session; found = b_found; same = b_said.unique; sent = ap (λ (f : Option Session). (spoken_by f speak heard).sent) found ∙ b_said.sent ∙ none_sent })
 
   -- what it says of one that has its name
   named_opened : (y : Session) → session_named name heard.sessions ≡ Some y → name_of (speak (speaker_in heard y)).session ≡ name_of y

@@ -10,7 +10,9 @@ use Rattle.world_moves.specs.Sent.{WasSent}
 use Rattle.id_window.specs.History.{History, FirstJudgement, Outcome, Refused, floor}
 use Rattle.waits.specs.declared.job.Unfinished.{Unfinished}
 use Rattle.waits.specs.Jobs.{Queue, is_of}
-use Rattle.server_rules.specs.Event.{Entry}
+use Rattle.inbox.specs.Refusals.{Way}
+use Rattle.server_rules.specs.Answer.{message_in, messages_judged}
+use Rattle.server_rules.specs.Event.{Entry, Envelope}
 use Rattle.server_rules.specs.Server.{Fate, IsKept, Reply, Session, WasDropped}
 use Rattle.session_moves.specs.Table as moves
 use Rattle.session_moves.specs.Table.Outcome.{AcceptedCall, Noticed}
@@ -223,6 +225,11 @@ CanSay w session (moves.Item.WrongSalt number salt) = HasNoticed session number 
 -- a message that a server may judge was sent: under this session number and salt, as the call that its body asks for, or none
 abbrev pub IsUp : List moves.Message → ℕ → ℕ → Message → Type 0
 IsUp ups session salt message = WasSent ups session salt message.number (request_of (item_told message.body) message.body)
+
+-- whatever a server judges of a packet was sent so
+abbrev pub IsPacketUp : List moves.Message → Envelope → Type 0
+IsPacketUp ups envelope =
+    (way : Way) (session : Session) → AllByRecursion (IsUp ups envelope.session envelope.salt) (messages_judged way session (message_in envelope))
 
 -- what a number that was accepted is there: the call that is asked for, or a message that is no call
 abbrev pub AsksThere : World → Session → ℕ → Option (List ℕ) → Type 0

@@ -39,7 +39,7 @@ ghost use Rattle.world_servers.specs.Sending.{EventEnds, IsSpoken, MayAllGo, May
 ghost use Rattle.world_servers.specs.Events.{AreLines, AreLost, AreOpenJobs, EventStands, lined, with_lines};
 ghost use Rattle.server_laws.specs.Order.{AreOrdered, IsGoingOn};
 ghost use Rattle.world_servers.specs.Speaking.{IsDue, IsOpen, IsSaid, IsWithin, SpeaksThere, with_line};
-ghost use Rattle.world_servers.specs.Servers.{AreNewSalts, AsksThere, CanSay, GoOn, HasForgotten, IsAcceptedThere, IsJobOf, IsNewSalt, IsSuch, IsUp, Past, ServerStands, WasAnswered, WasJudged, with_entries, with_history, with_lost, with_replies, with_row, with_rows};
+ghost use Rattle.world_servers.specs.Servers.{AreNewSalts, AsksThere, CanSay, GoOn, HasForgotten, IsAcceptedThere, IsJobOf, IsNewSalt, IsPacketUp, IsSuch, IsUp, Past, ServerStands, WasAnswered, WasJudged, with_entries, with_history, with_lost, with_replies, with_row, with_rows};
 ghost use Rattle.server_rules.specs.Events.{Attach, Loss, Packet as Comes, Restart, Tick, Work};
 ghost use Rattle.world_rules.specs.World as rules;
 ghost use Rattle.world_rules.specs.Setting as settings;
@@ -51,7 +51,8 @@ use draws::Draw;
 use id_window::laws::others_are_not_above_the_floor;
 use server_laws::laws::{floors_never_fall, marks_are_of_replies};
 use session_moves::laws::{
-    moves_go_on, moves_leave, moves_only_add, numbers_are_given_once, what_was_not_made_is_blank,
+    moves_go_on, moves_leave, moves_only_add, names_are_apart, numbers_are_given_once,
+    what_was_not_made_is_blank,
 };
 
 /// The session of a name is lost with its jobs by a lawful move, where there is one, and all are by a restart.
@@ -343,7 +344,8 @@ pub fn sessions_are_heard_by_moves<D: Draw>()
         → AllByRecursion (λ other. other.number ≢ envelope.session) state.sessions
         → AllByRecursion (λ one. is_of envelope.key envelope.session one ≡ false) state.jobs
         → Leads w (λ later. (more : List Session) × ServerStands later (with_lost more past) (hears setting envelope state).sessions (hears setting envelope state).jobs
-        × AreLost (λ one. one) state.sessions (hears setting envelope state).sessions more) }
+        × AreLost (λ one. one) state.sessions (hears setting envelope state).sessions more
+        × AllByRecursion (λ one. Contains (hears setting envelope state).sessions one ⊎ Contains more one) state.sessions) }
 {
     moves_go_on();
     what_was_not_made_is_blank();
@@ -413,4 +415,30 @@ pub fn events_of_worlds_are_moves<D: Draw, V>()
     packing::laws::packets_have_all_messages();
     server_laws::laws::sessions_speak_for_themselves::<D>();
     server_laws::laws::new_sessions_say_so::<D>();
+}
+
+/// So is a packet that opens, where what a server may judge of it was sent there, and each session under its session number
+/// has its key.
+pub fn packets_of_worlds_are_moves<D: Draw, V>()
+    ensures { (w : World) (setting : settings.Setting D V) (world : rules.World D V) (moment : ℕ) (envelope : Envelope) → Reached w → StandsIn w world
+        → AreOrdered world.server.sessions world.server.jobs → Fresh (serves setting (Comes moment (Some envelope)) world) → IsPacketUp w.ups envelope
+        → ((other : Session) → Contains world.server.sessions other → other.number ≡ envelope.session → other.key ≡ envelope.key)
+        → Leads w (λ later. HasServed later world (serves setting (Comes moment (Some envelope)) world)) }
+{
+    moves_only_add();
+    moves_go_on();
+    floors_never_fall();
+    marks_are_of_replies();
+    others_are_not_above_the_floor();
+    server_laws::laws::sessions_speak::<D>();
+    server_laws::laws::sessions_speak_for_themselves::<D>();
+    server_laws::laws::packets_settle_in_order::<D>();
+    server_laws::laws::packets_are_judged();
+    server_laws::laws::messages_are_owed_by_name::<D>();
+    numbers_are_given_once();
+    names_are_apart();
+    what_was_not_made_is_blank();
+    packing::laws::packets_have_all_messages();
+    server_laws::laws::new_sessions_say_so::<D>();
+    server_lives::laws::new_sessions_owe_little::<D>();
 }
