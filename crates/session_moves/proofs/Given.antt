@@ -4,9 +4,9 @@ use Rattle.std.proofs.lemmas.List.Elements.{All-contains_itself, All-weaker}
 use Rattle.std.specs.List.{Contains, All}
 use Rattle.session_moves.specs.Table.{Text, Message}
 use Rattle.session_moves.specs.Table.Status.{Unmade}
-use Rattle.session_moves.specs.Table.Item.{Result}
+use Rattle.session_moves.specs.Table.Item.{Notice, Result}
 use Rattle.session_moves.specs.World.{World, IsName}
-use Rattle.session_moves.specs.Lawful.{MaySay}
+use Rattle.session_moves.specs.Lawful.{IsUncalled, MaySay}
 use Rattle.session_moves.proofs.Kept.{Kept}
 use Rattle.session_moves.proofs.Grows.{made_if_salted}
 
@@ -73,13 +73,27 @@ pub one_call : {now : ℕ} {w : World} (k : Kept now w) (one other : Message)
     → one.call ≡ other.call
 one_call k one other at_one at_other session number = one_call_of k one other at_one at_other session number other.call refl
 
+given_to_none : {now : ℕ} {w : World} (k : Kept now w) (unique : ℕ) (message : Message)
+    → Contains w.ups message
+    → message.session ≡ (w.servers unique).session
+    → message.call ≡ None
+    → IsUncalled w (w.servers unique).session message.number
+given_to_none {w = w} k unique message among session none = (
+  (message, among, session, omega arith),
+  λ name. never_a_name k message among none (subst (λ s. IsName w.calls s message.number) (sym session) name),
+)
+
 pub any_result : {now : ℕ} {w : World} (k : Kept now w) (unique : ℕ) (message : Message) (reply : Text)
     → Contains w.ups message
     → message.session ≡ (w.servers unique).session
     → message.call ≡ None
     → MaySay w unique (Result message.number reply)
 any_result {w = w} k unique message reply among session none =
-    inr (
-      (message, among, session, omega arith),
-      λ name. never_a_name k message among none (subst (λ s. IsName w.calls s message.number) (sym session) name),
-    )
+    inr (given_to_none k unique message among session none)
+
+pub any_notice : {now : ℕ} {w : World} (k : Kept now w) (unique : ℕ) (message : Message) (code : ℕ)
+    → Contains w.ups message
+    → message.session ≡ (w.servers unique).session
+    → message.call ≡ None
+    → MaySay w unique (Notice message.number code)
+any_notice k unique message code among session none = inr (inr (given_to_none k unique message among session none))

@@ -8,7 +8,7 @@ use Rattle.session_moves.specs.Table.Status.{Unmade, Standing, Lost}
 use Rattle.session_moves.specs.Table.Outcome.{AcceptedCall, AcceptedOther, Noticed}
 use Rattle.session_moves.specs.Table.Item.{NewSession, Result, Notice, WrongSalt}
 use Rattle.session_moves.specs.World.{World, WasGiven, IsName}
-use Rattle.session_moves.specs.Lawful.{MaySay}
+use Rattle.session_moves.specs.Lawful.{MaySay, IsUncalled}
 use Rattle.session_moves.specs.Once.{OnLast, HadTwo, WasForgotten}
 use Rattle.session_moves.specs.Extends.{Grows}
 use Rattle.session_moves.proofs.Kept.{Kept, SaltAmong, Backs, IsBacked, Dead, Fits, HasCause, Messages, Names, Clients, Calls, Packets}
@@ -110,6 +110,21 @@ fits_grows {w = w} k g ups entries more client names (Done reply) dead h =
 fits_grows k g ups entries more client names (Refused code) dead h = λ name among. dead name among (h name among)
 fits_grows k g ups entries more client names (Unknown cause) dead h = cause_grows k g client names cause h
 
+-- a number that was given to no call is given to none later
+uncalled_grows : (w later : World) (unique : ℕ)
+    → Grows w.servers later.servers
+    → (w.servers unique).status ≢ Unmade
+    → ((session number : ℕ) → WasGiven w.ups session number → WasGiven later.ups session number)
+    → ((session number : ℕ) → WasGiven w.ups session number → IsName later.calls session number → IsName w.calls session number)
+    → (number : ℕ)
+    → IsUncalled w (w.servers unique).session number
+    → IsUncalled later (later.servers unique).session number
+uncalled_grows w later unique g made given named number h =
+    let same : (later.servers unique).session ≡ (w.servers unique).session = g.session unique made in (
+      subst (λ session. WasGiven later.ups session number) (sym same) (given (w.servers unique).session number h.0),
+      λ name. h.1 (named (w.servers unique).session number h.0 (subst (λ session. IsName later.calls session number) same name)),
+    )
+
 -- what a server session may say it may say later
 pub says_grows : (w later : World) (unique : ℕ)
     → Grows w.servers later.servers
@@ -123,15 +138,12 @@ pub says_grows : (w later : World) (unique : ℕ)
 says_grows w later unique g made more given named (NewSession other salt) h = (h.0, g.salts unique salt h.1)
 says_grows w later unique g made more given named (Result number reply) (inl h) =
     inl (h.0, more h.0 h.1, h.2, h.3, h.4)
-says_grows w later unique g made more given named (Result number reply) (inr h) =
-    let same : (later.servers unique).session ≡ (w.servers unique).session = g.session unique made in
-    inr (
-      subst (λ session. WasGiven later.ups session number) (sym same) (given (w.servers unique).session number h.0),
-      λ name. h.1 (named (w.servers unique).session number h.0 (subst (λ session. IsName later.calls session number) same name)),
-    )
+says_grows w later unique g made more given named (Result number reply) (inr h) = inr (uncalled_grows w later unique g made given named number h)
 says_grows w later unique g made more given named (Notice number code) (inl h) =
     inl (g.judged unique (record { number = number; outcome = Noticed code }) h)
-says_grows w later unique g made more given named (Notice number code) (inr h) = inr (h.0, g.forgotten unique number h.1)
+says_grows w later unique g made more given named (Notice number code) (inr (inl h)) = inr (inl (h.0, g.forgotten unique number h.1))
+says_grows w later unique g made more given named (Notice number code) (inr (inr h)) =
+    inr (inr (uncalled_grows w later unique g made given named number h))
 says_grows w later unique g made more given named (WrongSalt number salt) h =
     (g.judged unique (record { number = number; outcome = Noticed 48 }) h.0, g.salts unique salt h.1)
 

@@ -9,7 +9,7 @@ use Rattle.session_moves.specs.Table.Outcome.{Noticed}
 use Rattle.session_moves.specs.Table.Item.{Result, Notice}
 use Rattle.session_moves.specs.World.{World}
 use Rattle.session_moves.specs.After.{is_sent, is_newest, after_settled, state_noticed, after_salt}
-use Rattle.session_moves.specs.Lawful.{MaySay}
+use Rattle.session_moves.specs.Lawful.{MaySay, IsUncalled}
 use Rattle.session_moves.specs.Once.{older_names, OnLast, WasForgotten}
 use Rattle.session_moves.proofs.Kept.{Kept, SaltAmong, Dead, AllDead, Lives, Fits}
 use Rattle.session_moves.proofs.Basics.{contains_first, contains_rest, contains_cases, choice}
@@ -117,6 +117,25 @@ pub record Takes (now : ℕ) (w : World) (client unique : ℕ) : Type 0 where
   pub session : (w.servers unique).session ≡ (w.clients client).present
   pub made : (w.servers unique).status ≢ Unmade
 
+-- what is said of a number that was given to no call changes none
+uncalled : (now : ℕ) (w : World) (client unique number : ℕ) (state : State)
+    → Takes now w client unique
+    → IsUncalled w (w.servers unique).session number
+    → Kept now (after_settled w client number state)
+uncalled now w client unique number state t none =
+    settled now w client number state t.kept (
+    λ call mine sent newest.
+    absurd (
+    none.1 (
+      call,
+      newest.name,
+      among_newest (w.calls call).names newest.name newest.older newest.is,
+      newest.of_session ∙ sym t.session,
+      newest.is_number,
+    )
+    )
+    )
+
 -- a result
 pub resulted : (now : ℕ) (w : World) (client unique number : ℕ) (reply : Text)
     → Takes now w client unique
@@ -135,19 +154,7 @@ resulted now w client unique number reply t (inl has) =
       has.4,
     )
     )
-resulted now w client unique number reply t (inr none) =
-    settled now w client number (Done reply) t.kept (
-    λ call mine sent newest.
-    absurd (
-    none.1 (
-      call,
-      newest.name,
-      among_newest (w.calls call).names newest.name newest.older newest.is,
-      newest.of_session ∙ sym t.session,
-      newest.is_number,
-    )
-    )
-    )
+resulted now w client unique number reply t (inr none) = uncalled now w client unique number (Done reply) t none
 
 -- the living name of a call of the client, whose server session is learnt, was sent first while that one stood
 pub lives : (now : ℕ) (w : World) (client : ℕ) (call : CallId)
@@ -229,7 +236,8 @@ noticed now w client unique number code t learnt (inl judged) =
     noticed_dead now w client unique number code t learnt judged call mine sent newest
     )
     )
-noticed now w client unique number code t learnt (inr forgotten) =
+noticed now w client unique number code t learnt (inr (inr none)) = uncalled now w client unique number (state_noticed code) t none
+noticed now w client unique number code t learnt (inr (inl forgotten)) =
     settled now w client number (state_noticed code) t.kept (
     λ call mine sent newest.
     subst (λ c. Fits (w.clients call.client) w.servers w.ups w.entries (w.calls call).names (state_noticed c)) (sym forgotten.0) (

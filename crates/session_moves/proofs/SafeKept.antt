@@ -92,8 +92,10 @@ stands_if_noticed now w call unique name (NewSession named salt) k among session
 stands_if_noticed now w call unique name (Result number reply) k among session says is = absurd is
 stands_if_noticed now w call unique name (Notice number code) k among session (inl judged) is =
     k.takers.judged call name unique (record { number = number; outcome = Noticed code }) among session judged is
-stands_if_noticed now w call unique name (Notice number code) k among session (inr forgotten) is =
+stands_if_noticed now w call unique name (Notice number code) k among session (inr (inl forgotten)) is =
     k.takers.forgotten call name unique among session (subst (λ n. Contains (w.servers unique).forgotten n) is forgotten.1)
+stands_if_noticed now w call unique name (Notice number code) k among session (inr (inr none)) is =
+    absurd (none.1 (call, name, among, sym session, sym is))
 stands_if_noticed now w call unique name (WrongSalt number salt) k among session says is =
     k.takers.judged call name unique (record { number = number; outcome = Noticed 48 }) among session says.0 is
 

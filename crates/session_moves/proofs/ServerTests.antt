@@ -70,7 +70,7 @@ say_if out w unique (Notice number code) h =
       | inl judged ↦ inl (contains_if same_judged judged_same (w.servers unique).judged (noticed number code) judged)
       | inr forgotten ↦
           let b = and_parts (code == 20) (has same_numbers (w.servers unique).forgotten number) forgotten in
-          inr (eqb-true code 20 b.0, contains_if same_numbers numbers_same (w.servers unique).forgotten number b.1)
+          inr (inl (eqb-true code 20 b.0, contains_if same_numbers numbers_same (w.servers unique).forgotten number b.1))
     ]
     ) h
 say_if out w unique (WrongSalt number salt) h =

@@ -73,16 +73,21 @@ abbrev pub HasReply : List Entry → ℕ → ℕ → Text → Type 0
 HasReply entries unique number reply =
     (entry : Entry) × Contains entries entry × (entry.server ≡ unique) × (entry.number ≡ number) × (entry.reply ≡ reply)
 
+-- the number was given under this session number, and to no call
+abbrev pub IsUncalled : World → ℕ → ℕ → Type 0
+IsUncalled w session number = WasGiven w.ups session number × (IsName w.calls session number → ⊥)
+
 -- A server session may say this: the salts and unique number that it names are its own, a notice is its outcome, or is 20 for a number that it
--- forgot, and a result is the reply of its entry, or is for a number that was given to no call
+-- forgot, or is for a number that was given to no call, and a result is the reply of its entry, or is for such a number
 abbrev pub MaySay : World → ℕ → Item → Type 0
 MaySay w unique (NewSession named salt) = (named ≡ unique) × Contains (w.servers unique).salts salt
 MaySay w unique (Result number reply) =
     HasReply w.entries unique number reply
-    ⊎ (WasGiven w.ups (w.servers unique).session number × (IsName w.calls (w.servers unique).session number → ⊥))
+    ⊎ IsUncalled w (w.servers unique).session number
 MaySay w unique (Notice number code) =
     Contains (w.servers unique).judged (record { number = number; outcome = Noticed code })
     ⊎ ((code ≡ 20) × Contains (w.servers unique).forgotten number)
+    ⊎ IsUncalled w (w.servers unique).session number
 MaySay w unique (WrongSalt number salt) =
     Contains (w.servers unique).judged (record { number = number; outcome = Noticed 48 }) × Contains (w.servers unique).salts salt
 

@@ -8,13 +8,13 @@ use Rattle.session_moves.specs.Table.State.{Queued, Sent}
 use Rattle.session_moves.specs.Table.Status.{Unmade, Standing}
 use Rattle.session_moves.specs.Table.Outcome.{AcceptedCall, AcceptedOther, Noticed}
 use Rattle.session_moves.specs.Table.Item.{NewSession, Result, Notice, WrongSalt}
-use Rattle.session_moves.specs.World.{World, Owns, HasAccepted, WasGiven, IsName}
+use Rattle.session_moves.specs.World.{World, Owns, HasAccepted, WasGiven}
 use Rattle.session_moves.specs.Move.{OwnAct, Part, Move}
 use Rattle.session_moves.specs.Move.OwnAct.{NewClient, Renew, Submit, GiveUp, End}
 use Rattle.session_moves.specs.Move.Part.{First, Again, Other, OtherAgain}
 use Rattle.session_moves.specs.Move.Move.{Own, Send, Make, Draw, Judge, Forget, Answer, Speak, Hear, Lose}
 use Rattle.session_moves.specs.After.{after_part}
-use Rattle.session_moves.specs.Lawful.{IsMadeClient, IsNewNumber, IsNewest, WasNoCall, HasReply, BeginsNew}
+use Rattle.session_moves.specs.Lawful.{IsMadeClient, IsNewNumber, IsNewest, WasNoCall, HasReply, BeginsNew, IsUncalled}
 
 -- the condition at this place, unless it is the one that is left out
 abbrev pub At : ℕ → ℕ → Type 0 → Type 0
@@ -60,12 +60,13 @@ MaySayBut left_out w unique (NewSession named salt) = At 1 left_out (named ≡ u
 MaySayBut left_out w unique (Result number reply) =
     At 3 left_out (
     HasReply w.entries unique number reply
-    ⊎ (WasGiven w.ups (w.servers unique).session number × (IsName w.calls (w.servers unique).session number → ⊥))
+    ⊎ IsUncalled w (w.servers unique).session number
     )
 MaySayBut left_out w unique (Notice number code) =
     At 4 left_out (
     Contains (w.servers unique).judged (record { number = number; outcome = Noticed code })
     ⊎ ((code ≡ 20) × Contains (w.servers unique).forgotten number)
+    ⊎ IsUncalled w (w.servers unique).session number
     )
 MaySayBut left_out w unique (WrongSalt number salt) =
     At 5 left_out (Contains (w.servers unique).judged (record { number = number; outcome = Noticed 48 }))

@@ -260,7 +260,7 @@ pub fn salts_are_drawn()
 {}
 
 /// A client gives no number twice under one session number: the numbers that it gives rise, and what was sent under a
-/// number is one call, or no call at all. Where it is no call, any result may be said for the number.
+/// number is one call, or no call at all. Where it is no call, any result may be said for the number, and any notice.
 pub fn numbers_are_given_once()
     ensures rising { (w : World) (moves : List Move) → AreLawful w moves → AllPairs Rises (given w moves) }
     ensures once { (w : World) (one other : Message) → Reached w → Contains w.ups one → Contains w.ups other
@@ -269,6 +269,8 @@ pub fn numbers_are_given_once()
         → IsName w.calls message.session message.number → ⊥ }
     ensures any_result { (w : World) (unique : ℕ) (message : Message) (reply : Text) → Reached w → Contains w.ups message
         → message.session ≡ (w.servers unique).session → message.call ≡ None → MaySay w unique (Result message.number reply) }
+    ensures any_notice { (w : World) (unique : ℕ) (message : Message) (code : ℕ) → Reached w → Contains w.ups message
+        → message.session ≡ (w.servers unique).session → message.call ≡ None → MaySay w unique (Notice message.number code) }
 {}
 
 /// A name is of one call, stands once among the names of that call, and was sent. Each session number of a name or of a

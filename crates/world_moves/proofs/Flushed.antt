@@ -1,7 +1,8 @@
 -- A whole flush.
 use Rattle.std.proofs.Common.{◌≡◌, ℕ, Bool, true, false, List, [], ◌∷◌, fold, Option, None, Some, if◌then◌else◌, inl, inr, refl, sym, ap, subst, ◌∙◌, arith}
-use Rattle.std.specs.Prelude.{slice_get, option_map, is_some, IfSome, nat_lt}
+use Rattle.std.specs.Prelude.{◌<◌, slice_get, option_map, is_some, IfSome, nat_lt}
 use Rattle.msg_ids.specs.Counters.{room}
+use Rattle.std.specs.List.{AllByRecursion}
 use Rattle.service_tl.specs.declared.lists.Message.{Message}
 use Rattle.containers.specs.Container.{container_of}
 use Rattle.session_moves.specs.Table as moves
@@ -12,7 +13,7 @@ use Rattle.call_table.specs.declared.call.CallNo.{CallNo}
 use Rattle.call_table.specs.declared.call.Group.TheVariants as group
 use Rattle.call_table.specs.Table.{Call, Name, State, at, group_of, is_in, living_name, living_name_in, owner}
 use Rattle.call_table.specs.Table as table
-use Rattle.client_rules.specs.Client.{Client, Binding, Needed, Asked, Held, Bound, Refused, Temporary, after_message, at_moment, calls_of, numbered, with_binding, with_call}
+use Rattle.client_rules.specs.Client.{Client, Binding, Needed, Asked, Held, Bound, Refused, Temporary, after_message, at_moment, calls_of, numbered, time_of, with_binding, with_call}
 use Rattle.client_rules.specs.Sending.{Setting, packet_of}
 use Rattle.client_rules.specs.Filling.{Filling, body_behind, empty, fills, says_acks, says_binding, says_destroyed, says_drop, says_ping, says_resent, says_salts, says_states, says_told}
 use Rattle.client_rules.specs.Flush.{Answer, Marked, Nothing, Sends, Spent, asked_alone, binding_alone, filled, first_marked, flush, gone_again, has_any, marked_at, message_behind, remembers, remembers_lone, room_min, sends, unless_binding, unless_call}
@@ -23,7 +24,7 @@ use Rattle.world_moves.proofs.Basics.{Apart}
 use Rattle.world_moves.proofs.Leading.{GoOn, Grows, goes_on, leads_so, stays}
 use Rattle.world_moves.proofs.Again.{sends_again, sends_binding_again}
 use Rattle.world_moves.proofs.Flushing.{SameParts, calm, group_apart, group_queued}
-use Rattle.world_moves.proofs.Sending.{sends_other}
+use Rattle.world_moves.proofs.Sending.{above, all_below, sends_other}
 use Rattle.world_moves.proofs.Filling.{AreSent, Ends, Holds, IsSoFar, acks_so, all_sent_more, asks_at, asks_binding_call, binding_so, calls_so, destroyed_so, drops_so, ping_so, resent_so, salts_so, states_so, then_sends, then_so, told_so}
 
 -- ---- what is marked
@@ -205,11 +206,14 @@ module _ (apart : Apart) (on : GoOn) (grows : Grows) (w : World) (number : ℕ) 
       leads_so number w (λ later. IsSoFar later number session salt client (message ∷ [])) (λ later. StandsAs later number client × IsAnswerSent later.ups (Sends (packet_of setting client draw message)))
       (λ later far. (far.stands, inl (far.sent.0.0, far.sent.0.1, sent_as later.ups session salt client.session client.salt message.number far.sent.0.0 far.under far.salted far.sent.0.2))) h
 
+  abbrev BelowIt : Message → List Message → Type 0
+  BelowIt message messages = AllByRecursion (λ (one : Message). one.number < message.number) messages
+
   container_so : {S : Type 0} (setting : Setting S) (messages : List Message) (message : Message) (client : Client) (draw : S) → message.body ≡ container_of messages
-      → Leads number w (λ later. IsSoFar later number session salt client messages × WasSent later.ups session salt message.number None)
+      → Leads number w (λ later. IsSoFar later number session salt client messages × BelowIt message messages × WasSent later.ups session salt message.number None)
       → Gives client (Sends (packet_of setting client draw message))
   container_so setting messages message client draw is h =
-      leads_so number w (λ later. IsSoFar later number session salt client messages × WasSent later.ups session salt message.number None)
+      leads_so number w (λ later. IsSoFar later number session salt client messages × BelowIt message messages × WasSent later.ups session salt message.number None)
       (λ later. StandsAs later number client × IsAnswerSent later.ups (Sends (packet_of setting client draw message)))
       (λ later both. (
         both.0.stands,
@@ -217,7 +221,8 @@ module _ (apart : Apart) (on : GoOn) (grows : Grows) (w : World) (number : ℕ) 
           messages = messages;
           body = is;
           inner = all_sent_as later.ups session salt client.session client.salt both.0.under both.0.salted messages both.0.sent;
-          outer = sent_as later.ups session salt client.session client.salt message.number None both.0.under both.0.salted both.1;
+          below = both.1;
+          outer = sent_as later.ups session salt client.session client.salt message.number None both.0.under both.0.salted both.2;
         }),
       )) h
 
@@ -234,7 +239,7 @@ module _ (apart : Apart) (on : GoOn) (grows : Grows) (w : World) (number : ℕ) 
       let last : Client = remembers message.number filling.inner next in
       container_so setting inside message last filling.draw refl
       (goes_on on number w (λ later. IsSoFar later number session salt filling.client inside)
-      (λ later. IsSoFar later number session salt last inside × WasSent later.ups session salt message.number None) reached h
+      (λ later. IsSoFar later number session salt last inside × BelowIt message inside × WasSent later.ups session salt message.number None) reached h
       (λ later reached far.
       let l = sends_other apart later number filling.client reached far.stands false (container_of inside) in
       record {
@@ -249,6 +254,7 @@ module _ (apart : Apart) (on : GoOn) (grows : Grows) (w : World) (number : ℕ) 
             salted = far.salted;
             sent = all_sent_more later.ups _ (grows later l.moves l.lawful) session salt inside far.sent;
           },
+          all_below later number filling.client far.stands session salt message.number far.under (above filling.client.counters.last (time_of filling.client)) inside far.sent,
           sent_as _ filling.client.session filling.client.salt session salt message.number None (sym far.under) (sym far.salted) l.gives.1,
         );
       }))

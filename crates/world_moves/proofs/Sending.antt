@@ -4,6 +4,7 @@ use Rattle.std.specs.Prelude.{slice_get, option_map, IfSome}
 use Rattle.std.specs.List.{AllByRecursion, Contains}
 use Rattle.std.proofs.lemmas.Bool.{cases_eq}
 use Rattle.msg_ids.specs.Counters.{next_number}
+use Rattle.service_tl.specs.declared.lists.Message.{Message}
 use Rattle.session_moves.specs.Table as moves
 use Rattle.session_moves.specs.World.{World}
 use Rattle.session_moves.specs.Move.Move.{Own, Send}
@@ -20,7 +21,7 @@ use Rattle.call_table.specs.Table as table
 use Rattle.client_rules.specs.Client.{Client, Binding, Needed, Asked, Held, Bound, Refused, Temporary, calls_of, numbered, after_message, with_call, time_of}
 use Rattle.world_moves.specs.Clients.{StandsAs, IsNameThere, IsCallThere, StandsThere, IsAskedThere, IsGivenBy, state_there}
 use Rattle.world_moves.specs.Leading.{Leads}
-use Rattle.world_moves.specs.Sent.{WasSent}
+use Rattle.world_moves.specs.Sent.{IsSent, WasSent}
 use Rattle.world_moves.proofs.Basics.{Apart, all_given_alike, all_of, at_each, each_of, here, later, living_alike, names_keep}
 use Rattle.world_moves.proofs.Leading.{moves_once}
 use Rattle.world_moves.proofs.Own.{is_made}
@@ -28,8 +29,18 @@ use Rattle.world_moves.proofs.Quiet.{asked_alike, length_changed, same_there}
 
 -- ---- a new number
 
-above : (last now : ℕ) → last < next_number last now
+pub above : (last now : ℕ) → last < next_number last now
 above last now = omega arith
+
+-- what was sent under the session number has a number below a new one
+pub all_below : (w : World) (number : ℕ) (client : Client) → StandsAs w number client → (session salt bound : ℕ) → client.session ≡ session → client.counters.last < bound
+    → (messages : List Message) → AllByRecursion (IsSent w.ups session salt) messages → AllByRecursion (λ (message : Message). message.number < bound) messages
+all_below w number client s session salt bound same more [] h = tt
+all_below w number client s session salt bound same more (message ∷ messages) h =
+    let sent = h.0.2 in
+    let given = each_of (λ (m : moves.Message). IsGivenBy client m.session m.number) w.ups s.given sent.up sent.there (sent.under ∙ sym same) in
+    let is : sent.up.number ≡ message.number = sent.numbered in
+    (omega (arith, given, is, more), all_below w number client s session salt bound same more messages h.1)
 
 -- ---- a call that is changed
 

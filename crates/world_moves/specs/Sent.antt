@@ -1,5 +1,5 @@
 -- What a packet from a client is to the law on moves: a message for each message in it.
-use Rattle.std.specs.Prelude.{◌≡◌, ⊤, ◌⊎◌, ℕ, false, Option, Some, None, List}
+use Rattle.std.specs.Prelude.{◌≡◌, ◌<◌, ⊤, ◌⊎◌, ℕ, false, Option, Some, None, List}
 use Rattle.std.specs.List.{AllByRecursion, Contains}
 use Rattle.service_tl.specs.declared.lists.Message.{Message}
 use Rattle.service_tl.specs.declared.item.Item.{Item}
@@ -55,11 +55,13 @@ IsSent ups session salt message = (call : Option (List ℕ)) × Asks message.bod
 
 -- ---- packets
 
--- a packet with a container: each message inside was sent, and the container is a message that is no call
+-- a packet with a container: each message inside was sent, under a number below the container's, and the container is a
+-- message that is no call
 pub record IsContainerSent (ups : List moves.Message) (envelope : Envelope) : Type 0 where
   pub messages : List Message
   pub body : envelope.body ≡ container_of messages
   pub inner : AllByRecursion (IsSent ups envelope.session envelope.salt) messages
+  pub below : AllByRecursion (λ message. message.number < envelope.number) messages
   pub outer : WasSent ups envelope.session envelope.salt envelope.number None
 
 -- a packet with one message, or with a container

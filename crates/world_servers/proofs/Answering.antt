@@ -7,6 +7,7 @@ use Rattle.waits.specs.declared.job.Job.{Job}
 use Rattle.waits.specs.declared.job.Unfinished.{Unfinished}
 use Rattle.waits.specs.Jobs.{Queue, accepted}
 use Rattle.server_rules.specs.Server.{Reply, Session, with_session}
+use Rattle.server_rules.specs.Event.{Entry}
 use Rattle.session_moves.specs.Table as moves
 use Rattle.session_moves.specs.Table.Outcome.{AcceptedCall}
 use Rattle.session_moves.specs.World.{World, WasGiven}
@@ -14,8 +15,9 @@ use Rattle.session_moves.specs.Move.Move.{Answer, Forget}
 use Rattle.session_moves.specs.After.{after}
 use Rattle.session_moves.specs.Lawful.{WasNoCall}
 use Rattle.world_servers.specs.Leading.{Leads}
-use Rattle.world_servers.specs.Servers.{GoOn, HasForgotten, HasSame, IsJobOf, IsJobThere, IsReplyThere, IsStanding, ServerStands, WasAnswered, has_dropped, is_dropped, with_replies}
+use Rattle.world_servers.specs.Servers.{GoOn, HasForgotten, HasSame, IsJobOf, IsJobThere, IsReplyThere, IsStanding, Past, ServerStands, WasAnswered, has_dropped, is_dropped, with_entries, with_replies}
 use Rattle.world_servers.proofs.Lists.{all_append, all_of, each_of, here, later, map_all}
+use Rattle.world_servers.proofs.Entered.{entered_more}
 use Rattle.world_servers.proofs.Leading.{moves_once}
 use Rattle.world_servers.proofs.Judging.{at_all}
 use Rattle.world_servers.proofs.Losing.{and_right, eq_true}
@@ -40,7 +42,7 @@ dropped_more number (first ∷ replies) reply is =
       | inr fails ↦ rw fails (dropped_more number replies reply (subst (λ (b : Bool). (b || has_dropped number replies) ≡ true) fails is))
     ]
 
-module _ (w : World) (lost sessions : List Session) (jobs : Queue) (s : ServerStands w lost sessions jobs) (x : Session) (among : Contains sessions x) where
+module _ (w : World) (past : Past) (sessions : List Session) (jobs : Queue) (s : ServerStands w past sessions jobs) (x : Session) (among : Contains sessions x) where
   its : IsStanding w x
   its = each_of (IsStanding w) sessions s.standing x among
 
@@ -74,9 +76,9 @@ module _ (w : World) (lost sessions : List Session) (jobs : Queue) (s : ServerSt
           (λ (entry : moves.Entry). entry.server ≡ x.unique → WasAnswered entry.number new) w.entries (λ entry is h of. still_answered entry.number (h of)) its.entries;
     }
 
-    pub fated : ServerStands w lost (with_session (with_replies new x) sessions) jobs
+    pub fated : ServerStands w past (with_session (with_replies new x) sessions) jobs
     fated =
-        changes w lost sessions jobs jobs s x (with_replies new x) among refl refl refl w (λ other differs. refl) (none_grow x.unique w.entries) (λ m is. is)
+        changes w past sessions jobs jobs s x (with_replies new x) among refl refl refl w (λ other differs. refl) (none_grow x.unique w.entries) past refl (λ lives on h. h) (λ m is. is)
         (λ reply o differs r. r) fated_stands its_jobs (λ o differs h. h)
 
   -- ---- it answers
@@ -113,9 +115,9 @@ module _ (w : World) (lost sessions : List Session) (jobs : Queue) (s : ServerSt
       entries = answered_before;
     }
 
-    pub tells : WasNoCall w.ups x.number reply.call → ServerStands w lost (with_session answered sessions) jobs
+    pub tells : WasNoCall w.ups x.number reply.call → ServerStands w past (with_session answered sessions) jobs
     tells was =
-        changes w lost sessions jobs jobs s x answered among refl refl refl w (λ other differs. refl) (none_grow x.unique w.entries) (λ m is. is)
+        changes w past sessions jobs jobs s x answered among refl refl refl w (λ other differs. refl) (none_grow x.unique w.entries) past refl (λ lives on h. h) (λ m is. is)
         (λ reply o differs r. r) (told_stands was) its_jobs (λ o differs h. h)
 
     -- a call: one entry
@@ -126,6 +128,10 @@ module _ (w : World) (lost sessions : List Session) (jobs : Queue) (s : ServerSt
 
       abbrev entry : moves.Entry
       entry = record { server = x.unique; number = reply.call; request = request; reply = reply.content }
+
+      -- what the server enters of it
+      abbrev pub entered_of : Bool → Entry
+      entered_of ran = record { key = x.key; session = x.number; number = reply.call; request = request; reply = reply.content; ran = ran }
 
       more_replies : (o : Session) (r : Reply) → IsReplyThere w o r → IsReplyThere v o r
       more_replies o r (inl h) = inl (h.0, later h.0 entry w.entries h.1, h.2, h.3, h.4)
@@ -149,12 +155,14 @@ module _ (w : World) (lost sessions : List Session) (jobs : Queue) (s : ServerSt
           (λ (entry : moves.Entry). entry.server ≡ x.unique → entry.number ≢ reply.call) w.entries
           (λ entry is h of same. unanswered (subst (λ (n : ℕ). WasAnswered n x.replies) same (h of))) its.entries)
 
-      pub answers : Leads w (λ later. ServerStands later lost (with_session answered sessions) jobs)
-      answers =
-          moves_once w (λ later. ServerStands later lost (with_session answered sessions) jobs) x.unique (Answer x.unique reply.call request reply.content)
+      pub answers : (ran : Bool) → Leads w (λ later. ServerStands later (with_entries (entered_of ran ∷ []) past) (with_session answered sessions) jobs)
+      answers ran =
+          moves_once w (λ later. ServerStands later (with_entries (entered_of ran ∷ []) past) (with_session answered sessions) jobs) x.unique (Answer x.unique reply.call request reply.content)
           (its.stands, accepted_so, no_entry) refl
-          (changes w lost sessions jobs jobs s x answered among refl refl refl v (λ other differs. refl) (entry ∷ [], refl, (refl, tt)) (λ m is. is)
-          (λ r o differs h. more_replies o r h) answered_stands its_jobs (λ o differs h. h))
+          (changes w past sessions jobs jobs s x answered among refl refl refl v (λ other differs. refl) (entry ∷ [], refl, (refl, tt)) (with_entries (entered_of ran ∷ []) past) refl
+          (λ lives life h. entered_more lives past (entered_of ran) entry w.entries
+          (record { life = life.life; among = life.among; unique = life.unique; key = life.key; session = life.number; number = refl; request = refl; reply = refl }) h)
+          (λ m is. is) (λ r o differs h. more_replies o r h) answered_stands its_jobs (λ o differs h. h))
 
   -- ---- it forgets a number
 
@@ -182,12 +190,12 @@ module _ (w : World) (lost sessions : List Session) (jobs : Queue) (s : ServerSt
       entries = its.entries;
     }
 
-    pub forgets : Leads w (λ later. ServerStands later lost sessions jobs × Contains (later.servers x.unique).forgotten number)
+    pub forgets : Leads w (λ later. ServerStands later past sessions jobs × Contains (later.servers x.unique).forgotten number)
     forgets =
-        moves_once w (λ later. ServerStands later lost sessions jobs × Contains (later.servers x.unique).forgotten number) x.unique (Forget x.unique number)
+        moves_once w (λ later. ServerStands later past sessions jobs × Contains (later.servers x.unique).forgotten number) x.unique (Forget x.unique number)
         (its.stands, subst (λ (n : ℕ). WasGiven w.ups n number) (sym its.made.number) given) refl (
-          subst (λ (l : List Session). ServerStands later_w lost l jobs) (with_itself sessions s.apart x among)
-              (changes w lost sessions jobs jobs s x x among refl refl refl later_w other_left (none_grow x.unique w.entries) (λ m is. is)
+          subst (λ (l : List Session). ServerStands later_w past l jobs) (with_itself sessions s.apart x among)
+              (changes w past sessions jobs jobs s x x among refl refl refl later_w other_left (none_grow x.unique w.entries) past refl (λ lives on h. h) (λ m is. is)
               (λ r o differs h. h) still_stands its_jobs (λ o differs h. h)),
           subst (λ (l : List ℕ). Contains l number) (sym list_now) (here number (w.servers x.unique).forgotten),
         )
@@ -203,7 +211,7 @@ module _ (w : World) (lost sessions : List Session) (jobs : Queue) (s : ServerSt
         let same : o ≡ x = one_of_number sessions s.apart o x among_too among (sym (eq_true job.session o.number (and_right (job.key == o.key) (job.session == o.number) of)) ∙ session) in
         subst (λ (z : Session). Contains (w.servers z.unique).judged (record { number = job.number; outcome = AcceptedCall job.request })) (sym same) accepted_so
 
-    pub accepts : ServerStands w lost sessions (accepted job jobs)
+    pub accepts : ServerStands w past sessions (accepted job jobs)
     accepts = record {
       standing = s.standing;
       working = all_of (λ (o : Session). AllByRecursion (IsJobThere w o) (accepted job jobs)) sessions
@@ -217,7 +225,7 @@ module _ (w : World) (lost sessions : List Session) (jobs : Queue) (s : ServerSt
 
 -- ---- jobs that stay what they are, or go
 
-module _ (w : World) (lost sessions : List Session) (jobs new : Queue) (s : ServerStands w lost sessions jobs) (from : AllByRecursion (IsJobOf jobs) new) where
+module _ (w : World) (past : Past) (sessions : List Session) (jobs new : Queue) (s : ServerStands w past sessions jobs) (from : AllByRecursion (IsJobOf jobs) new) where
   job_so : (o : Session) → Contains sessions o → (one : Unfinished) → IsJobOf jobs one → IsJobThere w o one
   job_so o among one h of =
       let its : Contains (w.servers o.unique).judged (record { number = h.0.job.number; outcome = AcceptedCall h.0.job.request }) =
@@ -226,7 +234,7 @@ module _ (w : World) (lost sessions : List Session) (jobs new : Queue) (s : Serv
       subst (λ (n : ℕ). Contains (w.servers o.unique).judged (record { number = n; outcome = AcceptedCall one.job.request })) h.4
       (subst (λ (r : List ℕ). Contains (w.servers o.unique).judged (record { number = h.0.job.number; outcome = AcceptedCall r })) h.5 its)
 
-  pub jobs_go_on : ServerStands w lost sessions new
+  pub jobs_go_on : ServerStands w past sessions new
   jobs_go_on = record {
     standing = s.standing;
     working = all_of (λ (o : Session). AllByRecursion (IsJobThere w o) new) sessions (λ o among. map_all (IsJobOf jobs) (IsJobThere w o) new (λ one is h. job_so o among one h) from);

@@ -10,10 +10,11 @@ use Rattle.server_rules.specs.Answer.{begun}
 use Rattle.session_moves.specs.World.{World}
 use Rattle.session_moves.specs.Reached.{Reached}
 use Rattle.world_servers.specs.Leading.{Leads}
-use Rattle.world_servers.specs.Servers.{AreApart, AreNewSalts, IsNewSalt, ServerStands, with_row, with_rows}
+use Rattle.world_servers.specs.Servers.{AreApart, AreNewSalts, IsNewSalt, Past, ServerStands, with_row, with_rows}
 use Rattle.world_servers.specs.Speaking.{IsOwedThere, with_line}
 use Rattle.world_servers.specs.Events.{AreLines, EventStands, with_lines}
 use Rattle.world_servers.proofs.Lists.{all_of, each_of, here, later as one_later}
+use Rattle.world_servers.proofs.Entered.{nothing_entered}
 use Rattle.world_servers.proofs.Leading.{GoOn, goes_on, leads_so, stays}
 use Rattle.world_servers.proofs.Judging.{draws_on}
 use Rattle.world_servers.proofs.Losing.{append_nothing, append_one}
@@ -56,7 +57,7 @@ new_after w later rows others still h =
 
 -- ---- one session draws
 
-draws_on_all : GoOn → (w : World) (gone sessions : List Session) (jobs : Queue) (x : Session) (rows : List Row) → Reached w → ServerStands w gone sessions jobs
+draws_on_all : GoOn → (w : World) (gone : Past) (sessions : List Session) (jobs : Queue) (x : Session) (rows : List Row) → Reached w → ServerStands w gone sessions jobs
     → Contains sessions x → AreNewSalts w rows → Leads w (λ later. ServerStands later gone (with_session (with_rows rows x) sessions) jobs × StillNew w rows later)
 draws_on_all on w gone sessions jobs x [] reached s among new =
     stays w (λ later. ServerStands later gone (with_session (with_rows [] x) sessions) jobs × StillNew w [] later) (
@@ -98,7 +99,7 @@ put_between (o ∷ done) x new rest key number h =
     ap (λ (z : Session). z ∷ with_session new (done ++ x ∷ rest)) (put_other new o (λ same. differs (sym number ∙ sym same)))
     ∙ ap (λ (l : List Session). o ∷ l) (put_between done x new rest key number h.1)
 
-draws_each : GoOn → (w : World) (gone done rest : List Session) (jobs : Queue) (lines : Name → Line) (more : Name → List Row) → Reached w → ServerStands w gone (done ++ rest) jobs
+pub draws_each : GoOn → (w : World) (gone : Past) (done rest : List Session) (jobs : Queue) (lines : Name → Line) (more : Name → List Row) → Reached w → ServerStands w gone (done ++ rest) jobs
     → AreLines w lines more rest → Leads w (λ later. ServerStands later gone (done ++ with_lines lines rest) jobs)
 draws_each on w gone done [] jobs lines more reached s h = stays w (λ later. ServerStands later gone (done ++ []) jobs) s
 draws_each on w gone done (x ∷ rest) jobs lines more reached s h =
@@ -120,9 +121,9 @@ draws_each on w gone done (x ∷ rest) jobs lines more reached s h =
     (subst (λ (l : List Session). ServerStands later gone l jobs) (sym (append_one done its rest)) placed)
     (record { ahead = h.ahead.1; new = new_after w later own others k.1 h.new })))
 
-pub begins_on : {S : Type 0} → GoOn → (w : World) (gone : List Session) (lines : Name → Line) (more : Name → List Row) (server : Server) (draw : S) → Reached w
+pub begins_on : {S : Type 0} → GoOn → (w : World) (gone : Past) (lines : Name → Line) (more : Name → List Row) (server : Server) (draw : S) → Reached w
     → ServerStands w gone server.sessions server.jobs → AreLines w lines more server.sessions → Leads w (λ later. EventStands later gone lines (begun server draw))
 begins_on on w gone lines more server draw reached s h =
     leads_so w (λ later. ServerStands later gone (with_lines lines server.sessions) server.jobs) (λ later. EventStands later gone lines (begun server draw))
-    (λ later k. record { stands = k; owed = all_of (λ (o : Session). AllByRecursion (IsOwedThere later o) []) (with_lines lines server.sessions) (λ o is. tt) })
+    (λ later k. record { stands = nothing_entered later gone (with_lines lines server.sessions) server.jobs k; owed = all_of (λ (o : Session). AllByRecursion (IsOwedThere later o) []) (with_lines lines server.sessions) (λ o is. tt) })
     (draws_each on w gone [] server.sessions server.jobs lines more reached s h)

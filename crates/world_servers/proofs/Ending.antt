@@ -1,36 +1,35 @@
 -- All that an event owes goes out.
-use Rattle.std.proofs.Common.{◌≡◌, ◌≢◌, ℕ, ◌==◌, ◌&&◌, Bool, true, false, Option, None, Some, List, [], ◌∷◌, ◌++◌, map, fold, filter, inl, inr, refl, sym, ap, subst, ◌∙◌, arith}
-use Rattle.std.specs.Prelude.{⊤, ◌⊎◌}
+use Rattle.std.proofs.Common.{◌≡◌, ◌≢◌, ℕ, ◌==◌, not, true, Option, None, Some, List, [], ◌∷◌, ◌++◌, fold, filter, inl, inr, refl, sym, ap, subst, ◌∙◌, arith, append_assoc}
 use Rattle.std.specs.List.{AllByRecursion, Contains, flat_map}
 use Rattle.std.proofs.lemmas.Bool.{cases_Bool}
 use Rattle.msg_ids.specs.Counters.{Counters}
 use Rattle.salt_line.specs.Line.{Line, current_salt}
 use Rattle.service_tl.specs.declared.lists.Message.{Message}
 use Rattle.packing.specs.Packing.{after_outer, after_packets, groups, outer_of, outers_of, packed, packets_of}
-use Rattle.server_rules.specs.Server.{Name, Session, has_accepted, is_named, is_same, name_of, session_named, with_session}
+use Rattle.server_rules.specs.Server.{Name, Session, is_named, is_same, name_of, session_named, with_session, without_session}
 use Rattle.server_rules.specs.Event.{Owed, Sent, Setting, Speaker, State, lost, speaker_in, speaks, spoken, spoken_by}
 use Rattle.server_rules.specs.Answer.{is_spent, without_spent}
 use Rattle.server_rules.specs.Speaking.{needs_salts}
 use Rattle.server_rules.specs.Sending.{all_sent, messages_by, names_in, seals, sends}
-use Rattle.session_moves.specs.Table as moves
 use Rattle.session_moves.specs.Table.Status.{Unmade, Standing}
 use Rattle.session_moves.specs.World.{World}
 use Rattle.session_moves.specs.Move.{Move}
 use Rattle.session_moves.specs.Extends.{Extends}
 use Rattle.session_moves.specs.Reached.{AreLawful, Reached, after_all}
 use Rattle.world_servers.specs.Leading.{Leads}
-use Rattle.world_servers.specs.Servers.{IsStanding}
+use Rattle.world_servers.specs.Servers.{AreApart, IsStanding, Past, with_lost}
 use Rattle.world_servers.specs.Speaking.{IsOwedThere, IsSaid, SpeaksThere, with_line}
-use Rattle.world_servers.specs.Events.{EventStands, with_lines}
-use Rattle.world_servers.specs.Sending.{EventEnds, IsFirstNew, IsOwed, IsSpoken, MayAllGo, MayGo, WentOut}
-use Rattle.world_servers.proofs.Lists.{all_append, all_of, each_of, here, later as one_later, map_all}
+use Rattle.world_servers.specs.Events.{EventStands, lined, with_lines}
+use Rattle.world_servers.specs.Sending.{EventEnds, IsSpoken, MayAllGo, MayGo, WentOut}
+use Rattle.world_servers.proofs.Lists.{all_append, all_of, each_of, from_filter, map_all}
 use Rattle.world_servers.proofs.Leading.{GoOn, goes_on, leads_so, stays}
 use Rattle.world_servers.proofs.Losing.{and_right, append_nothing, eq_true}
 use Rattle.world_servers.proofs.One.{put}
-use Rattle.world_servers.proofs.Speaking.{AnyResult}
+use Rattle.world_servers.proofs.Speaking.{AnySaid}
 use Rattle.world_servers.proofs.Speech.{Adds}
-use Rattle.world_servers.proofs.Found.{found_in, some_same}
-use Rattle.world_servers.proofs.Sending.{all_groups, sends_on}
+use Rattle.world_servers.proofs.Found.{found_in}
+use Rattle.world_servers.proofs.Sending.{sends_on}
+use Rattle.world_servers.proofs.Gone.{apart_lines, lost_named, named_apart, none_are_lost, none_lost}
 use Rattle.world_servers.proofs.Events.{IsItsOwn, all_mapped, and_first, lines_put, lost_on, mapped_in, name_is, speaks_with}
 
 -- ---- what a session owes
@@ -54,9 +53,6 @@ by_name P name (one ∷ owed) h =
       | inr not_so ↦ rw not_so (by_name P name owed h.1)
     ]
 
-all_owed : (owed : List Owed) → AllByRecursion (λ (one : Owed). IsOwed owed one.message) owed
-all_owed owed = all_of (λ (one : Owed). IsOwed owed one.message) owed (λ one is. (one, is, refl))
-
 -- ---- sealing
 
 outer_body : (now : ℕ) (counters : Counters) (group : List Message) → (outer_of now counters group).body ≡ packed group
@@ -64,7 +60,7 @@ outer_body now counters [] = refl
 outer_body now counters (message ∷ []) = refl
 outer_body now counters (message ∷ other ∷ group) = refl
 
-sealed_session : {S : Type 0} (setting : Setting S) (salt : ℕ) (packets : List Message) (speaker : Speaker S)
+pub sealed_session : {S : Type 0} (setting : Setting S) (salt : ℕ) (packets : List Message) (speaker : Speaker S)
     → (fold (seals setting salt) speaker packets).session ≡ speaker.session
 sealed_session setting salt [] speaker = refl
 sealed_session setting salt (packet ∷ packets) speaker = sealed_session setting salt packets (seals setting salt speaker packet)
@@ -79,22 +75,20 @@ record IsThere (w : World) (session : Session) : Type 0 where
   pub made : (w.servers session.unique).status ≢ Unmade
   pub number : (w.servers session.unique).session ≡ session.number
 
-sealed_out : {S : Type 0} (setting : Setting S) (salt : ℕ) (w : World) (owed : List Owed) (counters : Counters) (lists : List (List Message)) (speaker : Speaker S) → IsThere w speaker.session
-    → AllByRecursion (IsSpoken w speaker.session.unique) lists → AllByRecursion (AllByRecursion (IsOwed owed)) lists
-    → AllByRecursion (λ (sent : Sent). WentOut w owed sent.envelope) speaker.sent
-    → AllByRecursion (λ (sent : Sent). WentOut w owed sent.envelope) (fold (seals setting salt) speaker (outers_of setting.now counters lists)).sent
-sealed_out setting salt w owed counters [] speaker there spoken among h = h
-sealed_out setting salt w owed counters (group ∷ lists) speaker there spoken among h =
+sealed_out : {S : Type 0} (setting : Setting S) (salt : ℕ) (w : World) (counters : Counters) (lists : List (List Message)) (speaker : Speaker S) → IsThere w speaker.session
+    → AllByRecursion (IsSpoken w speaker.session.unique) lists → AllByRecursion (λ (sent : Sent). WentOut w sent.envelope) speaker.sent
+    → AllByRecursion (λ (sent : Sent). WentOut w sent.envelope) (fold (seals setting salt) speaker (outers_of setting.now counters lists)).sent
+sealed_out setting salt w counters [] speaker there spoken h = h
+sealed_out setting salt w counters (group ∷ lists) speaker there spoken h =
     let outer : Message = outer_of setting.now counters group in
     let next = seals setting salt speaker outer in
-    sealed_out setting salt w owed (after_outer setting.now counters group) lists next there spoken.1 among.1
-    (all_append (λ (sent : Sent). WentOut w owed sent.envelope) speaker.sent _ h (
+    sealed_out setting salt w (after_outer setting.now counters group) lists next there spoken.1
+    (all_append (λ (sent : Sent). WentOut w sent.envelope) speaker.sent _ h (
       record {
         unique = speaker.session.unique;
         group = group;
         body = outer_body setting.now counters group;
         spoken = spoken.0;
-        due = among.0;
         made = there.made;
         session = there.number;
       },
@@ -116,10 +110,10 @@ all_go_counted : (counters : Counters) (owed : List Owed) (session : Session) �
 all_go_counted counters owed session h =
     map_all (MayGo session) (MayGo (counted counters session)) (groups (messages_by (name_of session) owed)) (λ group is may. go_counted counters session group may) h
 
-module _ {S : Type 0} (adds : Adds) (extends : (w : World) (list : List Move) → AreLawful w list → Extends w (after_all w list)) (on : GoOn) (any : AnyResult)
-    (whole : (messages : List Message) → flat_map (λ group. group) (groups messages) ≡ messages) (setting : Setting S) (gone : List Session) (lines : Name → Line) (owed : List Owed) where
+module _ {S : Type 0} (adds : Adds) (extends : (w : World) (list : List Move) → AreLawful w list → Extends w (after_all w list)) (on : GoOn) (any : AnySaid)
+    (whole : (messages : List Message) → flat_map (λ group. group) (groups messages) ≡ messages) (setting : Setting S) (gone : Past) (lines : Name → Line) (owed : List Owed) where
   abbrev OutIn : World → Sent → Type 0
-  OutIn w sent = WentOut w owed sent.envelope
+  OutIn w sent = WentOut w sent.envelope
 
   -- an event so far, of which some sessions have sent what they owe
   pub record Sends (w : World) (state : State S) : Type 0 where
@@ -128,7 +122,7 @@ module _ {S : Type 0} (adds : Adds) (extends : (w : World) (list : List Move) �
     pub go : AllByRecursion (MayAllGo owed) (with_lines lines state.sessions)
     pub out : AllByRecursion (OutIn w) state.sent
 
-  went_still : (w : World) (list : List Move) → AreLawful w list → (sent : Sent) → OutIn w sent → OutIn (after_all w list) sent
+  pub went_still : (w : World) (list : List Move) → AreLawful w list → (sent : Sent) → OutIn w sent → OutIn (after_all w list) sent
   went_still w list lawful sent h =
       let more = extends w list lawful in
       record {
@@ -136,7 +130,6 @@ module _ {S : Type 0} (adds : Adds) (extends : (w : World) (list : List Move) �
         group = h.group;
         body = h.body;
         spoken = record { items = h.spoken.items; spelt = h.spoken.spelt; there = more.packets _ h.spoken.there };
-        due = h.due;
         made = more.servers.made h.unique h.made;
         session = more.servers.session h.unique h.made ∙ h.session;
       }
@@ -176,11 +169,6 @@ module _ {S : Type 0} (adds : Adds) (extends : (w : World) (list : List Move) �
 
     may : AllByRecursion (MayGo its) (groups messages)
     may = subst (λ (n : Name). AllByRecursion (MayGo its) (groups (messages_by n owed))) (sym its_name) go_its
-
-    among : AllByRecursion (AllByRecursion (IsOwed owed)) (groups messages)
-    among =
-        all_groups (IsOwed owed) (groups messages) (subst (λ (l : List Message). AllByRecursion (IsOwed owed) l) (sym (whole messages))
-        (by_name (IsOwed owed) name owed (map_all (λ (one : Owed). IsOwed owed one.message) (λ (one : Owed). one.name ≡ name → IsOwed owed one.message) owed (λ one is o named. o) (all_owed owed))))
 
     abbrev first : Speaker S
     first = speaker_in state x
@@ -228,12 +216,12 @@ module _ {S : Type 0} (adds : Adds) (extends : (w : World) (list : List Move) �
           own = l.own;
           gives = (
             l.gives.0,
-            sealed_out setting salt later owed ready.session.counters (groups messages) numbered
+            sealed_out setting salt later ready.session.counters (groups messages) numbered
                 (record {
                   made = subst (λ (s : Session). (later.servers s.unique).status ≢ Unmade) session_b unmade;
                   number = subst (λ (s : Session). (later.servers s.unique).session ≡ s.number) session_b stands.made.number;
                 })
-                l.gives.1 among (all_still w l.moves l.lawful state.sent h.out),
+                l.gives.1 (all_still w l.moves l.lawful state.sent h.out),
           );
         }
 
@@ -284,31 +272,56 @@ module _ {S : Type 0} (adds : Adds) (extends : (w : World) (list : List Move) �
   abbrev one_lost : State S → Session → State S
   one_lost so_far session = lost (name_of session) so_far
 
-  loses_one : (w : World) (state : State S) (session : Session) → EventEnds w lines owed state → Leads w (λ later. EventEnds later lines owed (one_lost state session))
-  loses_one w state session h =
-      let l = lost_on adds w h.gone lines state h.stands (name_of session) in
-      record {
-        moves = l.moves;
-        lawful = l.lawful;
-        own = l.own;
-        gives = record { gone = _; stands = l.gives; out = all_still w l.moves l.lawful state.sent h.out };
-      }
+  module _ (said : List Session) (said_apart : AreApart said) where
+    -- all that are there have spoken, and are as they were then
+    abbrev EndsSo : World → State S → Type 0
+    EndsSo w state = EventEnds w gone lines said state
 
-  loses_all : (spent : List Session) (w : World) (state : State S) → Reached w → EventEnds w lines owed state → Leads w (λ later. EventEnds later lines owed (fold one_lost state spent))
-  loses_all [] w state reached h = stays w (λ later. EventEnds later lines owed state) h
-  loses_all (session ∷ spent) w state reached h =
-      goes_on on w (λ later. EventEnds later lines owed (one_lost state session)) (λ later. EventEnds later lines owed (fold one_lost (one_lost state session) spent)) reached
-      (loses_one w state session h)
-      (λ later reached k. loses_all spent later (one_lost state session) reached k)
+    loses_one : (w : World) (state : State S) (session : Session) → EndsSo w state → Leads w (λ later. EndsSo later (one_lost state session))
+    loses_one w state session h =
+        let n : Name = name_of session in
+        let more : List Session = filter (is_named n) (with_lines lines state.sessions) in
+        let l = lost_on adds w (with_lost h.more gone) lines state h.stands n in
+        record {
+          moves = l.moves;
+          lawful = l.lawful;
+          own = l.own;
+          gives = record {
+            more = h.more ++ more;
+            stands = subst (λ (all : List Session). EventStands (after_all w l.moves) (record gone { lost = all }) lines (one_lost state session)) (append_assoc gone.lost h.more more) l.gives;
+            lost = lost_named lines said state.sessions h.more n (named_apart said said_apart) (λ o there is. each_of (Contains said) state.sessions h.kept o there) h.lost;
+            kept = all_of (Contains said) (without_session n state.sessions)
+                (λ o there. each_of (Contains said) state.sessions h.kept o (from_filter (λ (o : Session). not (is_named n o)) state.sessions o there).0);
+            apart = said_apart;
+            out = all_still w l.moves l.lawful state.sent h.out;
+          };
+        }
 
-pub ends_on : {S : Type 0} (adds : Adds) (extends : (w : World) (list : List Move) → AreLawful w list → Extends w (after_all w list)) (on : GoOn) (any : AnyResult)
-    (whole : (messages : List Message) → flat_map (λ group. group) (groups messages) ≡ messages) (setting : Setting S) (gone : List Session) (lines : Name → Line) (w : World) (state : State S)
-    → Reached w → EventStands w gone lines state → AllByRecursion (MayAllGo state.owed) (with_lines lines state.sessions) → AllByRecursion (λ (sent : Sent). WentOut w state.owed sent.envelope) state.sent
-    → Leads w (λ later. EventEnds later lines state.owed (without_spent (all_sent setting state)))
+    loses_all : (spent : List Session) (w : World) (state : State S) → Reached w → EndsSo w state → Leads w (λ later. EndsSo later (fold one_lost state spent))
+    loses_all [] w state reached h = stays w (λ later. EndsSo later state) h
+    loses_all (session ∷ spent) w state reached h =
+        goes_on on w (λ later. EndsSo later (one_lost state session)) (λ later. EndsSo later (fold one_lost (one_lost state session) spent)) reached
+        (loses_one w state session h)
+        (λ later reached k. loses_all spent later (one_lost state session) reached k)
+
+pub ends_on : {S : Type 0} (adds : Adds) (extends : (w : World) (list : List Move) → AreLawful w list → Extends w (after_all w list)) (on : GoOn) (any : AnySaid)
+    (whole : (messages : List Message) → flat_map (λ group. group) (groups messages) ≡ messages) (setting : Setting S) (gone : Past) (lines : Name → Line) (w : World) (state : State S)
+    → Reached w → EventStands w gone lines state → AllByRecursion (MayAllGo state.owed) (with_lines lines state.sessions) → AllByRecursion (λ (sent : Sent). WentOut w sent.envelope) state.sent
+    → Leads w (λ later. EventEnds later gone lines (all_sent setting state).sessions (without_spent (all_sent setting state)))
 ends_on adds extends on any whole setting gone lines w state reached h go out =
     let owed : List Owed = state.owed in
-    goes_on on w (λ later. Sends adds extends on any whole setting gone lines owed later (all_sent setting state)) (λ later. EventEnds later lines owed (without_spent (all_sent setting state))) reached
+    let end : State _ = all_sent setting state in
+    let Ends : World → Type 0 = λ later. EventEnds later gone lines end.sessions (without_spent end) in
+    goes_on on w (λ later. Sends adds extends on any whole setting gone lines owed later end) Ends reached
     (sends_names adds extends on any whole setting gone lines owed (names_in owed) w state reached (record { stands = h; same = refl; go = go; out = out }))
     (λ later reached k.
-    loses_all adds extends on any whole setting gone lines owed (filter is_spent (all_sent setting state).sessions) later (all_sent setting state) reached
-    (record { gone = gone; stands = k.stands; out = k.out }))
+    let apart : AreApart end.sessions = apart_lines lines end.sessions k.stands.stands.apart in
+    loses_all adds extends on any whole setting gone lines owed end.sessions apart (filter is_spent end.sessions) later end reached
+    (record {
+      more = [];
+      stands = none_lost later gone lines end k.stands;
+      lost = none_are_lost (lined lines) end.sessions;
+      kept = all_of (Contains end.sessions) end.sessions (λ o there. there);
+      apart = apart;
+      out = k.out;
+    }))

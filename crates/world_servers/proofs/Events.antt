@@ -8,10 +8,11 @@ use Rattle.waits.specs.Jobs.{without_session as without_jobs_of}
 use Rattle.server_rules.specs.Server.{Name, Session, is_named, name_of, session_named, with_session, without_session}
 use Rattle.server_rules.specs.Event.{Owed, Speaker, State, lost, speaker_in, speaks, spoken, spoken_by}
 use Rattle.server_laws.specs.Speech.{SaidFor}
+use Rattle.session_moves.specs.Table as moves
 use Rattle.session_moves.specs.World.{World}
 use Rattle.session_moves.specs.Reached.{after_all}
 use Rattle.world_servers.specs.Leading.{Leads}
-use Rattle.world_servers.specs.Servers.{ServerStands}
+use Rattle.world_servers.specs.Servers.{Past, ServerStands, with_entries, with_lost}
 use Rattle.world_servers.specs.Speaking.{IsOwedThere, SpeaksThere, with_line}
 use Rattle.world_servers.specs.Events.{EventStands, with_lines}
 use Rattle.world_servers.proofs.Lists.{all_append, all_of, each_of, first_or, from_filter, here, later as one_later}
@@ -70,9 +71,10 @@ lines_put lines name b (o ∷ sessions) is =
 
 -- ---- what is owed stays
 
-module _ (w later : World) (o : Session) (forgotten : (number : ℕ) → Contains (w.servers o.unique).forgotten number → Contains (later.servers o.unique).forgotten number) where
+module _ (w later : World) (o : Session) (forgotten : (number : ℕ) → Contains (w.servers o.unique).forgotten number → Contains (later.servers o.unique).forgotten number)
+    (ups : (message : moves.Message) → Contains w.ups message → Contains later.ups message) where
   owed_on : (owed : List Owed) → AllByRecursion (IsOwedThere w o) owed → AllByRecursion (IsOwedThere later o) owed
-  owed_on owed h = owed_still w later o o.counters o.replies (λ reply same. same) forgotten owed h
+  owed_on owed h = owed_still w later o o.counters o.replies (λ reply same. same) forgotten ups owed h
 
 -- ---- a session speaks
 
@@ -85,7 +87,7 @@ pub record IsItsOwn (S : Type 0) (before after : Speaker S) : Type 0 where
 pub own_of : {S : Type 0} (before after : Speaker S) → SaidFor S before after → IsItsOwn S before after
 own_of before after said = record { key = said.key; number = said.number; owed = said.owed }
 
-module _ {S : Type 0} (adds : Adds) (w : World) (gone : List Session) (lines : Name → Line) (state : State S) (h : EventStands w gone lines state) (name : Name) where
+module _ {S : Type 0} (adds : Adds) (w : World) (gone : Past) (lines : Name → Line) (state : State S) (h : EventStands w gone lines state) (name : Name) where
   abbrev xs : List Session
   xs = with_lines lines state.sessions
 
@@ -105,13 +107,14 @@ module _ {S : Type 0} (adds : Adds) (w : World) (gone : List Session) (lines : N
     begins =
         let same : with_session its xs ≡ xs = with_itself xs h.stands.apart its among in
         record {
-          stands = subst (λ (l : List Session). ServerStands w gone l state.jobs) (sym same) h.stands;
+          stands = subst (λ (l : List Session). ServerStands w (with_entries state.entries gone) l state.jobs) (sym same) h.stands;
           among = subst (λ (l : List Session). Contains l its) (sym same) among;
           owed = each_of (λ (o : Session). AllByRecursion (IsOwedThere w o) state.owed) xs h.owed its among;
         }
 
     module _ (b : Speaker S) (said : IsItsOwn S (speaker_in state x) b) (later : World)
         (forgotten : (unique number : ℕ) → Contains (w.servers unique).forgotten number → Contains (later.servers unique).forgotten number)
+        (ups : (message : moves.Message) → Contains w.ups message → Contains later.ups message)
         (k : SpeaksThere later gone xs (lines name) b) where
       named_b : name_of b.session ≡ name
       named_b =
@@ -130,7 +133,7 @@ module _ {S : Type 0} (adds : Adds) (w : World) (gone : List Session) (lines : N
           let more = said.owed in
           subst (λ (l : List Owed). AllByRecursion (IsOwedThere later o) l) (sym more.1)
           (all_append (IsOwedThere later o) state.owed more.0
-          (owed_on w later o (λ number is. forgotten o.unique number is) state.owed (each_of (λ (o : Session). AllByRecursion (IsOwedThere w o) state.owed) xs h.owed o there))
+          (owed_on w later o (λ number is. forgotten o.unique number is) ups state.owed (each_of (λ (o : Session). AllByRecursion (IsOwedThere w o) state.owed) xs h.owed o there))
           (all_of (IsOwedThere later o) more.0
           (λ one is of.
           let its_own : name_of now ≡ name_of o = named_b ∙ its_name ∙ sym (All-contains (λ (one : Owed). one.name ≡ name_of x) more.0 one more.2 is) ∙ of in
@@ -145,7 +148,7 @@ module _ {S : Type 0} (adds : Adds) (w : World) (gone : List Session) (lines : N
 
       ends : EventStands later gone lines (spoken state b)
       ends = record {
-        stands = subst (λ (l : List Session). ServerStands later gone l b.jobs) (sym same_list) k.stands;
+        stands = subst (λ (l : List Session). ServerStands later (with_entries b.entries gone) l b.jobs) (sym same_list) k.stands;
         owed = subst (λ (l : List Session). AllByRecursion (λ (o : Session). AllByRecursion (IsOwedThere later o) b.owed) l) (sym same_list)
             (all_mapped (λ (o : Session). AllByRecursion (IsOwedThere later o) b.owed) (put now) xs put_owes);
       }
@@ -161,7 +164,7 @@ module _ {S : Type 0} (adds : Adds) (w : World) (gone : List Session) (lines : N
         moves = l.moves;
         lawful = l.lawful;
         own = l.own;
-        gives = (ends x found (speak (speaker_in state x)) own (after_all w l.moves) (λ unique number has. adds.forgotten w l.moves l.lawful unique number has) l.gives.0, l.gives.1);
+        gives = (ends x found (speak (speaker_in state x)) own (after_all w l.moves) (λ unique number has. adds.forgotten w l.moves l.lawful unique number has) (λ m has. adds.messages w l.moves l.lawful m has) l.gives.0, l.gives.1);
       }
 
   -- what a session of the name says
@@ -180,7 +183,7 @@ module _ {S : Type 0} (adds : Adds) (w : World) (gone : List Session) (lines : N
         moves = l.moves;
         lawful = l.lawful;
         own = l.own;
-        gives = ends x is (speak (speaker_in state x)) (own_of (speaker_in state x) (speak (speaker_in state x)) its_speech.0) (after_all w l.moves) (λ unique number has. adds.forgotten w l.moves l.lawful unique number has) l.gives;
+        gives = ends x is (speak (speaker_in state x)) (own_of (speaker_in state x) (speak (speaker_in state x)) its_speech.0) (after_all w l.moves) (λ unique number has. adds.forgotten w l.moves l.lawful unique number has) (λ m has. adds.messages w l.moves l.lawful m has) l.gives;
       }
 
   pub speaks_on : (speak : Speaker S → Speaker S) → ((x : Session) → session_named name state.sessions ≡ Some x → IsSpeech speak x)
@@ -197,19 +200,19 @@ module _ {S : Type 0} (adds : Adds) (w : World) (gone : List Session) (lines : N
         | inr not_so ↦ rw not_so (ap (λ (l : List Session). with_line (lines (name_of o)) o ∷ l) (lines_without sessions))
       ]
 
-  pub lost_on : Leads w (λ later. EventStands later (gone ++ filter (is_named name) xs) lines (lost name state))
+  pub lost_on : Leads w (λ later. EventStands later (with_lost (filter (is_named name) xs) gone) lines (lost name state))
   lost_on =
-      let l = loses w gone xs state.jobs name h.stands in
+      let l = loses w (with_entries state.entries gone) xs state.jobs name h.stands in
       let v : World = after_all w l.moves in
       record {
         moves = l.moves;
         lawful = l.lawful;
         own = l.own;
         gives = record {
-          stands = subst (λ (s : List Session). ServerStands v (gone ++ filter (is_named name) xs) s (without_jobs_of name.key name.session state.jobs)) (sym (lines_without state.sessions)) l.gives;
+          stands = subst (λ (s : List Session). ServerStands v (with_lost (filter (is_named name) xs) (with_entries state.entries gone)) s (without_jobs_of name.key name.session state.jobs)) (sym (lines_without state.sessions)) l.gives;
           owed = subst (λ (s : List Session). AllByRecursion (λ (o : Session). AllByRecursion (IsOwedThere v o) state.owed) s) (sym (lines_without state.sessions))
               (all_of (λ (o : Session). AllByRecursion (IsOwedThere v o) state.owed) (without_session name xs)
-              (λ o there. owed_on w v o (λ number has. adds.forgotten w l.moves l.lawful o.unique number has) state.owed
+              (λ o there. owed_on w v o (λ number has. adds.forgotten w l.moves l.lawful o.unique number has) (λ m has. adds.messages w l.moves l.lawful m has) state.owed
               (each_of (λ (o : Session). AllByRecursion (IsOwedThere w o) state.owed) xs h.owed o (from_filter (λ (o : Session). not (is_named name o)) xs o there).0)));
         };
       }

@@ -1,9 +1,10 @@
 -- The salts of a session only grow within an event.
-use Rattle.std.proofs.Common.{◌≡◌, ◌≢◌, ℕ, zero, suc, ◌==◌, ◌&&◌, Bool, true, false, Option, None, Some, List, [], ◌∷◌, ◌++◌, fold, if◌then◌else◌, inl, inr, refl, sym, ap, subst, ◌∙◌}
+use Rattle.std.proofs.Common.{◌≡◌, ℕ, zero, suc, ◌==◌, ◌&&◌, Option, None, Some, List, [], ◌∷◌, ◌++◌, fold, inl, inr, refl, sym, ap, subst, ◌∙◌, append_assoc}
 use Rattle.std.specs.Prelude.{is_some, min}
-use Rattle.std.specs.List.{AllByRecursion, Contains, find, list_all}
+use Rattle.std.specs.List.{Contains, find, list_all}
 use Rattle.std.proofs.lemmas.Bool.{cases_Bool, cond_both}
 use Rattle.std.proofs.lemmas.List.Elements.{Contains-append_left}
+use Rattle.salt_line.specs.Line.{Line}
 use Rattle.salt_line.specs.Rows.{Row, future_rows_max}
 use Rattle.salt_line.specs.Needed.{has_row, needed, needed_from}
 use Rattle.salt_line.specs.Rows.{period_at}
@@ -17,44 +18,59 @@ use Rattle.inbox.specs.declared.judged.Verdict.TheVariants.{Accepted, Again, Not
 use Rattle.waits.specs.declared.job.Job.{Job}
 use Rattle.waits.specs.Jobs.{first_job, is_call}
 use Rattle.server_rules.specs.Server.{Reply, Session, is_kept, mark_in, reply_to}
-use Rattle.server_rules.specs.Event.{BindingCall, Setting, Speaker}
+use Rattle.server_rules.specs.Event.{Setting, Speaker}
 use Rattle.server_rules.specs.Server.{Binding}
 use Rattle.server_rules.specs.Speaking.{answers, answers_in_place, bad_body, has_said, message_of, needs_salts, owes_message, says, says_again, says_with_salt}
-use Rattle.server_rules.specs.Calls.{accepts_call, becomes_job, binds, binds_by, drops_answer, drops_by, job_of, refusal}
-use Rattle.server_rules.specs.Rows.{accepts, answers_broken, came_again, kept_numbered, notices, owes, says_reply, sends_again, tells_salts, tells_states}
+use Rattle.server_rules.specs.Calls.{accepts_call, becomes_job, binds_by, drops_by, job_of, refusal}
+use Rattle.server_rules.specs.Rows.{accepts, answers_broken, came_again, kept_numbered, notices, owes, says_reply, sends_again}
 use Rattle.world_servers.specs.Speaking.{IsWithin}
-use Rattle.world_servers.proofs.Lists.{all_of, each_of}
+use Rattle.world_servers.proofs.Lists.{all_of}
+use Rattle.world_servers.proofs.Losing.{append_nothing}
 
--- each row of the session before is one of it after
+-- the session's line has the rows that it had before, and then others
 abbrev pub Grown : Session → Session → Type 0
-Grown before after = IsWithin after.salts before
+Grown before after = (more : List Row) × (after.salts ≡ record before.salts { rows = before.salts.rows ++ more })
+
+abbrev pub with_line_rows : Line → List Row → Line
+with_line_rows line rows = record line { rows = rows }
 
 pub grown_itself : (x : Session) → Grown x x
-grown_itself x = all_of (λ (row : Row). Contains x.salts.rows row) x.salts.rows (λ row there. there)
+grown_itself x = ([], ap (λ (rows : List Row). with_line_rows x.salts rows) (sym (append_nothing x.salts.rows)))
 
 pub grown_then : (x y z : Session) → Grown x y → Grown y z → Grown x z
-grown_then x y z one two =
-    all_of (λ (row : Row). Contains z.salts.rows row) x.salts.rows
-    (λ row there. each_of (λ (row : Row). Contains z.salts.rows row) y.salts.rows two row (each_of (λ (row : Row). Contains y.salts.rows row) x.salts.rows one row there))
+grown_then x y z one two = (
+  one.0 ++ two.0,
+  two.1
+      ∙ ap (λ (line : Line). with_line_rows line (line.rows ++ two.0)) one.1
+      ∙ ap (λ (rows : List Row). with_line_rows x.salts rows) (append_assoc x.salts.rows one.0 two.0),
+)
+
+-- so each row that it had is there
+pub grown_within : (x y : Session) → Grown x y → IsWithin y.salts x
+grown_within x y h =
+    all_of (λ (row : Row). Contains y.salts.rows row) x.salts.rows
+    (λ row there. subst (λ (line : Line). Contains line.rows row) (sym h.1) (Contains-append_left x.salts.rows h.0 row there))
 
 module _ {S : Type 0} (setting : Setting S) where
-  still_needed : (period : ℕ) (rows : List Row) (draw : S) (row : Row) → Contains rows row → Contains (needed setting.step period (rows, draw)).0 row
-  still_needed period rows draw row there =
+  needed_more : (period : ℕ) (rows : List Row) (draw : S) → (more : List Row) × ((needed setting.step period (rows, draw)).0 ≡ rows ++ more)
+  needed_more period rows draw =
       elim (cases_Bool (has_row period rows)) [
-        | inl is ↦ rw is there
-        | inr not_so ↦ rw not_so (Contains-append_left rows _ row there)
+        | inl is ↦ rw is ([], sym (append_nothing rows))
+        | inr not_so ↦ rw not_so (record { period = period; word = (setting.step draw).0 } ∷ [], refl)
       ]
 
-  still_from : (period n : ℕ) (rows : List Row) (draw : S) (row : Row) → Contains rows row → Contains (needed_from setting.step period n (rows, draw)).0 row
-  still_from period zero rows draw row there = there
-  still_from period (suc n) rows draw row there =
+  more_from : (period n : ℕ) (rows : List Row) (draw : S) → (more : List Row) × ((needed_from setting.step period n (rows, draw)).0 ≡ rows ++ more)
+  more_from period zero rows draw = ([], sym (append_nothing rows))
+  more_from period (suc n) rows draw =
       let next = needed setting.step period (rows, draw) in
-      still_from (suc period) n next.0 next.1 row (still_needed period rows draw row there)
+      let one = needed_more period rows draw in
+      let rest = more_from (suc period) n next.0 next.1 in
+      (one.0 ++ rest.0, rest.1 ∙ ap (λ (l : List Row). l ++ rest.0) one.1 ∙ append_assoc rows one.0 rest.0)
 
-  needs_grown : (count : ℕ) (speaker : Speaker S) → Grown speaker.session (needs_salts setting count speaker).session
+  pub needs_grown : (count : ℕ) (speaker : Speaker S) → Grown speaker.session (needs_salts setting count speaker).session
   needs_grown count speaker =
-      all_of (λ (row : Row). Contains (needs_salts setting count speaker).session.salts.rows row) speaker.session.salts.rows
-      (λ row there. still_from (period_at speaker.session.salts.start setting.now) count speaker.session.salts.rows speaker.draw row there)
+      let more = more_from (period_at speaker.session.salts.start setting.now) count speaker.session.salts.rows speaker.draw in
+      (more.0, ap (λ (rows : List Row). with_line_rows speaker.session.salts rows) more.1)
 
   abbrev From : Speaker S → Speaker S → Type 0
   From before after = Grown before.session after.session

@@ -1,5 +1,5 @@
 -- In a run, or a tick, only sessions speak that have accepted a message.
-use Rattle.std.proofs.Common.{◌≡◌, ℕ, zero, suc, ◌==◌, ◌&&◌, ◌||◌, Bool, true, false, Option, None, Some, List, [], ◌∷◌, ◌++◌, length, if◌then◌else◌, inl, inr, refl, sym, ap, subst, ◌∙◌, ◌<◌, arith}
+use Rattle.std.proofs.Common.{◌≡◌, ℕ, zero, suc, ◌==◌, ◌&&◌, ◌||◌, Bool, true, false, Option, None, Some, List, [], ◌∷◌, length, inl, inr, refl, sym, ap, subst, ◌∙◌, ◌<◌, arith}
 use Rattle.std.specs.List.{AllByRecursion, Contains}
 use Rattle.std.proofs.lemmas.Bool.{cases_Bool}
 use Rattle.std.proofs.lemmas.List.Elements.{All-contains}
@@ -11,7 +11,7 @@ use Rattle.packing.specs.Packing.{groups}
 use Rattle.waits.specs.declared.job.Job.{Job}
 use Rattle.waits.specs.declared.job.Unfinished.{Unfinished}
 use Rattle.waits.specs.Jobs.{Queue, first_job, has_failed, is_of, is_overdue, ready_job, without_first, without_ready}
-use Rattle.server_rules.specs.Server.{Name, Session, has_accepted, is_named, is_same, name_of, session_named, with_session}
+use Rattle.server_rules.specs.Server.{Name, Session, has_accepted, is_named, is_same, name_of, session_named}
 use Rattle.server_rules.specs.Event.{Owed, Setting, Speaker, State, speaker_in, speaks, spoken, spoken_by}
 use Rattle.server_rules.specs.Speaking.{answers, msg_wait_failed, msg_wait_timeout}
 use Rattle.server_rules.specs.Waiting.{Outlook, after_failures, after_timeouts, all_given_up, first_given_up, given_up, gives_up, outlook}
@@ -27,9 +27,9 @@ use Rattle.world_servers.proofs.Lists.{all_append, all_of, each_of, first_or, ke
 use Rattle.world_servers.proofs.Ordered.{orderly}
 use Rattle.world_servers.proofs.Losing.{named_itself}
 use Rattle.world_servers.proofs.One.{put}
-use Rattle.world_servers.proofs.Kept.{all_told, first_out, ready_out, same_jobs}
+use Rattle.world_servers.proofs.Kept.{all_told, first_out, ready_out}
 use Rattle.world_servers.proofs.Found.{first_in, found_in}
-use Rattle.world_servers.proofs.Events.{all_mapped, name_is}
+use Rattle.world_servers.proofs.Events.{all_mapped}
 use Rattle.world_servers.proofs.Ending.{same_name}
 use Rattle.world_servers.proofs.Jobs.{FinishesAlone, GivesUpAlone, ready_in}
 

@@ -17,7 +17,7 @@ use Rattle.server_laws.specs.Speech.{SaidFor}
 use Rattle.session_moves.specs.World.{World}
 use Rattle.session_moves.specs.Reached.{Reached}
 use Rattle.world_servers.specs.Leading.{Leads}
-use Rattle.world_servers.specs.Servers.{AsksThere, IsJobOf, IsJobThere}
+use Rattle.world_servers.specs.Servers.{AsksThere, IsJobOf, IsJobThere, Past, with_entries}
 use Rattle.world_servers.specs.Speaking.{IsOpen, with_line}
 use Rattle.world_servers.specs.Events.{AreCallsApart, AreOpenJobs, AreUnanswered, EventStands, IsNoneOf, IsSameCall, with_lines}
 use Rattle.world_servers.proofs.Lists.{all_of, each_of, here, later as one_later, map_all}
@@ -180,7 +180,7 @@ module _ (sessions : List Session) (x b : Session) (rest new : Queue) (job : Job
 -- ---- in an event
 
 -- what an event so far is, with its jobs
-abbrev pub IsGoing : {S : Type 0} → World → List Session → (Name → Line) → State S → Type 0
+abbrev pub IsGoing : {S : Type 0} → World → Past → (Name → Line) → State S → Type 0
 IsGoing w gone lines state = EventStands w gone lines state × AreOpenJobs state.sessions state.jobs
 
 abbrev pub GivesUpAlone : Type 0 → Type 0
@@ -189,7 +189,7 @@ GivesUpAlone S = (setting : Setting S) (speaker : Speaker S) (content : List ℕ
 abbrev pub FinishesAlone : Type 0 → Type 0
 FinishesAlone S = (setting : Setting S) (speaker : Speaker S) (job : Job) (reply : List ℕ) → SaidFor S speaker (finishes setting job reply speaker)
 
-module _ {S : Type 0} (adds : Adds) (setting : Setting S) (gone : List Session) (lines : Name → Line) where
+module _ {S : Type 0} (adds : Adds) (setting : Setting S) (gone : Past) (lines : Name → Line) where
   -- a reply to a job leaves the other numbers open
   replied_open : (x : Session) (job : ℕ) (content : List ℕ) (n : ℕ) → IsOpen n x.replies → (n ≡ job → ⊥)
       → IsOpen n (made_room (length (numbered setting.now x.counters (RpcResult job content)).body) x.replies
@@ -215,7 +215,7 @@ module _ {S : Type 0} (adds : Adds) (setting : Setting S) (gone : List Session) 
     without = record state { jobs = rest }
 
     h_rest : EventStands w gone lines without
-    h_rest = record { stands = jobs_go_on w gone (with_lines lines state.sessions) state.jobs rest h.stands from; owed = h.owed }
+    h_rest = record { stands = jobs_go_on w (with_entries state.entries gone) (with_lines lines state.sessions) state.jobs rest h.stands from; owed = h.owed }
 
     open_rest : AllByRecursion (AreUnanswered rest) state.sessions
     open_rest = map_all (AreUnanswered state.jobs) (AreUnanswered rest) state.sessions (λ o there is. unanswered_so state.jobs rest o from is) jobs.unanswered
@@ -300,7 +300,7 @@ module _ {S : Type 0} (adds : Adds) (setting : Setting S) (gone : List Session) 
   first_on alone content test w state h None is =
       let from = first_out test state.jobs in
       stays w (λ later. IsGoing later gone lines (record state { jobs = without_first test state.jobs })) (
-        record { stands = jobs_go_on w gone (with_lines lines state.sessions) state.jobs (without_first test state.jobs) h.0.stands from; owed = h.0.owed },
+        record { stands = jobs_go_on w (with_entries state.entries gone) (with_lines lines state.sessions) state.jobs (without_first test state.jobs) h.0.stands from; owed = h.0.owed },
         record {
           unanswered = map_all (AreUnanswered state.jobs) (AreUnanswered (without_first test state.jobs)) state.sessions
               (λ o there k. unanswered_so state.jobs (without_first test state.jobs) o from k) h.1.unanswered;

@@ -15,7 +15,7 @@ use Rattle.session_moves.specs.Move.Move.{Draw, Judge}
 use Rattle.session_moves.specs.After.{after}
 use Rattle.session_moves.specs.Lawful.{MayDecide}
 use Rattle.world_servers.specs.Leading.{Leads}
-use Rattle.world_servers.specs.Servers.{HasForgotten, IsJobThere, IsNewSalt, IsOutcomeThere, IsSuch, IsStanding, ServerStands, WasJudged, with_history, with_row}
+use Rattle.world_servers.specs.Servers.{HasForgotten, IsJobThere, IsNewSalt, IsOutcomeThere, IsStanding, IsSuch, Past, ServerStands, WasJudged, with_history, with_row}
 use Rattle.world_servers.proofs.Lists.{all_append, each_of, first_or, here, later, map_all}
 use Rattle.world_servers.proofs.Leading.{leads_so, moves_once}
 use Rattle.world_servers.proofs.One.{changes, none_grow}
@@ -29,7 +29,7 @@ at_all P [] h k d below = absurd (omega (arith, below))
 at_all P (x ∷ xs) h zero d below = h.0
 at_all P (x ∷ xs) h (suc k) d below = at_all P xs h.1 k d (omega (arith, below))
 
-module _ (w : World) (lost sessions : List Session) (jobs : Queue) (s : ServerStands w lost sessions jobs) (x : Session) (among : Contains sessions x) where
+module _ (w : World) (past : Past) (sessions : List Session) (jobs : Queue) (s : ServerStands w past sessions jobs) (x : Session) (among : Contains sessions x) where
   its : IsStanding w x
   its = each_of (IsStanding w) sessions s.standing x among
 
@@ -80,19 +80,19 @@ module _ (w : World) (lost sessions : List Session) (jobs : Queue) (s : ServerSt
           ],
     )
 
-    pub draws_on : Leads w (λ later. ServerStands later lost (with_session drawn sessions) jobs × ((b : ℕ) → IsNewSalt w b → b ≢ row.word → IsNewSalt later b))
+    pub draws_on : Leads w (λ later. ServerStands later past (with_session drawn sessions) jobs × ((b : ℕ) → IsNewSalt w b → b ≢ row.word → IsNewSalt later b))
     draws_on =
-        moves_once w (λ later. ServerStands later lost (with_session drawn sessions) jobs × ((b : ℕ) → IsNewSalt w b → b ≢ row.word → IsNewSalt later b))
+        moves_once w (λ later. ServerStands later past (with_session drawn sessions) jobs × ((b : ℕ) → IsNewSalt w b → b ≢ row.word → IsNewSalt later b))
         x.unique (Draw x.unique row.word) (its.stands, new.0, new.1) refl (
-          changes w lost sessions jobs jobs s x drawn among refl refl refl drawn_w other_left (none_grow x.unique w.entries) (λ m is. is)
+          changes w past sessions jobs jobs s x drawn among refl refl refl drawn_w other_left (none_grow x.unique w.entries) past refl (λ lives on h. h) (λ m is. is)
               (λ reply o differs r. r) drawn_stands its_jobs (λ o differs h. h),
           still_new,
         )
 
-    pub draws : Leads w (λ later. ServerStands later lost (with_session drawn sessions) jobs)
+    pub draws : Leads w (λ later. ServerStands later past (with_session drawn sessions) jobs)
     draws =
-        leads_so w (λ later. ServerStands later lost (with_session drawn sessions) jobs × ((b : ℕ) → IsNewSalt w b → b ≢ row.word → IsNewSalt later b))
-        (λ later. ServerStands later lost (with_session drawn sessions) jobs) (λ later h. h.0) draws_on
+        leads_so w (λ later. ServerStands later past (with_session drawn sessions) jobs × ((b : ℕ) → IsNewSalt w b → b ≢ row.word → IsNewSalt later b))
+        (λ later. ServerStands later past (with_session drawn sessions) jobs) (λ later h. h.0) draws_on
 
   -- ---- a message is judged
 
@@ -171,11 +171,11 @@ module _ (w : World) (lost sessions : List Session) (jobs : Queue) (s : ServerSt
         (map_all (λ (one : moves.Judged). WasJudged one.number x.history) (λ (one : moves.Judged). one.number ≢ m.number) (w.servers x.unique).judged
         (λ one is h same. unjudged (h.0, h.1, h.2 ∙ same ∙ numbered)) its.known)
 
-    pub judges : Leads w (λ later. ServerStands later lost (with_session told sessions) jobs × Contains (later.servers x.unique).judged (record { number = number; outcome = decided }))
+    pub judges : Leads w (λ later. ServerStands later past (with_session told sessions) jobs × Contains (later.servers x.unique).judged (record { number = number; outcome = decided }))
     judges =
-        moves_once w (λ later. ServerStands later lost (with_session told sessions) jobs × Contains (later.servers x.unique).judged (record { number = number; outcome = decided })) x.unique (Judge x.unique m decided)
+        moves_once w (λ later. ServerStands later past (with_session told sessions) jobs × Contains (later.servers x.unique).judged (record { number = number; outcome = decided })) x.unique (Judge x.unique m decided)
         (its.stands, sent, under ∙ sym its.made.number, is_lawful, may) refl (
-          changes w lost sessions jobs jobs s x told among refl refl refl told_w told_other (none_grow x.unique w.entries) (λ m is. is)
+          changes w past sessions jobs jobs s x told among refl refl refl told_w told_other (none_grow x.unique w.entries) past refl (λ lives on h. h) (λ m is. is)
               (λ reply o differs r. r) told_stands told_jobs (λ o differs h. h),
           now_judged,
         )

@@ -1,7 +1,10 @@
 pub mod Lists
 pub mod Leading
 pub mod Others
+pub mod Entered
 pub mod Losing
+pub mod Gone
+pub mod Quiet
 pub mod Still
 pub mod One
 pub mod Judging
@@ -29,3 +32,11 @@ pub mod Noticing
 pub mod Taking
 pub mod PacketEnd
 pub mod Hearing
+pub mod Growth
+pub mod Fresh
+pub mod Chosen
+pub mod Drawn
+pub mod Whole
+pub mod Served
+pub mod Heard
+pub mod Comes

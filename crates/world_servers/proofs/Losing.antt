@@ -1,5 +1,5 @@
 -- A session is lost.
-use Rattle.std.proofs.Common.{◌≡◌, ◌≢◌, ℕ, ◌==◌, ◌&&◌, not, Bool, true, false, List, [], ◌∷◌, ◌++◌, filter, inl, inr, refl, sym, ap, subst, ◌∙◌, eq-eqb, ne_eqb}
+use Rattle.std.proofs.Common.{◌≡◌, ◌≢◌, ℕ, ◌==◌, ◌&&◌, not, Bool, true, false, List, [], ◌∷◌, ◌++◌, filter, reverse, inl, inr, refl, sym, ap, subst, ◌∙◌, eq-eqb, ne_eqb}
 use Rattle.std.specs.Prelude.{◌⊎◌}
 use Rattle.std.specs.List.{AllByRecursion, Contains}
 use Rattle.std.proofs.lemmas.Bool.{cases_Bool, cases_eq}
@@ -13,8 +13,9 @@ use Rattle.session_moves.specs.Move.Move.{Lose}
 use Rattle.session_moves.specs.After.{after}
 use Rattle.session_moves.specs.Reached.{Reached}
 use Rattle.world_servers.specs.Leading.{Leads}
-use Rattle.world_servers.specs.Servers.{AreApart, IsJobThere, IsLost, IsOneOf, IsReplyThere, IsStanding, ServerStands, WasAnswered}
+use Rattle.world_servers.specs.Servers.{AreApart, AreEntered, IsJobThere, IsLost, IsReplyThere, IsStanding, Past, ServerStands, WasAnswered, with_lost}
 use Rattle.world_servers.proofs.Lists.{all_append, all_of, each_of, filtered_in, filtered_out, from_filter, here, kept_in, later, map_all}
+use Rattle.world_servers.proofs.Entered.{AllLiveOn, entered_on, itself_on, one_on}
 use Rattle.world_servers.proofs.Leading.{GoOn, goes_on, leads_so, moves_once, stays}
 use Rattle.world_servers.proofs.Others.{job_left, lost_left, one_of_number, standing_left, two_uniques}
 
@@ -42,7 +43,7 @@ eq_true a b is =
 pub number_of_named : (name : Name) (session : Session) → is_named name session ≡ true → name.session ≡ session.number
 number_of_named name session is = eq_true name.session session.number (and_right (name.key == session.key) (name.session == session.number) is)
 
-not_true : (b : Bool) → not b ≡ true → b ≡ false
+pub not_true : (b : Bool) → not b ≡ true → b ≡ false
 not_true true is = absurd (cc)
 not_true false is = refl
 
@@ -76,15 +77,15 @@ filter_apart test (s ∷ sessions) h =
 pub standing_is_not_lost : (at : ℕ) → Lost at ≡ Standing → ⊥
 standing_is_not_lost at is = cc
 
-module _ (w : World) (lost sessions : List Session) (jobs : Queue) (name : Name) (s : ServerStands w lost sessions jobs) where
+module _ (w : World) (past : Past) (sessions : List Session) (jobs : Queue) (name : Name) (s : ServerStands w past sessions jobs) where
   abbrev pub WithoutIt : World → Type 0
   WithoutIt later =
-      ServerStands later (lost ++ filter (is_named name) sessions) (without_session name sessions) (without_jobs_of name.key name.session jobs)
+      ServerStands later (with_lost (filter (is_named name) sessions) past) (without_session name sessions) (without_jobs_of name.key name.session jobs)
 
   -- all others are left
   module _ (v : World) (same : (x : Session) → Contains sessions x → is_named name x ≡ false → v.servers x.unique ≡ w.servers x.unique)
       (entries : v.entries ≡ w.entries) (ups : v.ups ≡ w.ups)
-      (gone : AllByRecursion (IsLost v) lost) (now : (x : Session) → Contains sessions x → is_named name x ≡ true → IsLost v x)
+      (gone : AllByRecursion (IsLost v) past.lost) (now : (x : Session) → Contains sessions x → is_named name x ≡ true → IsLost v x)
       (made : (unique : ℕ) → (v.servers unique).status ≢ Unmade → (w.servers unique).status ≢ Unmade) where
     replies_left : (x : Session) → IsStanding w x → AllByRecursion (IsReplyThere v x) x.replies
     replies_left x h = map_all (IsReplyThere w x) (IsReplyThere v x) x.replies (λ reply among r. rw (entries, ups) r) h.replies
@@ -105,44 +106,38 @@ module _ (w : World) (lost sessions : List Session) (jobs : Queue) (name : Name)
     stay : (x : Session) → Contains (without_session name sessions) x → Contains sessions x × (is_named name x ≡ false)
     stay x among = let f = from_filter (λ (x : Session). not (is_named name x)) sessions x among in (f.0, not_true (is_named name x) f.1)
 
-    only_left : (unique : ℕ) → IsOneOf unique (lost ++ sessions) → IsOneOf unique ((lost ++ filter (is_named name) sessions) ++ without_session name sessions)
-    only_left unique one =
-        elim (Contains-append_cases lost sessions one.0 one.1) [
-          | inl was ↦ (
-            one.0,
-            Contains-append_left (lost ++ filter (is_named name) sessions) (without_session name sessions) one.0
-                (Contains-append_left lost (filter (is_named name) sessions) one.0 was),
-            one.2,
-          )
+    abbrev lives_now : List Session
+    lives_now = (past.lost ++ filter (is_named name) sessions) ++ without_session name sessions
+
+    all_on : AllLiveOn (past.lost ++ sessions) lives_now
+    all_on one there =
+        itself_on lives_now one
+        (elim (Contains-append_cases past.lost sessions one there) [
+          | inl was ↦
+              Contains-append_left (past.lost ++ filter (is_named name) sessions) (without_session name sessions) one
+              (Contains-append_left past.lost (filter (is_named name) sessions) one was)
           | inr among ↦
-              elim (cases_Bool (is_named name one.0)) [
-                | inl is ↦ (
-                  one.0,
-                  Contains-append_left (lost ++ filter (is_named name) sessions) (without_session name sessions) one.0
-                      (Contains-append_right lost (filter (is_named name) sessions) one.0 (kept_in (is_named name) sessions one.0 among is)),
-                  one.2,
-                )
-                | inr not_so ↦ (
-                  one.0,
-                  Contains-append_right (lost ++ filter (is_named name) sessions) (without_session name sessions) one.0
-                      (kept_in (λ (x : Session). not (is_named name x)) sessions one.0 among (ap not not_so)),
-                  one.2,
-                )
+              elim (cases_Bool (is_named name one)) [
+                | inl is ↦
+                    Contains-append_left (past.lost ++ filter (is_named name) sessions) (without_session name sessions) one
+                    (Contains-append_right past.lost (filter (is_named name) sessions) one (kept_in (is_named name) sessions one among is))
+                | inr not_so ↦
+                    Contains-append_right (past.lost ++ filter (is_named name) sessions) (without_session name sessions) one
+                    (kept_in (λ (x : Session). not (is_named name x)) sessions one among (ap not not_so))
               ]
-        ]
+        ])
 
     without_it : WithoutIt v
     without_it = record {
       standing = all_of (IsStanding v) (without_session name sessions) (λ x among. let f = stay x among in stands_left x f.0 f.1);
       working = all_of (λ (x : Session). AllByRecursion (IsJobThere v x) (without_jobs_of name.key name.session jobs)) (without_session name sessions)
           (λ x among. let f = stay x among in works_left x f.0 f.1);
-      gone = all_append (IsLost v) lost (filter (is_named name) sessions) gone
+      gone = all_append (IsLost v) past.lost (filter (is_named name) sessions) gone
           (all_of (IsLost v) (filter (is_named name) sessions) (λ x among. let f = from_filter (is_named name) sessions x among in now x f.0 f.1));
       apart = filter_apart (λ (x : Session). not (is_named name x)) sessions s.apart;
-      only = λ unique is. only_left unique (s.only unique (made unique is));
-      entered = subst (λ (l : List moves.Entry). AllByRecursion (λ (entry : moves.Entry). IsOneOf entry.server ((lost ++ filter (is_named name) sessions) ++ without_session name sessions)) l) (sym entries)
-          (map_all (λ (entry : moves.Entry). IsOneOf entry.server (lost ++ sessions)) (λ (entry : moves.Entry). IsOneOf entry.server ((lost ++ filter (is_named name) sessions) ++ without_session name sessions)) w.entries
-          (λ entry among one. only_left entry.server one) s.entered);
+      only = λ unique is. one_on (past.lost ++ sessions) lives_now all_on unique (s.only unique (made unique is));
+      entered = subst (λ (l : List moves.Entry). AreEntered lives_now (reverse past.entries) l) (sym entries)
+          (entered_on (past.lost ++ sessions) lives_now all_on (reverse past.entries) w.entries s.entered);
     }
 
   -- one has the name
@@ -189,7 +184,7 @@ module _ (w : World) (lost sessions : List Session) (jobs : Queue) (name : Name)
     loses_it =
         moves_once w WithoutIt x.unique (Lose x.unique) its.stands refl
         (without_it v (λ o among_too not_so. other_left o.unique (others_differ o among_too not_so)) refl refl
-        (map_all (IsLost w) (IsLost v) lost (λ o among_too h. lost_left w v o (other_left o.unique (lost_differ o h)) h) s.gone)
+        (map_all (IsLost w) (IsLost v) past.lost (λ o among_too h. lost_left w v o (other_left o.unique (lost_differ o h)) h) s.gone)
         lost_now was_made)
 
   -- none has
@@ -233,28 +228,25 @@ others_named x sessions h =
     (map_all (λ (o : Session). o.number ≢ x.number) (λ (o : Session). not (is_named (name_of x) o) ≡ true) sessions
     (λ o among differs. ap not (named_no_other x o differs)) h))
 
-pub loses_all : GoOn → (w : World) (lost sessions : List Session) (jobs : Queue) → Reached w → ServerStands w lost sessions jobs
-    → Leads w (λ later. ServerStands later (lost ++ sessions) [] [])
-loses_all on w lost [] jobs reached s =
-    stays w (λ later. ServerStands later (lost ++ []) [] [])
-    (record {
-      standing = tt;
-      working = tt;
-      gone = subst (λ (l : List Session). AllByRecursion (IsLost w) l) (sym (append_nothing lost)) s.gone;
-      apart = tt;
-      only = λ unique is. subst (λ (l : List Session). IsOneOf unique l) (sym (append_nothing (lost ++ []))) (s.only unique is);
-      entered = subst (λ (l : List Session). AllByRecursion (λ (entry : moves.Entry). IsOneOf entry.server l) w.entries) (sym (append_nothing (lost ++ []))) s.entered;
-    })
-loses_all on w lost (x ∷ sessions) jobs reached s =
+same_stands : (w : World) (past : Past) (some : List Session) (jobs : Queue) → some ≡ past.lost → ServerStands w past [] jobs → ServerStands w (record past { lost = some }) [] jobs
+same_stands w past some jobs is s = subst (λ (l : List Session). ServerStands w (record past { lost = l }) [] jobs) (sym is) s
+
+pub loses_all : GoOn → (w : World) (past : Past) (sessions : List Session) (jobs : Queue) → Reached w → ServerStands w past sessions jobs
+    → Leads w (λ later. ServerStands later (with_lost sessions past) [] [])
+loses_all on w past [] jobs reached s =
+    stays w (λ later. ServerStands later (with_lost [] past) [] [])
+    (same_stands w past (past.lost ++ []) [] (append_nothing past.lost)
+    (record { standing = tt; working = tt; gone = s.gone; apart = tt; only = s.only; entered = s.entered }))
+loses_all on w past (x ∷ sessions) jobs reached s =
     let jobs_left : Queue = without_jobs_of x.key x.number jobs in
-    goes_on on w (λ later. ServerStands later (lost ++ filter (is_named (name_of x)) (x ∷ sessions)) (without_session (name_of x) (x ∷ sessions)) jobs_left)
-    (λ later. ServerStands later (lost ++ x ∷ sessions) [] []) reached
-    (loses w lost (x ∷ sessions) jobs (name_of x) s)
+    goes_on on w (λ later. ServerStands later (with_lost (filter (is_named (name_of x)) (x ∷ sessions)) past) (without_session (name_of x) (x ∷ sessions)) jobs_left)
+    (λ later. ServerStands later (with_lost (x ∷ sessions) past) [] []) reached
+    (loses w past (x ∷ sessions) jobs (name_of x) s)
     (λ later reached h.
-    let one : ServerStands later (lost ++ x ∷ []) (without_session (name_of x) (x ∷ sessions)) jobs_left =
-    subst (λ (l : List Session). ServerStands later (lost ++ l) (without_session (name_of x) (x ∷ sessions)) jobs_left) (first_named x sessions s.apart.0) h in
-    let other : ServerStands later (lost ++ x ∷ []) sessions jobs_left =
-    subst (λ (l : List Session). ServerStands later (lost ++ x ∷ []) l jobs_left) (others_named x sessions s.apart.0) one in
-    leads_so later (λ last. ServerStands last ((lost ++ x ∷ []) ++ sessions) [] []) (λ last. ServerStands last (lost ++ x ∷ sessions) [] [])
-    (λ last h. subst (λ (l : List Session). ServerStands last l [] []) (append_one lost x sessions) h)
-    (loses_all on later (lost ++ x ∷ []) sessions jobs_left reached other))
+    let one : ServerStands later (with_lost (x ∷ []) past) (without_session (name_of x) (x ∷ sessions)) jobs_left =
+    subst (λ (l : List Session). ServerStands later (with_lost l past) (without_session (name_of x) (x ∷ sessions)) jobs_left) (first_named x sessions s.apart.0) h in
+    let other : ServerStands later (with_lost (x ∷ []) past) sessions jobs_left =
+    subst (λ (l : List Session). ServerStands later (with_lost (x ∷ []) past) l jobs_left) (others_named x sessions s.apart.0) one in
+    leads_so later (λ last. ServerStands last (with_lost sessions (with_lost (x ∷ []) past)) [] []) (λ last. ServerStands last (with_lost (x ∷ sessions) past) [] [])
+    (λ last h. subst (λ (l : List Session). ServerStands last (record past { lost = l }) [] []) (append_one past.lost x sessions) h)
+    (loses_all on later (with_lost (x ∷ []) past) sessions jobs_left reached other))

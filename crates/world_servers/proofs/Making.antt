@@ -1,5 +1,5 @@
 -- A session is made.
-use Rattle.std.proofs.Common.{◌≡◌, ◌≢◌, ℕ, true, false, List, [], ◌∷◌, ◌++◌, inl, inr, refl, sym, ap, subst, ◌∙◌, eq-eqb, ne_eqb}
+use Rattle.std.proofs.Common.{◌≡◌, ◌≢◌, ℕ, true, false, List, [], ◌∷◌, ◌++◌, reverse, inl, inr, refl, sym, ap, subst, ◌∙◌, eq-eqb, ne_eqb}
 use Rattle.std.specs.List.{AllByRecursion, Contains}
 use Rattle.std.proofs.lemmas.Bool.{cases_eq}
 use Rattle.std.proofs.lemmas.List.Elements.{Contains-append_cases, Contains-append_left, Contains-append_right}
@@ -15,8 +15,9 @@ use Rattle.session_moves.specs.Move.Move.{Make}
 use Rattle.session_moves.specs.After.{after}
 use Rattle.session_moves.specs.Reached.{Reached}
 use Rattle.world_servers.specs.Leading.{Leads}
-use Rattle.world_servers.specs.Servers.{AreApart, HasForgotten, IsJobThere, IsLost, IsNewSalt, IsOneOf, IsOutcomeThere, IsReplyThere, IsStanding, ServerStands, WasAnswered, WasJudged, with_row}
+use Rattle.world_servers.specs.Servers.{AreApart, HasForgotten, IsJobThere, IsLost, IsNewSalt, IsOneOf, IsOutcomeThere, IsReplyThere, IsStanding, Past, ServerStands, WasAnswered, WasJudged, with_row}
 use Rattle.world_servers.proofs.Lists.{all_append, all_of, each_of, here, map_all}
+use Rattle.world_servers.proofs.Entered.{AllLiveOn, entered_lives, entered_on, itself_on, one_on}
 use Rattle.world_servers.proofs.Leading.{GoOn, goes_on, leads_so, moves_once}
 use Rattle.world_servers.proofs.Losing.{standing_is_not_lost}
 use Rattle.world_servers.proofs.Others.{job_left, lost_left, standing_left}
@@ -30,11 +31,11 @@ standing_is_made : Standing ≡ Unmade → ⊥
 standing_is_made is = cc
 
 -- each of the sessions was made there
-made_there : (w : World) (lost sessions : List Session) (jobs : Queue) → ServerStands w lost sessions jobs → (u : ℕ) → IsOneOf u (lost ++ sessions) → (w.servers u).status ≢ Unmade
-made_there w lost sessions jobs s u one unmade =
-    elim (Contains-append_cases lost sessions one.0 one.1) [
+made_there : (w : World) (past : Past) (sessions : List Session) (jobs : Queue) → ServerStands w past sessions jobs → (u : ℕ) → IsOneOf u (past.lost ++ sessions) → (w.servers u).status ≢ Unmade
+made_there w past sessions jobs s u one unmade =
+    elim (Contains-append_cases past.lost sessions one.0 one.1) [
       | inl was ↦
-          let h : IsLost w one.0 = each_of (IsLost w) lost s.gone one.0 was in
+          let h : IsLost w one.0 = each_of (IsLost w) past.lost s.gone one.0 was in
           lost_is_made h.at (sym h.lost ∙ ap (λ (u : ℕ). (w.servers u).status) one.2 ∙ unmade)
       | inr stands ↦
           let h : IsStanding w one.0 = each_of (IsStanding w) sessions s.standing one.0 stands in
@@ -59,7 +60,7 @@ put_behind (o ∷ sessions) old new key number differ =
     ap (λ (s : Session). s ∷ with_session new (sessions ++ old ∷ [])) (put_other new o differ.0)
     ∙ ap (λ (l : List Session). o ∷ l) (put_behind sessions old new key number differ.1)
 
-module _ (w : World) (lost sessions : List Session) (jobs : Queue) (s : ServerStands w lost sessions jobs) (new : Session)
+module _ (w : World) (past : Past) (sessions : List Session) (jobs : Queue) (s : ServerStands w past sessions jobs) (new : Session)
     (rows : new.salts.rows ≡ []) (history : new.history ≡ []) (replies : new.replies ≡ [])
     (some : new.unique ≢ 0) (unmade : (w.servers new.unique).status ≡ Unmade) (blank : IsBlank (w.servers new.unique))
     (owner : (client : ℕ) × Owns (w.clients client) new.number) (differ : AllByRecursion (λ (o : Session). o.number ≢ new.number) sessions)
@@ -85,8 +86,9 @@ module _ (w : World) (lost sessions : List Session) (jobs : Queue) (s : ServerSt
 
   no_entries : AllByRecursion (λ (entry : moves.Entry). entry.server ≡ new.unique → WasAnswered entry.number new.replies) w.entries
   no_entries =
-      map_all (λ (entry : moves.Entry). IsOneOf entry.server (lost ++ sessions)) (λ (entry : moves.Entry). entry.server ≡ new.unique → WasAnswered entry.number new.replies) w.entries
-      (λ entry among one same. absurd (made_differs entry.server (made_there w lost sessions jobs s entry.server one) same)) s.entered
+      map_all (λ (entry : moves.Entry). IsOneOf entry.server (past.lost ++ sessions)) (λ (entry : moves.Entry). entry.server ≡ new.unique → WasAnswered entry.number new.replies) w.entries
+      (λ entry among one same. absurd (made_differs entry.server (made_there w past sessions jobs s entry.server one) same))
+      (entered_lives (past.lost ++ sessions) (reverse past.entries) w.entries s.entered)
 
   now : IsStanding v new
   now = record {
@@ -105,9 +107,9 @@ module _ (w : World) (lost sessions : List Session) (jobs : Queue) (s : ServerSt
   none_stands : (other : ℕ) → (w.servers other).session ≡ new.number → (w.servers other).status ≡ Standing → ⊥
   none_stands other number stands =
       let one = s.only other (λ none. standing_is_made (sym stands ∙ none)) in
-      elim (Contains-append_cases lost sessions one.0 one.1) [
+      elim (Contains-append_cases past.lost sessions one.0 one.1) [
         | inl was ↦
-            let h : IsLost w one.0 = each_of (IsLost w) lost s.gone one.0 was in
+            let h : IsLost w one.0 = each_of (IsLost w) past.lost s.gone one.0 was in
             standing_is_not_lost h.at (sym h.lost ∙ ap (λ (u : ℕ). (w.servers u).status) one.2 ∙ stands)
         | inr among ↦
             let h : IsStanding w one.0 = each_of (IsStanding w) sessions s.standing one.0 among in
@@ -115,17 +117,24 @@ module _ (w : World) (lost sessions : List Session) (jobs : Queue) (s : ServerSt
             (sym h.made.number ∙ ap (λ (u : ℕ). (w.servers u).session) one.2 ∙ number)
       ]
 
-  behind : (u : ℕ) → IsOneOf u (lost ++ sessions) → IsOneOf u (lost ++ (sessions ++ new ∷ []))
-  behind u one =
-      elim (Contains-append_cases lost sessions one.0 one.1) [
-        | inl was ↦ (one.0, Contains-append_left lost (sessions ++ new ∷ []) one.0 was, one.2)
-        | inr among ↦ (one.0, Contains-append_right lost (sessions ++ new ∷ []) one.0 (Contains-append_left sessions (new ∷ []) one.0 among), one.2)
-      ]
+  abbrev lives_now : List Session
+  lives_now = past.lost ++ (sessions ++ new ∷ [])
 
-  only_now : (u : ℕ) → (v.servers u).status ≢ Unmade → IsOneOf u (lost ++ (sessions ++ new ∷ []))
+  all_on : AllLiveOn (past.lost ++ sessions) lives_now
+  all_on one there =
+      itself_on lives_now one
+      (elim (Contains-append_cases past.lost sessions one there) [
+        | inl was ↦ Contains-append_left past.lost (sessions ++ new ∷ []) one was
+        | inr among ↦ Contains-append_right past.lost (sessions ++ new ∷ []) one (Contains-append_left sessions (new ∷ []) one among)
+      ])
+
+  behind : (u : ℕ) → IsOneOf u (past.lost ++ sessions) → IsOneOf u (past.lost ++ (sessions ++ new ∷ []))
+  behind u one = one_on (past.lost ++ sessions) lives_now all_on u one
+
+  only_now : (u : ℕ) → (v.servers u).status ≢ Unmade → IsOneOf u (past.lost ++ (sessions ++ new ∷ []))
   only_now u h =
       elim (cases_eq u new.unique) [
-        | inl same ↦ (new, Contains-append_right lost (sessions ++ new ∷ []) new (Contains-append_right sessions (new ∷ []) new (here new [])), sym same)
+        | inl same ↦ (new, Contains-append_right past.lost (sessions ++ new ∷ []) new (Contains-append_right sessions (new ∷ []) new (here new [])), sym same)
         | inr differs ↦ behind u (s.only u (λ none. h (ap (λ (one : moves.ServerSession). one.status) (servers_left u differs) ∙ none)))
       ]
 
@@ -133,7 +142,7 @@ module _ (w : World) (lost sessions : List Session) (jobs : Queue) (s : ServerSt
   no_job one not_so of = let e : false ≡ true = sym not_so ∙ of in absurd (cc)
 
   abbrev pub Behind : World → Type 0
-  Behind later = ServerStands later lost (sessions ++ new ∷ []) jobs
+  Behind later = ServerStands later past (sessions ++ new ∷ []) jobs
 
   makes : (word : ℕ) → IsNewSalt w word → Leads w (λ later. Behind later × IsNewSalt later word)
   makes word fresh =
@@ -146,20 +155,19 @@ module _ (w : World) (lost sessions : List Session) (jobs : Queue) (s : ServerSt
               (λ one is j. job_left w v o (servers_left o.unique (standing_differs o (each_of (IsStanding w) sessions s.standing o among))) one j)
               (each_of (λ (o : Session). AllByRecursion (IsJobThere w o) jobs) sessions s.working o among)))
               (map_all (λ (one : Unfinished). is_of new.key new.number one ≡ false) (IsJobThere v new) jobs (λ one is not_so. no_job one not_so) no_jobs, tt);
-          gone = map_all (IsLost w) (IsLost v) lost (λ o among h. lost_left w v o (servers_left o.unique (lost_differs o h)) h) s.gone;
+          gone = map_all (IsLost w) (IsLost v) past.lost (λ o among h. lost_left w v o (servers_left o.unique (lost_differs o h)) h) s.gone;
           apart = apart_more sessions new differ s.apart;
           only = only_now;
-          entered = map_all (λ (entry : moves.Entry). IsOneOf entry.server (lost ++ sessions)) (λ (entry : moves.Entry). IsOneOf entry.server (lost ++ (sessions ++ new ∷ []))) w.entries
-              (λ entry among one. behind entry.server one) s.entered;
+          entered = entered_on (past.lost ++ sessions) lives_now all_on (reverse past.entries) w.entries s.entered;
         },
         fresh,
       )
 
   -- and draws its first salt
-  pub makes_with : GoOn → Reached w → (row : Row) → IsNewSalt w row.word → Leads w (λ later. ServerStands later lost (sessions ++ with_row row new ∷ []) jobs)
+  pub makes_with : GoOn → Reached w → (row : Row) → IsNewSalt w row.word → Leads w (λ later. ServerStands later past (sessions ++ with_row row new ∷ []) jobs)
   makes_with on reached row fresh =
-      goes_on on w (λ later. Behind later × IsNewSalt later row.word) (λ later. ServerStands later lost (sessions ++ with_row row new ∷ []) jobs) reached (makes row.word fresh)
+      goes_on on w (λ later. Behind later × IsNewSalt later row.word) (λ later. ServerStands later past (sessions ++ with_row row new ∷ []) jobs) reached (makes row.word fresh)
       (λ later reached h.
-      leads_so later (λ last. ServerStands last lost (with_session (with_row row new) (sessions ++ new ∷ [])) jobs) (λ last. ServerStands last lost (sessions ++ with_row row new ∷ []) jobs)
-      (λ last h. subst (λ (l : List Session). ServerStands last lost l jobs) (put_behind sessions new (with_row row new) refl refl differ) h)
-      (draws later lost (sessions ++ new ∷ []) jobs h.0 new (Contains-append_right sessions (new ∷ []) new (here new [])) row h.1))
+      leads_so later (λ last. ServerStands last past (with_session (with_row row new) (sessions ++ new ∷ [])) jobs) (λ last. ServerStands last past (sessions ++ with_row row new ∷ []) jobs)
+      (λ last h. subst (λ (l : List Session). ServerStands last past l jobs) (put_behind sessions new (with_row row new) refl refl differ) h)
+      (draws later past (sessions ++ new ∷ []) jobs h.0 new (Contains-append_right sessions (new ∷ []) new (here new [])) row h.1))

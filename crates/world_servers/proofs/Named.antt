@@ -1,12 +1,11 @@
 -- The session of a name, as others and it speak.
-use Rattle.std.proofs.Common.{◌≡◌, ◌≢◌, ℕ, zero, suc, ◌==◌, ◌&&◌, not, Bool, true, false, Option, None, Some, List, [], ◌∷◌, ◌++◌, length, if◌then◌else◌, inl, inr, refl, sym, ap, subst, ◌∙◌, arith}
+use Rattle.std.proofs.Common.{◌≡◌, ◌≢◌, ℕ, zero, suc, true, false, Option, None, Some, List, [], ◌∷◌, length, if◌then◌else◌, inl, inr, refl, sym, ap, subst, ◌∙◌, arith}
 use Rattle.std.specs.Prelude.{◌⊎◌}
 use Rattle.std.specs.List.{All, Contains}
 use Rattle.std.proofs.lemmas.Bool.{cases_Bool}
 use Rattle.salt_line.specs.Line.{Line}
 use Rattle.service_tl.specs.declared.item.Item.{Item}
 use Rattle.waits.specs.declared.job.Job.{Job}
-use Rattle.waits.specs.declared.job.Unfinished.{Unfinished}
 use Rattle.waits.specs.Jobs.{Queue, first_job, has_failed, without_first}
 use Rattle.server_rules.specs.Server.{Name, Session, is_named, is_same, name_of, session_named, without_session}
 use Rattle.server_rules.specs.Event.{Entry, Owed, Setting, Speaker, State, lost, speaker_in, speaks, spoken_by}
@@ -15,12 +14,12 @@ use Rattle.server_rules.specs.Waiting.{after_failures, all_given_up, first_given
 use Rattle.server_laws.specs.Speech.{SaidFor}
 use Rattle.world_servers.specs.Speaking.{IsWithin}
 use Rattle.world_servers.proofs.Lists.{all_of, each_of}
-use Rattle.world_servers.proofs.Losing.{append_nothing, named_itself}
+use Rattle.world_servers.proofs.Losing.{append_nothing}
 use Rattle.world_servers.proofs.Found.{found_in, some_same}
 use Rattle.world_servers.proofs.Events.{name_is}
 use Rattle.world_servers.proofs.Ending.{same_name}
 use Rattle.world_servers.proofs.WorksEnd.{same_itself}
-use Rattle.world_servers.proofs.Growing.{Grown, grown_itself}
+use Rattle.world_servers.proofs.Growing.{Grown, grown_itself, grown_within}
 use Rattle.world_servers.proofs.Jobs.{GivesUpAlone}
 
 -- ---- names
@@ -162,7 +161,8 @@ module _ {S : Type 0} (k : Speaks S) (name : Name) (unique : ℕ) where
     Within state = (x : Session) → session_named name state.sessions ≡ Some x → IsWithin line x
 
     within_grown : (x y : Session) → Grown x y → IsWithin line y → IsWithin line x
-    within_grown x y grown h = all_of (λ row. Contains line.rows row) x.salts.rows (λ row there. each_of (λ row. Contains line.rows row) y.salts.rows h row (each_of (λ row. Contains y.salts.rows row) x.salts.rows grown row there))
+    within_grown x y grown h = all_of (λ row. Contains line.rows row) x.salts.rows
+        (λ row there. each_of (λ row. Contains line.rows row) y.salts.rows h row (each_of (λ row. Contains y.salts.rows row) x.salts.rows (grown_within x y grown) row there))
 
     abbrev Grows : State S → Name → (Speaker S → Speaker S) → Type 0
     Grows state at speak = (y : Session) → session_named at state.sessions ≡ Some y → Grown y (speak (speaker_in state y)).session

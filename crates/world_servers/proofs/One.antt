@@ -1,5 +1,5 @@
 -- One session changes.
-use Rattle.std.proofs.Common.{◌≡◌, ◌≢◌, ℕ, List, [], ◌∷◌, ◌++◌, map, if◌then◌else◌, inl, inr, refl, sym, ap, subst, ◌∙◌, eq-eqb}
+use Rattle.std.proofs.Common.{◌≡◌, ◌≢◌, ℕ, List, [], ◌∷◌, ◌++◌, map, reverse, if◌then◌else◌, inl, inr, refl, sym, ap, subst, ◌∙◌, eq-eqb}
 use Rattle.std.specs.Prelude.{◌⊎◌}
 use Rattle.std.specs.List.{AllByRecursion, Contains}
 use Rattle.std.proofs.lemmas.Bool.{cases_Bool, cases_eq}
@@ -9,8 +9,9 @@ use Rattle.server_rules.specs.Server.{Reply, Session, is_named, name_of, with_se
 use Rattle.session_moves.specs.Table as moves
 use Rattle.session_moves.specs.Table.Status.{Unmade, Standing, Lost}
 use Rattle.session_moves.specs.World.{World}
-use Rattle.world_servers.specs.Servers.{AreApart, IsJobThere, IsLost, IsOneOf, IsReplyThere, IsStanding, ServerStands, WasAnswered}
+use Rattle.world_servers.specs.Servers.{AreApart, AreEntered, IsJobThere, IsLost, IsReplyThere, Past, IsStanding, ServerStands, WasAnswered}
 use Rattle.world_servers.proofs.Lists.{all_append, each_of, first_or, here, later, map_all}
+use Rattle.world_servers.proofs.Entered.{AllLiveOn, LivesOn, entered_on, itself_on, one_on}
 use Rattle.world_servers.proofs.Losing.{named_no_other, number_of_named, standing_is_not_lost}
 use Rattle.world_servers.proofs.Others.{empty_has, job_left, lost_left, one_of_number, standing_left, two_uniques}
 
@@ -38,9 +39,11 @@ put_itself new x key number = rw (eq-eqb new.key x.key key, eq-eqb new.number x.
 pub put_other : (new o : Session) → o.number ≢ new.number → put new o ≡ o
 put_other new o differs = rw (named_no_other new o differs) refl
 
-module _ (w : World) (lost sessions : List Session) (jobs jobs' : Queue) (s : ServerStands w lost sessions jobs) (x new : Session) (among : Contains sessions x)
+module _ (w : World) (past : Past) (sessions : List Session) (jobs jobs' : Queue) (s : ServerStands w past sessions jobs) (x new : Session) (among : Contains sessions x)
     (key : new.key ≡ x.key) (number : new.number ≡ x.number) (unique : new.unique ≡ x.unique)
     (v : World) (servers : (other : ℕ) → other ≢ x.unique → v.servers other ≡ w.servers other) (entries : EntriesGrow x.unique w.entries v.entries)
+    (after : Past) (same_lost : after.lost ≡ past.lost)
+    (entered : (lives : List Session) → LivesOn lives x → AreEntered lives (reverse past.entries) w.entries → AreEntered lives (reverse after.entries) v.entries)
     (ups : (message : moves.Message) → Contains w.ups message → Contains v.ups message)
     (same_entries : (reply : Reply) (o : Session) → o.unique ≢ x.unique → IsReplyThere w o reply → IsReplyThere v o reply)
     (now : IsStanding v new) (now_jobs : AllByRecursion (IsJobThere v new) jobs')
@@ -117,15 +120,30 @@ module _ (w : World) (lost sessions : List Session) (jobs jobs' : Queue) (s : Se
         | inr differs ↦ ap (λ (z : Session). z.unique) (put_other new o (λ same. differs (same ∙ number)))
       ]
 
-  only_so : (u : ℕ) → IsOneOf u (lost ++ sessions) → IsOneOf u (lost ++ map (put new) sessions)
-  only_so u one =
-      elim (Contains-append_cases lost sessions one.0 one.1) [
-        | inl was ↦ (one.0, Contains-append_left lost (map (put new) sessions) one.0 was, one.2)
-        | inr among_too ↦ (
-          put new one.0,
-          Contains-append_right lost (map (put new) sessions) (put new one.0) (put_among sessions one.0 among_too),
-          put_unique one.0 among_too ∙ one.2,
-        )
+  put_key : (o : Session) → Contains sessions o → (put new o).key ≡ o.key
+  put_key o among_too =
+      elim (which o among_too) [
+        | inl same ↦ ap (λ (z : Session). z.key) (put_itself new o (key ∙ ap (λ (z : Session). z.key) (sym same)) (number ∙ ap (λ (z : Session). z.number) (sym same))) ∙ key ∙ ap (λ (z : Session). z.key) (sym same)
+        | inr differs ↦ ap (λ (z : Session). z.key) (put_other new o (λ same. differs (same ∙ number)))
+      ]
+
+  abbrev lives_now : List Session
+  lives_now = after.lost ++ map (put new) sessions
+
+  put_lives : (o : Session) → Contains sessions o → LivesOn lives_now o
+  put_lives o among_too = record {
+    life = put new o;
+    among = Contains-append_right after.lost (map (put new) sessions) (put new o) (put_among sessions o among_too);
+    unique = put_unique o among_too;
+    key = put_key o among_too;
+    number = put_number o;
+  }
+
+  all_on : AllLiveOn (past.lost ++ sessions) lives_now
+  all_on one there =
+      elim (Contains-append_cases past.lost sessions one there) [
+        | inl was ↦ itself_on lives_now one (Contains-append_left after.lost (map (put new) sessions) one (subst (λ (l : List Session). Contains l one) (sym same_lost) was))
+        | inr among_too ↦ put_lives one among_too
       ]
 
   was_made : (u : ℕ) → (v.servers u).status ≢ Unmade → (w.servers u).status ≢ Unmade
@@ -138,19 +156,15 @@ module _ (w : World) (lost sessions : List Session) (jobs jobs' : Queue) (s : Se
   lost_differ : (o : Session) → IsLost w o → o.unique ≢ x.unique
   lost_differ o h same = standing_is_not_lost h.at (sym h.lost ∙ ap (λ (u : ℕ). (w.servers u).status) same ∙ its.stands)
 
-  pub changes : ServerStands v lost (with_session new sessions) jobs'
+  pub changes : ServerStands v after (with_session new sessions) jobs'
   changes = record {
     standing = all_put (IsStanding v) sessions (each_put (IsStanding v) now other_stands);
     working = all_put (λ (o : Session). AllByRecursion (IsJobThere v o) jobs') sessions (each_put (λ (o : Session). AllByRecursion (IsJobThere v o) jobs') now_jobs other_works);
-    gone = map_all (IsLost w) (IsLost v) lost (λ o is h. lost_left w v o (servers o.unique (lost_differ o h)) h) s.gone;
+    gone = subst (λ (l : List Session). AllByRecursion (IsLost v) l) (sym same_lost)
+        (map_all (IsLost w) (IsLost v) past.lost (λ o is h. lost_left w v o (servers o.unique (lost_differ o h)) h) s.gone);
     apart = still_apart sessions s.apart;
-    only = λ u is. only_so u (s.only u (was_made u is));
-    entered = subst (λ (l : List moves.Entry). AllByRecursion (λ (entry : moves.Entry). IsOneOf entry.server (lost ++ map (put new) sessions)) l) (sym entries.1)
-        (all_append (λ (entry : moves.Entry). IsOneOf entry.server (lost ++ map (put new) sessions)) entries.0 w.entries
-        (map_all (λ (entry : moves.Entry). entry.server ≡ x.unique) (λ (entry : moves.Entry). IsOneOf entry.server (lost ++ map (put new) sessions)) entries.0
-        (λ entry is same. only_so entry.server (x, Contains-append_right lost sessions x among, sym same)) entries.2)
-        (map_all (λ (entry : moves.Entry). IsOneOf entry.server (lost ++ sessions)) (λ (entry : moves.Entry). IsOneOf entry.server (lost ++ map (put new) sessions)) w.entries
-        (λ entry is one. only_so entry.server one) s.entered));
+    only = λ u is. one_on (past.lost ++ sessions) lives_now all_on u (s.only u (was_made u is));
+    entered = entered lives_now (put_lives x among) (entered_on (past.lost ++ sessions) lives_now all_on (reverse past.entries) w.entries s.entered);
   }
 
 -- ---- put in its own place

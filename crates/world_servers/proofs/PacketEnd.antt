@@ -1,6 +1,6 @@
 -- What may go once a packet was taken.
-use Rattle.std.proofs.Common.{◌≡◌, ◌≢◌, ℕ, zero, suc, ◌==◌, ◌&&◌, not, Bool, true, false, Option, None, Some, List, [], ◌∷◌, ◌++◌, filter, fold, length, map, if◌then◌else◌, inl, inr, refl, sym, ap, subst, ◌∙◌, ◌<◌, arith}
-use Rattle.std.specs.Prelude.{⊤, ◌⊎◌, is_some}
+use Rattle.std.proofs.Common.{◌≡◌, ◌≢◌, ℕ, zero, suc, ◌==◌, ◌&&◌, not, true, false, Option, None, Some, List, [], ◌∷◌, ◌++◌, fold, length, inl, inr, refl, sym, ap, subst, ◌∙◌, ◌<◌, arith}
+use Rattle.std.specs.Prelude.{◌⊎◌, is_some}
 use Rattle.std.specs.List.{All, AllByRecursion, AllPairs, Contains, zip}
 use Rattle.std.proofs.lemmas.Bool.{cases_Bool, cond_both}
 use Rattle.std.proofs.lemmas.List.Elements.{All-contains, All-head, All-tail}
@@ -14,14 +14,14 @@ use Rattle.inbox.specs.declared.judged.Verdict.TheVariants.{Accepted, Again, Not
 use Rattle.waits.specs.declared.job.Job.{Job}
 use Rattle.waits.specs.declared.job.Unfinished.{Unfinished}
 use Rattle.waits.specs.Jobs.{Queue, first_job, has_failed, is_of, without_first}
-use Rattle.server_rules.specs.Server.{Name, Session, has_accepted, is_named, name_of, session_named, with_session, without_session}
+use Rattle.server_rules.specs.Server.{Name, Session, has_accepted, is_named, name_of, session_named, without_session}
 use Rattle.server_rules.specs.Event.{Owed, Setting, Speaker, State, lost, speaker_in, speaks, spoken, spoken_by}
 use Rattle.server_rules.specs.Speaking.{answers, msg_wait_failed, says}
 use Rattle.server_rules.specs.Waiting.{Outlook, after_failures, all_given_up, first_given_up, given_up, gives_up, outlook, tells_of}
 use Rattle.server_rules.specs.Rows.{destroys, owes, row, settles}
 use Rattle.server_rules.specs.Sending.{messages_by}
-use Rattle.server_laws.specs.Order.{IsGoingOn, IsMidwayAt, IsOrderlyAt, IsTold, WasCalled, jobs_of, opens_of}
-use Rattle.server_laws.specs.Going.{open_by, open_only}
+use Rattle.server_laws.specs.Order.{IsGoingOn, IsOrderlyAt, IsTold, WasCalled, jobs_of, opens_of}
+use Rattle.server_laws.specs.Going.{open_only}
 use Rattle.server_laws.specs.Speech.{SaidFor}
 use Rattle.world_servers.specs.Servers.{IsJobOf}
 use Rattle.world_servers.proofs.Lists.{all_append, all_of, each_of, first_or, from_filter, kept_in, map_all}
@@ -32,7 +32,7 @@ use Rattle.world_servers.proofs.Found.{first_in, found_in}
 use Rattle.world_servers.proofs.Events.{all_mapped, name_is}
 use Rattle.world_servers.proofs.HeardOwe.{OwesHeard, WorksHeard, any_of, works_so}
 use Rattle.world_servers.proofs.Jobs.{GivesUpAlone}
-use Rattle.world_servers.proofs.Named.{Said, Speaks, cases_names, name_said, said_item, said_told}
+use Rattle.world_servers.proofs.Named.{Said, cases_names, name_said, said_item, said_told}
 use Rattle.world_servers.proofs.Settling.{Orders, OwesAlone, ended_at}
 
 -- ---- each session is found by its name

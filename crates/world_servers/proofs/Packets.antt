@@ -30,7 +30,7 @@ use Rattle.session_moves.specs.Move.{Move}
 use Rattle.session_moves.specs.Reached.{AreLawful, Reached, after_all}
 use Rattle.world_moves.specs.Sent.{WasSent}
 use Rattle.world_servers.specs.Leading.{Leads}
-use Rattle.world_servers.specs.Servers.{AsksThere, HasSalt, IsAcceptedThere, IsStanding, IsSuch, IsUp, ServerStands, WasJudged, with_history}
+use Rattle.world_servers.specs.Servers.{AsksThere, HasSalt, IsAcceptedThere, IsStanding, IsSuch, IsUp, Past, ServerStands, WasJudged, with_history}
 use Rattle.world_servers.proofs.Lists.{each_of, first_or, here, later, map_all}
 use Rattle.world_servers.proofs.Leading.{GoOn, goes_on, stays}
 use Rattle.world_servers.proofs.Judging.{judges}
@@ -325,9 +325,9 @@ module _ (low : (history : History) → All (λ (j : FirstJudgement). is_kept j.
       ]
 
   module _ (rises : (history later : History) → floor history ≤ floor (history ++ later)) (on : GoOn) (lasts : Lasts)
-      (lost sessions : List Session) (jobs : Queue) (x : Session) (among : Contains sessions x) (salt : ℕ) where
+      (past : Past) (sessions : List Session) (jobs : Queue) (x : Session) (among : Contains sessions x) (salt : ℕ) where
     abbrev pub At : Remembered → World → Type 0
-    At r later = ServerStands later lost (with_session (with_history r.history x) sessions) jobs
+    At r later = ServerStands later past (with_session (with_history r.history x) sessions) jobs
 
     -- with what was accepted
     abbrev pub AtWith : Remembered → List Acceptance → World → Type 0
@@ -359,14 +359,14 @@ module _ (low : (history : History) → All (λ (j : FirstJudgement). is_kept j.
         let stands : IsStanding w now = each_of (IsStanding w) (with_session now sessions) s.standing now its in
         let decision = decides (w.servers x.unique) up.up message (judge way r message) outcome is
         (λ item accepted. subst (λ (n : ℕ). Contains (w.servers x.unique).salts n) (sym up.salted) (salt_of w now stands salt (salted item accepted))) in
-        let l = judges w lost (with_session now sessions) jobs s now its rises message.number message.seq outcome up.up decision.decided up.there up.under up.numbered
+        let l = judges w past (with_session now sessions) jobs s now its rises message.number message.seq outcome up.up decision.decided up.there up.under up.numbered
         (unjudged way r message outcome marks is) decision.such decision.may in
         record {
           moves = l.moves;
           lawful = l.lawful;
           own = l.own;
           gives = (
-            subst (λ (list : List Session). ServerStands (after_all w l.moves) lost list jobs)
+            subst (λ (list : List Session). ServerStands (after_all w l.moves) past list jobs)
                 (with_twice sessions now (with_history (noted message.number message.seq outcome r.history) x) refl refl) l.gives.0,
             one_fact (after_all w l.moves) x message (judge way r message)
                 (λ item accepted.
@@ -440,7 +440,7 @@ module _ (low : (history : History) → All (λ (j : FirstJudgement). is_kept j.
 
     -- by salts that are some of the session's
     pub judged_packet : (now : ℕ) (line : Line) (within : AllByRecursion (λ (row : Row). Contains x.salts.rows row) line.rows) (message : Message) (marks : HasMarks (remembered x)) (w : World) → Reached w
-        → ServerStands w lost sessions jobs
+        → ServerStands w past sessions jobs
         → AllByRecursion (IsUp w.ups x.number salt) (messages_judged (InEnvelope now line salt) x message)
         → Leads w (AtWith (session_after (InEnvelope now line salt) (remembered x) message)
         (filter_map acceptance_of (zip (judgements (InEnvelope now line salt) (remembered x) message)
@@ -452,7 +452,7 @@ module _ (low : (history : History) → All (λ (j : FirstJudgement). is_kept j.
         let rec : Option Outcome = recorded (kind_of message) verdict in
         let salted : (item : Item) → judge way r message ≡ Accepted item → HasSalt x salt = λ item is.
         let row = salt_accepted now salt line r message item is in (row.0, each_of (λ (row : Row). Contains x.salts.rows row) line.rows within row.0 row.1, row.2) in
-        let before : At r w = subst (λ (l : List Session). ServerStands w lost l jobs) (sym (with_itself sessions s.apart x among)) s in
+        let before : At r w = subst (λ (l : List Session). ServerStands w past l jobs) (sym (with_itself sessions s.apart x among)) s in
         let then_ : Remembered = judged_session way r message in
         let inner : List Message = unfolded verdict message in
         then_those w then_ (inner_session then_ inner) (one_of way r message) (ones_of then_ inner)

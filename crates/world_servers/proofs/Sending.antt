@@ -17,13 +17,13 @@ use Rattle.session_moves.specs.World.{World}
 use Rattle.session_moves.specs.Reached.{Reached, after_all}
 use Rattle.world_moves.specs.Packets.{item_there}
 use Rattle.world_servers.specs.Leading.{Leads}
-use Rattle.world_servers.specs.Servers.{CanSay}
+use Rattle.world_servers.specs.Servers.{CanSay, Past, with_entries}
 use Rattle.world_servers.specs.Speaking.{IsSaid, SpeaksThere, StandsSpeaking, with_line}
 use Rattle.world_servers.specs.Sending.{AreSpelt, IsSpoken, MayGo}
 use Rattle.world_servers.proofs.Lists.{all_append, map_all}
 use Rattle.world_servers.proofs.Leading.{GoOn, goes_on, leads_so, stays}
 use Rattle.world_servers.proofs.Kept.{same_jobs}
-use Rattle.world_servers.proofs.Speaking.{AnyResult, speaks}
+use Rattle.world_servers.proofs.Speaking.{AnySaid, speaks}
 use Rattle.world_servers.proofs.Speech.{Adds, go_same, owed_still, quietly, said_still}
 
 -- ---- the messages of each packet
@@ -75,7 +75,7 @@ new_items w y (message ∷ messages) h (inr first) =
 
 -- ---- the packets
 
-module _ (adds : Adds) (on : GoOn) (any : AnyResult) (gone sessions : List Session) (y : Session) (jobs : Queue) (owed : List Owed) where
+module _ (adds : Adds) (on : GoOn) (any : AnySaid) (gone : Past) (sessions : List Session) (y : Session) (jobs : Queue) (owed : List Owed) where
   abbrev At : World → Type 0
   At w = StandsSpeaking w gone sessions y jobs owed
 
@@ -92,7 +92,7 @@ module _ (adds : Adds) (on : GoOn) (any : AnyResult) (gone sessions : List Sessi
           record {
             stands = l.gives.0;
             among = h.among;
-            owed = owed_still w v y y.counters y.replies (λ reply same. same) (λ n has. adds.forgotten w l.moves l.lawful y.unique n has) owed h.owed;
+            owed = owed_still w v y y.counters y.replies (λ reply same. same) (λ n has. adds.forgotten w l.moves l.lawful y.unique n has) (λ m has. adds.messages w l.moves l.lawful m has) owed h.owed;
           },
           record { items = new.all.items; spelt = new.all.spelt; there = l.gives.1 },
         );
@@ -113,7 +113,7 @@ module _ (adds : Adds) (on : GoOn) (any : AnyResult) (gone sessions : List Sessi
           l.gives,
           map_all (AllByRecursion (IsSaid w y)) (AllByRecursion (IsSaid (after_all w l.moves) y)) lists
               (λ list is s. map_all (IsSaid w y) (IsSaid (after_all w l.moves) y) list
-              (λ message there one. said_still w (after_all w l.moves) y y.counters y.replies (λ reply same. same) (λ n has. adds.forgotten w l.moves l.lawful y.unique n has) message one) s) said.1,
+              (λ message there one. said_still w (after_all w l.moves) y y.counters y.replies (λ reply same. same) (λ n has. adds.forgotten w l.moves l.lawful y.unique n has) (λ m has. adds.messages w l.moves l.lawful m has) message one) s) said.1,
         );
       })
       (λ later reached k.
@@ -130,13 +130,13 @@ module _ (adds : Adds) (on : GoOn) (any : AnyResult) (gone sessions : List Sessi
 
 -- ---- sealing
 
-module _ {S : Type 0} (setting : Setting S) (gone sessions : List Session) (line : Line) where
+module _ {S : Type 0} (setting : Setting S) (gone : Past) (sessions : List Session) (line : Line) where
   sealed : (w : World) (salt : ℕ) (packets : List Message) (speaker : Speaker S) → SpeaksThere w gone sessions line speaker
       → SpeaksThere w gone sessions line (fold (seals setting salt) speaker packets)
   sealed w salt [] speaker h = h
   sealed w salt (packet ∷ packets) speaker h = sealed w salt packets (seals setting salt speaker packet) h
 
-  pub sends_on : Adds → GoOn → AnyResult → ((messages : List Message) → flat_map (λ group. group) (groups messages) ≡ messages)
+  pub sends_on : Adds → GoOn → AnySaid → ((messages : List Message) → flat_map (λ group. group) (groups messages) ≡ messages)
       → (w : World) (messages : List Message) (speaker : Speaker S) → Reached w → SpeaksThere w gone sessions line speaker
       → AllByRecursion (IsSaid w (with_line line speaker.session)) messages
       → AllByRecursion (MayGo (with_line line speaker.session)) (groups messages)
@@ -146,12 +146,12 @@ module _ {S : Type 0} (setting : Setting S) (gone sessions : List Session) (line
       let ready : Speaker S = needs_salts setting 1 speaker in
       let counters = after_packets setting.now ready.session.counters messages in
       let numbered : Speaker S = record ready { session = record ready.session { counters = counters } } in
-      leads_so w (λ later. StandsSpeaking later gone sessions y speaker.jobs speaker.owed × AllByRecursion (IsSpoken later y.unique) (groups messages))
+      leads_so w (λ later. StandsSpeaking later (with_entries speaker.entries gone) sessions y speaker.jobs speaker.owed × AllByRecursion (IsSpoken later y.unique) (groups messages))
       (λ later. SpeaksThere later gone sessions line (sends setting messages speaker) × AllByRecursion (IsSpoken later speaker.session.unique) (groups messages))
       (λ later k. (
         sealed later (current_salt ready.session.salts setting.now) (packets_of setting.now ready.session.counters messages) numbered
-            (quietly later gone sessions y speaker.jobs speaker.owed k.0 counters y.replies speaker.jobs (go_same y.replies) (same_jobs speaker.jobs)),
+            (quietly later (with_entries speaker.entries gone) sessions y speaker.jobs speaker.owed k.0 counters y.replies speaker.jobs (go_same y.replies) (same_jobs speaker.jobs)),
         k.1,
       ))
-      (speaks_all adds on any gone sessions y speaker.jobs speaker.owed w reached h (groups messages)
+      (speaks_all adds on any (with_entries speaker.entries gone) sessions y speaker.jobs speaker.owed w reached h (groups messages)
       (all_groups (IsSaid w y) (groups messages) (subst (λ (l : List Message). AllByRecursion (IsSaid w y) l) (sym (whole messages)) said)) may)

@@ -19,7 +19,7 @@ use Rattle.session_moves.specs.After.{after}
 use Rattle.session_moves.specs.Lawful.{BeginsNew, MaySay}
 use Rattle.session_moves.specs.Reached.{Reached}
 use Rattle.world_servers.specs.Leading.{Leads}
-use Rattle.world_servers.specs.Servers.{CanSay, HasNoticed, HasSalt, IsOutcomeThere, IsReplyThere, IsStanding, ServerStands}
+use Rattle.world_servers.specs.Servers.{CanSay, HasNoticed, HasSalt, IsOutcomeThere, IsReplyThere, IsStanding, Past, ServerStands}
 use Rattle.world_servers.proofs.Lists.{each_of, first_or, here, later, map_all}
 use Rattle.world_servers.proofs.Leading.{moves_once}
 use Rattle.world_servers.proofs.Judging.{at_all}
@@ -73,13 +73,14 @@ noticed_there : (there : moves.ServerSession) (number code : ℕ) (outcome : Out
     → Contains there.judged (record { number = number; outcome = Noticed code })
 noticed_there there number code outcome is h = subst (λ (o : Outcome). IsOutcomeThere there number o) is h
 
--- what the law on moves promises of results of messages that are no calls
-abbrev pub AnyResult : Type 0
-AnyResult =
-    (w : World) (unique : ℕ) (message : moves.Message) (reply : moves.Text) → Reached w → Contains w.ups message
-    → message.session ≡ (w.servers unique).session → message.call ≡ None → MaySay w unique (Result message.number reply)
+-- what the law on moves promises of results and notices of messages that are no calls
+pub record AnySaid : Type 0 where
+  pub result : (w : World) (unique : ℕ) (message : moves.Message) (reply : moves.Text) → Reached w → Contains w.ups message
+      → message.session ≡ (w.servers unique).session → message.call ≡ None → MaySay w unique (Result message.number reply)
+  pub notice : (w : World) (unique : ℕ) (message : moves.Message) (code : ℕ) → Reached w → Contains w.ups message
+      → message.session ≡ (w.servers unique).session → message.call ≡ None → MaySay w unique (Notice message.number code)
 
-module _ (any : AnyResult) (w : World) (lost sessions : List Session) (jobs : Queue) (reached : Reached w) (s : ServerStands w lost sessions jobs) (x : Session) (among : Contains sessions x) where
+module _ (any : AnySaid) (w : World) (past : Past) (sessions : List Session) (jobs : Queue) (reached : Reached w) (s : ServerStands w past sessions jobs) (x : Session) (among : Contains sessions x) where
   its : IsStanding w x
   its = each_of (IsStanding w) sessions s.standing x among
 
@@ -95,13 +96,15 @@ module _ (any : AnyResult) (w : World) (lost sessions : List Session) (jobs : Qu
   result_by : (call : ℕ) (content : List ℕ) (reply : Reply) → reply.call ≡ call → reply.content ≡ content → IsReplyThere w x reply → MaySay w x.unique (Result call content)
   result_by call content reply same also (inl h) = inl (h.0, h.1, h.2, h.3 ∙ same, h.4 ∙ also)
   result_by call content reply same also (inr h) =
-      subst (λ (n : ℕ). MaySay w x.unique (Result n content)) (h.3 ∙ same) (any w x.unique h.0 content reached h.1 (h.2 ∙ sym its.made.number) h.4)
+      subst (λ (n : ℕ). MaySay w x.unique (Result n content)) (h.3 ∙ same) (any.result w x.unique h.0 content reached h.1 (h.2 ∙ sym its.made.number) h.4)
 
   may_say : (item : moves.Item) → CanSay w x item → MaySay w x.unique item
   may_say (NewSession unique salt) h = (h.0, salt_there salt h.1)
   may_say (Result call content) h = result_by call content h.0 h.2 h.3 (each_of (IsReplyThere w x) x.replies its.replies h.0 h.1)
   may_say (Notice number code) (inl h) = inl (notice_there number code h)
-  may_say (Notice number code) (inr h) = inr h
+  may_say (Notice number code) (inr (inl h)) = inr (inl h)
+  may_say (Notice number code) (inr (inr h)) =
+      subst (λ (n : ℕ). MaySay w x.unique (Notice n code)) h.3 (any.notice w x.unique h.0 code reached h.1 (h.2 ∙ sym its.made.number) h.4)
   may_say (WrongSalt number salt) h = (notice_there number 48 h.0, salt_there salt h.1)
 
   begins : (items : List moves.Item) → (has_accepted x ≡ true) ⊎ BeginsNew items → HasAccepted (w.servers x.unique) ⊎ BeginsNew items
@@ -109,10 +112,10 @@ module _ (any : AnyResult) (w : World) (lost sessions : List Session) (jobs : Qu
   begins items (inr new) = inr new
 
   pub speaks : (items : List moves.Item) → AllByRecursion (CanSay w x) items → (has_accepted x ≡ true) ⊎ BeginsNew items
-      → Leads w (λ later. ServerStands later lost sessions jobs × Contains later.downs (record { server = x.unique; items = items }))
+      → Leads w (λ later. ServerStands later past sessions jobs × Contains later.downs (record { server = x.unique; items = items }))
   speaks items can new =
-      moves_once w (λ later. ServerStands later lost sessions jobs × Contains later.downs (record { server = x.unique; items = items })) x.unique (Speak x.unique items)
+      moves_once w (λ later. ServerStands later past sessions jobs × Contains later.downs (record { server = x.unique; items = items })) x.unique (Speak x.unique items)
       (its.stands, at_all (MaySay w x.unique) items (map_all (CanSay w x) (MaySay w x.unique) items (λ item is h. may_say item h) can), begins items new) refl (
-        left_alone w (after w (Speak x.unique items)) lost sessions jobs refl refl (λ m is. is) s,
+        left_alone w (after w (Speak x.unique items)) past sessions jobs refl refl (λ m is. is) s,
         here (record { server = x.unique; items = items }) w.downs,
       )

@@ -1,5 +1,5 @@
 -- What a session says and answers within an event.
-use Rattle.std.proofs.Common.{◌≡◌, ℕ, Option, None, Some, List, [], ◌∷◌, ◌++◌, inl, inr, refl, subst, ◌∙◌}
+use Rattle.std.proofs.Common.{◌≡◌, ℕ, Bool, None, Some, List, [], ◌∷◌, ◌++◌, inl, inr, refl, subst, ◌∙◌}
 use Rattle.std.specs.List.{AllByRecursion, Contains}
 use Rattle.std.proofs.lemmas.List.Elements.{Contains-append_left}
 use Rattle.msg_ids.specs.Counters.{Counters}
@@ -17,10 +17,9 @@ use Rattle.session_moves.specs.Extends.{Extends}
 use Rattle.session_moves.specs.Reached.{AreLawful, after_all}
 use Rattle.world_moves.specs.Packets.{item_there}
 use Rattle.world_servers.specs.Leading.{Leads}
-use Rattle.world_servers.specs.Servers.{AsksThere, CanSay, GoOn, HasSame, IsJobOf, IsStanding, IsJobThere, ServerStands, with_replies}
+use Rattle.world_servers.specs.Servers.{AsksThere, CanSay, GoOn, HasSame, IsJobOf, IsStanding, IsJobThere, Past, ServerStands, with_entries, with_replies}
 use Rattle.world_servers.specs.Speaking.{IsOpen, IsOwedThere, IsSaid, StandsSpeaking}
 use Rattle.world_servers.proofs.Lists.{all_append, each_of, here, later as one_later, map_all}
-use Rattle.world_servers.proofs.Leading.{stays}
 use Rattle.world_servers.proofs.Answering.{answers, fated, jobs_go_on, tells}
 use Rattle.world_servers.proofs.One.{changes, none_grow}
 use Rattle.world_servers.proofs.Packets.{with_among, with_twice}
@@ -37,10 +36,10 @@ recounted w x counters h = record {
   entries = h.entries;
 }
 
-counted : (w : World) (lost sessions : List Session) (jobs : Queue) (x : Session) (counters : Counters) → ServerStands w lost sessions jobs → Contains sessions x
-    → ServerStands w lost (with_session (record x { counters = counters }) sessions) jobs
-counted w lost sessions jobs x counters s among =
-    changes w lost sessions jobs jobs s x (record x { counters = counters }) among refl refl refl w (λ other differs. refl) (none_grow x.unique w.entries) (λ m is. is)
+counted : (w : World) (past : Past) (sessions : List Session) (jobs : Queue) (x : Session) (counters : Counters) → ServerStands w past sessions jobs → Contains sessions x
+    → ServerStands w past (with_session (record x { counters = counters }) sessions) jobs
+counted w past sessions jobs x counters s among =
+    changes w past sessions jobs jobs s x (record x { counters = counters }) among refl refl refl w (λ other differs. refl) (none_grow x.unique w.entries) past refl (λ lives on h. h) (λ m is. is)
     (λ reply o differs r. r) (recounted w x counters (each_of (IsStanding w) sessions s.standing x among))
     (each_of (λ (o : Session). AllByRecursion (IsJobThere w o) jobs) sessions s.working x among) (λ o differs h. h)
 
@@ -64,7 +63,8 @@ each_same old new on reply is =
 
 -- what was said can still be said
 module _ (w v : World) (y : Session) (counters : Counters) (replies : List Reply) (same : (reply : Reply) → HasSame y.replies reply → HasSame replies reply)
-    (forgotten : (number : ℕ) → Contains (w.servers y.unique).forgotten number → Contains (v.servers y.unique).forgotten number) where
+    (forgotten : (number : ℕ) → Contains (w.servers y.unique).forgotten number → Contains (v.servers y.unique).forgotten number)
+    (ups : (message : moves.Message) → Contains w.ups message → Contains v.ups message) where
   abbrev z : Session
   z = record y { replies = replies; counters = counters }
 
@@ -72,7 +72,8 @@ module _ (w v : World) (y : Session) (counters : Counters) (replies : List Reply
   can_still (NewSession unique salt) h = h
   can_still (Result call content) h = same (record { call = call; number = 0; seq = 0; content = content; fate = IsKept }) h
   can_still (Notice number code) (inl h) = inl h
-  can_still (Notice number code) (inr h) = inr (h.0, forgotten number h.1)
+  can_still (Notice number code) (inr (inl h)) = inr (inl (h.0, forgotten number h.1))
+  can_still (Notice number code) (inr (inr h)) = inr (inr (h.0, ups h.0 h.1, h.2, h.3, h.4))
   can_still (WrongSalt number salt) h = h
 
   pub said_still : (message : Message) → IsSaid w y message → IsSaid v z message
@@ -87,27 +88,27 @@ module _ (w v : World) (y : Session) (counters : Counters) (replies : List Reply
 
 -- ---- what is no move
 
-module _ (w : World) (lost sessions : List Session) (y : Session) (jobs : Queue) (owed : List Owed) (h : StandsSpeaking w lost sessions y jobs owed) where
+module _ (w : World) (past : Past) (sessions : List Session) (y : Session) (jobs : Queue) (owed : List Owed) (h : StandsSpeaking w past sessions y jobs owed) where
   -- one more message is owed
-  pub owes_one : (one : Owed) → IsOwedThere w y one → StandsSpeaking w lost sessions y jobs (owed ++ one ∷ [])
+  pub owes_one : (one : Owed) → IsOwedThere w y one → StandsSpeaking w past sessions y jobs (owed ++ one ∷ [])
   owes_one one is = record { stands = h.stands; among = h.among; owed = all_append (IsOwedThere w y) owed (one ∷ []) h.owed (is, tt) }
 
   -- counters, what becomes of replies, and of jobs
   pub quietly : (counters : Counters) (replies : List Reply) (later : Queue) → GoOn y.replies replies → AllByRecursion (IsJobOf jobs) later
-      → StandsSpeaking w lost sessions (record y { replies = replies; counters = counters }) later owed
+      → StandsSpeaking w past sessions (record y { replies = replies; counters = counters }) later owed
   quietly counters replies later on from =
       let one : Session = record y { counters = counters } in
       let two : Session = with_replies replies one in
       let first : List Session = with_session y sessions in
-      let a : ServerStands w lost (with_session one first) jobs = counted w lost first jobs y counters h.stands h.among in
+      let a : ServerStands w past (with_session one first) jobs = counted w past first jobs y counters h.stands h.among in
       let among : Contains (with_session one first) one = with_among first y one refl refl h.among in
-      let b : ServerStands w lost (with_session two (with_session one first)) jobs = fated w lost (with_session one first) jobs a one among replies on in
-      let c : ServerStands w lost (with_session two first) jobs = subst (λ (l : List Session). ServerStands w lost l jobs) (with_twice first one two refl refl) b in
-      let d : ServerStands w lost (with_session two sessions) jobs = subst (λ (l : List Session). ServerStands w lost l jobs) (with_twice sessions y two refl refl) c in
+      let b : ServerStands w past (with_session two (with_session one first)) jobs = fated w past (with_session one first) jobs a one among replies on in
+      let c : ServerStands w past (with_session two first) jobs = subst (λ (l : List Session). ServerStands w past l jobs) (with_twice first one two refl refl) b in
+      let d : ServerStands w past (with_session two sessions) jobs = subst (λ (l : List Session). ServerStands w past l jobs) (with_twice sessions y two refl refl) c in
       record {
-        stands = jobs_go_on w lost (with_session two sessions) jobs later d from;
+        stands = jobs_go_on w past (with_session two sessions) jobs later d from;
         among = subst (λ (l : List Session). Contains l two) (with_twice sessions y two refl refl) (with_among first y two refl refl h.among);
-        owed = owed_still w w y counters replies (λ reply is. each_same y.replies replies on reply is) (λ number is. is) owed h.owed;
+        owed = owed_still w w y counters replies (λ reply is. each_same y.replies replies on reply is) (λ number is. is) (λ m is. is) owed h.owed;
       }
 
 -- ---- an answer
@@ -136,29 +137,32 @@ same_more replies reply other h = (h.0, Contains-append_left replies (reply ∷ 
 pub reply_said : (w : World) (y : Session) (reply : Reply) → HasSame y.replies reply → (message : Message) → message.body ≡ spelling_of (RpcResult reply.call reply.content) → IsSaid w y message
 reply_said w y reply h message is = record { item = RpcResult reply.call reply.content; body = is; can = ((h.0, h.1, h.2, h.3), tt) }
 
-module _ (adds : Adds) (w : World) (lost sessions : List Session) (y : Session) (jobs : Queue) (owed : List Owed) (h : StandsSpeaking w lost sessions y jobs owed) (reply : Reply) where
+module _ (adds : Adds) (w : World) (past : Past) (sessions : List Session) (y : Session) (jobs : Queue) (owed : List Owed) (h : StandsSpeaking w past sessions y jobs owed) (reply : Reply) where
   abbrev more : Session
   more = with_replies (y.replies ++ reply ∷ []) y
 
-  with_more : (v : World) → ServerStands v lost (with_session more (with_session y sessions)) jobs
-      → ((number : ℕ) → Contains (w.servers y.unique).forgotten number → Contains (v.servers y.unique).forgotten number) → StandsSpeaking v lost sessions more jobs owed
-  with_more v s forgotten = record {
-    stands = subst (λ (l : List Session). ServerStands v lost l jobs) (with_twice sessions y more refl refl) s;
+  with_more : (v : World) (after : Past) → ServerStands v after (with_session more (with_session y sessions)) jobs
+      → ((number : ℕ) → Contains (w.servers y.unique).forgotten number → Contains (v.servers y.unique).forgotten number)
+      → ((message : moves.Message) → Contains w.ups message → Contains v.ups message) → StandsSpeaking v after sessions more jobs owed
+  with_more v after s forgotten ups = record {
+    stands = subst (λ (l : List Session). ServerStands v after l jobs) (with_twice sessions y more refl refl) s;
     among = subst (λ (l : List Session). Contains l more) (with_twice sessions y more refl refl) (with_among (with_session y sessions) y more refl refl h.among);
-    owed = owed_still w v y y.counters more.replies (λ other is. same_more y.replies reply other is) forgotten owed h.owed;
+    owed = owed_still w v y y.counters more.replies (λ other is. same_more y.replies reply other is) forgotten ups owed h.owed;
   }
 
   -- a message that is no call is replied to by no move
-  pub replies_aside : AsksThere w y reply.call None → StandsSpeaking w lost sessions more jobs owed
-  replies_aside was = with_more w (tells w lost (with_session y sessions) jobs h.stands y h.among reply was) (λ number is. is)
+  pub replies_aside : AsksThere w y reply.call None → StandsSpeaking w past sessions more jobs owed
+  replies_aside was = with_more w past (tells w past (with_session y sessions) jobs h.stands y h.among reply was) (λ number is. is) (λ m is. is)
 
-  pub replies_to : (request : Option (List ℕ)) → AsksThere w y reply.call request → IsOpen reply.call y.replies → Leads w (λ later. StandsSpeaking later lost sessions more jobs owed)
-  replies_to None was is_open = stays w (λ later. StandsSpeaking later lost sessions more jobs owed) (replies_aside was)
-  replies_to (Some request) accepted_so is_open =
-      let l = answers w lost (with_session y sessions) jobs h.stands y h.among reply request accepted_so is_open in
+  -- a call is, and that is entered
+  pub replies_to : (ran : Bool) (request : List ℕ) → AsksThere w y reply.call (Some request) → IsOpen reply.call y.replies
+      → Leads w (λ later. StandsSpeaking later
+      (with_entries (record { key = y.key; session = y.number; number = reply.call; request = request; reply = reply.content; ran = ran } ∷ []) past) sessions more jobs owed)
+  replies_to ran request accepted_so is_open =
+      let l = answers w past (with_session y sessions) jobs h.stands y h.among reply request accepted_so is_open ran in
       record {
         moves = l.moves;
         lawful = l.lawful;
         own = l.own;
-        gives = with_more (after_all w l.moves) l.gives (λ number is. adds.forgotten w l.moves l.lawful y.unique number is);
+        gives = with_more (after_all w l.moves) _ l.gives (λ number is. adds.forgotten w l.moves l.lawful y.unique number is) (λ m is. adds.messages w l.moves l.lawful m is);
       }

@@ -1,5 +1,5 @@
 -- A server stands still while clients move.
-use Rattle.std.proofs.Common.{◌≡◌, ℕ, List, ◌++◌, inl, inr, sym, ap, subst, ◌∙◌}
+use Rattle.std.proofs.Common.{◌≡◌, ℕ, List, ◌++◌, reverse, inl, inr, sym, ap, subst, ◌∙◌}
 use Rattle.std.specs.List.{All, AllByRecursion, Contains}
 use Rattle.waits.specs.Jobs.{Queue}
 use Rattle.server_rules.specs.Server.{Session, Reply}
@@ -9,7 +9,7 @@ use Rattle.session_moves.specs.Move.{Move}
 use Rattle.session_moves.specs.Move.Move.{Own, Send, Make, Draw, Judge, Forget, Answer, Speak, Hear, Lose}
 use Rattle.session_moves.specs.Extends.{IsOfClient, LeavesEntries, LeavesServers}
 use Rattle.session_moves.specs.Reached.{AreLawful, after_all}
-use Rattle.world_servers.specs.Servers.{IsJobThere, IsLost, IsOneOf, IsReplyThere, IsStanding, ServerStands, WasAnswered}
+use Rattle.world_servers.specs.Servers.{AreEntered, IsJobThere, IsLost, IsReplyThere, IsStanding, Past, ServerStands, WasAnswered}
 use Rattle.world_servers.proofs.Lists.{map_all}
 use Rattle.world_servers.proofs.Others.{job_left, lost_left, standing_left}
 
@@ -19,9 +19,9 @@ pub reply_more : (w v : World) (session : Session) (reply : Reply) → v.entries
 reply_more w v session reply entries grows (inl h) = inl (h.0, subst (λ (l : List moves.Entry). Contains l h.0) (sym entries) h.1, h.2, h.3, h.4)
 reply_more w v session reply entries grows (inr h) = inr (h.0, grows h.0 h.1, h.2, h.3, h.4)
 
-pub left_alone : (w v : World) (lost sessions : List Session) (jobs : Queue) → v.servers ≡ w.servers → v.entries ≡ w.entries
-    → ((message : moves.Message) → Contains w.ups message → Contains v.ups message) → ServerStands w lost sessions jobs → ServerStands v lost sessions jobs
-left_alone w v lost sessions jobs servers entries grows s =
+pub left_alone : (w v : World) (past : Past) (sessions : List Session) (jobs : Queue) → v.servers ≡ w.servers → v.entries ≡ w.entries
+    → ((message : moves.Message) → Contains w.ups message → Contains v.ups message) → ServerStands w past sessions jobs → ServerStands v past sessions jobs
+left_alone w v past sessions jobs servers entries grows s =
     let same : (x : Session) → v.servers x.unique ≡ w.servers x.unique = λ x. ap (λ (f : ℕ → moves.ServerSession). f x.unique) servers in
     record {
       standing = map_all (IsStanding w) (IsStanding v) sessions
@@ -30,9 +30,9 @@ left_alone w v lost sessions jobs servers entries grows s =
           (subst (λ (l : List moves.Entry). AllByRecursion (λ (entry : moves.Entry). entry.server ≡ x.unique → WasAnswered entry.number x.replies) l) (sym entries) h.entries) h) s.standing;
       working = map_all (λ (x : Session). AllByRecursion (IsJobThere w x) jobs) (λ (x : Session). AllByRecursion (IsJobThere v x) jobs) sessions
           (λ x among h. map_all (IsJobThere w x) (IsJobThere v x) jobs (λ one is j. job_left w v x (same x) one j) h) s.working;
-      gone = map_all (IsLost w) (IsLost v) lost (λ x among h. lost_left w v x (same x) h) s.gone;
+      gone = map_all (IsLost w) (IsLost v) past.lost (λ x among h. lost_left w v x (same x) h) s.gone;
       apart = s.apart;
-      entered = subst (λ (l : List moves.Entry). AllByRecursion (λ (entry : moves.Entry). IsOneOf entry.server (lost ++ sessions)) l) (sym entries) s.entered;
+      entered = subst (λ (l : List moves.Entry). AreEntered (past.lost ++ sessions) (reverse past.entries) l) (sym entries) s.entered;
       only = λ unique is. s.only unique (λ none. is (ap (λ (f : ℕ → moves.ServerSession). (f unique).status) servers ∙ none));
     }
 
@@ -69,10 +69,10 @@ pub record Leaves : Type 0 where
   pub entries : (w : World) (list : List Move) → All LeavesEntries list → (after_all w list).entries ≡ w.entries
   pub messages : (w : World) (list : List Move) → AreLawful w list → (message : moves.Message) → Contains w.ups message → Contains (after_all w list).ups message
 
-pub stands_still : Leaves → (w : World) (client : ℕ) (list : List Move) (lost sessions : List Session) (jobs : Queue) → AreLawful w list
-    → All (IsOfClient client) list → ServerStands w lost sessions jobs → ServerStands (after_all w list) lost sessions jobs
-stands_still leaves w client list lost sessions jobs lawful its s =
-    left_alone w (after_all w list) lost sessions jobs
+pub stands_still : Leaves → (w : World) (client : ℕ) (list : List Move) (past : Past) (sessions : List Session) (jobs : Queue) → AreLawful w list
+    → All (IsOfClient client) list → ServerStands w past sessions jobs → ServerStands (after_all w list) past sessions jobs
+stands_still leaves w client list past sessions jobs lawful its s =
+    left_alone w (after_all w list) past sessions jobs
     (leaves.servers w list (all_so (IsOfClient client) LeavesServers (leaves_servers client) list its))
     (leaves.entries w list (all_so (IsOfClient client) LeavesEntries (leaves_entries client) list its))
     (leaves.messages w list lawful) s

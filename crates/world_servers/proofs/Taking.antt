@@ -1,9 +1,9 @@
 -- A packet is taken by the session that heard it.
-use Rattle.std.proofs.Common.{◌≡◌, ◌≢◌, ℕ, zero, suc, ◌≤◌, Bool, true, false, Option, None, Some, List, [], ◌∷◌, ◌++◌, filter, map, fold, if◌then◌else◌, inl, inr, refl, sym, ap, subst, ◌∙◌, arith, append_assoc}
-use Rattle.std.specs.Prelude.{⊤, ◌⊎◌}
+use Rattle.std.proofs.Common.{◌≡◌, ℕ, zero, suc, ◌≤◌, true, false, Option, None, Some, List, [], ◌∷◌, ◌++◌, map, inl, inr, refl, sym, ap, subst, ◌∙◌, arith, append_assoc}
+use Rattle.std.specs.Prelude.{⊤}
 use Rattle.std.specs.List.{All, AllByRecursion, Contains, cons_option, filter_map, zip}
 use Rattle.std.proofs.lemmas.Bool.{cases_Bool, cond_both}
-use Rattle.std.proofs.lemmas.List.Elements.{All-contains, All-head, All-tail}
+use Rattle.std.proofs.lemmas.List.Elements.{All-contains}
 use Rattle.salt_line.specs.Line.{Line, current_salt}
 use Rattle.salt_line.specs.Rows.{Row}
 use Rattle.service_tl.specs.declared.lists.Message.{Message}
@@ -12,6 +12,8 @@ use Rattle.id_window.specs.History.{EachOnce, FirstJudgement, History, floor, is
 use Rattle.inbox.specs.declared.judged.Judgement.{Judgement}
 use Rattle.inbox.specs.declared.judged.Verdict.{Verdict}
 use Rattle.inbox.specs.declared.judged.Verdict.TheVariants.{Accepted, Again, Noticed}
+use Rattle.containers.specs.Container.{begins_container}
+use Rattle.inbox.specs.Kinds.{item_told}
 use Rattle.inbox.specs.Refusals.{Way, InEnvelope}
 use Rattle.inbox.specs.Judging.{judgements, session_after}
 use Rattle.server_rules.specs.Server.{Name, Reply, Session, has_accepted, is_named, mark_after, marks_of, name_of, remembered, session_named, with_session}
@@ -24,22 +26,22 @@ use Rattle.inbox.specs.Inbox.{was_heard}
 use Rattle.packing.specs.Packing.{groups}
 use Rattle.server_laws.specs.Start.{new_owed}
 use Rattle.world_servers.specs.Sending.{IsFirstNew, MayAllGo, MayGo}
-use Rattle.server_rules.specs.Rows.{acknowledges, acks_of, settles}
+use Rattle.server_rules.specs.Rows.{acknowledges, acks_of}
 use Rattle.server_rules.specs.Answer.{message_in, messages_judged, opens, takes_by}
+use Rattle.waits.specs.declared.job.Unfinished.{Unfinished}
 use Rattle.waits.specs.Jobs.{Queue}
 use Rattle.session_moves.specs.Lawful.{WasNoCall}
-use Rattle.session_moves.specs.Table as moves
 use Rattle.session_moves.specs.Table.Outcome.{AcceptedCall}
 use Rattle.server_laws.specs.Order.{IsGoingOn, IsMidwayAt, IsOrderly, IsTold, jobs_of, opens_of}
 use Rattle.server_laws.specs.Going.{none_open, open_only, past_in, past_with}
 use Rattle.server_laws.specs.Speech.{SaidFor}
-use Rattle.server_lives.specs.Lives.{Acceptance, acceptance_by, acceptance_of, history_by, request_of}
+use Rattle.server_lives.specs.Lives.{acceptance_by, acceptance_of, history_by, request_of}
 use Rattle.session_moves.specs.World.{World, WasGiven}
 use Rattle.session_moves.specs.Reached.{Reached, after_all}
 use Rattle.world_servers.specs.Leading.{Leads}
-use Rattle.world_servers.specs.Servers.{AsksThere, HasSalt, IsAcceptedThere, IsUp, ServerStands, with_history}
+use Rattle.world_servers.specs.Servers.{AsksThere, HasSalt, IsAcceptedThere, IsUp, Past, ServerStands, with_entries, with_history}
 use Rattle.world_servers.specs.Speaking.{IsOwedThere, IsWithin, SpeaksThere, with_line}
-use Rattle.world_servers.specs.Events.{EventStands, with_lines}
+use Rattle.world_servers.specs.Events.{EventStands, lined, with_lines}
 use Rattle.world_servers.proofs.Lists.{all_of, each_of, map_all}
 use Rattle.world_servers.proofs.Leading.{GoOn as MovesGoOn, goes_on, leads_so, stays}
 use Rattle.world_servers.proofs.Losing.{append_nothing, named_itself}
@@ -49,13 +51,15 @@ use Rattle.world_servers.proofs.Speech.{Adds}
 use Rattle.world_servers.proofs.Words.{current, opens_it}
 use Rattle.world_servers.proofs.Found.{found_in, some_same}
 use Rattle.world_servers.proofs.Events.{IsItsOwn, all_mapped, lines_put, mapped_in, name_is, own_of, speaks_with}
+use Rattle.world_servers.proofs.Gone.{AreNamedApart, has_spoken, lost_alike, none_are_lost, none_lost}
+use Rattle.world_servers.proofs.Quiet.{FailedOwn, IsOther, none_failed, own_speaks}
 use Rattle.world_servers.proofs.Jobs.{GivesUpAlone}
-use Rattle.world_servers.proofs.Named.{Speaks, Within, none_all, one_all}
+use Rattle.world_servers.proofs.Named.{IsThere, Speaks, Within, none_all, one_all}
 use Rattle.world_servers.proofs.Noticing.{AreNoticed, NoticedIn, packet_noticed}
 use Rattle.world_servers.proofs.PacketEnd.{Begins, ByName, OthersHeard, OwesSo, begins_fold, found_itself, others_fold}
 use Rattle.world_servers.proofs.HeardOwe.{OwesHeard, heard_may_go}
 use Rattle.world_servers.proofs.WorksEnd.{same_itself}
-use Rattle.world_servers.proofs.Settling.{AreJudged, Asks, Going, IsJudged, Orders, OwesAlone, all_settle, all_still, all_within}
+use Rattle.world_servers.proofs.Settling.{AreJudged, Asks, Going, IsJudged, Orders, OwesAlone, all_settle, all_still, all_within, order_fold, there_fold}
 
 -- ---- what a packet opens with
 
@@ -127,6 +131,12 @@ module _ {S : Type 0} (adds : Adds) (on : MovesGoOn) (alone : GivesUpAlone S) (o
   given_of : (w : World) (number : ℕ) (message : Message) → number ≡ message.number → IsUp w.ups x.number salt message → WasGiven w.ups x.number number
   given_of w number message same up = (up.up, up.there, up.under, let is = up.numbered in omega (arith, same, is))
 
+  -- a container is no call
+  no_call_of : (w : World) (number : ℕ) (message : Message) → number ≡ message.number → begins_container message.body ≡ true → IsUp w.ups x.number salt message → WasNoCall w.ups x.number number
+  no_call_of w number message same begins up =
+      let told : request_of (item_told message.body) message.body ≡ None = rw begins refl in
+      (up.up, up.there, up.under, up.numbered ∙ sym same, up.is ∙ told)
+
   its_asks : (w : World) (number : ℕ) (request : Option (List ℕ)) → AsksThere w its number request → AsksThere w x number request
   its_asks w number (Some query) asks = subst (λ (u : ℕ). Contains (w.servers u).judged (record { number = number; outcome = AcceptedCall query })) same_unique asks
   its_asks w number None asks = subst (λ (n : ℕ). WasNoCall w.ups n number) same_number asks
@@ -135,31 +145,28 @@ module _ {S : Type 0} (adds : Adds) (on : MovesGoOn) (alone : GivesUpAlone S) (o
   asks_so w number (Some request) h = h
   asks_so w number None h = h
 
-  judged_so : (w : World) (number : ℕ) (verdict : Verdict) (message : Message) → number ≡ message.number → NoticedIn (past (name_of x)) number verdict → (verdict ≡ Noticed 19 → ⊥)
+  judged_so : (w : World) (number : ℕ) (verdict : Verdict) (message : Message) → number ≡ message.number → NoticedIn (past (name_of x)) number verdict message.body
       → IsUp w.ups x.number salt message → AllByRecursion (IsAcceptedThere w its) (cons_option (acceptance_by number verdict message.body) []) → Judged w number verdict message.body
-  judged_so w number (Noticed code) message same (inl recorded) not19 up accepted = inl recorded
-  judged_so w number (Noticed code) message same (inr (inl low)) not19 up accepted = inr (low.0, given_of w number message same up, low.1)
-  judged_so w number (Noticed code) message same (inr (inr is)) not19 up accepted = absurd (not19 (ap (λ (c : ℕ). Noticed c) is))
-  judged_so w number (Again mark) message same noticed not19 up accepted = given_of w number message same up
-  judged_so w number (Accepted item) message same noticed not19 up accepted =
+  judged_so w number (Noticed code) message same (inl recorded) up accepted = inl recorded
+  judged_so w number (Noticed code) message same (inr (inl low)) up accepted = inr (inl (low.0, given_of w number message same up, low.1))
+  judged_so w number (Noticed code) message same (inr (inr held)) up accepted = inr (inr (held.0, no_call_of w number message same held.1 up))
+  judged_so w number (Again mark) message same noticed up accepted = given_of w number message same up
+  judged_so w number (Accepted item) message same noticed up accepted =
       asks_so w number (request_of item message.body) (its_asks w number (request_of item message.body) accepted.0)
 
   first_part : {X : Type 0} (P : X → Type 0) (one : Option X) (rest : List X) → AllByRecursion P (cons_option one rest) → AllByRecursion P (cons_option one []) × AllByRecursion P rest
   first_part P None rest h = (tt, h)
   first_part P (Some one) rest h = ((h.0, tt), h.1)
 
-  abbrev Not19 : Judgement → Type 0
-  Not19 judgement = judgement.verdict ≡ Noticed 19 → ⊥
-
-  all_judged : (w : World) (judged : List Judgement) (messages : List Message) → AreNoticed (past (name_of x)) judged messages → AllByRecursion Not19 judged
+  all_judged : (w : World) (judged : List Judgement) (messages : List Message) → AreNoticed (past (name_of x)) judged messages
       → AllByRecursion (IsUp w.ups x.number salt) messages → AllByRecursion (IsAcceptedThere w its) (filter_map acceptance_of (zip judged (map (λ (one : Message). one.body) messages)))
       → AreJudged adds on alone owing said orders setting lines (name_of x) x.unique past w judged (map (λ (one : Message). one.body) messages)
-  all_judged w [] messages noticed not19 ups accepted = tt
-  all_judged w (judgement ∷ judged) [] noticed not19 ups accepted = tt
-  all_judged w (judgement ∷ judged) (message ∷ messages) noticed not19 ups accepted =
+  all_judged w [] messages noticed ups accepted = tt
+  all_judged w (judgement ∷ judged) [] noticed ups accepted = tt
+  all_judged w (judgement ∷ judged) (message ∷ messages) noticed ups accepted =
       let parts = first_part (IsAcceptedThere w its) (acceptance_by judgement.number judgement.verdict message.body) (filter_map acceptance_of (zip judged (map (λ (one : Message). one.body) messages))) accepted in (
-        judged_so w judgement.number judgement.verdict message noticed.0 noticed.1 not19.0 ups.0 parts.0,
-        all_judged w judged messages noticed.2 not19.1 ups.1 parts.1,
+        judged_so w judgement.number judgement.verdict message noticed.0 noticed.1 ups.0 parts.0,
+        all_judged w judged messages noticed.2 ups.1 parts.1,
       )
 
 -- ---- the whole
@@ -186,8 +193,8 @@ pub record Opens (S : Type 0) : Type 0 where
       → All (λ judgement. IsTold judgement.number judgement.verdict (session_after way (remembered session) message).history) (judgements way (remembered session) message)
 
 module _ {S : Type 0} (adds : Adds) (on : MovesGoOn) (alone : GivesUpAlone S) (owing : OwesAlone S) (said : Speaks S) (orders : Orders S) (judges : Judges) (opening : Opens S) (by_names : ByName S)
-    (setting : Setting S) (envelope : Envelope) (heard : State S) (gone : List Session) (lines : Name → Line) (x : Session) (found : session_named (name_of x) heard.sessions ≡ Some x)
-    (none_owed : heard.owed ≡ []) (none_sent : heard.sent ≡ []) (order : IsGoingOn (past_in heard.sessions) none_open heard.sessions heard.jobs) where
+    (setting : Setting S) (envelope : Envelope) (heard : State S) (gone : Past) (lines : Name → Line) (x : Session) (found : session_named (name_of x) heard.sessions ≡ Some x)
+    (unfailed : AllByRecursion (λ (one : Unfinished). one.failed ≡ false) heard.jobs) (none_owed : heard.owed ≡ []) (none_sent : heard.sent ≡ []) (order : IsGoingOn (past_in heard.sessions) none_open heard.sessions heard.jobs) where
   abbrev name : Name
   name = name_of x
 
@@ -234,8 +241,14 @@ module _ {S : Type 0} (adds : Adds) (on : MovesGoOn) (alone : GivesUpAlone S) (o
   abbrev pub done : State S
   done = takes_by setting envelope (Some x) heard
 
+  -- two that have one name are one
+  pub heard_apart : AreNamedApart heard.sessions
+  heard_apart one other a b same =
+      some_same one other
+      (sym (found_itself heard.sessions order.names one a) ∙ ap (λ (n : Name). session_named n heard.sessions) same ∙ found_itself heard.sessions order.names other b)
+
   abbrev GoesOn : World → List ℕ → State S → Type 0
-  GoesOn w numbers state = Going adds on alone owing said orders setting lines name x.unique past w numbers state
+  GoesOn w numbers state = Going adds on alone owing said orders setting lines name x.unique past gone heard.sessions heard_apart w numbers state
 
   midway : IsMidwayAt (past_in heard.sessions name) [] (Some x) (jobs_of name heard.jobs)
   midway = subst (λ (f : Option Session). IsMidwayAt (past_in heard.sessions name) [] f (jobs_of name heard.jobs)) found (order.each name)
@@ -247,9 +260,9 @@ module _ {S : Type 0} (adds : Adds) (on : MovesGoOn) (alone : GivesUpAlone S) (o
   its_there = mapped_in (λ session. with_line (lines (name_of session)) session) heard.sessions x (found_in (is_named name) heard.sessions x found).0
 
   -- told of what was judged
-  told_stands : (w : World) → ServerStands w gone (with_session (with_history later_history its) xs) heard.jobs → EventStands w gone lines state_told
+  told_stands : (w : World) → ServerStands w (with_entries heard.entries gone) (with_session (with_history later_history its) xs) heard.jobs → EventStands w gone lines state_told
   told_stands w s = record {
-    stands = subst (λ (l : List Session). ServerStands w gone l heard.jobs) (sym (lines_put lines name told_x heard.sessions refl)) s;
+    stands = subst (λ (l : List Session). ServerStands w (with_entries heard.entries gone) l heard.jobs) (sym (lines_put lines name told_x heard.sessions refl)) s;
     owed = subst (λ (owed : List Owed). AllByRecursion (λ (o : Session). AllByRecursion (IsOwedThere w o) owed) (with_lines lines state_told.sessions)) (sym none_owed)
         (all_of (λ (o : Session). AllByRecursion (IsOwedThere w o) []) (with_lines lines state_told.sessions) (λ o there. tt));
   }
@@ -293,25 +306,60 @@ module _ {S : Type 0} (adds : Adds) (on : MovesGoOn) (alone : GivesUpAlone S) (o
   abbrev pub Ends : World → Type 0
   Ends later = (numbers : List ℕ) × GoesOn later numbers done
 
+  told_all : All (λ (judgement : Judgement). IsTold judgement.number judgement.verdict (past name)) judged
+  told_all =
+      subst (λ (history : History). All (λ (judgement : Judgement). IsTold judgement.number judgement.verdict history) judged) (sym (opening.own_past name later_history (past_in heard.sessions)))
+      (opening.told way x message (jobs_of name heard.jobs) orderly)
+
+  -- whatever stands there, the event keeps the order, and the session is there in the end
+  done_order : (numbers : List ℕ) × IsGoingOn past (open_only name numbers) done.sessions done.jobs
+  done_order =
+      order_fold adds on alone owing said orders setting lines name x.unique past gone heard.sessions heard_apart judged bodies opened (opening.opens setting way message heard x found order) told_all
+
+  pub done_apart : AreNamedApart done.sessions
+  done_apart one other a b same =
+      let names = done_order.1.names in
+      some_same one other
+      (sym (found_itself done.sessions names one a) ∙ ap (λ (n : Name). session_named n done.sessions) same ∙ found_itself done.sessions names other b)
+
+  pub done_there : IsThere said name x.unique done
+  done_there =
+      there_fold adds on alone owing said orders setting lines name x.unique past gone heard.sessions heard_apart judged bodies opened
+      (record { x = b.session; found = b_found; same = b_said.unique; sent = ap (λ (f : Option Session). (spoken_by f speak heard).sent) found ∙ b_said.sent ∙ none_sent })
+
+  -- what it says of one that has its name
+  named_opened : (y : Session) → session_named name heard.sessions ≡ Some y → name_of (speak (speaker_in heard y)).session ≡ name_of y
+  named_opened y is =
+      let one : y ≡ x = some_same y x (sym is ∙ found) in
+      subst (λ (z : Session). name_of (speak (speaker_in heard z)).session ≡ name_of z) (sym one) name_b
+
+  opened_jobs : (y : Session) → session_named name heard.sessions ≡ Some y → (speak (speaker_in heard y)).jobs ≡ heard.jobs
+  opened_jobs y is =
+      let one : y ≡ x = some_same y x (sym is ∙ found) in
+      subst (λ (z : Session). (speak (speaker_in heard z)).jobs ≡ heard.jobs) (sym one) b_said.jobs
+
   going : (w : World) → EventStands w gone lines opened → GoesOn w (opens_of judged) opened
   going w h = record {
-    gone = gone;
-    stands = h;
+    more = [];
+    stands = none_lost w gone lines opened h;
+    lost = lost_alike (lined lines) heard.sessions heard.sessions opened.sessions [] (λ n. has_spoken n name speak heard) (none_are_lost (lined lines) heard.sessions);
+    quiet = own_speaks setting name heard.sessions speak heard (λ y is. (named_opened y is, λ own. subst (λ (jobs : Queue). FailedOwn (name_of y) jobs) (sym (opened_jobs y is)) own))
+        (record { others = all_of (IsOther setting name heard.sessions) heard.sessions (λ o there. inr there); failed = none_failed name heard.jobs unfailed });
     order = opening.opens setting way message heard x found order;
     there = record { x = b.session; found = b_found; same = b_said.unique; sent = ap (λ (f : Option Session). (spoken_by f speak heard).sent) found ∙ b_said.sent ∙ none_sent };
   }
 
   pub takes_on : (w : World) → Reached w → EventStands w gone lines heard → IsWithin (lines name) x → AllByRecursion (IsUp w.ups x.number envelope.salt) messages
-      → AllByRecursion (λ (judgement : Judgement). judgement.verdict ≡ Noticed 19 → ⊥) judged → Within said name x.unique (lines name) done
+      → Within said name x.unique (lines name) done
       → Leads w Ends
-  takes_on w reached h line_within ups not19 within =
-      let within_opened = all_within adds on alone owing said orders setting lines name x.unique past judged bodies opened within in
-      let l = judged_packet judges.low judges.rises on judges.lasts gone xs heard.jobs its its_there envelope.salt setting.now x.salts line_within message (marked judges.marks its orderly.judged) w reached h.stands ups in
+  takes_on w reached h line_within ups within =
+      let within_opened = all_within adds on alone owing said orders setting lines name x.unique past gone heard.sessions heard_apart judged bodies opened within in
+      let l = judged_packet judges.low judges.rises on judges.lasts (with_entries heard.entries gone) xs heard.jobs its its_there envelope.salt setting.now x.salts line_within message (marked judges.marks its orderly.judged) w reached h.stands ups in
       let v : World = after_all w l.moves in
       let ups_still = map_all (IsUp w.ups x.number envelope.salt) (IsUp v.ups x.number envelope.salt) messages
       (λ m there up. record { up = up.up; there = adds.messages w l.moves l.lawful up.up up.there; under = up.under; salted = up.salted; numbered = up.numbered; is = up.is }) ups in
       let noticed = subst (λ (history : History). AreNoticed history judged messages) (sym (opening.own_past name later_history (past_in heard.sessions))) (packet_noticed judges.rises way (remembered x) message) in
-      let are = all_judged adds on alone owing said orders setting lines x past envelope.salt its refl refl v judged messages noticed not19 ups_still l.gives.1 in
+      let are = all_judged adds on alone owing said orders setting lines x past envelope.salt its refl refl v judged messages noticed ups_still l.gives.1 in
       let told = subst (λ (history : History). All (λ (judgement : Judgement). IsTold judgement.number judgement.verdict history) judged) (sym (opening.own_past name later_history (past_in heard.sessions)))
       (opening.told way x message (jobs_of name heard.jobs) orderly) in
       goes_on on w (λ later. EventStands later gone lines state_told × AreJudgedAt later) Ends reached
@@ -325,7 +373,7 @@ module _ {S : Type 0} (adds : Adds) (on : MovesGoOn) (alone : GivesUpAlone S) (o
         own = m.own;
         gives = (m.gives, all_still adds on alone owing said orders setting lines name x.unique past later m.moves m.lawful judged bodies k.1);
       })
-      (λ last reached n. all_settle adds on alone owing said orders setting lines name x.unique past judged bodies last opened reached (going last n.0) told n.1 within))
+      (λ last reached n. all_settle adds on alone owing said orders setting lines name x.unique past gone heard.sessions heard_apart judged bodies last opened reached (going last n.0) told n.1 within))
 
   -- ---- what may go then
 
@@ -378,7 +426,7 @@ module _ {S : Type 0} (adds : Adds) (on : MovesGoOn) (alone : GivesUpAlone S) (o
 
     module _ (w : World) (numbers : List ℕ) (h : GoesOn w numbers done) (within : Within said name x.unique (lines name) done) where
       within_opened : Within said name x.unique (lines name) opened
-      within_opened = all_within adds on alone owing said orders setting lines name x.unique past judged bodies opened within
+      within_opened = all_within adds on alone owing said orders setting lines name x.unique past gone heard.sessions heard_apart judged bodies opened within
 
       history_so : h.there.x.history ≡ later_history
       history_so =

@@ -1,5 +1,5 @@
 -- Each row of what a session owes is said in words that it can say.
-use Rattle.std.proofs.Common.{◌≡◌, ℕ, ◌<◌, arith, ◌==◌, ◌&&◌, Bool, true, false, Option, None, Some, List, [], ◌∷◌, ◌++◌, map, fold, length, if◌then◌else◌, inl, inr, refl, sym, ap, subst, ◌∙◌, eq-eqb}
+use Rattle.std.proofs.Common.{◌≡◌, ℕ, append_assoc, ◌<◌, arith, ◌==◌, ◌&&◌, Bool, true, false, Option, None, Some, List, [], ◌∷◌, ◌++◌, map, fold, length, if◌then◌else◌, inl, inr, refl, sym, ap, subst, ◌∙◌, eq-eqb}
 use Rattle.std.specs.Prelude.{◌⊎◌, min, is_some}
 use Rattle.std.specs.List.{AllByRecursion, Contains, filter, find, list_all}
 use Rattle.std.proofs.lemmas.Bool.{cases_Bool, cond_both}
@@ -25,18 +25,20 @@ use Rattle.waits.specs.declared.job.Job.{Job}
 use Rattle.waits.specs.declared.job.Unfinished.{Unfinished}
 use Rattle.waits.specs.Jobs.{Queue, first_job, is_call, is_of, without_first}
 use Rattle.server_rules.specs.Server.{Binding, IsKept, Reply, Session, has_accepted, is_kept, kept_of, mark_in, marks_of, name_of, reply_to, with_session}
-use Rattle.server_rules.specs.Event.{BindingCall, Owed, Setting, Speaker}
+use Rattle.server_rules.specs.Event.{BindingCall, Entry, Owed, Setting, Speaker}
 use Rattle.server_rules.specs.Speaking.{answers as answers_by, answers_in_place, bad_body, dropped, encrypted_message_invalid, has_said, made_room, message_of, needs_salts, owes_message, packed_body_refused, records, says, says_again, says_it_is_new, says_with_salt}
 use Rattle.server_rules.specs.Waiting.{gives_up, outlook, tells_of, told}
 use Rattle.server_rules.specs.Calls.{accepts_call, becomes_job, binds, binds_by, bool_true_content, dropped_running, drops_answer, drops_by, job_of, refusal, with_binding}
 use Rattle.server_rules.specs.Rows.{acked_by, accepts, acknowledges, acks_of, answers_broken, came_again, future_salt_of, kept_numbered, notices, owes, says_reply, sends_again, takes_acks, tells_salts, tells_states}
 use Rattle.server_rules.specs.Answer.{attaches, finishes, opens}
 use Rattle.server_lives.specs.Lives.{request_of}
+use Rattle.session_moves.specs.Table.Item.{Notice}
+use Rattle.session_moves.specs.Lawful.{WasNoCall}
 use Rattle.session_moves.specs.World.{World, WasGiven}
 use Rattle.session_moves.specs.Reached.{after_all}
 use Rattle.world_moves.specs.Packets.{item_there}
 use Rattle.world_servers.specs.Leading.{Leads}
-use Rattle.world_servers.specs.Servers.{AsksThere, CanSay, GoOn, HasForgotten, HasNoticed, HasSalt, HasSame, IsJobThere, IsJobOf, has_dropped, with_replies}
+use Rattle.world_servers.specs.Servers.{AsksThere, CanSay, GoOn, HasForgotten, HasNoticed, HasSalt, HasSame, IsJobThere, IsJobOf, Past, has_dropped, with_entries, with_replies}
 use Rattle.world_servers.specs.Speaking.{AreOthersOpen, IsDue, IsOpen, IsSaid, IsWithin, SpeaksThere, StandsSpeaking, with_line}
 use Rattle.world_servers.proofs.Lists.{all_of, each_of, first_or, from_filter, here}
 use Rattle.world_servers.proofs.Leading.{leads_so, stays}
@@ -75,26 +77,37 @@ open_more replies reply number is_open differs was =
     ]
 
 abbrev CanNotice : World → Session → ℕ → ℕ → Type 0
-CanNotice w session number code = HasNoticed session number code ⊎ ((code ≡ 20) × Contains (w.servers session.unique).forgotten number)
+CanNotice w session number code =
+    HasNoticed session number code ⊎ ((code ≡ 20) × Contains (w.servers session.unique).forgotten number) ⊎ ((code ≡ 19) × WasNoCall w.ups session.number number)
 
 noticed_48 : (w : World) (session : Session) (number code : ℕ) → code ≡ 48 → CanNotice w session number code → HasNoticed session number 48
 noticed_48 w session number code is (inl h) = subst (λ (c : ℕ). HasNoticed session number c) is h
-noticed_48 w session number code is (inr h) = let twenty : code ≡ 20 = h.0 in absurd (omega (arith, is, twenty))
+noticed_48 w session number code is (inr (inl h)) = let twenty : code ≡ 20 = h.0 in absurd (omega (arith, is, twenty))
+noticed_48 w session number code is (inr (inr h)) = let nineteen : code ≡ 19 = h.0 in absurd (omega (arith, is, nineteen))
 
-module _ {S : Type 0} (adds : Adds) (setting : Setting S) (lost sessions : List Session) (line : Line) where
+can_notice : (w : World) (x : Session) (number code : ℕ) → CanNotice w x number code → CanSay w x (Notice number code)
+can_notice w x number code (inl h) = inl h
+can_notice w x number code (inr (inl h)) = inr (inl h)
+can_notice w x number code (inr (inr h)) = inr (inr h.1)
+
+module _ {S : Type 0} (adds : Adds) (setting : Setting S) (past : Past) (sessions : List Session) (line : Line) where
   abbrev At : World → Speaker S → Type 0
-  At w speaker = SpeaksThere w lost sessions line speaker
+  At w speaker = SpeaksThere w past sessions line speaker
+
+  -- what is behind it, with what the event has entered so far
+  abbrev so_far : Speaker S → Past
+  so_far speaker = with_entries speaker.entries past
 
   -- ---- words
 
   owes_it : (w : World) (speaker : Speaker S) (message : Message) → At w speaker → IsSaid w (with_line line speaker.session) message → At w (owes_message message speaker)
   owes_it w speaker message h said =
-      owes_one w lost sessions (with_line line speaker.session) speaker.jobs speaker.owed h (record { name = name_of speaker.session; message = message }) (λ of. said)
+      owes_one w (so_far speaker) sessions (with_line line speaker.session) speaker.jobs speaker.owed h (record { name = name_of speaker.session; message = message }) (λ of. said)
 
   counts : (w : World) (speaker : Speaker S) (item : Item) → At w speaker
       → At w (record speaker { session = record speaker.session { counters = after_item setting.now speaker.session.counters item } })
   counts w speaker item h =
-      quietly w lost sessions (with_line line speaker.session) speaker.jobs speaker.owed h (after_item setting.now speaker.session.counters item) speaker.session.replies speaker.jobs
+      quietly w (so_far speaker) sessions (with_line line speaker.session) speaker.jobs speaker.owed h (after_item setting.now speaker.session.counters item) speaker.session.replies speaker.jobs
       (go_same speaker.session.replies) (same_jobs speaker.jobs)
 
   pub says_it : (w : World) (speaker : Speaker S) (item : Item) → At w speaker
@@ -113,7 +126,7 @@ module _ {S : Type 0} (adds : Adds) (setting : Setting S) (lost sessions : List 
   tells_it w number speaker h =
       let list : Queue = told (outlook speaker.session speaker.jobs number) speaker.session number speaker.jobs in
       record {
-        stands = jobs_go_on w lost (with_session (with_line line speaker.session) sessions) speaker.jobs list h.stands
+        stands = jobs_go_on w (so_far speaker) (with_session (with_line line speaker.session) sessions) speaker.jobs list h.stands
             (all_told (outlook speaker.session speaker.jobs number) speaker.session number speaker.jobs);
         among = h.among;
         owed = h.owed;
@@ -149,13 +162,14 @@ module _ {S : Type 0} (adds : Adds) (setting : Setting S) (lost sessions : List 
       cond_both (code == 48) (says_with_salt setting (λ salt. BadServerSalt number seq 48 salt) speaker) (says setting (BadMsgNotification number seq code) speaker) (At w)
       (λ is. let code_is : code ≡ 48 = eq_true code 48 is in
       says_it w ready (BadServerSalt number seq 48 salt) h ((noticed_48 w speaker.session number code code_is can, current speaker (within code_is)), tt))
-      (λ is. says_it w speaker (BadMsgNotification number seq code) h (can, tt))
+      (λ is. says_it w speaker (BadMsgNotification number seq code) h (can_notice w speaker.session number code can, tt))
 
   -- ---- answers
 
-  answers_it : (w : World) (call : ℕ) (content : List ℕ) (request : Option (List ℕ)) (speaker : Speaker S) → At w speaker → AsksThere w speaker.session call request
-      → IsOpen call speaker.session.replies → Leads w (λ later. At later (answers_by setting call content speaker))
-  answers_it w call content request speaker h asks is_open =
+  -- a call is answered, and that is entered
+  answers_it : (w : World) (ran : Bool) (call : ℕ) (content request : List ℕ) (speaker : Speaker S) → At w speaker → AsksThere w speaker.session call (Some request)
+      → IsOpen call speaker.session.replies → Leads w (λ later. At later (records ran call request content (answers_by setting call content speaker)))
+  answers_it w ran call content request speaker h asks is_open =
       let item : Item = RpcResult call content in
       let message : Message = numbered setting.now speaker.session.counters item in
       let room : List Reply = made_room (length message.body) speaker.session.replies in
@@ -164,12 +178,30 @@ module _ {S : Type 0} (adds : Adds) (setting : Setting S) (lost sessions : List 
       let reply : Reply = record { call = call; number = message.number; seq = message.seq; content = content; fate = IsKept } in
       let z : Session = with_replies (room ++ reply ∷ []) y in
       let one : Owed = record { name = name_of speaker.session; message = message } in
-      let quiet : StandsSpeaking w lost sessions y speaker.jobs speaker.owed =
-      quietly w lost sessions (with_line line speaker.session) speaker.jobs speaker.owed h y.counters room speaker.jobs on (same_jobs speaker.jobs) in
-      leads_so w (λ later. StandsSpeaking later lost sessions z speaker.jobs speaker.owed) (λ later. At later (answers_by setting call content speaker))
-      (λ later k. owes_one later lost sessions z speaker.jobs speaker.owed k one
-      (λ of. reply_said later z reply (same_reply z.replies reply (last_one room reply)) message refl))
-      (replies_to adds w lost sessions y speaker.jobs speaker.owed quiet reply request asks (still_open speaker.session.replies room on call is_open))
+      let entry : Entry = record { key = speaker.session.key; session = speaker.session.number; number = call; request = request; reply = content; ran = ran } in
+      let quiet : StandsSpeaking w (so_far speaker) sessions y speaker.jobs speaker.owed =
+      quietly w (so_far speaker) sessions (with_line line speaker.session) speaker.jobs speaker.owed h y.counters room speaker.jobs on (same_jobs speaker.jobs) in
+      leads_so w (λ later. StandsSpeaking later (with_entries (entry ∷ []) (so_far speaker)) sessions z speaker.jobs speaker.owed)
+      (λ later. At later (records ran call request content (answers_by setting call content speaker)))
+      (λ later k. subst (λ (entries : List Entry). StandsSpeaking later (record past { entries = entries }) sessions z speaker.jobs (speaker.owed ++ one ∷ []))
+      (append_assoc past.entries speaker.entries (entry ∷ []))
+      (owes_one later (with_entries (entry ∷ []) (so_far speaker)) sessions z speaker.jobs speaker.owed k one
+      (λ of. reply_said later z reply (same_reply z.replies reply (last_one room reply)) message refl)))
+      (replies_to adds w (so_far speaker) sessions y speaker.jobs speaker.owed quiet reply ran request asks (still_open speaker.session.replies room on call is_open))
+
+  -- a message that is no call is
+  aside_it : (w : World) (call : ℕ) (content : List ℕ) (speaker : Speaker S) → At w speaker → AsksThere w speaker.session call None → At w (answers_by setting call content speaker)
+  aside_it w call content speaker h asks =
+      let item : Item = RpcResult call content in
+      let message : Message = numbered setting.now speaker.session.counters item in
+      let room : List Reply = made_room (length message.body) speaker.session.replies in
+      let y : Session = with_line line (record speaker.session { replies = room; counters = after_item setting.now speaker.session.counters item }) in
+      let reply : Reply = record { call = call; number = message.number; seq = message.seq; content = content; fate = IsKept } in
+      let z : Session = with_replies (room ++ reply ∷ []) y in
+      let quiet : StandsSpeaking w (so_far speaker) sessions y speaker.jobs speaker.owed =
+      quietly w (so_far speaker) sessions (with_line line speaker.session) speaker.jobs speaker.owed h y.counters room speaker.jobs (room_made (length message.body) speaker.session.replies) (same_jobs speaker.jobs) in
+      owes_one w (so_far speaker) sessions z speaker.jobs speaker.owed (replies_aside adds w (so_far speaker) sessions y speaker.jobs speaker.owed quiet reply asks) (record { name = name_of speaker.session; message = message })
+      (λ of. reply_said w z reply (same_reply z.replies reply (last_one room reply)) message refl)
 
   -- ---- rows that are no move
 
@@ -184,7 +216,7 @@ module _ {S : Type 0} (adds : Adds) (setting : Setting S) (lost sessions : List 
 
   acks_it : (w : World) (numbers : List ℕ) (speaker : Speaker S) → At w speaker → At w (takes_acks numbers speaker)
   acks_it w numbers speaker h =
-      quietly w lost sessions (with_line line speaker.session) speaker.jobs speaker.owed h speaker.session.counters (map (acked_by numbers) speaker.session.replies) speaker.jobs
+      quietly w (so_far speaker) sessions (with_line line speaker.session) speaker.jobs speaker.owed h speaker.session.counters (map (acked_by numbers) speaker.session.replies) speaker.jobs
       (acks_taken numbers speaker.session.replies) (same_jobs speaker.jobs)
 
   reply_by : (w : World) (reply : Option Reply) (speaker : Speaker S) → At w speaker → ((one : Reply) → reply ≡ Some one → Contains speaker.session.replies one)
@@ -210,20 +242,24 @@ module _ {S : Type 0} (adds : Adds) (setting : Setting S) (lost sessions : List 
   abbrev LeadsTo : World → Speaker S → Type 0
   LeadsTo w speaker = Leads w (λ later. At later speaker)
 
-  broken_it : (w : World) (number constructor : ℕ) (body : List ℕ) (request : Option (List ℕ)) (speaker : Speaker S) → At w speaker → AsksThere w speaker.session number request
+  broken_it : (w : World) (number constructor : ℕ) (body : List ℕ) (speaker : Speaker S) → At w speaker → AsksThere w speaker.session number (request_of (Broken constructor) body)
       → IsOpen number speaker.session.replies → LeadsTo w (answers_broken setting number constructor body speaker)
-  broken_it w number constructor body request speaker h asks is_open =
-      let l : LeadsTo w (answers_by setting number bad_body speaker) = answers_it w number bad_body request speaker h asks is_open in
-      cond_both (constructor == rpc_drop_answer.number) (answers_by setting number bad_body speaker) (answers_in_place setting number body bad_body speaker) (LeadsTo w) (λ is. l) (λ is. l)
+  broken_it w number constructor body speaker h asks is_open =
+      let Goal : Bool → Type 0 = λ b. LeadsTo w (if b then answers_by setting number bad_body speaker else answers_in_place setting number body bad_body speaker) in
+      let Asked : Bool → Type 0 = λ b. AsksThere w speaker.session number (if b then None else Some body) in
+      elim (cases_Bool (constructor == rpc_drop_answer.number)) [
+        | inl is ↦ subst Goal (sym is) (stays w (λ later. At later (answers_by setting number bad_body speaker)) (aside_it w number bad_body speaker h (subst Asked is asks)))
+        | inr not ↦ subst Goal (sym not) (answers_it w false number bad_body body speaker h (subst Asked not asks) is_open)
+      ]
 
   becomes_it : (w : World) (number : ℕ) (numbers request : List ℕ) (content : Option (List ℕ)) (speaker : Speaker S) → At w speaker → AsksThere w speaker.session number (Some request)
       → IsOpen number speaker.session.replies → LeadsTo w (becomes_job setting (job_of setting number numbers request speaker) content speaker)
-  becomes_it w number numbers request (Some content) speaker h asks is_open = answers_it w number content (Some request) speaker h asks is_open
+  becomes_it w number numbers request (Some content) speaker h asks is_open = answers_it w false number content request speaker h asks is_open
   becomes_it w number numbers request None speaker h asks is_open =
       let job : Job = job_of setting number numbers request speaker in
       let y : Session = with_line line speaker.session in
       stays w (λ later. At later (becomes_job setting job None speaker)) (record {
-        stands = accepts_job w lost (with_session y sessions) speaker.jobs h.stands y h.among job refl asks;
+        stands = accepts_job w (so_far speaker) (with_session y sessions) speaker.jobs h.stands y h.among job refl asks;
         among = h.among;
         owed = h.owed;
       })
@@ -240,32 +276,19 @@ module _ {S : Type 0} (adds : Adds) (setting : Setting S) (lost sessions : List 
   pub gives_up_it : (w : World) (content : List ℕ) (job : Job) (speaker : Speaker S) → At w speaker → AsksThere w speaker.session job.number (Some job.request)
       → IsOpen job.number speaker.session.replies → LeadsTo w (gives_up setting content job speaker)
   gives_up_it w content job speaker h asks is_open =
-      told_after w job.number (answers_in_place setting job.number job.request content speaker) (answers_it w job.number content (Some job.request) speaker h asks is_open)
+      told_after w job.number (answers_in_place setting job.number job.request content speaker) (answers_it w false job.number content job.request speaker h asks is_open)
 
   pub finishes_it : (w : World) (job : Job) (reply : List ℕ) (speaker : Speaker S) → At w speaker → AsksThere w speaker.session job.number (Some job.request)
       → IsOpen job.number speaker.session.replies → LeadsTo w (finishes setting job reply speaker)
   finishes_it w job reply speaker h asks is_open =
       let own : Speaker S = answers_by setting job.number reply speaker in
-      told_after w job.number (records true job.number job.request reply own) (answers_it w job.number reply (Some job.request) speaker h asks is_open)
+      told_after w job.number (records true job.number job.request reply own) (answers_it w true job.number reply job.request speaker h asks is_open)
 
   -- ---- an answer is dropped
 
-  aside_it : (w : World) (call : ℕ) (content : List ℕ) (speaker : Speaker S) → At w speaker → AsksThere w speaker.session call None → At w (answers_by setting call content speaker)
-  aside_it w call content speaker h asks =
-      let item : Item = RpcResult call content in
-      let message : Message = numbered setting.now speaker.session.counters item in
-      let room : List Reply = made_room (length message.body) speaker.session.replies in
-      let y : Session = with_line line (record speaker.session { replies = room; counters = after_item setting.now speaker.session.counters item }) in
-      let reply : Reply = record { call = call; number = message.number; seq = message.seq; content = content; fate = IsKept } in
-      let z : Session = with_replies (room ++ reply ∷ []) y in
-      let quiet : StandsSpeaking w lost sessions y speaker.jobs speaker.owed =
-      quietly w lost sessions (with_line line speaker.session) speaker.jobs speaker.owed h y.counters room speaker.jobs (room_made (length message.body) speaker.session.replies) (same_jobs speaker.jobs) in
-      owes_one w lost sessions z speaker.jobs speaker.owed (replies_aside adds w lost sessions y speaker.jobs speaker.owed quiet reply asks) (record { name = name_of speaker.session; message = message })
-      (λ of. reply_said w z reply (same_reply z.replies reply (last_one room reply)) message refl)
-
   jobs_it : (w : World) (jobs : Queue) (speaker : Speaker S) → At w speaker → AllByRecursion (IsJobOf speaker.jobs) jobs → At w (record speaker { jobs = jobs })
   jobs_it w jobs speaker h from = record {
-    stands = jobs_go_on w lost (with_session (with_line line speaker.session) sessions) speaker.jobs jobs h.stands from;
+    stands = jobs_go_on w (so_far speaker) (with_session (with_line line speaker.session) sessions) speaker.jobs jobs h.stands from;
     among = h.among;
     owed = h.owed;
   }
@@ -289,7 +312,7 @@ module _ {S : Type 0} (adds : Adds) (setting : Setting S) (lost sessions : List 
       let room : List Reply = made_room (length message.body) speaker.session.replies in
       let reply : Reply = record { call = number; number = message.number; seq = message.seq; content = dropped_running; fate = IsKept } in
       told_after w job.number (answers_in_place setting job.number job.request dropped_running rest)
-      (answers_it w job.number dropped_running (Some job.request) rest (jobs_it w rest.jobs own (aside_it w number dropped_running speaker h asks) (first_out test own.jobs)) job_asks_so
+      (answers_it w false job.number dropped_running job.request rest (jobs_it w rest.jobs own (aside_it w number dropped_running speaker h asks) (first_out test own.jobs)) job_asks_so
       (open_more room reply job.number (still_open speaker.session.replies room (room_made (length message.body) speaker.session.replies) job.number is_open) differs))
 
   kept_it : (w : World) (number : ℕ) (reply : Reply) (speaker : Speaker S) → At w speaker → AsksThere w speaker.session number None
@@ -298,7 +321,7 @@ module _ {S : Type 0} (adds : Adds) (setting : Setting S) (lost sessions : List 
       let replies : List Reply = map (λ other. if other.number == reply.number then dropped other else other) speaker.session.replies in
       let rest : Speaker S = record speaker { session = record speaker.session { replies = replies } } in
       aside_it w number (spelling_of (RpcAnswerDropped reply.number reply.seq (length (kept_of reply).body))) rest
-      (quietly w lost sessions (with_line line speaker.session) speaker.jobs speaker.owed h speaker.session.counters replies speaker.jobs
+      (quietly w (so_far speaker) sessions (with_line line speaker.session) speaker.jobs speaker.owed h speaker.session.counters replies speaker.jobs
       (one_dropped reply.number speaker.session.replies) (same_jobs speaker.jobs)) asks
 
   drops_by_it : (w : World) (number : ℕ) (job : Option Job) (reply : Option Reply) (speaker : Speaker S) → At w speaker → AsksThere w speaker.session number None
@@ -344,8 +367,8 @@ module _ {S : Type 0} (adds : Adds) (setting : Setting S) (lost sessions : List 
 
   accepts_it : (w : World) (number : ℕ) (item : Item) (body : List ℕ) (speaker : Speaker S) → At w speaker → AsksThere w speaker.session number (request_of item body)
       → IsOpen number speaker.session.replies → AreOthersOpen number speaker.session speaker.jobs → LeadsTo w (accepts setting number item body speaker)
-  accepts_it w number Packed body speaker h asks is_open others = answers_it w number packed_body_refused (Some body) speaker h asks is_open
-  accepts_it w number (Broken constructor) body speaker h asks is_open others = broken_it w number constructor body (request_of (Broken constructor) body) speaker h asks is_open
+  accepts_it w number Packed body speaker h asks is_open others = answers_it w false number packed_body_refused body speaker h asks is_open
+  accepts_it w number (Broken constructor) body speaker h asks is_open others = broken_it w number constructor body speaker h asks is_open
   accepts_it w number (AuthBindTempAuthKey perm nonce expires message) body speaker h asks is_open others =
       binds_it w (record { number = number; perm = perm; nonce = nonce; expires = expires; message = message }) speaker h asks
   accepts_it w number Call body speaker h asks is_open others = call_it w number [] body speaker h asks is_open
@@ -374,7 +397,7 @@ module _ {S : Type 0} (adds : Adds) (setting : Setting S) (lost sessions : List 
       → IsWithin line (notices setting number seq code speaker).session → LeadsTo w (notices setting number seq code speaker)
   forgotten_it w number seq code speaker h is given was within =
       let y : Session = with_line line speaker.session in
-      let l = forgets w lost (with_session y sessions) speaker.jobs h.stands y h.among number given was in
+      let l = forgets w (so_far speaker) (with_session y sessions) speaker.jobs h.stands y h.among number given was in
       record {
         moves = l.moves;
         lawful = l.lawful;
@@ -383,17 +406,20 @@ module _ {S : Type 0} (adds : Adds) (setting : Setting S) (lost sessions : List 
             (record {
               stands = l.gives.0;
               among = h.among;
-              owed = owed_still w (after_all w l.moves) y y.counters y.replies (λ reply same. same) (λ n has. adds.forgotten w l.moves l.lawful y.unique n has) speaker.owed h.owed;
+              owed = owed_still w (after_all w l.moves) y y.counters y.replies (λ reply same. same) (λ n has. adds.forgotten w l.moves l.lawful y.unique n has) (λ m has. adds.messages w l.moves l.lawful m has) speaker.owed h.owed;
             })
-            (inr (is, l.gives.1)) (within_48 number seq code speaker within);
+            (inr (inl (is, l.gives.1))) (within_48 number seq code speaker within);
       }
 
   due_it : (w : World) (number seq code : ℕ) (speaker : Speaker S) → At w speaker
       → HasNoticed speaker.session number code ⊎ ((code ≡ 20) × WasGiven w.ups speaker.session.number number × HasForgotten number speaker.session)
+      ⊎ ((code ≡ 19) × WasNoCall w.ups speaker.session.number number)
       → IsWithin line (notices setting number seq code speaker).session → LeadsTo w (notices setting number seq code speaker)
   due_it w number seq code speaker h (inl noticed) within =
       stays_so w (notices setting number seq code speaker) (notices_it w number seq code speaker h (inl noticed) (within_48 number seq code speaker within))
-  due_it w number seq code speaker h (inr forgot) within = forgotten_it w number seq code speaker h forgot.0 forgot.1 forgot.2 within
+  due_it w number seq code speaker h (inr (inl forgot)) within = forgotten_it w number seq code speaker h forgot.0 forgot.1 forgot.2 within
+  due_it w number seq code speaker h (inr (inr none)) within =
+      stays_so w (notices setting number seq code speaker) (notices_it w number seq code speaker h (inr (inr none)) (within_48 number seq code speaker within))
 
   again_by : (w : World) (number seq : ℕ) (mark : Option Mark) (speaker : Speaker S) → mark_in speaker.session number ≡ mark → At w speaker → WasGiven w.ups speaker.session.number number
       → IsWithin line (came_again setting number seq mark speaker).session → LeadsTo w (came_again setting number seq mark speaker)
@@ -407,7 +433,7 @@ module _ {S : Type 0} (adds : Adds) (setting : Setting S) (lost sessions : List 
       let j = judged_so speaker.session.history speaker.session.replies number (Dropped good) is in
       let was : has_dropped number speaker.session.replies ≡ true =
       subst (λ (n : ℕ). has_dropped n speaker.session.replies ≡ true) (eq_true j.0.number number j.2) (dropped_outcome speaker.session.replies j.0.number j.0.outcome good j.3) in
-      due_it w number seq 20 speaker h (inr (refl, given, inr was)) within
+      due_it w number seq 20 speaker h (inr (inl (refl, given, inr was))) within
   again_by w number seq _ speaker is h given within = stays_so w speaker h
 
   pub owes_row : (w : World) (number seq : ℕ) (verdict : Verdict) (body : List ℕ) (speaker : Speaker S) → At w speaker → IsDue w speaker.session speaker.jobs number verdict body

@@ -1,5 +1,5 @@
 -- A run, a tick and the opening of a connection, to their ends.
-use Rattle.std.proofs.Common.{◌≡◌, ℕ, ◌==◌, ◌&&◌, Bool, true, false, Option, None, Some, List, [], ◌∷◌, ◌++◌, if◌then◌else◌, inl, inr, refl, sym, ap, subst, ◌∙◌, eq-eqb}
+use Rattle.std.proofs.Common.{◌≡◌, ℕ, true, false, Option, None, Some, List, [], inl, inr, refl, sym, ap, subst, ◌∙◌, eq-eqb}
 use Rattle.std.specs.List.{AllByRecursion, Contains, flat_map}
 use Rattle.std.proofs.lemmas.Bool.{cases_Bool}
 use Rattle.std.proofs.lemmas.List.Elements.{All-contains}
@@ -8,10 +8,9 @@ use Rattle.salt_line.specs.Rows.{Row}
 use Rattle.service_tl.specs.declared.lists.Message.{Message}
 use Rattle.inbox.specs.Inbox.{was_heard}
 use Rattle.packing.specs.Packing.{groups}
-use Rattle.id_window.specs.History.{History}
 use Rattle.waits.specs.declared.job.Job.{Job}
 use Rattle.waits.specs.Jobs.{Queue, ready_job}
-use Rattle.server_rules.specs.Server.{Name, Reply, Server, Session, has_accepted, is_named, is_same, name_of, session_named, with_session}
+use Rattle.server_rules.specs.Server.{Name, Server, Session, has_accepted, is_named, is_same, name_of, session_named}
 use Rattle.server_rules.specs.Event.{Owed, Sent, Setting, Speaker, State, speaker_in, speaks, spoken, spoken_by}
 use Rattle.server_rules.specs.Speaking.{needs_salts, says_it_is_new}
 use Rattle.server_rules.specs.Sending.{all_sent}
@@ -23,15 +22,15 @@ use Rattle.session_moves.specs.Move.{Move}
 use Rattle.session_moves.specs.Extends.{Extends}
 use Rattle.session_moves.specs.Reached.{AreLawful, Reached, after_all}
 use Rattle.world_servers.specs.Leading.{Leads}
-use Rattle.world_servers.specs.Servers.{AreApart, ServerStands}
+use Rattle.world_servers.specs.Servers.{Past, ServerStands}
 use Rattle.world_servers.specs.Speaking.{IsWithin, SpeaksThere, with_line}
 use Rattle.world_servers.specs.Events.{AreLines, EventStands, with_lines}
-use Rattle.world_servers.specs.Sending.{EventEnds, MayAllGo, MayGo, WentOut}
+use Rattle.world_servers.specs.Sending.{EventEnds, MayAllGo, WentOut}
 use Rattle.world_servers.proofs.Lists.{all_of}
 use Rattle.world_servers.proofs.Leading.{GoOn, goes_on, stays}
 use Rattle.world_servers.proofs.Losing.{named_itself}
 use Rattle.world_servers.proofs.One.{put}
-use Rattle.world_servers.proofs.Speaking.{AnyResult}
+use Rattle.world_servers.proofs.Speaking.{AnySaid}
 use Rattle.world_servers.proofs.Speech.{Adds}
 use Rattle.world_servers.proofs.Found.{found_in}
 use Rattle.world_servers.proofs.Words.{attaches_it, current}
@@ -51,14 +50,14 @@ SaysNew S =
 pub same_itself : (name : Name) → is_same name name ≡ true
 same_itself name = rw (eq-eqb name.key name.key refl, eq-eqb name.session name.session refl) refl
 
-pub none_out : (w : World) (owed : List Owed) (packets : List Sent) → packets ≡ [] → AllByRecursion (λ (sent : Sent). WentOut w owed sent.envelope) packets
-none_out w owed packets none = subst (λ (l : List Sent). AllByRecursion (λ (sent : Sent). WentOut w owed sent.envelope) l) (sym none) tt
+pub none_out : (w : World) (packets : List Sent) → packets ≡ [] → AllByRecursion (λ (sent : Sent). WentOut w sent.envelope) packets
+none_out w packets none = subst (λ (l : List Sent). AllByRecursion (λ (sent : Sent). WentOut w sent.envelope) l) (sym none) tt
 
-module _ {S : Type 0} (adds : Adds) (extends : (w : World) (list : List Move) → AreLawful w list → Extends w (after_all w list)) (on : GoOn) (any : AnyResult)
-    (whole : (messages : List Message) → flat_map (λ group. group) (groups messages) ≡ messages) (setting : Setting S) (w : World) (gone : List Session) (lines : Name → Line) (more : Name → List Row)
+module _ {S : Type 0} (adds : Adds) (extends : (w : World) (list : List Move) → AreLawful w list → Extends w (after_all w list)) (on : GoOn) (any : AnySaid)
+    (whole : (messages : List Message) → flat_map (λ group. group) (groups messages) ≡ messages) (setting : Setting S) (w : World) (gone : Past) (lines : Name → Line) (more : Name → List Row)
     (server : Server) (draw : S) (reached : Reached w) (s : ServerStands w gone server.sessions server.jobs) (order : AreOrdered server.sessions server.jobs) (h : AreLines w lines more server.sessions) where
   abbrev Ends : State S → World → Type 0
-  Ends state later = EventEnds later lines state.owed (without_spent (all_sent setting state))
+  Ends state later = EventEnds later gone lines (all_sent setting state).sessions (without_spent (all_sent setting state))
 
   abbrev start : State S
   start = begun server draw
@@ -68,7 +67,13 @@ module _ {S : Type 0} (adds : Adds) (extends : (w : World) (list : List Move) �
 
   ends_so : (state : State S) → AllByRecursion (MayAllGo state.owed) (with_lines lines state.sessions) → state.sent ≡ [] → (later : World) → Reached later → EventStands later gone lines state
       → Leads later (Ends state)
-  ends_so state go none later reached k = ends_on adds extends on any whole setting gone lines later state reached k go (none_out later state.owed state.sent none)
+  ends_so state go none later reached k = ends_on adds extends on any whole setting gone lines later state reached k go (none_out later state.sent none)
+
+  -- an event that does nothing
+  pub idle_ends : Leads w (Ends start)
+  idle_ends =
+      goes_on on w Begun (Ends start) reached (begins_on on w gone lines more server draw reached s h)
+      (λ later reached k. ends_so start (all_of (MayAllGo []) (with_lines lines server.sessions) (λ o there. tt)) refl later reached k)
 
   pub run_ends : GivesUpAlone S → FinishesAlone S → (place : ℕ) (job : Job) (reply : List ℕ) → ready_job place server.jobs ≡ Some job → Leads w (Ends (runs setting place job reply start))
   run_ends alone finishing place job reply is =

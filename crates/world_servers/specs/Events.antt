@@ -1,6 +1,6 @@
 -- An event of a server as it is so far, as it stands in a world of the law on moves.
-use Rattle.std.specs.Prelude.{◌≡◌, ⊤, true, List, [], ◌∷◌, ◌++◌, map}
-use Rattle.std.specs.List.{AllByRecursion, flat_map}
+use Rattle.std.specs.Prelude.{◌≡◌, ◌⊎◌, ⊤, true, false, List, [], ◌∷◌, ◌++◌, map}
+use Rattle.std.specs.List.{AllByRecursion, Contains, flat_map}
 use Rattle.salt_line.specs.Rows.{Row}
 use Rattle.salt_line.specs.Line.{Line}
 use Rattle.waits.specs.declared.job.Job.{Job}
@@ -8,18 +8,31 @@ use Rattle.waits.specs.declared.job.Unfinished.{Unfinished}
 use Rattle.waits.specs.Jobs.{Queue, is_of}
 use Rattle.server_rules.specs.Server.{Name, Session, name_of}
 use Rattle.server_rules.specs.Event.{State}
+use Rattle.world_rules.specs.World.{has_named}
 use Rattle.session_moves.specs.World.{World}
-use Rattle.world_servers.specs.Servers.{AreNewSalts, ServerStands}
+use Rattle.world_servers.specs.Servers.{AreNewSalts, Past, ServerStands, with_entries}
 use Rattle.world_servers.specs.Speaking.{IsOpen, IsOwedThere, with_line}
 
 -- each session with the line of salts that it has, by its name, at the event's end
 abbrev pub with_lines : (Name → Line) → List Session → List Session
 with_lines lines sessions = map (λ session. with_line (lines (name_of session)) session) sessions
 
--- The server stands there with the sessions and jobs that the event has so far, and each session can say what it owes.
-pub record EventStands {S : Type 0} (w : World) (gone : List Session) (lines : Name → Line) (state : State S) : Type 0 where
-  pub stands : ServerStands w gone (with_lines lines state.sessions) state.jobs
+-- The server stands there with the sessions, jobs and entries that the event has so far, and each session can say what it owes.
+pub record EventStands {S : Type 0} (w : World) (past : Past) (lines : Name → Line) (state : State S) : Type 0 where
+  pub stands : ServerStands w (with_entries state.entries past) (with_lines lines state.sessions) state.jobs
   pub owed : AllByRecursion (λ session. AllByRecursion (IsOwedThere w session) state.owed) (with_lines lines state.sessions)
+
+-- ---- sessions that are lost
+
+-- Of these sessions some are lost by now, each as it is told here; the name of none of them is one of a session that is
+-- there, and those of the others are.
+pub record AreLost (told : Session → Session) (from now more : List Session) : Type 0 where
+  pub each : AllByRecursion (λ one. (session : Session) × Contains from session × (one ≡ told session) × (has_named (name_of session) now ≡ false)) more
+  pub others : AllByRecursion (λ session. (has_named (name_of session) now ≡ true) ⊎ Contains more (told session)) from
+
+-- with its line
+abbrev pub lined : (Name → Line) → Session → Session
+lined lines session = with_line (lines (name_of session)) session
 
 -- ---- jobs
 

@@ -3,3 +3,4 @@ pub mod Servers
 pub mod Speaking
 pub mod Events
 pub mod Sending
+pub mod Worlds

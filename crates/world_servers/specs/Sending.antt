@@ -13,8 +13,8 @@ use Rattle.salt_line.specs.Line.{Line}
 use Rattle.server_rules.specs.Event.{Envelope, Owed, State}
 use Rattle.server_rules.specs.Sending.{messages_by}
 use Rattle.session_moves.specs.Table.Status.{Unmade}
-use Rattle.world_servers.specs.Servers.{HasSalt}
-use Rattle.world_servers.specs.Events.{EventStands}
+use Rattle.world_servers.specs.Servers.{AreApart, HasSalt, Past, with_lost}
+use Rattle.world_servers.specs.Events.{AreLost, EventStands, lined}
 
 -- each message spells its item
 abbrev pub AreSpelt : List Message → List Item → Type 0
@@ -43,23 +43,22 @@ MayGo session group = (has_accepted session ≡ true) ⊎ IsFirstNew session gro
 abbrev pub MayAllGo : List Owed → Session → Type 0
 MayAllGo owed session = AllByRecursion (MayGo session) (groups (messages_by (name_of session) owed))
 
--- the message is owed
-abbrev pub IsOwed : List Owed → Message → Type 0
-IsOwed owed message = (one : Owed) × Contains owed one × (one.message ≡ message)
-
--- A packet went out there: the messages that it has in it are owed, and went out together from a server session of its
--- session number.
-pub record WentOut (w : World) (owed : List Owed) (envelope : Envelope) : Type 0 where
+-- A packet went out there: the messages that it has in it went out together from a server session of its session number.
+pub record WentOut (w : World) (envelope : Envelope) : Type 0 where
   pub unique : ℕ
   pub group : List Message
   pub body : envelope.body ≡ packed group
   pub spoken : IsSpoken w unique group
-  pub due : AllByRecursion (IsOwed owed) group
   pub made : (w.servers unique).status ≢ Unmade
   pub session : (w.servers unique).session ≡ envelope.session
 
--- An event has come so far that packets went out: the server stands there, with those that are lost by now.
-pub record EventEnds {S : Type 0} (w : World) (lines : Name → Line) (owed : List Owed) (state : State S) : Type 0 where
-  pub gone : List Session
-  pub stands : EventStands w gone lines state
-  pub out : AllByRecursion (λ sent. WentOut w owed sent.envelope) state.sent
+-- An event has come so far that all was said by these sessions and packets went out: the server stands there, with those of
+-- the sessions that are lost by now; the others are as they were then, and no two have one
+-- session number.
+pub record EventEnds {S : Type 0} (w : World) (past : Past) (lines : Name → Line) (said : List Session) (state : State S) : Type 0 where
+  pub more : List Session
+  pub stands : EventStands w (with_lost more past) lines state
+  pub lost : AreLost (lined lines) said state.sessions more
+  pub kept : AllByRecursion (Contains said) state.sessions
+  pub apart : AreApart said
+  pub out : AllByRecursion (λ sent. WentOut w sent.envelope) state.sent

@@ -10,6 +10,9 @@ use Rattle.world_moves.specs.Sent.{WasSent}
 use Rattle.id_window.specs.History.{History, FirstJudgement, Outcome, Refused, floor}
 use Rattle.waits.specs.declared.job.Unfinished.{Unfinished}
 use Rattle.waits.specs.Jobs.{Queue, is_of}
+use Rattle.inbox.specs.Refusals.{Way}
+use Rattle.server_rules.specs.Answer.{message_in, messages_judged}
+use Rattle.server_rules.specs.Event.{Entry, Envelope}
 use Rattle.server_rules.specs.Server.{Fate, IsKept, Reply, Session, WasDropped}
 use Rattle.session_moves.specs.Table as moves
 use Rattle.session_moves.specs.Table.Outcome.{AcceptedCall, Noticed}
@@ -96,15 +99,51 @@ AreApart (session ∷ sessions) = AllByRecursion (λ other. other.number ≢ ses
 abbrev pub IsOneOf : ℕ → List Session → Type 0
 IsOneOf unique sessions = (session : Session) × Contains sessions session × (session.unique ≡ unique)
 
--- The server stands there with its sessions and jobs, and those that were lost in all its starts; no others were made, and
--- each entry is of one of them.
-pub record ServerStands (w : World) (lost sessions : List Session) (jobs : Queue) : Type 0 where
+-- what is behind a server: the sessions that were lost in all its starts, each as it was last, and all that it entered in
+-- them, in order
+pub record Past : Type 0 where
+  pub lost : List Session
+  pub entries : List Entry
+
+-- the sessions that were ever made
+abbrev pub lives_of : Past → List Session → List Session
+lives_of past sessions = past.lost ++ sessions
+
+-- An entry is that one there: its life, which is told there by its unique number, has the entry's key and session number, and
+-- they have the same number, request and reply.
+pub record IsEntered (lives : List Session) (entry : Entry) (there : moves.Entry) : Type 0 where
+  pub life : Session
+  pub among : Contains lives life
+  pub unique : life.unique ≡ there.server
+  pub key : life.key ≡ entry.key
+  pub session : life.number ≡ entry.session
+  pub number : there.number ≡ entry.number
+  pub request : there.request ≡ entry.request
+  pub reply : there.reply ≡ entry.reply
+
+-- one for one, the last one first
+abbrev pub AreEntered : List Session → List Entry → List moves.Entry → Type 0
+AreEntered lives [] [] = ⊤
+AreEntered lives [] (there ∷ others) = ⊥
+AreEntered lives (entry ∷ entries) [] = ⊥
+AreEntered lives (entry ∷ entries) (there ∷ others) = IsEntered lives entry there × AreEntered lives entries others
+
+-- The server stands there with its sessions and jobs and what is behind it: no other sessions were made, and what was entered
+-- is what was executed there, one for one.
+pub record ServerStands (w : World) (past : Past) (sessions : List Session) (jobs : Queue) : Type 0 where
   pub standing : AllByRecursion (IsStanding w) sessions
   pub working : AllByRecursion (λ session. AllByRecursion (IsJobThere w session) jobs) sessions
-  pub gone : AllByRecursion (IsLost w) lost
+  pub gone : AllByRecursion (IsLost w) past.lost
   pub apart : AreApart sessions
-  pub only : (unique : ℕ) → (w.servers unique).status ≢ Unmade → IsOneOf unique (lost ++ sessions)
-  pub entered : AllByRecursion (λ entry. IsOneOf entry.server (lost ++ sessions)) w.entries
+  pub only : (unique : ℕ) → (w.servers unique).status ≢ Unmade → IsOneOf unique (lives_of past sessions)
+  pub entered : AreEntered (lives_of past sessions) (reverse past.entries) w.entries
+
+-- more sessions were lost, and more was entered
+abbrev pub with_lost : List Session → Past → Past
+with_lost more past = record past { lost = past.lost ++ more }
+
+abbrev pub with_entries : List Entry → Past → Past
+with_entries more past = record past { entries = past.entries ++ more }
 
 -- ---- what changes one session
 
@@ -170,13 +209,15 @@ abbrev pub HasNoticed : Session → ℕ → ℕ → Type 0
 HasNoticed session number code =
     (judgement : FirstJudgement) × Contains session.history judgement × (judgement.number ≡ number) × (judgement.outcome ≡ Refused code)
 
--- By what it has itself: its unique number and salts, its replies, what it noticed, and for notice 20 a number that it has
--- forgotten there.
+-- By what it has itself: its unique number and salts, its replies, what it noticed, for notice 20 a number that it has
+-- forgotten there, and of a message that is no call any notice.
 abbrev pub CanSay : World → Session → moves.Item → Type 0
 CanSay w session (moves.Item.NewSession unique salt) = (unique ≡ session.unique) × HasSalt session salt
 CanSay w session (moves.Item.Result call content) = HasSame session.replies (record { call = call; number = 0; seq = 0; content = content; fate = IsKept })
 CanSay w session (moves.Item.Notice number code) =
-    HasNoticed session number code ⊎ ((code ≡ 20) × Contains (w.servers session.unique).forgotten number)
+    HasNoticed session number code
+    ⊎ ((code ≡ 20) × Contains (w.servers session.unique).forgotten number)
+    ⊎ WasNoCall w.ups session.number number
 CanSay w session (moves.Item.WrongSalt number salt) = HasNoticed session number 48 × HasSalt session salt
 
 -- ---- what comes up
@@ -184,6 +225,11 @@ CanSay w session (moves.Item.WrongSalt number salt) = HasNoticed session number 
 -- a message that a server may judge was sent: under this session number and salt, as the call that its body asks for, or none
 abbrev pub IsUp : List moves.Message → ℕ → ℕ → Message → Type 0
 IsUp ups session salt message = WasSent ups session salt message.number (request_of (item_told message.body) message.body)
+
+-- whatever a server judges of a packet was sent so
+abbrev pub IsPacketUp : List moves.Message → Envelope → Type 0
+IsPacketUp ups envelope =
+    (way : Way) (session : Session) → AllByRecursion (IsUp ups envelope.session envelope.salt) (messages_judged way session (message_in envelope))
 
 -- what a number that was accepted is there: the call that is asked for, or a message that is no call
 abbrev pub AsksThere : World → Session → ℕ → Option (List ℕ) → Type 0

@@ -12,9 +12,10 @@ use Rattle.waits.specs.Jobs.{Queue, is_of}
 use Rattle.server_rules.specs.Server.{Reply, Session, name_of, with_session}
 use Rattle.server_rules.specs.Event.{Owed, Speaker}
 use Rattle.server_lives.specs.Lives.{request_of}
+use Rattle.session_moves.specs.Lawful.{WasNoCall}
 use Rattle.session_moves.specs.World.{World, WasGiven}
 use Rattle.world_moves.specs.Packets.{item_there}
-use Rattle.world_servers.specs.Servers.{AsksThere, CanSay, HasForgotten, HasNoticed, ServerStands, WasAnswered}
+use Rattle.world_servers.specs.Servers.{AsksThere, CanSay, HasForgotten, HasNoticed, Past, ServerStands, WasAnswered, with_entries}
 
 -- ---- what is said
 
@@ -39,15 +40,15 @@ IsOwedThere w session owed = owed.name ≡ name_of session → IsSaid w session 
 -- ---- a session that speaks
 
 -- With this session and these jobs the server stands there, and what the session owes it can say.
-pub record StandsSpeaking (w : World) (lost sessions : List Session) (session : Session) (jobs : Queue) (messages : List Owed) : Type 0 where
-  pub stands : ServerStands w lost (with_session session sessions) jobs
+pub record StandsSpeaking (w : World) (past : Past) (sessions : List Session) (session : Session) (jobs : Queue) (messages : List Owed) : Type 0 where
+  pub stands : ServerStands w past (with_session session sessions) jobs
   pub among : Contains (with_session session sessions) session
   pub owed : AllByRecursion (IsOwedThere w session) messages
 
--- so far
-abbrev pub SpeaksThere : {S : Type 0} → World → List Session → List Session → Line → Speaker S → Type 0
-SpeaksThere w lost sessions line speaker =
-    StandsSpeaking w lost sessions (with_line line speaker.session) speaker.jobs speaker.owed
+-- so far, with what the event has entered behind what was entered before
+abbrev pub SpeaksThere : {S : Type 0} → World → Past → List Session → Line → Speaker S → Type 0
+SpeaksThere w past sessions line speaker =
+    StandsSpeaking w (with_entries speaker.entries past) sessions (with_line line speaker.session) speaker.jobs speaker.owed
 
 -- the number is open: it has no reply
 abbrev pub IsOpen : ℕ → List Reply → Type 0
@@ -60,11 +61,13 @@ AreOthersOpen number session jobs =
 
 -- ---- what a judgement stands on
 
--- Of a number that was judged: where it was noticed, the session noticed or forgot it; where it came again, it was given;
+-- Of a number that was judged: where it was noticed, the session noticed or forgot it, or by notice 19 it is no call; where it came again, it was given;
 -- where it was accepted, it is the call there that its message asks for, or no call, and it and all jobs are unanswered.
 abbrev pub IsDue : World → Session → Queue → ℕ → Verdict → List ℕ → Type 0
 IsDue w session jobs number (Noticed code) body =
-    HasNoticed session number code ⊎ ((code ≡ 20) × WasGiven w.ups session.number number × HasForgotten number session)
+    HasNoticed session number code
+    ⊎ ((code ≡ 20) × WasGiven w.ups session.number number × HasForgotten number session)
+    ⊎ ((code ≡ 19) × WasNoCall w.ups session.number number)
 IsDue w session jobs number (Again mark) body = WasGiven w.ups session.number number
 IsDue w session jobs number (Accepted item) body =
     AsksThere w session number (request_of item body) × IsOpen number session.replies × AreOthersOpen number session jobs

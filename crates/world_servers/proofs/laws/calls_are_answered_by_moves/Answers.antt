@@ -2,8 +2,8 @@ use Rattle.world_servers.proofs.Answering.{accepts, answers, fated, jobs_go_on, 
 use Rattle.world_servers.proofs.laws.calls_are_answered_by_moves.Goals as goal
 
 pub returns-clause-called : goal.returns-clause-called
-returns-clause-called c = λ w lost sessions jobs session reply request s among accepted_so unanswered.
-    answers w lost sessions jobs s session among reply request accepted_so unanswered
+returns-clause-called c = λ w past sessions jobs session reply request ran s among accepted_so unanswered.
+    answers w past sessions jobs s session among reply request accepted_so unanswered ran
 
 pub returns-clause-uncalled : goal.returns-clause-uncalled
 returns-clause-uncalled c = λ w lost sessions jobs session reply s among was. tells w lost sessions jobs s session among reply was

@@ -6,4 +6,4 @@ pub returns : goal.returns
 returns g c = λ w gone sessions line setting messages speaker.
     sends_on setting gone sessions line (adds_of c.moves_only_add.ensures)
     (record { reached = c.moves_go_on.ensures.reached; lawful = c.moves_go_on.ensures.lawful; after = c.moves_go_on.ensures.after })
-    c.numbers_are_given_once.ensures.any_result (λ messages. c.packets_have_all_messages.ensures.all messages) w messages speaker
+    (record { result = c.numbers_are_given_once.ensures.any_result; notice = c.numbers_are_given_once.ensures.any_notice }) (λ messages. c.packets_have_all_messages.ensures.all messages) w messages speaker

@@ -1,15 +1,19 @@
 use Rattle.std.proofs.Common.{List}
 use Rattle.server_rules.specs.Server.{Session}
-use Rattle.session_moves.specs.World.{World}
 use Rattle.world_servers.proofs.Leading.{GoOn as MovesGoOn, goes_on, leads_so}
 use Rattle.world_servers.proofs.Speech.{Adds, adds_of}
 use Rattle.world_servers.proofs.Jobs.{GivesUpAlone}
 use Rattle.world_servers.proofs.Named.{Speaks}
 use Rattle.world_servers.proofs.Settling.{Orders, OwesAlone}
 use Rattle.world_servers.proofs.PacketEnd.{ByName}
-use Rattle.world_servers.proofs.Taking.{Ends, Judges, Opens, done, packet_goes, takes_on}
+use Rattle.world_servers.proofs.Taking.{Judges, Opens, done, packet_goes, takes_on}
 use Rattle.world_servers.proofs.Ending.{ends_on}
 use Rattle.world_servers.proofs.WorksEnd.{none_out}
+use Rattle.server_rules.specs.Answer.{without_spent}
+use Rattle.server_rules.specs.Sending.{all_sent}
+use Rattle.world_servers.specs.Servers.{with_lost}
+use Rattle.world_servers.specs.Events.{AreLost, lined}
+use Rattle.world_servers.specs.Sending.{EventEnds}
 use Rattle.world_servers.proofs.laws.packets_are_taken_by_moves.Goals as goal
 
 module _ (g : Rattle.world_servers.proofs.laws.packets_are_taken_by_moves.Given.Over) (c : goal.After-new_sessions_owe_little g) where
@@ -57,21 +61,24 @@ module _ (g : Rattle.world_servers.proofs.laws.packets_are_taken_by_moves.Given.
   names = record { own = c.messages_are_owed_by_name.ensures.own; others = c.messages_are_owed_by_name.ensures.others }
 
 pub returns-clause-taken : goal.returns-clause-taken
-returns-clause-taken g c = λ w gone lines setting envelope heard session reached h none_owed none_sent order found line_within ups not19 within.
-    let l = takes_on (adds g c) (on g c) (alone g c) (owing g c) (said g c) (orders g c) (judges g c) (opening g c) (names g c) setting envelope heard gone lines session found none_owed none_sent order
-    w reached h line_within ups not19 within in
-    record { moves = l.moves; lawful = l.lawful; own = l.own; gives = (l.gives.1.gone, l.gives.1.stands) }
+returns-clause-taken g c = λ w gone lines setting envelope heard session reached h unfailed none_owed none_sent order found line_within ups within.
+    let l = takes_on (adds g c) (on g c) (alone g c) (owing g c) (said g c) (orders g c) (judges g c) (opening g c) (names g c) setting envelope heard gone lines session found unfailed none_owed none_sent order
+    w reached h line_within ups within in
+    record { moves = l.moves; lawful = l.lawful; own = l.own; gives = (l.gives.1.more, l.gives.1.stands, l.gives.1.lost) }
 
 pub returns-clause-ended : goal.returns-clause-ended
-returns-clause-ended g c = λ w gone lines setting envelope heard session reached h none_owed none_sent order found line_within ups not19 within.
-    let end = done (adds g c) (on g c) (alone g c) (owing g c) (said g c) (orders g c) (judges g c) (opening g c) (names g c) setting envelope heard gone lines session found none_owed none_sent order in
+returns-clause-ended g c = λ w gone lines setting envelope heard session reached h unfailed none_owed none_sent order found line_within ups within.
+    let end = done (adds g c) (on g c) (alone g c) (owing g c) (said g c) (orders g c) (judges g c) (opening g c) (names g c) setting envelope heard gone lines session found unfailed none_owed none_sent order in
     goes_on (on g c) w _ _ reached
-    (takes_on (adds g c) (on g c) (alone g c) (owing g c) (said g c) (orders g c) (judges g c) (opening g c) (names g c) setting envelope heard gone lines session found none_owed none_sent order
-    w reached h line_within ups not19 within)
+    (takes_on (adds g c) (on g c) (alone g c) (owing g c) (said g c) (orders g c) (judges g c) (opening g c) (names g c) setting envelope heard gone lines session found unfailed none_owed none_sent order
+    w reached h line_within ups within)
     (λ later reached k.
-    ends_on (adds g c) c.moves_only_add.ensures (on g c) c.numbers_are_given_once.ensures.any_result (λ messages. c.packets_have_all_messages.ensures.all messages) setting k.1.gone lines later end reached k.1.stands
-    (packet_goes (adds g c) (on g c) (alone g c) (owing g c) (said g c) (orders g c) (judges g c) (opening g c) (names g c) setting envelope heard gone lines session found none_owed none_sent order
+    leads_so later (λ last. EventEnds last (with_lost k.1.more gone) lines (all_sent setting end).sessions (without_spent (all_sent setting end)))
+    (λ last. (more : List Session) × AreLost (lined lines) heard.sessions end.sessions more × EventEnds last (with_lost more gone) lines (all_sent setting end).sessions (without_spent (all_sent setting end)))
+    (λ last m. (k.1.more, k.1.lost, m))
+    (ends_on (adds g c) c.moves_only_add.ensures (on g c) (record { result = c.numbers_are_given_once.ensures.any_result; notice = c.numbers_are_given_once.ensures.any_notice }) (λ messages. c.packets_have_all_messages.ensures.all messages) setting (with_lost k.1.more gone) lines later end reached k.1.stands
+    (packet_goes (adds g c) (on g c) (alone g c) (owing g c) (said g c) (orders g c) (judges g c) (opening g c) (names g c) setting envelope heard gone lines session found unfailed none_owed none_sent order
     (λ setting history judged speaker unheard. c.new_sessions_say_so.ensures.packet setting history judged speaker unheard)
     (λ setting envelope state session sent owed order found unheard. c.new_sessions_owe_little.ensures setting envelope state session sent owed order found unheard)
     later k.0 k.1 within)
-    (none_out later end.owed end.sent k.1.there.sent))
+    (none_out later end.sent k.1.there.sent)))
