@@ -1,11 +1,11 @@
 -- A server stays in order from event to event, and each event gives few packets and entries.
-use Rattle.std.proofs.Common.{◌≡◌, ◌∙◌, ℕ, ◌≤◌, ◌+◌, Option, None, Some, List, [], ◌++◌, length, refl, ap, subst, arith}
+use Rattle.std.proofs.Common.{◌≡◌, ℕ, ◌≤◌, ◌+◌, Option, None, Some, List, [], refl, subst, arith}
 use Rattle.std.specs.Prelude.{All, max, min}
 use Rattle.msg_ids.specs.Moments.{latest_moment}
 use Rattle.outbox.specs.Replies.{IsWithin}
 use Rattle.waits.specs.declared.job.Job.{Job}
 use Rattle.waits.specs.Jobs.{AreWithinLimits, ready_job}
-use Rattle.regs_service.specs.Served.{Step, reply_bytes_max}
+use Rattle.regs_service.specs.Served.{Step}
 use Rattle.server_rules.specs.Server.{Name, Server, Session, kept_replies}
 use Rattle.server_rules.specs.Event.{Envelope, Setting}
 use Rattle.server_rules.specs.Events.{Course, Event, Attach, Packet, Tick, Work, after_event, worked}
@@ -13,7 +13,7 @@ use Rattle.server_rules.specs.Answer.{Answer, after_attach, after_packet, after_
 use Rattle.server_bounds.specs.Giving as bounds
 use Rattle.server_bounds.specs.Runs.{IsShortRun}
 use Rattle.server_laws.specs.Order.{AreOrdered}
-use Rattle.server_core.specs.Desks.{AreFew, GivesFew, IsBetweenEvents, IsShortRunAt}
+use Rattle.server_core.specs.Desks.{GivesFew, IsBetweenEvents, IsShortRunAt}
 
 abbrev pub IsOrdered : Server → Type 0
 IsOrdered server = AreOrdered server.sessions server.jobs

@@ -65,7 +65,7 @@ impl<S: Seal> Server<S> {
         ensures accepted { (keys : Keys) (server : Rules) (envelope : Sealed) (session : Session) → Stands self.old server
             → Opens S.lock (S.keys self.old.seal) (max self.old.moment now) Up packet.now envelope
             → session_named (name_in (brought_in envelope))
-              (heard_in (setting_of (max self.old.moment now) D.step keys) (brought_in envelope) (begun server draw.old)).sessions ≡ Some session
+            (heard_in (setting_of (max self.old.moment now) D.step keys) (brought_in envelope) (begun server draw.old)).sessions ≡ Some session
             → IsAcceptable (max self.old.moment now) session.salts envelope.salt (remembered session) (message_in (brought_in envelope))
             → OnOk result (IsTaken D (setting_of (max self.old.moment now) D.step keys) (brought_in envelope) server draw.old) }
         ensures unchanged_on_memory { OnErr result (self.new ≡ self.old) }

@@ -1,4 +1,4 @@
-use Rattle.std.proofs.Common.{◌≤◌, [], arith}
+use Rattle.std.proofs.Common.{◌≤◌, arith}
 use Rattle.server_core.proofs.BetweenEvents.{Keeps, attach-keeps, packet-keeps, tick-keeps}
 use Rattle.server_core.proofs.order_laws.events_keep_order.Goals as goal
 

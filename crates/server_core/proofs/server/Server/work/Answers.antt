@@ -1,16 +1,12 @@
-use Rattle.std.proofs.Common.{◌≡◌, ◌∙◌, ◌≤◌, ℕ, Option, Some, None, List, max, ap, sym, subst, refl}
-use Rattle.std.specs.Prelude.{IfOk, OnOk, length}
+use Rattle.std.proofs.Common.{◌≡◌, ◌∙◌, ◌≤◌, ℕ, Some, List, ap, sym, subst}
+use Rattle.std.specs.Prelude.{length}
 use Rattle.regs_service.specs.Served.{reply_bytes_max}
 use Rattle.waits.specs.declared.job.Job.{Job}
 use Rattle.waits.specs.Jobs.{ready_job}
-use Rattle.server_rules.specs.Server.{Name, Server as Rules, session_named}
-use Rattle.server_rules.specs.Answer.{after_run, after_work}
-use Rattle.standing.specs.Says.{setting_of}
-use Rattle.server_core.specs.Effects.{Gives}
+use Rattle.server_rules.specs.Server.{Name}
 use Rattle.server_core.specs.Sessions.{is_kept_as}
 use Rattle.server_core.specs.Server.{Kept, Stands}
 use Rattle.server_core.proofs.Lists.{no-place}
-use Rattle.server_core.proofs.Names.{some-same}
 use Rattle.server_core.proofs.Speaking.{none-at}
 use Rattle.server_core.proofs.Worked.{ready-stands}
 use Rattle.server_core.proofs.Outcomes.{on-ok-each}
