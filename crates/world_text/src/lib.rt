@@ -1,6 +1,6 @@
-//! The report and the summary of a world as text: a line for each call, for each entry and for all packets, and the cause of
-//! a refusal. Each function puts its text behind another one, and leaves that as it was where memory runs out. The texts are
-//! those of `world_rules` (its `specs/Report.antt`).
+//! The report and the summary of a world as text: a line for each call, for each entry and for all packets, and why a call
+//! isn't taken. Each function puts its text behind another one, and leaves that as it was where memory runs out. The texts
+//! are those of `world_rules` (its `specs/Report.antt`).
 #![tactic(auto)]
 
 mod call;
@@ -16,7 +16,7 @@ mod wire;
 pub use call::call_line;
 pub use client::calls_of_client;
 pub use entry::{EntryLine, entry_line};
-pub use fault::StepFault;
+pub use fault::submit_cause;
 pub use reply::reply_text;
 pub use summary::{Counts, Summary, summary_line};
 pub use wire::{Wire, wire_bytes, wire_line};
