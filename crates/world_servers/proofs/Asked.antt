@@ -93,14 +93,14 @@ module _ (r : Reading) where
   number_bytes place (suc count) number = r.cons (byte_at place number) (bytes_low_first (suc place) count number) (byte_lt place number) (number_bytes (suc place) count number)
 
   -- the number that is read of one that is written
-  int_again : (number : ℕ) → (value : ℕ) × Reads Int value (spelling Int number)
+  pub int_again : (number : ℕ) → (value : ℕ) × Reads Int value (spelling Int number)
   unfolding spelling number_at
   int_again number =
       let text : List ℕ = little_bytes 4 number in
       let taken = r.taken Int (little_number 4 text) text [] (number_bytes 0 4 number) refl in
       (little_number 4 text, subst (Reads Int (little_number 4 text)) (sym (taken.2 ∙ append-nil taken.0)) taken.1)
 
-  long_again : (number : ℕ) → (value : ℕ) × Reads Long value (spelling Long number)
+  pub long_again : (number : ℕ) → (value : ℕ) × Reads Long value (spelling Long number)
   unfolding spelling number_at
   long_again number =
       let text : List ℕ = little_bytes 8 number in
@@ -143,7 +143,7 @@ module _ (r : Reading) where
   and_false false = refl
 
   -- a body behind another number is no container
-  no_container : (number : ℕ) (text : List ℕ) → number < 2 ^ 32 → (number == constructor) ≡ false → begins_container (behind number text) ≡ false
+  pub no_container : (number : ℕ) (text : List ℕ) → number < 2 ^ 32 → (number == constructor) ≡ false → begins_container (behind number text) ≡ false
   unfolding spelling begins_container
   no_container number text small other =
       let same : little_number 4 (little_bytes 4 number ++ text) ≡ number = little_number-reads_back 4 number text small in

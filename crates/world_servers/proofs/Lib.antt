@@ -42,3 +42,4 @@ pub mod Heard
 pub mod Comes
 pub mod Asked
 pub mod Up
+pub mod Down

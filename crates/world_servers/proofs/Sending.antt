@@ -50,7 +50,7 @@ items_of w y (message ∷ messages) h =
     let rest = items_of w y messages h.1 in
     record {
       items = h.0.item ∷ rest.items;
-      spelt = (h.0.body, rest.spelt);
+      spelt = (h.0.body, h.0.plain, rest.spelt);
       can = all_append (CanSay w y) (item_there h.0.item) (flat_map item_there rest.items) h.0.can rest.can;
     }
 
@@ -67,7 +67,7 @@ new_items w y (message ∷ messages) h (inr first) =
     record {
       all = record {
         items = NewSessionCreated first.0 y.unique first.1 ∷ rest.items;
-        spelt = (first.2, rest.spelt);
+        spelt = (first.2, tt, rest.spelt);
         can = ((refl, first.3), rest.can);
       };
       begins = inr tt;

@@ -32,7 +32,7 @@ use Rattle.world_servers.specs.Leading.{Leads}
 use Rattle.world_moves.specs.Packets.{item_there}
 use Rattle.packing.specs.Numbering.{after_item}
 use Rattle.world_servers.specs.Servers.{AsksThere, CanSay, Past, with_lost}
-use Rattle.world_servers.specs.Speaking.{IsDue, IsOpen, IsWithin, SpeaksThere, with_line}
+use Rattle.world_servers.specs.Speaking.{IsPlain, IsDue, IsOpen, IsWithin, SpeaksThere, with_line}
 use Rattle.world_servers.specs.Events.{AreLost, AreOpenJobs, EventStands, lined, with_lines}
 use Rattle.world_servers.proofs.Lists.{all_of, each_of, kept_in}
 use Rattle.world_servers.proofs.Leading.{GoOn as MovesGoOn, goes_on, leads_so, stays}
@@ -219,14 +219,14 @@ module _ {S : Type 0} (adds : Adds) (on : MovesGoOn) (alone : GivesUpAlone S) (o
         )))
 
     -- an item that is no news to the law
-    quiet_stands : (w : World) (item : Item) (state : State S) (gone : Past) → item_there item ≡ [] → EventStands w gone lines state → Leads w (λ later. EventStands later gone lines (speaks name (says setting item) state))
-    quiet_stands w item state gone none h =
+    quiet_stands : (w : World) (item : Item) (state : State S) (gone : Past) → item_there item ≡ [] → IsPlain item → EventStands w gone lines state → Leads w (λ later. EventStands later gone lines (speaks name (says setting item) state))
+    quiet_stands w item state gone none plain h =
         speaks_on adds w gone lines state h name (says setting item)
         (λ y is. (
           said_item setting item (speaker_in state y),
           λ k. stays w (λ later. SpeaksThere later gone (with_lines lines state.sessions) (lines name) (says setting item (speaker_in state y)))
               (says_it adds setting gone (with_lines lines state.sessions) (lines name) w (speaker_in state y) item k
-              (subst (λ (l : List moves.Item). AllByRecursion (CanSay w (with_line (lines name) (record y { counters = after_item setting.now y.counters item }))) l) (sym none) tt)),
+              (subst (λ (l : List moves.Item). AllByRecursion (CanSay w (with_line (lines name) (record y { counters = after_item setting.now y.counters item }))) l) (sym none) tt) plain),
         ))
 
     other_of : (destroyed : ℕ) (b : Bool) → (not (destroyed == name.session) && b) ≡ true → name ≢ record name { session = destroyed }
@@ -258,10 +258,10 @@ module _ {S : Type 0} (adds : Adds) (on : MovesGoOn) (alone : GivesUpAlone S) (o
         (lost_on adds w (with_lost h.more base) lines state h.stands other))
         (λ later reached k. leads_so later (λ last. EventStands last gone lines yes_so) (StandsSo yes_so)
         (λ last m. (h.more ++ extra, m, lost_alike (lined lines) from (lost other state).sessions yes_so.sessions (h.more ++ extra) (λ n. has_spoken n name (says setting (DestroySessionOk destroyed)) (lost other state)) are_lost))
-        (quiet_stands later (DestroySessionOk destroyed) (lost other state) gone refl k)))
+        (quiet_stands later (DestroySessionOk destroyed) (lost other state) gone refl tt k)))
         (λ is. leads_so w (λ last. EventStands last (with_lost h.more base) lines no_so) (StandsSo no_so)
         (λ last m. (h.more, m, lost_alike (lined lines) from state.sessions no_so.sessions h.more (λ n. has_spoken n name (says setting (DestroySessionNone destroyed)) state) h.lost))
-        (quiet_stands w (DestroySessionNone destroyed) state (with_lost h.more base) refl h.stands))
+        (quiet_stands w (DestroySessionNone destroyed) state (with_lost h.more base) refl tt h.stands))
 
     row_stands : (w : World) (opened : List ℕ) (number seq : ℕ) (verdict : Verdict) (body : List ℕ) (state : State S) → Reached w → Going w (open_by verdict number opened) state
         → IsJudged w number verdict body → WithinIt (row setting name number seq verdict body state) → Leads w (StandsSo (row setting name number seq verdict body state))

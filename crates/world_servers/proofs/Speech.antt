@@ -80,6 +80,7 @@ module _ (w v : World) (y : Session) (counters : Counters) (replies : List Reply
   said_still message h = record {
     item = h.item;
     body = h.body;
+    plain = h.plain;
     can = map_all (CanSay w y) (CanSay v z) (item_there h.item) (λ item is c. can_still item c) h.can;
   }
 
@@ -135,7 +136,7 @@ same_more replies reply other h = (h.0, Contains-append_left replies (reply ∷ 
 
 -- its reply is one that it can say
 pub reply_said : (w : World) (y : Session) (reply : Reply) → HasSame y.replies reply → (message : Message) → message.body ≡ spelling_of (RpcResult reply.call reply.content) → IsSaid w y message
-reply_said w y reply h message is = record { item = RpcResult reply.call reply.content; body = is; can = ((h.0, h.1, h.2, h.3), tt) }
+reply_said w y reply h message is = record { item = RpcResult reply.call reply.content; body = is; plain = tt; can = ((h.0, h.1, h.2, h.3), tt) }
 
 module _ (adds : Adds) (w : World) (past : Past) (sessions : List Session) (y : Session) (jobs : Queue) (owed : List Owed) (h : StandsSpeaking w past sessions y jobs owed) (reply : Reply) where
   abbrev more : Session

@@ -32,19 +32,19 @@ module _ (message : Message) (rest : List ℕ) where
   unfolding row
   row_number small = little_number-reads_back 8 message.number (little_bytes 4 message.seq ++ (little_bytes 4 (length message.body) ++ (message.body ++ rest))) small
 
-  row_size : length message.body < 2 ^ 32 → little_number 4 (drop 12 (row message ++ rest)) ≡ length message.body
+  pub row_size : length message.body < 2 ^ 32 → little_number 4 (drop 12 (row message ++ rest)) ≡ length message.body
   unfolding row
   row_size small = little_number-reads_back 4 (length message.body) (message.body ++ rest) small
 
-  row_behind : drop 16 (row message ++ rest) ≡ message.body ++ rest
+  pub row_behind : drop 16 (row message ++ rest) ≡ message.body ++ rest
   unfolding row
   row_behind = refl
 
-  row_long : 16 ≤ length (row message ++ rest)
+  pub row_long : 16 ≤ length (row message ++ rest)
   unfolding row
   row_long = omega (arith, length-append message.body rest)
 
-  row_length : length message.body + length rest ≤ length (row message ++ rest)
+  pub row_length : length message.body + length rest ≤ length (row message ++ rest)
   unfolding row
   row_length = omega (arith, length-append message.body rest)
 
@@ -95,7 +95,7 @@ pub record Unfolds : Type 0 where
   pub begins : (messages : List Message) → IsTrue (begins_container (container_of messages))
   pub lawful : (number : ℕ) (messages : List Message) (body : List ℕ) → IsBytes body → IsTrue (begins_container body) → parts_of number body ≡ Ok messages → IsContainer number messages body
 
-container_rows : (messages : List Message) → drop 8 (container_of messages) ≡ flat_map row messages
+pub container_rows : (messages : List Message) → drop 8 (container_of messages) ≡ flat_map row messages
 unfolding container_of head_of
 container_rows messages = refl
 

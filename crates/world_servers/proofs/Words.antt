@@ -39,7 +39,7 @@ use Rattle.session_moves.specs.Reached.{after_all}
 use Rattle.world_moves.specs.Packets.{item_there}
 use Rattle.world_servers.specs.Leading.{Leads}
 use Rattle.world_servers.specs.Servers.{AsksThere, CanSay, GoOn, HasForgotten, HasNoticed, HasSalt, HasSame, IsJobThere, IsJobOf, Past, has_dropped, with_entries, with_replies}
-use Rattle.world_servers.specs.Speaking.{AreOthersOpen, IsDue, IsOpen, IsSaid, IsWithin, SpeaksThere, StandsSpeaking, with_line}
+use Rattle.world_servers.specs.Speaking.{AreOthersOpen, IsDue, IsOpen, IsPlain, IsSaid, IsWithin, SpeaksThere, StandsSpeaking, with_line}
 use Rattle.world_servers.proofs.Lists.{all_of, each_of, first_or, from_filter, here}
 use Rattle.world_servers.proofs.Leading.{leads_so, stays}
 use Rattle.world_servers.proofs.Answering.{accepts as accepts_job, forgets, jobs_go_on}
@@ -112,10 +112,10 @@ module _ {S : Type 0} (adds : Adds) (setting : Setting S) (past : Past) (session
 
   pub says_it : (w : World) (speaker : Speaker S) (item : Item) → At w speaker
       → AllByRecursion (CanSay w (with_line line (record speaker.session { counters = after_item setting.now speaker.session.counters item }))) (item_there item)
-      → At w (says setting item speaker)
-  says_it w speaker item h can =
+      → IsPlain item → At w (says setting item speaker)
+  says_it w speaker item h can plain =
       let counted : Speaker S = record speaker { session = record speaker.session { counters = after_item setting.now speaker.session.counters item } } in
-      owes_it w counted (numbered setting.now speaker.session.counters item) (counts w speaker item h) (record { item = item; body = refl; can = can })
+      owes_it w counted (numbered setting.now speaker.session.counters item) (counts w speaker item h) (record { item = item; body = refl; plain = plain; can = can })
 
   again_it : (w : World) (speaker : Speaker S) (reply : Reply) → At w speaker → HasSame speaker.session.replies reply → At w (says_again reply speaker)
   again_it w speaker reply h same =
@@ -146,11 +146,11 @@ module _ {S : Type 0} (adds : Adds) (setting : Setting S) (past : Past) (session
   new_it w speaker h within =
       let ready : Speaker S = needs_salts setting 1 speaker in
       let salt : ℕ = current_salt ready.session.salts setting.now in
-      says_it w ready (NewSessionCreated speaker.session.first speaker.session.unique salt) h ((refl, current speaker within), tt)
+      says_it w ready (NewSessionCreated speaker.session.first speaker.session.unique salt) h ((refl, current speaker within), tt) tt
 
   acknowledges_it : (w : World) (numbers : List ℕ) (speaker : Speaker S) → At w speaker → At w (acknowledges setting numbers speaker)
   acknowledges_it w [] speaker h = h
-  acknowledges_it w (number ∷ numbers) speaker h = says_it w speaker (MsgsAck (number ∷ numbers)) h tt
+  acknowledges_it w (number ∷ numbers) speaker h = says_it w speaker (MsgsAck (number ∷ numbers)) h tt tt
 
   -- ---- notices
 
@@ -161,8 +161,8 @@ module _ {S : Type 0} (adds : Adds) (setting : Setting S) (past : Past) (session
       let salt : ℕ = current_salt ready.session.salts setting.now in
       cond_both (code == 48) (says_with_salt setting (λ salt. BadServerSalt number seq 48 salt) speaker) (says setting (BadMsgNotification number seq code) speaker) (At w)
       (λ is. let code_is : code ≡ 48 = eq_true code 48 is in
-      says_it w ready (BadServerSalt number seq 48 salt) h ((noticed_48 w speaker.session number code code_is can, current speaker (within code_is)), tt))
-      (λ is. says_it w speaker (BadMsgNotification number seq code) h (can_notice w speaker.session number code can, tt))
+      says_it w ready (BadServerSalt number seq 48 salt) h ((noticed_48 w speaker.session number code code_is can, current speaker (within code_is)), tt) tt)
+      (λ is. says_it w speaker (BadMsgNotification number seq code) h (can_notice w speaker.session number code can, tt) tt)
 
   -- ---- answers
 
@@ -208,11 +208,11 @@ module _ {S : Type 0} (adds : Adds) (setting : Setting S) (past : Past) (session
   salts_it : (w : World) (number count : ℕ) (speaker : Speaker S) → At w speaker → At w (tells_salts setting number count speaker)
   salts_it w number count speaker h =
       let ready : Speaker S = needs_salts setting count speaker in
-      says_it w ready (FutureSalts number setting.now (map future_salt_of (salt_rows ready.session.salts setting.now count))) h tt
+      says_it w ready (FutureSalts number setting.now (map future_salt_of (salt_rows ready.session.salts setting.now count))) h tt tt
 
   states_it : (w : World) (number : ℕ) (numbers : List ℕ) (speaker : Speaker S) → At w speaker → At w (tells_states setting number numbers speaker)
   states_it w number numbers speaker h =
-      says_it w speaker (MsgsStateInfo number (map (state_byte speaker.session.history (marks_of speaker.session.history speaker.session.replies)) numbers)) h tt
+      says_it w speaker (MsgsStateInfo number (map (state_byte speaker.session.history (marks_of speaker.session.history speaker.session.replies)) numbers)) h tt tt
 
   acks_it : (w : World) (numbers : List ℕ) (speaker : Speaker S) → At w speaker → At w (takes_acks numbers speaker)
   acks_it w numbers speaker h =
@@ -375,8 +375,8 @@ module _ {S : Type 0} (adds : Adds) (setting : Setting S) (past : Past) (session
   accepts_it w number (InvokeAfterMsg other query) body speaker h asks is_open others = call_it w number (other ∷ []) query speaker h asks is_open
   accepts_it w number (InvokeAfterMsgs numbers query) body speaker h asks is_open others = call_it w number numbers query speaker h asks is_open
   accepts_it w number (RpcDropAnswer call) body speaker h asks is_open others = drops_it w number call speaker h asks others
-  accepts_it w number (Ping ping) body speaker h asks is_open others = stays_so w (says setting (Pong number ping) speaker) (says_it w speaker (Pong number ping) h tt)
-  accepts_it w number (PingDelayDisconnect ping delay) body speaker h asks is_open others = stays_so w (says setting (Pong number ping) speaker) (says_it w speaker (Pong number ping) h tt)
+  accepts_it w number (Ping ping) body speaker h asks is_open others = stays_so w (says setting (Pong number ping) speaker) (says_it w speaker (Pong number ping) h tt tt)
+  accepts_it w number (PingDelayDisconnect ping delay) body speaker h asks is_open others = stays_so w (says setting (Pong number ping) speaker) (says_it w speaker (Pong number ping) h tt tt)
   accepts_it w number (GetFutureSalts count) body speaker h asks is_open others =
       stays_so w (tells_salts setting number (min count future_rows_max) speaker) (salts_it w number (min count future_rows_max) speaker h)
   accepts_it w number (MsgsAck numbers) body speaker h asks is_open others = stays_so w (takes_acks numbers speaker) (acks_it w numbers speaker h)

@@ -1,11 +1,12 @@
 -- What goes out of a session, as packets of the law on moves.
-use Rattle.std.specs.Prelude.{◌≡◌, ◌≢◌, ◌⊎◌, ⊤, true, ℕ, List, [], ◌∷◌}
+use Rattle.std.specs.Prelude.{◌≡◌, ◌≢◌, ◌<◌, ◌^◌, ◌⊎◌, ⊤, true, ℕ, List, [], ◌∷◌}
 use Rattle.std.specs.List.{AllByRecursion, Contains, flat_map}
 use Rattle.service_tl.specs.declared.item.Item.{Item}
 use Rattle.service_tl.specs.declared.item.Item.TheVariants.{NewSessionCreated}
 use Rattle.service_tl.specs.declared.lists.Message.{Message}
 use Rattle.service_tl.specs.Items.{spelling_of}
 use Rattle.server_rules.specs.Server.{Name, Session, has_accepted, name_of}
+use Rattle.session_moves.specs.Table as moves
 use Rattle.session_moves.specs.World.{World}
 use Rattle.world_moves.specs.Packets.{item_there}
 use Rattle.packing.specs.Packing.{groups, packed}
@@ -15,13 +16,25 @@ use Rattle.server_rules.specs.Sending.{messages_by}
 use Rattle.session_moves.specs.Table.Status.{Unmade}
 use Rattle.world_servers.specs.Servers.{AreApart, HasSalt, Past, with_lost}
 use Rattle.world_servers.specs.Events.{AreLost, EventStands, lined}
+use Rattle.world_servers.specs.Speaking.{IsPlain}
 
--- each message spells its item
+-- the numbers of an item fit their places: 64 bits, and a notice's code 32
+abbrev pub IsSmall : moves.Item → Type 0
+IsSmall (moves.Item.NewSession unique salt) = (unique < 2 ^ 64) × (salt < 2 ^ 64)
+IsSmall (moves.Item.Result call content) = call < 2 ^ 64
+IsSmall (moves.Item.Notice number code) = (number < 2 ^ 64) × (code < 2 ^ 32)
+IsSmall (moves.Item.WrongSalt number salt) = (number < 2 ^ 64) × (salt < 2 ^ 64)
+
+-- so do those of each item that went out
+abbrev pub AreSmall : World → Type 0
+AreSmall w = AllByRecursion (λ (packet : moves.Packet). AllByRecursion IsSmall packet.items) w.downs
+
+-- each message spells its item, which is no container
 abbrev pub AreSpelt : List Message → List Item → Type 0
 AreSpelt [] [] = ⊤
 AreSpelt [] (item ∷ items) = ⊥
 AreSpelt (message ∷ messages) [] = ⊥
-AreSpelt (message ∷ messages) (item ∷ items) = (message.body ≡ spelling_of item) × AreSpelt messages items
+AreSpelt (message ∷ messages) (item ∷ items) = (message.body ≡ spelling_of item) × IsPlain item × AreSpelt messages items
 
 -- the messages went out there together: a packet of that server session has what matters of the items that they spell
 pub record IsSpoken (w : World) (unique : ℕ) (group : List Message) : Type 0 where

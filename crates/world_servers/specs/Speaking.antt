@@ -1,8 +1,9 @@
 -- A session that speaks within an event of a server, as it stands in a world of the law on moves.
-use Rattle.std.specs.Prelude.{◌≡◌, ◌⊎◌, ℕ, true, List}
+use Rattle.std.specs.Prelude.{◌≡◌, ◌⊎◌, ⊤, ℕ, true, List}
 use Rattle.std.specs.List.{AllByRecursion, Contains}
 use Rattle.salt_line.specs.Line.{Line}
 use Rattle.service_tl.specs.declared.item.Item.{Item}
+use Rattle.service_tl.specs.declared.item.Item.TheVariants.{MsgContainer}
 use Rattle.service_tl.specs.declared.lists.Message.{Message}
 use Rattle.service_tl.specs.Items.{spelling_of}
 use Rattle.inbox.specs.declared.judged.Verdict.{Verdict}
@@ -28,10 +29,16 @@ with_line line session = record session { salts = line }
 abbrev pub IsWithin : Line → Session → Type 0
 IsWithin line session = AllByRecursion (λ row. Contains line.rows row) session.salts.rows
 
--- the message spells an item, and the session can say that
+-- an item that is no container
+abbrev pub IsPlain : Item → Type 0
+IsPlain (MsgContainer messages) = ⊥
+IsPlain _ = ⊤
+
+-- the message spells an item that is no container, and the session can say that
 pub record IsSaid (w : World) (session : Session) (message : Message) : Type 0 where
   pub item : Item
   pub body : message.body ≡ spelling_of item
+  pub plain : IsPlain item
   pub can : AllByRecursion (CanSay w session) (item_there item)
 
 abbrev pub IsOwedThere : World → Session → Owed → Type 0

@@ -35,7 +35,7 @@ ghost use Rattle.inbox.specs.declared.judged.Judgement.{Judgement};
 ghost use Rattle.inbox.specs.declared.judged.Verdict.{Verdict};
 ghost use Rattle.packing.specs.Packing.{groups};
 ghost use Rattle.server_rules.specs.Sending.{all_sent, sends};
-ghost use Rattle.world_servers.specs.Sending.{EventEnds, IsSpoken, MayAllGo, MayGo, WentOut};
+ghost use Rattle.world_servers.specs.Sending.{AreSmall, EventEnds, IsSpoken, MayAllGo, MayGo, WentOut};
 ghost use Rattle.world_servers.specs.Events.{AreLines, AreLost, AreOpenJobs, EventStands, lined, with_lines};
 ghost use Rattle.server_laws.specs.Order.{AreOrdered, IsGoingOn};
 ghost use Rattle.world_servers.specs.Speaking.{IsDue, IsOpen, IsSaid, IsWithin, SpeaksThere, with_line};
@@ -51,6 +51,8 @@ ghost use Rattle.tl_codec.specs.Standard.{bytes_max};
 ghost use Rattle.envelope.specs.declared.parts.Envelope.{Envelope as Sealed};
 ghost use Rattle.envelope.specs.Packet.{IsEnvelope};
 ghost use Rattle.world_moves.specs.Sent.{IsPacketSent};
+ghost use Rattle.world_moves.specs.Packets.{packet_items};
+ghost use Rattle.containers.specs.Container.{IsContainer, begins_container};
 
 use draws::Draw;
 use id_window::laws::others_are_not_above_the_floor;
@@ -460,4 +462,22 @@ pub fn packets_sent_are_up()
     service_tl::laws::items_exact();
     containers::laws::parts_are_exact();
     containers::laws::packed_is_unfolded();
+}
+
+/// A packet that went out is one of the law's with the items that a client reads in it. Its body isn't longer than the
+/// longest string, and where it begins as a container it is a lawful one; the numbers of the items that went out fit their
+/// places.
+pub fn packets_are_read_as_they_went_out()
+    ensures { (w : World) (sealed : Sealed) → length sealed.body ≤ bytes_max
+        → (begins_container sealed.body ≡ true → (parts : List Said) × IsContainer sealed.number parts sealed.body)
+        → AreSmall w → (went : WentOut w (as_heard sealed)) → Contains w.downs (record { server = went.unique; items = packet_items sealed }) }
+{
+    octets::laws::bytes_stay_bytes();
+    octets::laws::parts_are_bytes();
+    tl_codec::laws::exact_reading();
+    tl_codec::laws::written_again();
+    service_tl::laws::items_exact();
+    containers::laws::parts_are_exact();
+    containers::laws::packed_is_unfolded();
+    containers::laws::containers_are_items();
 }
