@@ -6,6 +6,7 @@ pub mod Filled
 pub mod Flushed
 pub mod Kept
 pub mod Keys
+pub mod Holding
 pub mod One
 pub mod Own
 pub mod Told

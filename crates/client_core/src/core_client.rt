@@ -106,6 +106,7 @@ impl Core {
         ensures after { OnOk result (draw.new ≡ draw_after D.step 1 draw.old) }
         ensures learnt { IfOk result (λ core. core.rest.learnt ≡ []) }
         ensures count { IfOk result (λ core. length core.calls.rows ≡ 0) }
+        ensures unchanged_on_memory { OnErr result (draw.new ≡ draw.old) }
     {
         let calls = Calls::new(alloc)?;
         let mut former = NumberList::new(alloc);

@@ -45,13 +45,14 @@ impl OpeningClient {
     ///
     /// # Errors
     ///
-    /// `Memory`: memory ran out.
+    /// `Memory`: memory ran out, and nothing was drawn.
     pub fn new<D: Draw>(alloc: Global, key: u64, draw: &mut D) -> Result<OpeningClient, Memory>
         ensures stands { IfOk result (λ client. Stands client (fresh_client key None (word_after D.step 0 draw.old))) }
         ensures keys { IfOk result (λ client. keys_in client ≡ record { key = key; bound_to = None }) }
         ensures session { IfOk result (λ client. client.rest.session ≡ word_after D.step 0 draw.old) }
         ensures count { IfOk result (λ client. length client.calls.rows ≡ 0) }
         ensures after { OnOk result (draw.new ≡ draw_after D.step 1 draw.old) }
+        ensures unchanged_on_memory { OnErr result (draw.new ≡ draw.old) }
     {
         Ok(OpeningClient {
             core: Core::new(alloc, key, None, draw)?,
@@ -62,7 +63,7 @@ impl OpeningClient {
     ///
     /// # Errors
     ///
-    /// `Memory`: memory ran out.
+    /// `Memory`: memory ran out, and nothing was drawn.
     pub fn new_temp<D: Draw>(
         alloc: Global,
         temp: u64,
@@ -75,6 +76,7 @@ impl OpeningClient {
         ensures session { IfOk result (λ client. client.rest.session ≡ word_after D.step 0 draw.old) }
         ensures count { IfOk result (λ client. length client.calls.rows ≡ 0) }
         ensures after { OnOk result (draw.new ≡ draw_after D.step 1 draw.old) }
+        ensures unchanged_on_memory { OnErr result (draw.new ≡ draw.old) }
     {
         let temporary = Temporary {
             perm,

@@ -1,5 +1,5 @@
 -- A client as it is kept, and the course that it stands for.
-use Rattle.std.specs.Prelude.{◌≡◌, ℕ, true, Option, Some, None, Result, Ok, Err, List, ⊤}
+use Rattle.std.specs.Prelude.{◌≡◌, ℕ, true, Option, Some, None, Result, Ok, Err, List, length, ⊤}
 use Rattle.auth_keys.specs.declared.ring.RingKey.{RingKey}
 use Rattle.octets.specs.declared.memory.Memory.{Memory}
 use Rattle.envelope.specs.declared.parts.Envelope.{Envelope}
@@ -27,6 +27,10 @@ abbrev pub kept_of : Holder → Contents
 kept_of (holder.Opening kept) = kept
 kept_of (holder.Open kept) = kept
 kept_of (holder.Ended kept) = kept
+
+-- how many calls it has
+abbrev pub count_of : Holder → ℕ
+count_of kept = length (kept_of kept).calls.rows
 
 -- it stands for this client
 abbrev pub StandsFor : Holder → Client → Type 0

@@ -5,7 +5,7 @@ ghost use Rattle.transport.specs.declared.form.Form.TheVariants as forms;
 ghost use Rattle.client_rules.specs.Client.{Client};
 ghost use Rattle.client_node.specs.Connects.{Connects, Uses};
 ghost use Rattle.client_node.specs.Course.{Course, Reading, is_decided};
-ghost use Rattle.client_node.specs.Standing.{AllDecided, HasKeys, IsReading, StandsAs, StandsFor};
+ghost use Rattle.client_node.specs.Standing.{AllDecided, HasKeys, IsReading, StandsAs, StandsFor, count_of};
 ghost use Rattle.client_node.specs.Talks.{piece_bytes, rules_of};
 ghost use Rattle.client_node.specs.Trace.{ClientTrace};
 
@@ -38,6 +38,7 @@ fn connect_all<N: Net, S: Seal, C: Clock, D: Draw>(
     requires keys { HasKeys (S.keys seal.now) client }
     requires room { length into.old ≡ piece_bytes }
     ensures keys { HasKeys (S.keys seal.now) result.0 }
+    ensures count { count_of result.0 ≡ count_of client }
     ensures decided { result.1 ≡ Batch.Decided → AllDecided result.0 }
     ensures connects { IfSome (N.calls net.new) (λ after. IsSomeAnd (N.calls net.old) (λ before. Connects plan.now result.1 before after)) }
     ensures goes_on { IsSome (N.calls net.old) → N.faults net.old ≡ 0 → N.faults net.new ≤ 1 → IsSome (N.calls net.new) }
@@ -76,6 +77,7 @@ pub fn run_batch<N: Net, S: Seal, C: Clock, D: Draw>(
     ensures uses { IfSome (N.calls net.new) (λ after. IsSomeAnd (N.calls net.old) (λ before. Uses plan.now result.1 before after)) }
     ensures goes_on { IsSome (N.calls net.old) → N.faults net.old ≡ 0 → N.faults net.new ≤ 1 → IsSome (N.calls net.new) }
     ensures keys { HasKeys (S.keys seal.now) result.0 }
+    ensures count { count_of result.0 ≡ count_of client }
     ensures trace { (course : Course D) (reading : Reading) → IsReading S.lock (S.keys seal.now) reading → StandsAs client draw.old course
         → ClientTrace (rules_of D.step S.lock (S.keys seal.now) reading) plan.now course result.1 (N.calls net.old) (N.calls net.new) (C.given clock.old) (C.given clock.new) result.0 draw.new }
 {

@@ -6,7 +6,7 @@ ghost use Rattle.transport.specs.declared.form.Form.TheVariants as forms;
 ghost use Rattle.client_node.specs.Course.{Course, Reading};
 ghost use Rattle.client_node.specs.Ends.{Connected};
 ghost use Rattle.client_node.specs.Runs.{Tried};
-ghost use Rattle.client_node.specs.Standing.{DecidedIn, HasKeys, IsReading, StandsAs};
+ghost use Rattle.client_node.specs.Standing.{DecidedIn, HasKeys, IsReading, StandsAs, count_of};
 ghost use Rattle.client_node.specs.Talks.{piece_bytes, rules_of};
 
 use crate::end::End;
@@ -34,6 +34,7 @@ pub(crate) fn connect<N: Net, S: Seal, C: Clock, D: Draw>(
     requires keys { HasKeys (S.keys seal.now) client }
     requires room { length into.old ≡ piece_bytes }
     ensures keys { HasKeys (S.keys seal.now) result.0 }
+    ensures count { count_of result.0 ≡ count_of client }
     ensures decided { DecidedIn result.1 result.0 }
     ensures connected { IfSome (N.calls net.new) (λ after. IsSomeAnd (N.calls net.old) (λ before. Connected plan.now.port result.1 before after)) }
     ensures first_fault { IsSome (N.calls net.old) → N.faults net.old ≡ 0 → IsSome (N.calls net.new) }

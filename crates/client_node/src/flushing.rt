@@ -5,7 +5,7 @@ ghost use Rattle.client_rules.specs.Client.{Client};
 ghost use Rattle.client_core.specs.Flushed.{setting_of};
 ghost use Rattle.client_node.specs.Course.{is_decided};
 ghost use Rattle.client_node.specs.Flow.{AllFlushes, CountsEnd, OneFlush, ended_by};
-ghost use Rattle.client_node.specs.Standing.{DecidedBy, HasKeys, StandsFor};
+ghost use Rattle.client_node.specs.Standing.{DecidedBy, HasKeys, StandsFor, count_of};
 ghost use Rattle.client_node.specs.Writes.{seen};
 
 use crate::calls::is_decided;
@@ -55,6 +55,7 @@ fn flush_once<L: Link, S: Seal, D: Draw>(
     requires keys { HasKeys (S.keys seal.now) client.old }
     ensures flow { OneFlush (setting_of D.step (S.keys seal.now)) S.lock (S.keys seal.now) now client.old draw.old wire.old (seen (L.told link.old) (L.faults link.old)) result client.new draw.new wire.new (seen (L.told link.new) (L.faults link.new)) }
     ensures keys { HasKeys (S.keys seal.now) client.new }
+    ensures count { count_of client.new ≡ count_of client.old }
     ensures decided { DecidedBy result client.new }
     ensures goes_on { IsSome (L.told link.old) → OnOk result (IsSome (L.told link.new)) }
     ensures first_fault { IsSome (L.told link.old) → L.faults link.old ≡ 0 → IsSome (L.told link.new) }
@@ -101,6 +102,7 @@ pub(crate) fn flush_all<L: Link, S: Seal, D: Draw>(
     requires keys { HasKeys (S.keys seal.now) client.old }
     ensures flow { AllFlushes (setting_of D.step (S.keys seal.now)) S.lock (S.keys seal.now) now client.old draw.old wire.old (seen (L.told link.old) (L.faults link.old)) result client.new draw.new wire.new (seen (L.told link.new) (L.faults link.new)) }
     ensures keys { HasKeys (S.keys seal.now) client.new }
+    ensures count { count_of client.new ≡ count_of client.old }
     ensures decided { DecidedBy result client.new }
     ensures goes_on { IsSome (L.told link.old) → OnOk result (IsSome (L.told link.new)) }
     ensures first_fault { IsSome (L.told link.old) → L.faults link.old ≡ 0 → IsSome (L.told link.new) }

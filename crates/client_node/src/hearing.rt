@@ -2,7 +2,7 @@
 
 ghost use Rattle.std.specs.Prelude.{◌≡◌, IfErr};
 ghost use Rattle.client_node.specs.Course.{Course, Reading};
-ghost use Rattle.client_node.specs.Standing.{DecidedBy, IsReading, KeepsKeys, StandsAs};
+ghost use Rattle.client_node.specs.Standing.{DecidedBy, IsReading, KeepsKeys, StandsAs, count_of};
 ghost use Rattle.client_node.specs.Took.{CameNext, IsHeardEnd, IsNextEnd, TookPacket, TookPiece};
 
 use crate::calls::is_decided;
@@ -37,6 +37,7 @@ fn take_packet<S: Seal, D: Draw>(
         → TookPacket D.step reading now course packet.now result.1 result.0 draw.new }
     ensures ends { IfErr result.1 IsHeardEnd }
     ensures keys { KeepsKeys client result.0 }
+    ensures count { count_of result.0 ≡ count_of client }
     ensures decided { DecidedBy result.1 result.0 }
 {
     let (client, heard) = hear(client, alloc, now, seal, packet);
@@ -67,6 +68,7 @@ fn take_next<S: Seal, D: Draw>(
 ) -> (Holder, Result<bool, End>)
     ensures ends { IfErr result.1 IsNextEnd }
     ensures keys { KeepsKeys client result.0 }
+    ensures count { count_of result.0 ≡ count_of client }
     ensures decided { DecidedBy result.1 result.0 }
     ensures next { CameNext D.step S.lock (S.keys seal.now) now client draw.old wire.old result.1 result.0 draw.new wire.new }
     ensures same_out { (wire.new.form ≡ wire.old.form) × (wire.new.writing ≡ wire.old.writing) × (wire.new.number ≡ wire.old.number) }
@@ -104,6 +106,7 @@ pub(crate) fn take_piece<S: Seal, D: Draw>(
 ) -> (Holder, Result<(), End>)
     ensures ends { IfErr result.1 IsNextEnd }
     ensures keys { KeepsKeys client result.0 }
+    ensures count { count_of result.0 ≡ count_of client }
     ensures decided { DecidedBy result.1 result.0 }
     ensures took { TookPiece D.step S.lock (S.keys seal.now) now client draw.old wire.old piece.now result.1 result.0 draw.new wire.new }
     ensures same_out { (wire.new.form ≡ wire.old.form) × (wire.new.writing ≡ wire.old.writing) × (wire.new.number ≡ wire.old.number) }

@@ -1,6 +1,6 @@
 //! The events of a client, whatever state it is in.
 
-ghost use Rattle.std.specs.Prelude.{◌≡◌, max, List, Option};
+ghost use Rattle.std.specs.Prelude.{◌≡◌, max, List, Option, length};
 ghost use Rattle.auth_keys.specs.declared.ring.RingKey.{RingKey};
 ghost use Rattle.envelope.specs.declared.parts.Envelope.{Envelope};
 ghost use Rattle.client_rules.specs.Client.{Client};
@@ -10,7 +10,7 @@ ghost use Rattle.client_core.specs.Keys.{HasKeys as HasKeysOf, keys_in};
 ghost use Rattle.client_core.specs.Kept.{Stands};
 ghost use Rattle.client_core.specs.Sealing.{TellsSealed};
 ghost use Rattle.client_node.specs.Course.{Course, Opening, Open, attached_in, heard_in, renews};
-ghost use Rattle.client_node.specs.Standing.{FlushedAs, HasKeys, HeardAs, IsOpened, KeepsKeys, StandsAs, StandsFor, kept_of, phase_of};
+ghost use Rattle.client_node.specs.Standing.{FlushedAs, HasKeys, HeardAs, IsOpened, KeepsKeys, StandsAs, StandsFor, count_of, kept_of, phase_of};
 
 use crate::calls::must_renew;
 use client_core::{Flush, Holder, OpenClient, OpenStep, OpeningClient, OpeningStep};
@@ -26,6 +26,7 @@ pub(crate) fn attach(client: &mut Holder)
     ensures stands { (whole : Client) → StandsFor client.old whole → StandsFor client.new (attached_in (phase_of client.old) whole) }
     ensures phase { phase_of client.new ≡ phase_of client.old }
     ensures keys { KeepsKeys client.old client.new }
+    ensures count { count_of client.new ≡ count_of client.old }
 {
     match client {
         Holder::Opening(client) => client.attach(),
@@ -48,6 +49,7 @@ pub(crate) fn flush<S: Seal, D: Draw>(
         → FlushedAs (setting_of D.step (S.keys seal.now)) S.lock (S.keys seal.now) now course result client.new draw.new }
     ensures sealed { TellsSealed S.lock (S.keys seal.now) result }
     ensures keys { HasKeys (S.keys seal.now) client.new }
+    ensures count { count_of client.new ≡ count_of client.old }
 {
     match client {
         Holder::Opening(client) => client.flush(alloc, now, seal, draw),
@@ -61,6 +63,7 @@ pub(crate) fn flush<S: Seal, D: Draw>(
 pub(crate) fn renew<D: Draw>(client: Holder, draw: &mut D) -> Holder
     ensures renews { (course : Course D) → StandsAs client draw.old course → StandsAs result draw.new (renews D.step course) }
     ensures keys { KeepsKeys client result }
+    ensures count { count_of result ≡ count_of client }
 {
     if !must_renew(&client) {
         return client;
@@ -84,6 +87,7 @@ fn opening_hears<S: Seal>(
     ensures hears { (whole : Client) (opened : Option Envelope) → Stands client whole → IsOpened S.lock (S.keys seal.now) (max whole.now now) packet.now opened
         → HeardAs Opening whole (takes now opened whole) result.0 result.1 }
     ensures keys { (ring : List RingKey) → HasKeysOf ring (keys_in client) → HasKeys ring result.0 }
+    ensures count { count_of result.0 ≡ length client.calls.rows }
 {
     match client.on_packet(alloc, now, seal, packet) {
         OpeningStep::Still(client) => (Holder::Opening(client), Ok(())),
@@ -104,6 +108,7 @@ fn open_hears<S: Seal>(
     ensures hears { (whole : Client) (opened : Option Envelope) → Stands client whole → IsOpened S.lock (S.keys seal.now) (max whole.now now) packet.now opened
         → HeardAs Open whole (takes now opened whole) result.0 result.1 }
     ensures keys { (ring : List RingKey) → HasKeysOf ring (keys_in client) → HasKeys ring result.0 }
+    ensures count { count_of result.0 ≡ length client.calls.rows }
 {
     match client.on_packet(alloc, now, seal, packet) {
         OpenStep::Still(client) => (Holder::Open(client), Ok(())),
@@ -127,6 +132,7 @@ pub(crate) fn hear<S: Seal>(
     ensures hears { (whole : Client) (opened : Option Envelope) → StandsFor client whole → IsOpened S.lock (S.keys seal.now) (max whole.now now) packet.now opened
         → HeardAs (phase_of client) whole (heard_in (phase_of client) now opened whole) result.0 result.1 }
     ensures keys { KeepsKeys client result.0 }
+    ensures count { count_of result.0 ≡ count_of client }
 {
     match client {
         Holder::Opening(client) => opening_hears(client, alloc, now, seal, packet),

@@ -6,7 +6,7 @@ ghost use Rattle.transport.specs.declared.form.Form.TheVariants as forms;
 ghost use Rattle.client_node.specs.Course.{Course, Reading};
 ghost use Rattle.client_node.specs.Ends.{CountsLink, CountsTurn};
 ghost use Rattle.client_node.specs.Runs.{Conversed, HasOpened, Talked, TookTurn};
-ghost use Rattle.client_node.specs.Standing.{DecidedBy, DecidedIn, HasKeys, IsReading, KeepsKeys, StandsAs};
+ghost use Rattle.client_node.specs.Standing.{DecidedBy, DecidedIn, HasKeys, IsReading, KeepsKeys, StandsAs, count_of};
 ghost use Rattle.client_node.specs.Talks.{began, piece_bytes, rules_of};
 ghost use Rattle.client_node.specs.Writes.{seen};
 
@@ -46,6 +46,7 @@ fn take_turn<L: Link, S: Seal, C: Clock, D: Draw>(
 ) -> (Holder, Result<Moment, End>)
     requires room { length into.old ≡ piece_bytes }
     ensures keys { KeepsKeys client result.0 }
+    ensures count { count_of result.0 ≡ count_of client }
     ensures decided { DecidedBy result.1 result.0 }
     ensures goes_on { IsSome (L.told link.old) → OnOk result.1 (IsSome (L.told link.new)) }
     ensures first_fault { IsSome (L.told link.old) → L.faults link.old ≡ 0 → IsSome (L.told link.new) }
@@ -83,6 +84,7 @@ fn take_turns<L: Link, S: Seal, C: Clock, D: Draw>(
     requires keys { HasKeys (S.keys seal.now) client }
     requires room { length into.old ≡ piece_bytes }
     ensures keys { HasKeys (S.keys seal.now) result.0 }
+    ensures count { count_of result.0 ≡ count_of client }
     ensures decided { DecidedIn result.1 result.0 }
     ensures first_fault { IsSome (L.told link.old) → L.faults link.old ≡ 0 → IsSome (L.told link.new) }
     ensures counted { CountsLink result.1 (L.faults link.old) (L.faults link.new) }
@@ -126,6 +128,7 @@ pub(crate) fn talk<L: Link, S: Seal, C: Clock, D: Draw>(
     requires keys { HasKeys (S.keys seal.now) client }
     requires room { length into.old ≡ piece_bytes }
     ensures keys { HasKeys (S.keys seal.now) result.0 }
+    ensures count { count_of result.0 ≡ count_of client }
     ensures decided { DecidedIn result.1 result.0 }
     ensures first_fault { IsSome (L.told link.old) → L.faults link.old ≡ 0 → IsSome (L.told link.new) }
     ensures counted { CountsLink result.1 (L.faults link.old) (L.faults link.new) }

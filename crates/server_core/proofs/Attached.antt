@@ -1,32 +1,28 @@
 -- A connection is opened for a session: what the event leaves.
-use Rattle.std.proofs.Common.{◌≡◌, ◌≢◌, ◌∙◌, ℕ, ◌<◌, ◌≤◌, Bool, true, false, cond, Option, Some, None, List, [], ◌∷◌, ◌++◌, length, get_or, set, ap, sym, subst, refl, inl, inr}
-use Rattle.std.specs.Prelude.{fold, nat_lt}
-use Rattle.std.specs.List.{All, AllPairs, filter, position_or_len}
-use Rattle.std.proofs.lemmas.Bool.{cases_Bool, cond-true, cond-false}
-use Rattle.auth_keys.specs.declared.ring.RingKey.{RingKey}
+use Rattle.std.proofs.Common.{◌≡◌, ◌∙◌, ℕ, Bool, true, false, cond, Option, Some, None, List, [], ◌∷◌, ap, sym, subst, refl}
+use Rattle.std.specs.Prelude.{fold}
+use Rattle.std.specs.List.{All, AllPairs, filter}
 use Rattle.service_tl.specs.declared.lists.Message.{Message}
 use Rattle.salt_line.specs.Line.{current_salt}
 use Rattle.packing.specs.Packing.{packets_of, after_packets}
 use Rattle.waits.specs.Jobs.{Queue, without_session as without_jobs_of}
 use Rattle.server_rules.specs.Server.{Binding, Name, Reply, Server as Rules, Session, has_accepted, is_kept, name_of, session_named, with_session}
-use Rattle.server_rules.specs.Event.{Entry, Owed, Setting, Speaker, State, speaker_in, speaks, spoken, spoken_by}
+use Rattle.server_rules.specs.Event.{Owed, Setting, Speaker, State, speaker_in, spoken, spoken_by}
 use Rattle.server_rules.specs.Speaking.{has_said, message_of, needs_salts, owes_message, says_again, says_it_is_new}
 use Rattle.server_rules.specs.Sending.{messages_by, seals, sends}
-use Rattle.server_rules.specs.Answer.{Answer, after_attach, attaches, begun, ended, is_spent, room_min}
+use Rattle.server_rules.specs.Answer.{after_attach, attaches, begun, ended, is_spent}
 use Rattle.server_laws.specs.Speech.{SaidFor}
 use Rattle.owing.specs.Dues.{Dues}
 use Rattle.standing.specs.Says.{Says}
 use Rattle.standing.specs.Repeats.{says_all_again}
 use Rattle.standing.specs.declared.standing.Standing.{Standing}
-use Rattle.standing.specs.Standing.{Stands as StandsFor, numbers_left}
 use Rattle.server_core.specs.One.{answer_of, lost_where, says_its_own, sends_all}
-use Rattle.server_core.specs.Sessions.{AreApart, AreKept, is_kept_as, without_kept}
-use Rattle.server_core.specs.Server.{CanSpeak, Kept, Stands, without_jobs_where, without_kept_where}
+use Rattle.server_core.specs.Sessions.{AreKept}
+use Rattle.server_core.specs.Server.{Stands, without_jobs_where, without_kept_where}
 use Rattle.server_core.specs.Speech.{attached}
 use Rattle.server_core.proofs.Names.{name-by, found-named}
 use Rattle.server_core.proofs.Spent.{AreOthers, HasRoom, none-ends, one-ends, own-name}
 use Rattle.server_core.proofs.Standing.{HasItsName, others-kept}
-use Rattle.server_core.proofs.Speaking.{HasItsRoom, StandsLater, found-at, kept-later, kept-set, none-at, sessions-apart, sessions-have_room}
 
 -- ---- what a session leaves alone when it says messages that it has, and sends them
 

@@ -55,7 +55,7 @@ does-nothing {S} later before after draw drawn reply now server early (stands, i
     record {
       stands = (
         subst (λ (kept : Kept S). Stands kept (record server { now = max server.now now })) (sym nothing.same) at_its,
-        record { at = max-early server.now now is.at early; order = is.order },
+        record { at = max-early server.now now is.at early; order = is.order; replies = is.replies; jobs = is.jobs },
       );
       drawn = nothing.drawn;
       sent = nothing.sent;

@@ -1,16 +1,15 @@
 -- Where the jobs that have failed are all of the session that speaks, that session answers them.
-use Rattle.std.proofs.Common.{◌≡◌, ◌∙◌, ℕ, zero, suc, Bool, true, false, cond, Option, Some, None, List, [], ◌∷◌, map, ap, sym, subst, refl, inl, inr}
-use Rattle.std.specs.List.{All}
-use Rattle.std.proofs.lemmas.Bool.{cases_Bool, cond-true, cond-false, and_parts, eqb-true, false≢true}
-use Rattle.std.proofs.lemmas.List.Elements.{All-nil, All-cons, All-head, All-tail, All-map, All-weaker}
+use Rattle.std.proofs.Common.{◌≡◌, ◌∙◌, ℕ, zero, suc, Bool, true, false, Option, Some, None, List, [], ◌∷◌, ap, sym, subst, refl, inl, inr}
+use Rattle.std.proofs.lemmas.Bool.{cases_Bool, cond-true, cond-false, and_parts, eqb-true}
+use Rattle.std.proofs.lemmas.List.Elements.{All-cons, All-head, All-tail, All-map, All-weaker}
 use Rattle.waits.specs.declared.job.Job.{Job}
 use Rattle.waits.specs.declared.job.Unfinished.{Unfinished}
 use Rattle.waits.specs.Jobs.{Queue, after_answer, first_job, has_failed, is_of, settled, told, waits_for, without_first}
-use Rattle.server_rules.specs.Server.{Name, Session, name_of, session_named, with_session}
-use Rattle.server_rules.specs.Event.{Setting, Speaker, State, speaker_in, speaks, spoken, spoken_by}
+use Rattle.server_rules.specs.Server.{Name, Session, name_of, session_named}
+use Rattle.server_rules.specs.Event.{Setting, Speaker, State, speaks, spoken, spoken_by}
 use Rattle.server_rules.specs.Speaking.{answers_in_place, msg_wait_failed}
 use Rattle.server_rules.specs.Waiting.{Outlook, Over, InVain, GoesOn, all_given_up, first_failed, first_given_up, given_up, gives_up, outlook, told as told_of}
-use Rattle.server_core.specs.One.{AreOwnFailures, fails_all, fails_first, given_up_by}
+use Rattle.server_core.specs.One.{AreOwnFailures, fails_all, given_up_by}
 use Rattle.server_core.proofs.Names.{name-by, named, none-some, some-same, with-own, with-twice}
 
 abbrev IsOwn : Name → Unfinished → Type 0

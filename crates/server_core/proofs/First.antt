@@ -7,7 +7,7 @@ use Rattle.waits.specs.declared.job.Job.{Job}
 use Rattle.waits.specs.Jobs.{first_job, has_failed, ready_job, without_first}
 use Rattle.regs_service.specs.Served.{Step}
 use Rattle.server_rules.specs.Server.{Name, Server as Rules, Session, name_of, session_named}
-use Rattle.server_rules.specs.Event.{Entry, Owed, Setting, Speaker, State, lost, speaker_in, speaks, spoken, spoken_by}
+use Rattle.server_rules.specs.Event.{Entry, Owed, Setting, Speaker, State, lost, speaker_in, speaks, spoken_by}
 use Rattle.server_rules.specs.Sending.{all_sent, messages_by, names_in, sends}
 use Rattle.server_rules.specs.Speaking.{msg_wait_failed}
 use Rattle.server_rules.specs.Answer.{after_run, after_work, begun, ended, finishes, is_spent, runs}

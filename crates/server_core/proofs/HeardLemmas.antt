@@ -1,7 +1,7 @@
 -- The session of a packet is heard, and judges what the packet brought.
-use Rattle.std.proofs.Common.{◌≡◌, ◌≢◌, ◌∙◌, ◌+◌, ◌<◌, ◌≤◌, ℕ, zero, suc, Bool, true, false, Option, Some, None, List, [], ◌∷◌, ◌++◌, length, get_or, drop, take, ap, sym, subst, refl, arith, not}
-use Rattle.std.specs.Prelude.{nat_lt, IsSome}
-use Rattle.std.specs.List.{All, filter, insert, position_or_len, remove}
+use Rattle.std.proofs.Common.{◌≡◌, ◌≢◌, ◌∙◌, ◌+◌, ◌<◌, ◌≤◌, ℕ, zero, suc, Option, Some, None, List, [], ◌∷◌, length, get_or, ap, sym, subst, refl, arith, not}
+use Rattle.std.specs.Prelude.{nat_lt}
+use Rattle.std.specs.List.{All, insert, position_or_len, remove}
 use Rattle.std.proofs.lemmas.Bool.{cond_both, ltb-true}
 use Rattle.std.proofs.lemmas.List.Edits.{length-remove}
 use Rattle.std.proofs.lemmas.List.Elements.{All-filter, All-tail}
@@ -9,8 +9,8 @@ use Rattle.auth_keys.specs.declared.ring.RingKey.{RingKey}
 use Rattle.draws.specs.Draws.{draw_after}
 use Rattle.inbox.specs.declared.judged.Judgement.{Judgement}
 use Rattle.waits.specs.Jobs.{Queue, is_of}
-use Rattle.server_rules.specs.Server.{Binding, Name, Server as Rules, Session, name_of, session_named, sessions_max}
-use Rattle.server_rules.specs.Event.{Entry, Envelope, Owed, Sent, Setting, State}
+use Rattle.server_rules.specs.Server.{Binding, Name, Server as Rules, Session, session_named, sessions_max}
+use Rattle.server_rules.specs.Event.{Envelope, Setting, State}
 use Rattle.server_rules.specs.Answer.{begun, name_in, session_for, with_place as place_made, without_first}
 use Rattle.standing.specs.declared.standing.Standing.{Standing}
 use Rattle.standing.specs.Names.{name_kept}

@@ -50,3 +50,4 @@ pub mod HeardLemmas
 pub mod PacketDues
 pub mod BetweenEvents
 pub mod Desked
+pub mod Outcomes

@@ -1,9 +1,8 @@
 -- Lists: what holds of all pairs, and the first that is so.
-use Rattle.std.proofs.Common.{◌≡◌, ◌∙◌, ℕ, zero, suc, ◌<◌, ◌≤◌, ◌+◌, Bool, true, false, Option, Some, None, List, [], ◌∷◌, ◌++◌, length, get_or, remove, ap, sym, refl, arith, inl, inr, one-add}
+use Rattle.std.proofs.Common.{◌≡◌, ◌∙◌, ℕ, zero, suc, ◌<◌, ◌≤◌, ◌+◌, Bool, Some, None, List, [], ◌∷◌, length, get_or, ap, sym, refl, arith, inl, inr, one-add}
 use Rattle.std.specs.Prelude.{not, nat_lt}
 use Rattle.std.specs.List.{All, AllPairs, find, filter, position, position_or_len}
 use Rattle.std.proofs.lemmas.Bool.{cases_Bool, cond-true, cond-false, ltb-true, ltb-false}
-use Rattle.std.proofs.lemmas.List.Elements.{All-head, All-tail}
 
 pub pairs-head : {X : Type 0} (R : X → X → Type 0) (x : X) (xs : List X) → AllPairs R (x ∷ xs) → All (R x) xs
 pairs-head R x xs all = λ k d within. all 0 (suc k) d (omega arith) (omega arith)

@@ -1,7 +1,7 @@
 -- Names of sessions.
-use Rattle.std.proofs.Common.{◌≡◌, ◌≢◌, ◌∙◌, ℕ, true, false, cond, Bool, Option, Some, None, List, [], ◌∷◌, ap, sym, refl, inl, inr}
+use Rattle.std.proofs.Common.{◌≡◌, ◌≢◌, ◌∙◌, ℕ, true, false, cond, Bool, Some, None, List, [], ◌∷◌, ap, sym, refl, inl, inr}
 use Rattle.std.specs.List.{find}
-use Rattle.std.proofs.lemmas.Bool.{cases_Bool, cond-true, cond-false, and_parts, and_from, eqb-true, eq-eqb, false≢true}
+use Rattle.std.proofs.lemmas.Bool.{cases_Bool, cond-true, cond-false, and_parts, and_from, eqb-true, eq-eqb}
 use Rattle.server_rules.specs.Server.{Name, Session, is_named, is_same, name_of, session_named, with_session}
 
 abbrev pub named : ℕ → ℕ → Name

@@ -1,13 +1,13 @@
 -- Where one session speaks in an event, and what it owes is its own, its packets are all that is sent.
-use Rattle.std.proofs.Common.{◌≡◌, ◌∙◌, ℕ, Bool, true, false, Option, Some, None, List, [], ◌∷◌, ap, sym, refl, not}
+use Rattle.std.proofs.Common.{◌≡◌, ◌∙◌, ℕ, true, Option, Some, List, [], ◌∷◌, ap, sym, refl, not}
 use Rattle.std.specs.Prelude.{fold}
 use Rattle.std.specs.List.{All, filter}
 use Rattle.std.proofs.lemmas.List.Elements.{All-head, All-tail}
 use Rattle.service_tl.specs.declared.lists.Message.{Message}
 use Rattle.salt_line.specs.Line.{current_salt}
 use Rattle.packing.specs.Packing.{packets_of, after_packets}
-use Rattle.server_rules.specs.Server.{Name, Session, is_same, name_of, session_named, with_session}
-use Rattle.server_rules.specs.Event.{Owed, Setting, Speaker, State, speaker_in, speaks, spoken, spoken_by}
+use Rattle.server_rules.specs.Server.{Name, Session, is_same, name_of, session_named}
+use Rattle.server_rules.specs.Event.{Owed, Setting, Speaker, State, speaks, spoken, spoken_by}
 use Rattle.server_rules.specs.Speaking.{needs_salts}
 use Rattle.server_rules.specs.Sending.{all_sent, messages_by, names_in, seals, sends}
 use Rattle.server_core.specs.One.{says_its_own, sends_all}

@@ -1,7 +1,7 @@
 -- The sessions of a server, where one of them is set at its place.
 use Rattle.std.proofs.Common.{◌≡◌, ◌≢◌, ◌∙◌, ℕ, suc, ◌<◌, ◌≤◌, Bool, true, false, List, [], ◌∷◌, length, get_or, set, ap, sym, subst, refl, not, arith, inl, inr, one-add}
 use Rattle.std.specs.Prelude.{IsSome, ◌==◌}
-use Rattle.std.specs.List.{All, filter, position_or_len}
+use Rattle.std.specs.List.{All, position_or_len}
 use Rattle.std.proofs.lemmas.Bool.{cases_Bool, eqb-true, eq-eqb, false≢true}
 use Rattle.std.proofs.lemmas.List.{length-set, get_or-set_same, get_or-set_other}
 use Rattle.std.proofs.lemmas.List.Elements.{All-cons, All-filter, All-head, All-set, All-tail, All-weaker}

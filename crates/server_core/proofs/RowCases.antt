@@ -1,5 +1,5 @@
 -- The row of a judgement, by what the judged message needs.
-use Rattle.std.proofs.Common.{◌≡◌, ◌+◌, ℕ, List, refl, subst, sym}
+use Rattle.std.proofs.Common.{◌≡◌, ℕ, List, refl, subst, sym}
 use Rattle.service_tl.specs.declared.item.Item.{Item}
 use Rattle.service_tl.specs.declared.item.Item.TheVariants as item
 use Rattle.inbox.specs.declared.judged.Verdict.{Verdict}

@@ -1,5 +1,5 @@
 -- What a session sends, where it owes something and where it owes nothing.
-use Rattle.std.proofs.Common.{◌≡◌, ℕ, ◌<◌, ◌≤◌, List, [], ◌∷◌, length, ap, sym, subst, refl, arith}
+use Rattle.std.proofs.Common.{◌≡◌, ◌<◌, ◌≤◌, List, [], ◌∷◌, length, ap, sym, subst, refl, arith}
 use Rattle.service_tl.specs.declared.lists.Message.{Message}
 use Rattle.auth_keys.specs.declared.ring.RingKey.{RingKey}
 use Rattle.envelope.specs.Packet.{Lock}

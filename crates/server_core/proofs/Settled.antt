@@ -18,7 +18,7 @@ use Rattle.rows.specs.declared.turn.Turn.{Turn}
 use Rattle.rows.specs.Speaks.{Speaks}
 use Rattle.server_core.specs.Among.{Among, IsAlone, destroys_another, row_among, speaks_among}
 use Rattle.server_core.specs.Failures.{HasFailures, blocked_of}
-use Rattle.server_core.specs.Settling.{IsSettling, SpeaksAmong}
+use Rattle.server_core.specs.Settling.{IsSettling}
 use Rattle.server_core.proofs.Among.{OwesForItself, row-alone, told-alone}
 use Rattle.server_core.proofs.Blocked.{told-blocked}
 use Rattle.server_core.proofs.Names.{named}

@@ -1,12 +1,12 @@
 -- What is kept of the sessions of a server, where one of them speaks.
-use Rattle.std.proofs.Common.{◌≡◌, ◌≢◌, ◌∙◌, ℕ, zero, suc, ◌<◌, ◌≤◌, ◌+◌, Bool, true, false, cond, Option, Some, None, List, [], ◌∷◌, length, get_or, set, ap, sym, subst, refl, arith, inl, inr, one-add}
+use Rattle.std.proofs.Common.{◌≡◌, ◌≢◌, ◌∙◌, ℕ, suc, ◌<◌, ◌≤◌, Some, None, List, [], ◌∷◌, length, get_or, set, ap, sym, subst, refl, arith, inl, inr, one-add}
 use Rattle.std.specs.List.{All, AllPairs, position_or_len}
-use Rattle.std.proofs.lemmas.Bool.{cases_Bool, cond-true, cond-false, le-ltb}
+use Rattle.std.proofs.lemmas.Bool.{cases_Bool, le-ltb}
 use Rattle.std.proofs.lemmas.List.Elements.{All-nil, All-cons, All-head, All-tail}
 use Rattle.auth_keys.specs.declared.ring.RingKey.{RingKey}
 use Rattle.msg_ids.specs.Counters.{room}
 use Rattle.server_rules.specs.Server.{Name, Session, is_named, is_same, name_of, session_named, with_session}
-use Rattle.server_rules.specs.Answer.{is_spent, room_min}
+use Rattle.server_rules.specs.Answer.{room_min}
 use Rattle.standing.specs.declared.standing.Standing.{Standing}
 use Rattle.standing.specs.Standing.{Stands, numbers_left}
 use Rattle.standing.specs.Names.{name_kept}

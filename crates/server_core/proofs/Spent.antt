@@ -1,13 +1,13 @@
 -- Where the others have room, the one session that spoke is lost alone, if it has none.
-use Rattle.std.proofs.Common.{◌≡◌, ◌≢◌, ◌∙◌, Bool, true, false, cond, Option, Some, None, List, [], ◌∷◌, ap, sym, subst, refl, inl, inr}
+use Rattle.std.proofs.Common.{◌≡◌, ◌≢◌, ◌∙◌, Bool, true, false, cond, Option, Some, List, [], ◌∷◌, ap, sym, subst, refl, inl, inr}
 use Rattle.std.specs.Prelude.{fold}
 use Rattle.std.specs.List.{All, AllPairs, filter}
 use Rattle.std.proofs.lemmas.Bool.{cases_Bool, cond-true, cond-false}
-use Rattle.std.proofs.lemmas.List.Elements.{All-head, All-tail, All-weaker}
+use Rattle.std.proofs.lemmas.List.Elements.{All-head, All-tail}
 use Rattle.server_rules.specs.Server.{Name, Session, is_named, name_of, session_named, with_session}
 use Rattle.server_rules.specs.Event.{Owed, Setting, Speaker, State, lost, speaker_in, speaks, spoken, spoken_by}
 use Rattle.server_rules.specs.Sending.{all_sent, messages_by, names_in, sends}
-use Rattle.server_rules.specs.Answer.{Answer, ended, is_spent, without_spent}
+use Rattle.server_rules.specs.Answer.{ended, is_spent, without_spent}
 use Rattle.server_core.specs.One.{answer_of, lost_where, says_its_own, sends_all}
 use Rattle.server_core.proofs.Lists.{pairs-head, pairs-tail}
 use Rattle.server_core.proofs.Names.{apart-names, find-other, none-some, same-names}

@@ -1,13 +1,11 @@
 -- One step of answering the jobs of a session that have failed.
-use Rattle.std.proofs.Common.{◌≡◌, ◌∙◌, ℕ, zero, suc, ◌+◌, ◌*◌, ◌≤◌, Bool, Option, Some, None, List, [], ◌∷◌, length, ap, sym, subst, refl, arith, inl, inr, add-one}
-use Rattle.std.specs.Prelude.{◌⊎◌}
-use Rattle.std.specs.List.{All}
+use Rattle.std.proofs.Common.{◌≡◌, ◌∙◌, ℕ, ◌+◌, ◌*◌, ◌≤◌, Bool, Option, Some, List, [], ◌∷◌, length, ap, sym, subst, arith, add-one}
 use Rattle.std.proofs.lemmas.List.Elements.{All-head}
 use Rattle.id_window.specs.History.{History}
 use Rattle.waits.specs.declared.job.Job.{Job}
 use Rattle.waits.specs.declared.job.Unfinished.{Unfinished}
 use Rattle.waits.specs.Jobs.{Queue, first_job, has_failed, without_first}
-use Rattle.server_rules.specs.Server.{Binding, Name, Session, name_of}
+use Rattle.server_rules.specs.Server.{Binding, Name, name_of}
 use Rattle.server_rules.specs.Event.{Setting, Speaker}
 use Rattle.server_rules.specs.Speaking.{msg_wait_failed}
 use Rattle.server_rules.specs.Waiting.{gives_up}
@@ -18,9 +16,9 @@ use Rattle.waits.specs.Held.{Held}
 use Rattle.rows.specs.Speaks.{Speaks, Spends}
 use Rattle.server_core.specs.One.{AreOwnFailures, fails_all, fails_first, given_up_by}
 use Rattle.server_core.specs.Failures.{HasFailures, SoFar, blocked_of}
-use Rattle.server_core.proofs.Names.{named, none-some}
+use Rattle.server_core.proofs.Names.{named}
 use Rattle.server_core.proofs.Failing.{first-own, given-name, given-own, rest-own}
-use Rattle.server_core.proofs.Blocked.{given-blocked, given-length, none-fails, none-taken, taken-blocked, taken-length}
+use Rattle.server_core.proofs.Blocked.{given-blocked, given-length, taken-blocked, taken-length}
 
 -- what the crates below promise of a job that is taken out and given up
 abbrev pub TakesOut : (S : Type 0) → Type 0

@@ -1,10 +1,10 @@
 -- A session that has judged a packet answers it.
-use Rattle.std.proofs.Common.{◌≡◌, ◌≢◌, ◌∙◌, ◌+◌, ◌<◌, ◌≤◌, ℕ, zero, suc, Bool, true, false, Option, Some, None, List, [], ◌∷◌, ◌++◌, length, map, ap, sym, subst, refl, arith}
+use Rattle.std.proofs.Common.{◌≡◌, ◌≢◌, ◌∙◌, ◌+◌, ◌≤◌, ℕ, zero, suc, Bool, true, false, Option, Some, None, List, [], ◌∷◌, length, ap, sym, subst, refl, arith}
 use Rattle.std.specs.Prelude.{fold, is_some}
 use Rattle.std.specs.List.{All, zip}
 use Rattle.std.proofs.lemmas.Bool.{cond_both}
 use Rattle.std.proofs.lemmas.List.{length-append}
-use Rattle.std.proofs.lemmas.List.Elements.{All-push, All-weaker}
+use Rattle.std.proofs.lemmas.List.Elements.{All-push}
 use Rattle.auth_keys.specs.declared.ring.RingKey.{RingKey}
 use Rattle.service_tl.specs.declared.item.Item.TheVariants.{DestroySession}
 use Rattle.service_tl.specs.declared.lists.Message.{Message}
@@ -16,12 +16,12 @@ use Rattle.inbox.specs.Judging.{judgements, session_after}
 use Rattle.inbox.specs.Refusals.{Way}
 use Rattle.waits.specs.declared.job.Job.{Job}
 use Rattle.waits.specs.Jobs.{Queue, first_job, has_failed, without_first}
-use Rattle.server_rules.specs.Server.{Binding, Name, Session, has_accepted, name_of, remembered, session_named, sessions_max}
-use Rattle.server_rules.specs.Event.{Entry, Envelope, Owed, Sent, Setting, Speaker}
+use Rattle.server_rules.specs.Server.{Binding, Name, Session, has_accepted, name_of, remembered, session_named}
+use Rattle.server_rules.specs.Event.{Envelope, Owed, Setting, Speaker}
 use Rattle.server_rules.specs.Sending.{messages_by}
 use Rattle.server_rules.specs.Speaking.{msg_wait_failed, says_it_is_new}
-use Rattle.server_rules.specs.Waiting.{gives_up, tells_of}
-use Rattle.server_rules.specs.Rows.{acks_of, acknowledges, owes}
+use Rattle.server_rules.specs.Waiting.{tells_of}
+use Rattle.server_rules.specs.Rows.{acks_of, acknowledges}
 use Rattle.server_rules.specs.Answer.{message_in, name_in, opens}
 use Rattle.server_laws.specs.Order.{IsMidway, IsOrderly, IsTold, jobs_of, opens_of}
 use Rattle.rows.specs.declared.due.Due.{Due}
@@ -29,7 +29,7 @@ use Rattle.rows.specs.declared.turn.Turn.{Turn}
 use Rattle.rows.specs.Speaks.{Speaks}
 use Rattle.standing.specs.declared.standing.Standing.{Standing}
 use Rattle.standing.specs.Names.{name_kept}
-use Rattle.server_core.specs.Among.{Among, IsAlone, IsOrderlySpeaker, destroys_another, left_where, remembers_among, row_among, settles_among, speaks_among, takes_among, tells_all}
+use Rattle.server_core.specs.Among.{Among, IsAlone, IsOrderlySpeaker, destroys_another, left_where, remembers_among, row_among, settles_among, speaks_among, takes_among}
 use Rattle.server_core.specs.Failures.{blocked_of}
 use Rattle.server_core.specs.One.{fails_all, fails_first, given_up_by}
 use Rattle.server_core.specs.Others.{AreLeft, with_last_where}

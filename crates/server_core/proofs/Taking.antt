@@ -1,10 +1,9 @@
 -- A session that is taken out by its name.
-use Rattle.std.proofs.Common.{◌≡◌, ◌∙◌, ℕ, suc, ◌<◌, ◌+◌, Bool, true, false, List, [], ◌∷◌, length, remove, ap, sym, refl, arith, inl, inr, one-add}
-use Rattle.std.specs.Prelude.{not}
-use Rattle.std.specs.List.{All, AllPairs, filter, position_or_len}
-use Rattle.std.proofs.lemmas.Bool.{cases_Bool, and_parts, and_from, eqb-true, eq-eqb, false≢true}
+use Rattle.std.proofs.Common.{◌≡◌, ◌∙◌, suc, ◌<◌, true, List, [], ◌∷◌, length, remove, ap, sym, refl, arith, inl, inr, one-add}
+use Rattle.std.specs.List.{All, position_or_len}
+use Rattle.std.proofs.lemmas.Bool.{cases_Bool}
 use Rattle.std.proofs.lemmas.List.Elements.{All-head, All-tail}
-use Rattle.server_rules.specs.Server.{Name, is_same}
+use Rattle.server_rules.specs.Server.{Name}
 use Rattle.standing.specs.declared.standing.Standing.{Standing}
 use Rattle.standing.specs.Names.{name_kept}
 use Rattle.server_core.specs.Sessions.{AreApart, HaveOtherNames, is_kept_as, without_kept}

@@ -1,5 +1,5 @@
 -- What steps use up together.
-use Rattle.std.proofs.Common.{◌≡◌, ◌∙◌, ℕ, Bool, true, false, ◌+◌, ◌*◌, ◌≤◌, refl, arith}
+use Rattle.std.proofs.Common.{◌∙◌, ℕ, Bool, true, false, ◌+◌, ◌*◌, ◌≤◌, refl, arith}
 use Rattle.standing.specs.declared.standing.Standing.{Standing}
 use Rattle.standing.specs.Standing.{replies_left}
 use Rattle.standing.specs.Unsaid.{NoMoreUnsaid}

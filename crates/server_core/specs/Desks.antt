@@ -1,20 +1,48 @@
 -- What a desk does: the events of a server, with what it draws from.
-use Rattle.std.specs.Prelude.{◌≡◌, ◌≤◌, List, []}
+use Rattle.std.specs.Prelude.{◌≡◌, ◌≤◌, ℕ, ◌+◌, All, Some, List, [], length}
 use Rattle.auth_keys.specs.declared.ring.RingKey.{RingKey}
 use Rattle.envelope.specs.Packet.{Lock}
 use Rattle.msg_ids.specs.Moments.{latest_moment}
+use Rattle.outbox.specs.Replies.{IsWithin}
 use Rattle.owing.specs.Outs.{AreSent}
+use Rattle.regs_service.specs.Served.{Step, reply_bytes_max}
+use Rattle.waits.specs.declared.job.Job.{Job}
+use Rattle.waits.specs.Jobs.{AreWithinLimits, ready_job}
 use Rattle.server_rules.specs.Answer.{Answer}
-use Rattle.server_rules.specs.Server.{Server}
+use Rattle.server_rules.specs.Server.{Server, kept_replies}
 use Rattle.server_laws.specs.Order.{AreOrdered}
 use Rattle.server_core.specs.declared.desk.Reply.{Reply}
 use Rattle.server_core.specs.declared.effects.Effects.{Effects}
 
--- What holds of a server between events: it was given a moment that there is, and its sessions, replies and jobs fit each
--- other.
+-- What holds of a server between events: it was given a moment that there is, its sessions, replies and jobs fit each
+-- other, and no session keeps more replies or has more unfinished jobs than it may.
 pub record IsBetweenEvents (server : Server) : Type 0 where
   pub at : server.now ≤ latest_moment
   pub order : AreOrdered server.sessions server.jobs
+  pub replies : All (λ session. IsWithin (kept_replies session.replies)) server.sessions
+  pub jobs : AreWithinLimits server.jobs
+
+-- where this place among the ready jobs has one, the service's reply to it has no more bytes than a reply may have
+abbrev pub IsShortRunAt : {V : Type 0} → ℕ → Step V → V → Server → Type 0
+IsShortRunAt place serve service server =
+    (job : Job) → ready_job place server.jobs ≡ Some job → length (serve service job.request).0 ≤ reply_bytes_max
+
+-- How many packets and entries an event gives at most beside one for each unfinished job: twice as many as a session keeps
+-- replies. All of these may be said again, and what else an event answers is fewer.
+abbrev pub event_most : ℕ
+event_most = 8192
+
+-- an event gives few packets and few entries, by how many jobs were unfinished before it
+pub record AreFew (unfinished sent entered : ℕ) : Type 0 where
+  pub packets : sent ≤ event_most + unfinished
+  pub entries : entered ≤ event_most + unfinished
+
+abbrev pub GivesFew : {D : Type 0} → Server → Answer D → Type 0
+GivesFew server answer = AreFew (length server.jobs) (length answer.packets) (length answer.entries)
+
+-- what it gives is so few
+abbrev pub IsFew : ℕ → Effects → Type 0
+IsFew unfinished effects = AreFew unfinished (length effects.out.outs) (length effects.entries.entries)
 
 -- After an event the desk stands for the server that the definitions say, its draw is theirs, and so is what the event gives.
 pub record Does {D : Type 0} (StandsFor : Server → Type 0) (lock : Lock) (keys : List RingKey) (draw : D) (effects : Effects) (answer : Answer D) : Type 0 where

@@ -4,7 +4,7 @@ use Rattle.auth_keys.specs.declared.ring.RingKey.{RingKey}
 use Rattle.envelope.specs.Packet.{Lock}
 use Rattle.id_window.specs.History.{History}
 use Rattle.waits.specs.declared.job.Job.{Job}
-use Rattle.waits.specs.Jobs.{Queue, without_ready}
+use Rattle.waits.specs.Jobs.{Queue}
 use Rattle.answers.specs.Contents.{short_bytes_max}
 use Rattle.owing.specs.Items.{IsContent, result_bytes}
 use Rattle.owing.specs.Outs.{AreSent}

@@ -6,12 +6,13 @@ ghost use Rattle.regs_service.specs.Served.{Step};
 ghost use Rattle.server_rules.specs.Answer.{after_attach, after_packet, after_tick, after_work};
 ghost use Rattle.server_rules.specs.Event.{Envelope, Setting};
 ghost use Rattle.server_rules.specs.Server.{Name, Server, fresh_server};
-ghost use Rattle.server_core.specs.Desks.{IsBetweenEvents};
+ghost use Rattle.server_core.specs.Desks.{GivesFew, IsBetweenEvents, IsShortRunAt};
 
 use draws::Draw;
+use server_bounds::laws as bounds;
 use server_laws::laws::servers_stay_in_order;
 
-/// A fresh server is in order, and after a packet, a tick and an attach a server that was in order is so.
+/// A fresh server is in order and within its limits, and after a packet, a tick and an attach a server that was so is so.
 pub fn events_keep_order<D: Draw>()
     ensures fresh { IsBetweenEvents fresh_server }
     ensures packet { (setting : Setting D) (envelope : Envelope) (server : Server) (draw : D) → setting.now ≤ latest_moment → IsBetweenEvents server
@@ -22,12 +23,47 @@ pub fn events_keep_order<D: Draw>()
         → IsBetweenEvents (after_attach setting name server draw).server }
 {
     servers_stay_in_order::<D, D>();
+    bounds::replies_are_few::<D, D>();
+    bounds::jobs_are_few::<D, D>();
+    bounds::events_give_few::<D, D>();
 }
 
-/// After a run a server that was in order is so.
+/// So is one after a run whose reply is no longer than a reply may be.
 pub fn runs_keep_order<D: Draw, V>()
-    ensures { (setting : Setting D) (place : ℕ) (serve : Step V) (service : V) (server : Server) (draw : D) → setting.now ≤ latest_moment → IsBetweenEvents server
+    ensures { (setting : Setting D) (place : ℕ) (serve : Step V) (service : V) (server : Server) (draw : D) → setting.now ≤ latest_moment
+        → IsShortRunAt place serve service server → IsBetweenEvents server
         → IsBetweenEvents (after_work setting place serve service server draw).0.server }
 {
     servers_stay_in_order::<D, V>();
+    bounds::replies_are_few::<D, V>();
+    bounds::jobs_are_few::<D, V>();
+    bounds::events_give_few::<D, V>();
+}
+
+/// A packet, a tick and an attach give at most 8,192 packets more than there were unfinished jobs in a server that was in
+/// order, and at most as many entries.
+pub fn events_give_few<D: Draw>()
+    ensures packet { (setting : Setting D) (envelope : Envelope) (server : Server) (draw : D) → setting.now ≤ latest_moment → IsBetweenEvents server
+        → GivesFew server (after_packet setting envelope server draw) }
+    ensures tick { (setting : Setting D) (server : Server) (draw : D) → setting.now ≤ latest_moment → IsBetweenEvents server
+        → GivesFew server (after_tick setting server draw) }
+    ensures attach { (setting : Setting D) (name : Name) (server : Server) (draw : D) → setting.now ≤ latest_moment → IsBetweenEvents server
+        → GivesFew server (after_attach setting name server draw) }
+{
+    servers_stay_in_order::<D, D>();
+    bounds::replies_are_few::<D, D>();
+    bounds::jobs_are_few::<D, D>();
+    bounds::events_give_few::<D, D>();
+}
+
+/// So does a run whose reply isn't too long.
+pub fn runs_give_few<D: Draw, V>()
+    ensures { (setting : Setting D) (place : ℕ) (serve : Step V) (service : V) (server : Server) (draw : D) → setting.now ≤ latest_moment
+        → IsShortRunAt place serve service server → IsBetweenEvents server
+        → GivesFew server (after_work setting place serve service server draw).0 }
+{
+    servers_stay_in_order::<D, V>();
+    bounds::replies_are_few::<D, V>();
+    bounds::jobs_are_few::<D, V>();
+    bounds::events_give_few::<D, V>();
 }

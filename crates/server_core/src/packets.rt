@@ -7,9 +7,11 @@ ghost use Rattle.envelope.specs.declared.parts.Dir.TheVariants.{Up};
 ghost use Rattle.envelope.specs.declared.parts.Envelope.{Envelope as Sealed};
 ghost use Rattle.envelope.specs.declared.refusal.Refusal.{Refusal as Refused};
 ghost use Rattle.envelope.specs.Opening.{IsRefused, Opens};
+ghost use Rattle.inbox.specs.Acceptance.{IsAcceptable};
 ghost use Rattle.rows.specs.Rings.{AreOf};
-ghost use Rattle.server_rules.specs.Answer.{after_packet};
-ghost use Rattle.server_rules.specs.Server.{Server as Rules};
+ghost use Rattle.server_rules.specs.Answer.{after_packet, begun, hears as heard_in, message_in, name_in};
+ghost use Rattle.server_rules.specs.Server.{Server as Rules, Session, remembered, session_named};
+ghost use Rattle.server_bounds.specs.Taking.{IsTaken};
 ghost use Rattle.server_laws.specs.Order.{AreOrdered};
 ghost use Rattle.standing.specs.Says.{Keys, setting_of};
 ghost use Rattle.server_core.specs.declared.desk.Heard.TheVariants.{Judged, NotOpened};
@@ -30,6 +32,7 @@ use envelope::{Dir, Envelope, Opened, Refusal, Seal};
 use inbox::Outer;
 use msg_ids::Moment;
 use octets::Memory;
+use server_bounds::laws::lawful_messages_are_taken;
 use standing::Standing;
 use standing::laws::sessions_stand_later;
 use std::alloc::Global;
@@ -58,10 +61,18 @@ impl<S: Seal> Server<S> {
             → AreOrdered server.sessions server.jobs → Opens S.lock (S.keys self.old.seal) (max self.old.moment now) Up packet.now envelope
             → IfOk result (λ reply. Gives S.lock (S.keys self.old.seal) self.new draw.new (effects_in reply)
             (after_packet (setting_of (max self.old.moment now) D.step keys) (brought_in envelope) server draw.old)) }
+        // A message that nothing refuses is accepted and acknowledged, and a call is a job then or has its answer.
+        ensures accepted { (keys : Keys) (server : Rules) (envelope : Sealed) (session : Session) → Stands self.old server
+            → Opens S.lock (S.keys self.old.seal) (max self.old.moment now) Up packet.now envelope
+            → session_named (name_in (brought_in envelope))
+            (heard_in (setting_of (max self.old.moment now) D.step keys) (brought_in envelope) (begun server draw.old)).sessions ≡ Some session
+            → IsAcceptable (max self.old.moment now) session.salts envelope.salt (remembered session) (message_in (brought_in envelope))
+            → OnOk result (IsTaken D (setting_of (max self.old.moment now) D.step keys) (brought_in envelope) server draw.old) }
         ensures unchanged_on_memory { OnErr result (self.new ≡ self.old) }
         ensures same_seal { self.new.seal ≡ self.old.seal }
     {
         S::opens_what_it_sealed();
+        lawful_messages_are_taken::<D>();
         let moment = later(self.moment, now);
         match self.seal.unseal(alloc, moment, Dir::Up, packet) {
             Opened::Envelope(envelope) => self.hears(alloc, moment, envelope, draw),

@@ -9,12 +9,14 @@ ghost use Rattle.server_rules.specs.Server.{Name, Server as Rules};
 ghost use Rattle.server_rules.specs.Event.{Speaker};
 ghost use Rattle.server_rules.specs.Answer.{after_work};
 ghost use Rattle.server_laws.specs.Order.{AreOrdered};
+ghost use Rattle.regs_service.specs.Served.{reply_bytes_max};
 ghost use Rattle.standing.specs.declared.standing.Standing.{Standing as One};
 ghost use Rattle.standing.specs.Names.{name_kept};
 ghost use Rattle.standing.specs.Says.{Keys, setting_of};
 ghost use Rattle.standing.specs.Standing.{IsAt};
 ghost use Rattle.server_core.specs.Sessions.{AreApart, is_kept_as};
 ghost use Rattle.server_core.specs.Server.{CanSpeak, Stands};
+ghost use Rattle.server_core.specs.Desks.{IsBetweenEvents, IsFew, IsShortRunAt};
 ghost use Rattle.server_core.specs.Effects.{Gives};
 ghost use Rattle.server_core.specs.Speech.{Begins};
 ghost use Rattle.server_core.specs.Working.{CanWork, Ends, IsRunning, worked};
@@ -98,6 +100,8 @@ impl<S: Seal> Server<S> {
             (after_work (setting_of (max self.old.moment now) D.step keys) k V.step service.old server draw.old).0) }
         ensures served { (keys : Keys) (server : Rules) → Stands self.old server → AreOrdered server.sessions server.jobs
             → OnOk result (service.new ≡ (after_work (setting_of (max self.old.moment now) D.step keys) k V.step service.old server draw.old).1) }
+        ensures short { (server : Rules) → Stands self.old server → AreOrdered server.sessions server.jobs
+            → OnOk result (IsShortRunAt k V.step service.old server) }
         ensures unchanged_on_memory { OnErr result (self.new ≡ self.old) }
         ensures same_service_on_memory { OnErr result (service.new ≡ service.old) }
         ensures same_seal { self.new.seal ≡ self.old.seal }
@@ -132,6 +136,7 @@ impl<S: Seal> Server<S> {
             → IfOk result (λ effects. Gives S.lock (S.keys self.old.seal) self.new draw.new effects
             (after_work (setting_of moment D.step keys) k V.step service.old server draw.old).0) }
         ensures served { (job : Job) → ready_job k self.old.jobs ≡ Some job → OnOk result (service.new ≡ (V.step service.old job.request).1) }
+        ensures short { (job : Job) → ready_job k self.old.jobs ≡ Some job → OnOk result (length (V.step service.old job.request).0 ≤ reply_bytes_max) }
         ensures unchanged_on_memory { OnErr result (self.new ≡ self.old) }
         ensures same_service_on_memory { OnErr result (service.new ≡ service.old) }
         ensures same_seal { self.new.seal ≡ self.old.seal }

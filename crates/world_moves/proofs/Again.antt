@@ -188,6 +188,7 @@ module _ (apart : Apart) (w : World) (number : ℕ) (client : Client) (reached :
             submitted = s.submitted ∙ sym (length_changed place change (calls_of client));
             calls = calls_gone;
             given = (λ is. is_given, all_given_alike client gone (record { session = refl; last = omega arith }) w.ups s.given);
+            short = record { acks = s.short.acks; resent = s.short.resent };
             asked = all_asked_more m w.ups client gone refl client.temporary s.asked;
           },
           record { up = m; there = here m w.ups; under = present; salted = salt_there; numbered = refl; is = ap (λ (body : List ℕ). Some body) there_now.body },
@@ -242,6 +243,7 @@ module _ (apart : Apart) (w : World) (number : ℕ) (client : Client) (reached :
             submitted = s.submitted;
             calls = λ place. kept_place (moves.call_at number place) (slice_get (calls_of client) place) (s.calls place);
             given = (λ is. given_number, all_given_alike client bound (record { session = refl; last = omega arith }) w.ups s.given);
+            short = record { acks = s.short.acks; resent = s.short.resent };
             asked = asked_now client.temporary;
           },
           record { up = up; there = here up w.ups; under = present; salted = ap (λ (c : moves.Client). c.salt) s.parts; numbered = refl; is = refl },

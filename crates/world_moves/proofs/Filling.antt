@@ -1,8 +1,10 @@
 -- A client's packet as it is filled, and its flush.
-use Rattle.std.proofs.Common.{◌≡◌, ◌≢◌, ℕ, ◌-◌, Bool, true, false, not, ◌&&◌, List, [], ◌∷◌, ◌++◌, fold, Option, None, Some, if◌then◌else◌, inl, inr, refl, sym, ap, subst, ◌∙◌, arith}
-use Rattle.std.specs.Prelude.{slice_get, option_map, IfSome}
+use Rattle.std.proofs.Common.{◌≡◌, ◌≢◌, ℕ, ◌-◌, Bool, true, false, not, ◌&&◌, List, [], ◌∷◌, ◌++◌, fold, length, ◌≤◌, Option, None, Some, if◌then◌else◌, inl, inr, refl, sym, ap, subst, ◌∙◌, arith}
+use Rattle.std.specs.Prelude.{filter_map, slice_get, option_map, IfSome}
 use Rattle.std.specs.List.{AllByRecursion, Contains}
 use Rattle.std.proofs.lemmas.Bool.{cases_Bool}
+use Rattle.std.proofs.lemmas.List.{length-take}
+use Rattle.tl_codec.specs.Standard.{longs_max}
 use Rattle.service_tl.specs.declared.lists.Message.{Message}
 use Rattle.service_tl.specs.declared.item.Item.{Item}
 use Rattle.service_tl.specs.declared.item.Item.TheVariants.{AuthBindTempAuthKey, DestroySession, GetFutureSalts, MsgResendReq, MsgsAck, MsgsStateInfo, MsgsStateReq, Ping, RpcDropAnswer}
@@ -21,9 +23,9 @@ use Rattle.client_rules.specs.Client.{Client, Asked, Temporary, States, bound_so
 use Rattle.draws.specs.Draws.{draw_after, next_bytes}
 use Rattle.client_rules.specs.Asking.{begins_service}
 use Rattle.client_rules.specs.Sending.{Setting, binding_body, inner_of}
-use Rattle.client_rules.specs.Filling.{Filling, Turn, Goes, Waits, Never, asks_binding, asks_states, body_behind, changes, goes, is_needed, outstanding, says, says_acks, says_binding, says_call, says_call_at, says_destroyed, says_drop, says_drop_of, says_ping, says_resent, says_salts, says_states, says_told, sends_call, takes_turn, turn_of, undropped, number_of}
+use Rattle.client_rules.specs.Filling.{Filling, Turn, Goes, Waits, Never, asks_binding, asks_states, body_behind, changes, goes, is_needed, outstanding, says, says_acks, says_binding, says_call, says_call_at, says_destroyed, says_drop, says_drop_of, says_ping, says_resent, says_salts, says_states, says_told, sends_call, takes_turn, turn_of, undropped, number_of, inserted, living_number, numbers_max}
 use Rattle.client_rules.specs.Client.{is_open}
-use Rattle.world_moves.specs.Clients.{StandsAs, IsAskedThere, IsCallThere, StandsThere}
+use Rattle.world_moves.specs.Clients.{StandsAs, IsAskedThere, IsCallThere, IsShort, StandsThere}
 use Rattle.world_moves.specs.Leading.{Leads}
 use Rattle.world_moves.specs.Sent.{Asks, IsBindingCall, IsSaidAside, IsSent, WasSent}
 use Rattle.world_moves.proofs.Basics.{Alike, Apart, all_given_alike}
@@ -31,6 +33,11 @@ use Rattle.world_moves.proofs.Leading.{GoOn, Grows, goes_on, leads_so}
 use Rattle.world_moves.proofs.Quiet.{OnlyFlags, asked_alike, length_changed, one_changed_there, same_there}
 use Rattle.world_moves.proofs.Sending.{gives_up, sends_first, sends_other}
 use Rattle.world_moves.proofs.Flushing.{AreApart, AreQueued, SameParts, calm, flags_queued, map_queued, other_queued}
+
+few_outstanding : (client : Client) → length (outstanding client) ≤ longs_max
+few_outstanding client =
+    let all : List ℕ = fold inserted [] (filter_map living_number (calls_of client)) in
+    let is = length-take numbers_max all in omega (arith, is)
 
 goes_by : {S : Type 0} (P : Client → List Message → Type 0) (full within : Bool) (fits : Filling S) (filling : Filling S) → P filling.client filling.messages → P fits.client fits.messages
     → P (if full then filling else if within then fits else record filling { is_full = true }).client (if full then filling else if within then fits else record filling { is_full = true }).messages
@@ -66,6 +73,7 @@ flags_stand w number client k change only s =
       calls = one_changed_there client other alike w.ups change only (calls_of client) (k.n - 1)
           (λ place. w.calls (moves.call_at number place)) s.calls;
       given = all_given_alike client other alike w.ups s.given;
+      short = record { acks = s.short.acks; resent = s.short.resent };
       asked = asked_alike client other refl w.ups client.temporary s.asked;
     }
 
@@ -87,6 +95,7 @@ asked_stands w number client message s was is =
       calls = λ place. same_there client other alike w.ups (slice_get (calls_of client) place)
           (w.calls (moves.call_at number place)) (s.calls place);
       given = all_given_alike client other alike w.ups s.given;
+      short = record { acks = s.short.acks; resent = s.short.resent };
       asked = asked_now w other message was is client.temporary;
     }
 
@@ -234,38 +243,38 @@ module _ (apart : Apart) (on : GoOn) (grows : Grows) (w : World) (number : ℕ) 
 
   kept : (client other : Client) → other.session ≡ client.session → other.former ≡ client.former → other.salt ≡ client.salt → other.learnt ≡ client.learnt
       → other.has_ended ≡ client.has_ended → other.counters ≡ client.counters → calls_of other ≡ calls_of client → other.temporary ≡ client.temporary
-      → SameParts client other
-  kept client other a b c d e f g h = record { session = a; former = b; salt = c; learnt = d; ended = e; counters = f; calls = g; temporary = h }
+      → (IsShort client → IsShort other) → SameParts client other
+  kept client other a b c d e f g h i = record { session = a; former = b; salt = c; learnt = d; ended = e; counters = f; calls = g; temporary = h; short = i }
 
-  pub acks_so : {S : Type 0} (ks : List CallNo) (acks : List ℕ) (filling : Filling S) → Holds ks filling.client filling.messages → Holds ks (says_acks acks filling).client (says_acks acks filling).messages
-  acks_so ks [] filling h = h
-  acks_so ks (ack ∷ acks) filling h = says_so ks false (MsgsAck (ack ∷ acks)) (λ client. record client { table = record client.table { acks = [] } }) filling tt (λ client. kept client (record client { table = record client.table { acks = [] } }) refl refl refl refl refl refl refl refl) h
+  pub acks_so : {S : Type 0} (ks : List CallNo) (acks : List ℕ) (filling : Filling S) → length acks ≤ longs_max → Holds ks filling.client filling.messages → Holds ks (says_acks acks filling).client (says_acks acks filling).messages
+  acks_so ks [] filling short h = h
+  acks_so ks (ack ∷ acks) filling short h = says_so ks false (MsgsAck (ack ∷ acks)) (λ client. record client { table = record client.table { acks = [] } }) filling short (λ client. kept client (record client { table = record client.table { acks = [] } }) refl refl refl refl refl refl refl refl (λ h. record { acks = omega arith; resent = h.resent })) h
 
   pub told_so : {S : Type 0} (ks : List CallNo) (told : Option States) (filling : Filling S) → Holds ks filling.client filling.messages → Holds ks (says_told told filling).client (says_told told filling).messages
   told_so ks None filling h = h
-  told_so ks (Some states) filling h = says_so ks false (MsgsStateInfo states.request states.info) (λ client. record client { waiting = record client.waiting { told = None } }) filling tt (λ client. kept client (record client { waiting = record client.waiting { told = None } }) refl refl refl refl refl refl refl refl) h
+  told_so ks (Some states) filling h = says_so ks false (MsgsStateInfo states.request states.info) (λ client. record client { waiting = record client.waiting { told = None } }) filling tt (λ client. kept client (record client { waiting = record client.waiting { told = None } }) refl refl refl refl refl refl refl refl (λ h. record { acks = h.acks; resent = h.resent })) h
 
-  pub resent_so : {S : Type 0} (ks : List CallNo) (numbers : List ℕ) (filling : Filling S) → Holds ks filling.client filling.messages → Holds ks (says_resent numbers filling).client (says_resent numbers filling).messages
-  resent_so ks [] filling h = h
-  resent_so ks (n ∷ numbers) filling h = says_so ks false (MsgResendReq (n ∷ numbers)) (λ client. record client { waiting = record client.waiting { resent = [] } }) filling tt (λ client. kept client (record client { waiting = record client.waiting { resent = [] } }) refl refl refl refl refl refl refl refl) h
+  pub resent_so : {S : Type 0} (ks : List CallNo) (numbers : List ℕ) (filling : Filling S) → length numbers ≤ longs_max → Holds ks filling.client filling.messages → Holds ks (says_resent numbers filling).client (says_resent numbers filling).messages
+  resent_so ks [] filling short h = h
+  resent_so ks (n ∷ numbers) filling short h = says_so ks false (MsgResendReq (n ∷ numbers)) (λ client. record client { waiting = record client.waiting { resent = [] } }) filling short (λ client. kept client (record client { waiting = record client.waiting { resent = [] } }) refl refl refl refl refl refl refl refl (λ h. record { acks = h.acks; resent = omega arith })) h
 
   pub states_so : {S : Type 0} (ks : List CallNo) (is : Bool) (filling : Filling S) → Holds ks filling.client filling.messages → Holds ks (says_states is filling).client (says_states is filling).messages
   states_so ks false filling h = h
-  states_so ks true filling h = says_so ks false (MsgsStateReq (outstanding filling.client)) (λ client. asks_states (outstanding filling.client) client) filling tt (λ client. kept client (asks_states (outstanding filling.client) client) refl refl refl refl refl refl refl refl) h
+  states_so ks true filling h = says_so ks false (MsgsStateReq (outstanding filling.client)) (λ client. asks_states (outstanding filling.client) client) filling (few_outstanding filling.client) (λ client. kept client (asks_states (outstanding filling.client) client) refl refl refl refl refl refl refl refl (λ h. record { acks = h.acks; resent = h.resent })) h
 
   pub ping_so : {S : Type 0} (ks : List CallNo) (ping : Option ℕ) (filling : Filling S) → Holds ks filling.client filling.messages → Holds ks (says_ping ping filling).client (says_ping ping filling).messages
   ping_so ks None filling h = h
-  ping_so ks (Some id) filling h = says_so ks false (Ping id) (λ client. record client { waiting = record client.waiting { ping = None } }) filling tt (λ client. kept client (record client { waiting = record client.waiting { ping = None } }) refl refl refl refl refl refl refl refl) h
+  ping_so ks (Some id) filling h = says_so ks false (Ping id) (λ client. record client { waiting = record client.waiting { ping = None } }) filling tt (λ client. kept client (record client { waiting = record client.waiting { ping = None } }) refl refl refl refl refl refl refl refl (λ h. record { acks = h.acks; resent = h.resent })) h
 
   pub salts_so : {S : Type 0} (ks : List CallNo) (salts : Option ℕ) (filling : Filling S) → Holds ks filling.client filling.messages → Holds ks (says_salts salts filling).client (says_salts salts filling).messages
   salts_so ks None filling h = h
-  salts_so ks (Some count) filling h = says_so ks true (GetFutureSalts count) (λ client. record client { waiting = record client.waiting { salts = None } }) filling tt (λ client. kept client (record client { waiting = record client.waiting { salts = None } }) refl refl refl refl refl refl refl refl) h
+  salts_so ks (Some count) filling h = says_so ks true (GetFutureSalts count) (λ client. record client { waiting = record client.waiting { salts = None } }) filling tt (λ client. kept client (record client { waiting = record client.waiting { salts = None } }) refl refl refl refl refl refl refl refl (λ h. record { acks = h.acks; resent = h.resent })) h
 
   pub destroyed_so : {S : Type 0} (ks : List CallNo) (destroyed : Option ℕ) (filling : Filling S) → Holds ks filling.client filling.messages → Holds ks (says_destroyed destroyed filling).client (says_destroyed destroyed filling).messages
   destroyed_so ks None filling h = h
   destroyed_so ks (Some session) filling h =
       elim (cases_Bool (is_open filling.client)) [
-        | inl is ↦ rw is (says_so ks true (DestroySession session) (λ client. record client { waiting = record client.waiting { destroyed = None } }) filling tt (λ client. kept client (record client { waiting = record client.waiting { destroyed = None } }) refl refl refl refl refl refl refl refl) h)
+        | inl is ↦ rw is (says_so ks true (DestroySession session) (λ client. record client { waiting = record client.waiting { destroyed = None } }) filling tt (λ client. kept client (record client { waiting = record client.waiting { destroyed = None } }) refl refl refl refl refl refl refl refl (λ h. record { acks = h.acks; resent = h.resent })) h)
         | inr not ↦ rw not h
       ]
 

@@ -17,7 +17,7 @@ use Rattle.client_rules.specs.Client.{Client, Binding, Needed, Asked, Held, Boun
 use Rattle.client_rules.specs.Sending.{Setting, packet_of}
 use Rattle.client_rules.specs.Filling.{Filling, body_behind, empty, fills, says_acks, says_binding, says_destroyed, says_drop, says_ping, says_resent, says_salts, says_states, says_told}
 use Rattle.client_rules.specs.Flush.{Answer, Marked, Nothing, Sends, Spent, asked_alone, binding_alone, filled, first_marked, flush, gone_again, has_any, marked_at, message_behind, remembers, remembers_lone, room_min, sends, unless_binding, unless_call}
-use Rattle.world_moves.specs.Clients.{StandsAs, IsAskedThere}
+use Rattle.world_moves.specs.Clients.{StandsAs, IsAskedThere, IsShort}
 use Rattle.world_moves.specs.Leading.{Leads}
 use Rattle.world_moves.specs.Sent.{Asks, IsAnswerSent, IsBindingCall, WasSent}
 use Rattle.world_moves.proofs.Basics.{Apart}
@@ -119,8 +119,8 @@ module _ (apart : Apart) (on : GoOn) (grows : Grows) (w : World) (number : ℕ) 
 
   -- ---- what waits
 
-  fills_so : {S : Type 0} (setting : Setting S) (client : Client) (draw : S) → There client [] → There (fills setting client draw).client (fills setting client draw).messages
-  fills_so setting client draw h =
+  fills_so : {S : Type 0} (setting : Setting S) (client : Client) (draw : S) → IsShort client → There client [] → There (fills setting client draw).client (fills setting client draw).messages
+  fills_so setting client draw short h =
       let ks : List CallNo = group_of group.Queued (calls_of client) in
       let waiting = client.waiting in
       let start : Holds apart on grows w number session salt reached ks client [] =
@@ -134,9 +134,9 @@ module _ (apart : Apart) (on : GoOn) (grows : Grows) (w : World) (number : ℕ) 
       let g = says_destroyed waiting.destroyed f in
       let bound = says_binding setting client.temporary g in
       let drops = group_of group.Dropping (calls_of client) in
-      let acks = acks_so apart on grows w number session salt reached ks client.table.acks (empty client draw) start in
+      let acks = acks_so apart on grows w number session salt reached ks client.table.acks (empty client draw) short.acks start in
       let told = told_so apart on grows w number session salt reached ks waiting.told a acks in
-      let resent = resent_so apart on grows w number session salt reached ks waiting.resent b told in
+      let resent = resent_so apart on grows w number session salt reached ks waiting.resent b short.resent told in
       let states = states_so apart on grows w number session salt reached ks waiting.states c resent in
       let ping = ping_so apart on grows w number session salt reached ks waiting.ping d states in
       let salts = salts_so apart on grows w number session salt reached ks waiting.salts e ping in
@@ -148,9 +148,9 @@ module _ (apart : Apart) (on : GoOn) (grows : Grows) (w : World) (number : ℕ) 
   -- ---- what goes alone
 
   call_so : {S : Type 0} (setting : Setting S) (marked : Option Marked) (client : Client) (draw : S) → first_marked (calls_of client) (group_of group.Alone (calls_of client)) ≡ marked
-      → There client [] → There (unless_call setting marked client draw).client (unless_call setting marked client draw).messages
-  call_so setting None client draw is h = fills_so setting client draw h
-  call_so setting (Some marked) client draw is h =
+      → IsShort client → There client [] → There (unless_call setting marked client draw).client (unless_call setting marked client draw).messages
+  call_so setting None client draw is short h = fills_so setting client draw short h
+  call_so setting (Some marked) client draw is short h =
       let its = is_marked client (group_of group.Alone (calls_of client)) marked is in
       let parts = living_parts its.call.state its.call.names its.name its.living in
       let gone : Client = with_call marked.call (gone_again client.salt) client in
@@ -166,10 +166,10 @@ module _ (apart : Apart) (on : GoOn) (grows : Grows) (w : World) (number : ℕ) 
       (sends_again apart later number client reached s marked.call its.call its.name parts.1.0 its.found parts.0 parts.1.1)) h
 
   binding_so_again : {S : Type 0} (setting : Setting S) (message : Option Message) (client : Client) (draw : S) → binding_alone client.temporary ≡ message
-      → There client [] → There (unless_binding setting message client draw).client (unless_binding setting message client draw).messages
-  binding_so_again setting None client draw is h =
-      call_so setting (first_marked (calls_of client) (group_of group.Alone (calls_of client))) client draw refl h
-  binding_so_again setting (Some message) client draw is h =
+      → IsShort client → There client [] → There (unless_binding setting message client draw).client (unless_binding setting message client draw).messages
+  binding_so_again setting None client draw is short h =
+      call_so setting (first_marked (calls_of client) (group_of group.Alone (calls_of client))) client draw refl short h
+  binding_so_again setting (Some message) client draw is short h =
       let gone : Client = with_binding (Asked message) client in
       then_sends apart on grows w number session salt reached client gone [] message None refl refl
       (λ later reached s.
@@ -186,7 +186,7 @@ module _ (apart : Apart) (on : GoOn) (grows : Grows) (w : World) (number : ℕ) 
   remembers_so outer inner client messages h =
       then_so apart on grows w number session salt reached client (remembers outer inner client) messages refl refl
       (λ later s. calm later number client (remembers outer inner client)
-      (record { session = refl; former = refl; salt = refl; learnt = refl; ended = refl; counters = refl; calls = refl; temporary = refl }) s) h
+      (record { session = refl; former = refl; salt = refl; learnt = refl; ended = refl; counters = refl; calls = refl; temporary = refl; short = λ h. record { acks = h.acks; resent = h.resent } }) s) h
 
   lone_so : (outer : ℕ) (inner : List ℕ) (is : Bool) (client : Client) (messages : List Message) → There client messages → There (if is then client else remembers outer inner client) messages
   lone_so outer inner true client messages h = h
@@ -249,7 +249,7 @@ module _ (apart : Apart) (on : GoOn) (grows : Grows) (w : World) (number : ℕ) 
         gives = (
           record {
             stands = calm _ number next last
-                (record { session = refl; former = refl; salt = refl; learnt = refl; ended = refl; counters = refl; calls = refl; temporary = refl }) l.gives.0;
+                (record { session = refl; former = refl; salt = refl; learnt = refl; ended = refl; counters = refl; calls = refl; temporary = refl; short = λ h. record { acks = h.acks; resent = h.resent } }) l.gives.0;
             under = far.under;
             salted = far.salted;
             sent = all_sent_more later.ups _ (grows later l.moves l.lawful) session salt inside far.sent;
@@ -273,9 +273,9 @@ pub flushes : Apart → GoOn → Grows → {S : Type 0} (w : World) (setting : S
     → Leads number w (λ later. StandsAs later number (flush setting now client draw).client × IsAnswerSent later.ups (flush setting now client draw).answer)
 flushes apart on grows w setting number now client draw reached s =
     let then_ : Client = at_moment now client in
-    let same : SameParts client then_ = record { session = refl; former = refl; salt = refl; learnt = refl; ended = refl; counters = refl; calls = refl; temporary = refl } in
+    let same : SameParts client then_ = record { session = refl; former = refl; salt = refl; learnt = refl; ended = refl; counters = refl; calls = refl; temporary = refl; short = λ h. record { acks = h.acks; resent = h.resent } } in
     let before = stays number w (λ later. IsSoFar later number client.session client.salt client []) (record { stands = s; under = refl; salted = refl; sent = tt }) in
     let moment = stays number w (λ later. IsSoFar later number client.session client.salt then_ []) (record { stands = calm w number client then_ same s; under = refl; salted = refl; sent = tt }) in
     let filling = filled setting then_ draw in
     spent_so apart on grows w number client.session client.salt reached setting (has_any filling.messages) (nat_lt (room client.counters) room_min) client draw filling before
-    (binding_so_again apart on grows w number client.session client.salt reached setting (binding_alone then_.temporary) then_ draw refl moment) refl
+    (binding_so_again apart on grows w number client.session client.salt reached setting (binding_alone then_.temporary) then_ draw refl (same.short s.short) moment) refl

@@ -10,7 +10,7 @@ use Rattle.call_table.specs.declared.call.Group.TheVariants as group
 use Rattle.call_table.specs.Table.{Call, Name, State, at, call_no, changed_at, flagged, group_of, is_in, is_queued, living_name, living_name_in, places_from, sent, settled}
 use Rattle.call_table.specs.Table as table
 use Rattle.client_rules.specs.Client.{Client, Temporary, calls_of}
-use Rattle.world_moves.specs.Clients.{StandsAs, IsAskedThere, StandsThere}
+use Rattle.world_moves.specs.Clients.{StandsAs, IsShort, IsAskedThere, StandsThere}
 use Rattle.world_moves.proofs.Basics.{Alike, all_given_alike}
 use Rattle.world_moves.proofs.Quiet.{OnlyFlags, asked_alike, same_there}
 use Rattle.world_moves.proofs.Sending.{get_changed, get_unchanged}
@@ -26,6 +26,7 @@ pub record SameParts (one other : Client) : Type 0 where
   pub counters : other.counters ≡ one.counters
   pub calls : calls_of other ≡ calls_of one
   pub temporary : other.temporary ≡ one.temporary
+  pub short : IsShort one → IsShort other
 
 pub calm : (w : World) (number : ℕ) (one other : Client) → SameParts one other → StandsAs w number one → StandsAs w number other
 calm w number one other same s =
@@ -37,6 +38,7 @@ calm w number one other same s =
       calls = λ place. subst (λ (l : List Call). StandsThere other w.ups (slice_get l place) (w.calls (moves.call_at number place))) (sym same.calls)
           (same_there one other alike w.ups (slice_get (calls_of one) place) (w.calls (moves.call_at number place)) (s.calls place));
       given = all_given_alike one other alike w.ups s.given;
+      short = same.short s.short;
       asked = subst (λ (t : Option Temporary). IfSome t (λ (t : Temporary). IsAskedThere w.ups other t.binding)) (sym same.temporary)
           (asked_alike one other same.session w.ups one.temporary s.asked);
     }

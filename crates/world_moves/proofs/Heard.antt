@@ -1,7 +1,8 @@
 -- A whole packet that a client hears.
-use Rattle.std.proofs.Common.{◌≡◌, ℕ, ◌++◌, Bool, true, false, List, [], ◌∷◌, fold, inl, inr, refl, sym, ap, subst, ◌∙◌, if◌then◌else◌}
+use Rattle.std.proofs.Common.{◌≡◌, ℕ, ◌-◌, ◌++◌, length, arith, Bool, true, false, List, [], ◌∷◌, fold, inl, inr, refl, sym, ap, subst, ◌∙◌, if◌then◌else◌}
 use Rattle.std.specs.Prelude.{◌⊎◌}
 use Rattle.std.specs.List.{Contains}
+use Rattle.std.proofs.lemmas.List.{length-drop}
 use Rattle.service_tl.specs.declared.lists.Message.{Message}
 use Rattle.service_tl.specs.ItemOf.{item_of}
 use Rattle.envelope.specs.declared.parts.Envelope.{Envelope}
@@ -10,7 +11,7 @@ use Rattle.session_moves.specs.World.{World}
 use Rattle.session_moves.specs.Move.Move.{Hear}
 use Rattle.session_moves.specs.After.{after, after_heard, after_item, after_items}
 use Rattle.session_moves.specs.Reached.{Reached}
-use Rattle.call_table.specs.Table.{acknowledged}
+use Rattle.call_table.specs.Table.{acknowledged, acks_max}
 use Rattle.client_rules.specs.Client.{Client, at_moment}
 use Rattle.client_rules.specs.Taking.{acknowledges, is_for, is_odd, message_in, messages_of, row, take, takes_message, without_idle_wish}
 use Rattle.world_moves.specs.Clients.{StandsAs}
@@ -43,8 +44,22 @@ taken_by v number there takes is = rw is refl
 
 same_acks : (message : Message) (is : Bool) (client : Client)
     → SameParts client (if is then record client { table = record client.table { acks = acknowledged message.number client.table.acks } } else client)
-same_acks message true client = record { session = refl; former = refl; salt = refl; learnt = refl; ended = refl; counters = refl; calls = refl; temporary = refl }
-same_acks message false client = record { session = refl; former = refl; salt = refl; learnt = refl; ended = refl; counters = refl; calls = refl; temporary = refl }
+same_acks message true client = record {
+  session = refl;
+  former = refl;
+  salt = refl;
+  learnt = refl;
+  ended = refl;
+  counters = refl;
+  calls = refl;
+  temporary = refl;
+  short = λ h.
+      record {
+        acks = (let list : List ℕ = client.table.acks ++ message.number ∷ [] in let is = length-drop (length list - acks_max) list in omega (arith, is));
+        resent = h.resent;
+      };
+}
+same_acks message false client = record { session = refl; former = refl; salt = refl; learnt = refl; ended = refl; counters = refl; calls = refl; temporary = refl; short = λ h. record { acks = h.acks; resent = h.resent } }
 
 module _ (number outer : ℕ) where
   abbrev MessageSo : World → Message → Client → Type 0
@@ -114,13 +129,13 @@ module _ (number outer : ℕ) where
       rest_so message messages v (takes_message outer client message) (λ u. messages_so messages u (takes_message outer client message)) (message_so v client message s)
 
 timed : (v : World) (time number : ℕ) (client : Client) → StandsAs v number client → StandsAs (record v { time = time }) number client
-timed v time number client s = record { made = s.made; parts = s.parts; submitted = s.submitted; calls = s.calls; given = s.given; asked = s.asked }
+timed v time number client s = record { made = s.made; parts = s.parts; submitted = s.submitted; calls = s.calls; given = s.given; asked = s.asked; short = s.short }
 
 moment_same : (now : ℕ) (client : Client) → SameParts client (at_moment now client)
-moment_same now client = record { session = refl; former = refl; salt = refl; learnt = refl; ended = refl; counters = refl; calls = refl; temporary = refl }
+moment_same now client = record { session = refl; former = refl; salt = refl; learnt = refl; ended = refl; counters = refl; calls = refl; temporary = refl; short = λ h. record { acks = h.acks; resent = h.resent } }
 
 idle_same : (client : Client) → SameParts client (without_idle_wish client)
-idle_same client = record { session = refl; former = refl; salt = refl; learnt = refl; ended = refl; counters = refl; calls = refl; temporary = refl }
+idle_same client = record { session = refl; former = refl; salt = refl; learnt = refl; ended = refl; counters = refl; calls = refl; temporary = refl; short = λ h. record { acks = h.acks; resent = h.resent } }
 
 module _ (apart : Apart) (w : World) (number now : ℕ) (client : Client) (envelope : Envelope) (packet : moves.Packet) (reached : Reached w)
     (s : StandsAs w number client) (made : Contains w.downs packet) (session : (w.servers packet.server).session ≡ client.session)

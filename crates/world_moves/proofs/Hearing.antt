@@ -1,8 +1,8 @@
 -- A packet that a client hears.
-use Rattle.std.proofs.Common.{◌≡◌, ℕ, ◌==◌, ◌&&◌, ◌||◌, not, Bool, true, false, List, [], ◌∷◌, ◌++◌, length, reverse, fold, Option, None, Some, if◌then◌else◌, inl, inr, refl, sym, ap, subst, ◌∙◌, arith, eq-eqb}
+use Rattle.std.proofs.Common.{◌≡◌, ℕ, ◌==◌, ◌&&◌, ◌||◌, not, Bool, true, false, List, [], ◌∷◌, ◌++◌, length, length-append, reverse, fold, Option, None, Some, if◌then◌else◌, inl, inr, refl, sym, ap, subst, ◌∙◌, arith, eq-eqb}
 use Rattle.std.specs.Prelude.{◌⊎◌, slice_get, option_map, IfSome, nat_lt, nat_le}
 use Rattle.std.specs.List.{list_any, zip}
-use Rattle.std.proofs.lemmas.Bool.{cases_Bool}
+use Rattle.std.proofs.lemmas.Bool.{cases_Bool, ltb-true}
 use Rattle.std.proofs.lemmas.Bool.Decides.{nat_tests}
 use Rattle.std.proofs.lemmas.List.{length-reverse}
 use Rattle.tl_codec.specs.Standard.{bool_true}
@@ -51,8 +51,8 @@ asked_still ups client other session None h = tt
 asked_still ups client other session (Some temporary) h = binding_alike client other session ups temporary.binding h
 
 clock_by : (is : Bool) (outer : ℕ) (client : Client) → SameParts client (if is then with_clock outer client else client)
-clock_by true outer client = record { session = refl; former = refl; salt = refl; learnt = refl; ended = refl; counters = refl; calls = refl; temporary = refl }
-clock_by false outer client = record { session = refl; former = refl; salt = refl; learnt = refl; ended = refl; counters = refl; calls = refl; temporary = refl }
+clock_by true outer client = record { session = refl; former = refl; salt = refl; learnt = refl; ended = refl; counters = refl; calls = refl; temporary = refl; short = λ h. record { acks = h.acks; resent = h.resent } }
+clock_by false outer client = record { session = refl; former = refl; salt = refl; learnt = refl; ended = refl; counters = refl; calls = refl; temporary = refl; short = λ h. record { acks = h.acks; resent = h.resent } }
 
 -- another binding, which wasn't asked for
 unasked : (v : World) (number : ℕ) (client : Client) (binding : Binding) → IsAskedThere v.ups client binding → StandsAs v number client
@@ -66,6 +66,7 @@ unasked v number client binding not_asked s =
       submitted = s.submitted;
       calls = λ place. same_there client other alike v.ups (slice_get (calls_of client) place) (v.calls (moves.call_at number place)) (s.calls place);
       given = all_given_alike client other alike v.ups s.given;
+      short = record { acks = s.short.acks; resent = s.short.resent };
       asked = asked_bound v.ups client other refl binding not_asked client.temporary;
     }
 
@@ -125,6 +126,7 @@ packet_stands v number numbers client s =
       submitted = s.submitted;
       calls = λ place. same_there client other alike v.ups (slice_get (calls_of client) place) (v.calls (moves.call_at number place)) (s.calls place);
       given = all_given_alike client other alike v.ups s.given;
+      short = record { acks = s.short.acks; resent = s.short.resent };
       asked = asked_among v.ups client other refl numbers client.temporary s.asked;
     })
 
@@ -140,6 +142,7 @@ salt_taken v number salt client s =
       submitted = s.submitted;
       calls = λ place. same_there client other alike v.ups (slice_get (calls_of client) place) (v.calls (moves.call_at number place)) (s.calls place);
       given = all_given_alike client other alike v.ups s.given;
+      short = record { acks = s.short.acks; resent = s.short.resent };
       asked = asked_still v.ups client other refl client.temporary s.asked;
     }
 
@@ -151,6 +154,7 @@ salt_left v number salt client s =
       submitted = s.submitted;
       calls = s.calls;
       given = s.given;
+      short = record { acks = s.short.acks; resent = s.short.resent };
       asked = s.asked;
     }
 
@@ -203,6 +207,7 @@ becomes_same k fate one other same = record {
   counters = same.counters;
   calls = ap (λ (calls : List Call). changed k (settled fate) calls) same.calls;
   temporary = same.temporary;
+  short = λ h. (let k = same.short (record { acks = h.acks; resent = h.resent }) in record { acks = k.acks; resent = k.resent });
 }
 
 noticed_so : (v : World) (number : ℕ) (found : Option CallNo) (is_binding : Bool) (packet : Option (List ℕ)) (outer about code : ℕ) (client : Client)
@@ -242,7 +247,7 @@ salted_so v number None false None outer about salt client s = salt_left v numbe
 -- ---- a unique number
 
 untimed : (v : World) (number : ℕ) (client : Client) → StandsAs (after v (Own (End number))) number client → StandsAs (end_client v number) number client
-untimed v number client s = record { made = s.made; parts = s.parts; submitted = s.submitted; calls = s.calls; given = s.given; asked = s.asked }
+untimed v number client s = record { made = s.made; parts = s.parts; submitted = s.submitted; calls = s.calls; given = s.given; asked = s.asked; short = s.short }
 
 -- the client stands so, and names are of one call
 pub record StandsSo (v : World) (number : ℕ) (client : Client) : Type 0 where
@@ -297,10 +302,27 @@ module _ (v : World) (number outer from : ℕ) (client : Client) (s : StandsSo v
 
   asks_so : (answer : ℕ) → StandsAs v number (asks_answer answer client)
   asks_so answer =
-      stands_if v number (nat_lt (length client.waiting.resent) numbers_max)
-      (record client { waiting = record client.waiting { resent = client.waiting.resent ++ answer ∷ [] } }) client
-      (wait_so (record client { waiting = record client.waiting { resent = client.waiting.resent ++ answer ∷ [] } })
-      (record { session = refl; former = refl; salt = refl; learnt = refl; ended = refl; counters = refl; calls = refl; temporary = refl })) s.stands
+      let more : Client = record client { waiting = record client.waiting { resent = client.waiting.resent ++ answer ∷ [] } } in
+      let Goal : Bool → Type 0 = λ b. StandsAs v number (if b then more else client) in
+      elim (cases_Bool (nat_lt (length client.waiting.resent) numbers_max)) [
+        | inl is ↦
+            let few = ltb-true (length client.waiting.resent) numbers_max is in
+            let counted = length-append client.waiting.resent (answer ∷ []) in
+            subst Goal (sym is)
+            (wait_so more
+            (record {
+              session = refl;
+              former = refl;
+              salt = refl;
+              learnt = refl;
+              ended = refl;
+              counters = refl;
+              calls = refl;
+              temporary = refl;
+              short = λ h. record { acks = h.acks; resent = omega (arith, few, counted) };
+            }))
+        | inr fails ↦ subst Goal (sym fails) s.stands
+      ]
 
   result_so : (about : ℕ) (result : List ℕ) → RowSo (RpcResult about result)
   result_so about result =
@@ -359,7 +381,7 @@ module _ (v : World) (number outer from : ℕ) (client : Client) (s : StandsSo v
       inl (record {
         is = refl;
         so = wait_so (asked_states from numbers client)
-            (record { session = refl; former = refl; salt = refl; learnt = refl; ended = refl; counters = refl; calls = refl; temporary = refl });
+            (record { session = refl; former = refl; salt = refl; learnt = refl; ended = refl; counters = refl; calls = refl; temporary = refl; short = λ h. record { acks = h.acks; resent = h.resent } });
       })
   row_so (MsgDetailedInfo about answer bytes status) = inl (record { is = refl; so = asks_so answer })
   row_so (MsgNewDetailedInfo answer bytes status) = inl (record { is = refl; so = asks_so answer })

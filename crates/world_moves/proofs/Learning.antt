@@ -216,5 +216,6 @@ module _ (v : World) (number outer unique salt : ℕ) (client : Client) (s : Sta
     submitted = s.submitted ∙ sym (length-map (calls_of client) (λ (call : Call). settled_if (becomes call) call));
     calls = calls_taught;
     given = all_given_alike client taught alike_taught v.ups s.given;
+    short = record { acks = s.short.acks; resent = s.short.resent };
     asked = needed_now client.temporary;
   }

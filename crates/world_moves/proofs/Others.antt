@@ -115,6 +115,7 @@ module _ (apart : Apart) (w v : World) (number : ℕ) (client : Client) (news : 
         (all_append (λ (m : moves.Message). IsGivenBy client m.session m.number) news w.ups
         (all_map (λ (m : moves.Message). Owns (w.clients number) m.session → ⊥) (λ (m : moves.Message). IsGivenBy client m.session m.number) news
         (λ m never is. absurd (never (subst (λ (session : ℕ). Owns (w.clients number) session) (sym is) owns_present))) foreign) s.given);
+    short = record { acks = s.short.acks; resent = s.short.resent };
     asked = subst (λ (l : List moves.Message). IfSome client.temporary (λ (t : Temporary). IsAskedThere l client t.binding)) (sym ups)
         (all_asked news w.ups client client.temporary s.asked);
   }

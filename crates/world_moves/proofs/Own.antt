@@ -31,6 +31,7 @@ joins apart w number key session reached nobody new = record {
   submitted = nobody.submitted;
   calls = nobody.calls;
   given = none_given apart w session 0 reached new;
+  short = record { acks = omega arith; resent = omega arith };
   asked = tt;
 }
 
@@ -42,6 +43,7 @@ joins_so apart w number key session perm expires reached nobody new = record {
   submitted = nobody.submitted;
   calls = nobody.calls;
   given = none_given apart w session 0 reached new;
+  short = record { acks = omega arith; resent = omega arith };
   asked = tt;
 }
 
@@ -101,6 +103,7 @@ module _ (w : World) (number : ℕ) (client : Client) (body : List ℕ) (earlier
     submitted = rw (eq-eqb number number refl) (omega (arith, s.submitted, length-append (calls_of client) (new_call body earlier ∷ [])));
     calls = calls_submitted;
     given = all_given_alike client later alike w.ups s.given;
+    short = record { acks = s.short.acks; resent = s.short.resent };
     asked = s.asked;
   }
 
@@ -197,6 +200,7 @@ module _ (apart : Apart) (w : World) (number session : ℕ) (client : Client) (r
     submitted = s.submitted ∙ sym (length-map (calls_of client) (λ (call : Call). settled_if (fate_renewed call.state) call));
     calls = calls_renewed;
     given = none_given apart w session 0 reached new;
+    short = record { acks = omega arith; resent = omega arith };
     asked = needed_now client.temporary;
   }
 
@@ -259,6 +263,7 @@ module _ (w : World) (number : ℕ) (client : Client) (s : StandsAs w number cli
         rw (eq-eqb number number refl, get_map (λ (call : Call). settled_if (fate_at_end call.state) call) (calls_of client) place)
         (place_ended (slice_get (calls_of client) place) (w.calls (moves.call_at number place)) (s.calls place));
     given = all_given_alike client over alike_over w.ups s.given;
+    short = record { acks = s.short.acks; resent = s.short.resent };
     asked = asked_alike client over refl w.ups client.temporary s.asked;
   }
 

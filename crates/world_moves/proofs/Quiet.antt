@@ -1,5 +1,6 @@
 -- Wishes and attaches.
-use Rattle.std.proofs.Common.{◌≡◌, ℕ, zero, suc, ◌-◌, true, List, [], ◌∷◌, length, Option, None, Some, inl, inr, refl, sym, ap, subst, ◌∙◌, arith}
+use Rattle.tl_codec.specs.Standard.{longs_max}
+use Rattle.std.proofs.Common.{◌≡◌, ◌≤◌, ℕ, zero, suc, ◌-◌, true, List, [], ◌∷◌, length, Option, None, Some, inl, inr, refl, sym, ap, subst, ◌∙◌, arith}
 use Rattle.std.specs.Prelude.{slice_get, option_map, IfSome}
 use Rattle.std.proofs.lemmas.Bool.{cases_Bool}
 use Rattle.std.proofs.lemmas.List.{length-map}
@@ -77,8 +78,8 @@ asked_alike one other session ups (Some temporary) h = binding_alike one other s
 
 module _ (w : World) (number : ℕ) (client : Client) (s : StandsAs w number client) where
   -- a client with other waiting items stands too
-  waits_so : (waiting : Waiting) → StandsAs w number (record client { waiting = waiting })
-  waits_so waiting =
+  waits_so : (waiting : Waiting) → waiting.resent ≡ client.waiting.resent → StandsAs w number (record client { waiting = waiting })
+  waits_so waiting same =
       let other : Client = record client { waiting = waiting } in
       let alike : Alike client other = record { session = refl; last = omega arith } in
       record {
@@ -87,17 +88,18 @@ module _ (w : World) (number : ℕ) (client : Client) (s : StandsAs w number cli
         submitted = s.submitted;
         calls = λ place. same_there client other alike w.ups (slice_get (calls_of client) place) (w.calls (moves.call_at number place)) (s.calls place);
         given = all_given_alike client other alike w.ups s.given;
+        short = record { acks = s.short.acks; resent = subst (λ (l : List ℕ). length l ≤ longs_max) (sym same) s.short.resent };
         asked = asked_alike client other refl w.ups client.temporary s.asked;
       }
 
   pub ticks : StandsAs w number (ticked client)
-  ticks = waits_so (ticked client).waiting
+  ticks = waits_so (ticked client).waiting refl
 
   pub pings : (id : ℕ) → StandsAs w number (pinged id client)
-  pings id = waits_so (pinged id client).waiting
+  pings id = waits_so (pinged id client).waiting refl
 
   pub asks_salts : (count : ℕ) → StandsAs w number (salts_asked count client)
-  asks_salts count = waits_so (salts_asked count client).waiting
+  asks_salts count = waits_so (salts_asked count client).waiting refl
 
   -- ---- flags
 
@@ -131,6 +133,7 @@ module _ (w : World) (number : ℕ) (client : Client) (s : StandsAs w number cli
             (sym (get_map alone_if_sent (calls_of client) place))
             (changed_there client other alike w.ups alone_if_sent alone_only (slice_get (calls_of client) place) (w.calls (moves.call_at number place)) (s.calls place));
         given = all_given_alike client other alike w.ups s.given;
+        short = record { acks = s.short.acks; resent = s.short.resent };
         asked = asked_marked w.ups other refl client.temporary s.asked;
       }
 
@@ -145,6 +148,7 @@ module _ (w : World) (number : ℕ) (client : Client) (s : StandsAs w number cli
         calls = one_changed_there client other alike w.ups drops (λ one. (record one.flags { dropping = true }, refl)) (calls_of client) (call.n - 1)
             (λ place. w.calls (moves.call_at number place)) s.calls;
         given = all_given_alike client other alike w.ups s.given;
+        short = record { acks = s.short.acks; resent = s.short.resent };
         asked = asked_alike client other refl w.ups client.temporary s.asked;
       }
 

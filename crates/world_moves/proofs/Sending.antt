@@ -166,6 +166,7 @@ module _ (apart : Apart) (w : World) (number : ℕ) (client : Client) (reached :
           submitted = s.submitted;
           calls = λ place. kept_place new more m present refl other refl (moves.call_at number place) (slice_get (calls_of client) place) (s.calls place);
           given = (λ is. omega arith, all_given_alike client other (record { session = refl; last = omega (arith, more) }) w.ups s.given);
+          short = record { acks = s.short.acks; resent = s.short.resent };
           asked = all_asked_more m w.ups client other refl client.temporary s.asked;
         },
         record { up = m; there = here m w.ups; under = present; salted = salt_there; numbered = refl; is = refl },
@@ -247,6 +248,7 @@ module _ (apart : Apart) (w : World) (number : ℕ) (client : Client) (reached :
             submitted = s.submitted ∙ sym (length_changed place change (calls_of client));
             calls = calls_gone;
             given = (λ is. omega arith, all_given_alike client gone (record { session = refl; last = omega (arith, more) }) w.ups s.given);
+            short = record { acks = s.short.acks; resent = s.short.resent };
             asked = all_asked_more m w.ups client gone refl client.temporary s.asked;
           },
           record { up = m; there = here m w.ups; under = present; salted = salt_there; numbered = refl; is = ap (λ (body : List ℕ). Some body) there_now.body },
@@ -284,5 +286,6 @@ module _ (apart : Apart) (w : World) (number : ℕ) (client : Client) (reached :
           submitted = s.submitted ∙ sym (length_changed place stop (calls_of client));
           calls = calls_stopped;
           given = all_given_alike client given_up (record { session = refl; last = omega arith }) w.ups s.given;
+          short = record { acks = s.short.acks; resent = s.short.resent };
           asked = asked_alike client given_up refl w.ups client.temporary s.asked;
         })

@@ -211,6 +211,7 @@ module _ (v : World) (number about : ℕ) (client : Client) (s : StandsAs v numb
       submitted = s.submitted ∙ sym (length_changed at_place (settled fate) (calls_of client));
       calls = calls_gone;
       given = all_given_alike client gone alike_gone v.ups s.given;
+      short = record { acks = s.short.acks; resent = s.short.resent };
       asked = asked_alike client gone refl v.ups client.temporary s.asked;
     }
 
@@ -223,6 +224,7 @@ module _ (v : World) (number about : ℕ) (client : Client) (s : StandsAs v numb
     submitted = s.submitted;
     calls = λ q. rw (eq-eqb number number refl) (left_place state (slice_get (calls_of client) q) (v.calls (moves.call_at number q)) (none q) (s.calls q));
     given = s.given;
+    short = record { acks = s.short.acks; resent = s.short.resent };
     asked = s.asked;
   }
 

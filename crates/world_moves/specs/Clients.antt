@@ -2,6 +2,7 @@
 -- their places from 0.
 use Rattle.std.specs.Prelude.{◌≡◌, ◌≢◌, ◌≤◌, ⊤, false, ℕ, Option, Some, None, IfSome, List, [], ◌∷◌, length, reverse, slice_get}
 use Rattle.std.specs.List.{AllByRecursion}
+use Rattle.tl_codec.specs.Standard.{longs_max}
 use Rattle.session_moves.specs.Table as moves
 use Rattle.session_moves.specs.World.{World, no_call, no_client}
 use Rattle.session_moves.specs.After.{salts_of}
@@ -87,6 +88,11 @@ abbrev pub IsAskedThere : List moves.Message → Client → Binding → Type 0
 IsAskedThere ups client (Asked message) = WasNoCall ups client.session message.number × IsBindingCall message.body
 IsAskedThere ups client _ = ⊤
 
+-- its lists of numbers that wait aren't too long to be read
+pub record IsShort (client : Client) : Type 0 where
+  pub acks : length client.table.acks ≤ longs_max
+  pub resent : length client.waiting.resent ≤ longs_max
+
 -- The client of this number is this one. All that it gave under its present session number is at most its last number.
 pub record StandsAs (w : World) (number : ℕ) (client : Client) : Type 0 where
   pub made : client.session ≢ 0
@@ -95,6 +101,7 @@ pub record StandsAs (w : World) (number : ℕ) (client : Client) : Type 0 where
   pub calls : (place : ℕ) → StandsThere client w.ups (slice_get (calls_of client) place) (w.calls (moves.call_at number place))
   pub given : AllByRecursion (λ message. IsGivenBy client message.session message.number) w.ups
   pub asked : IfSome client.temporary (λ temporary. IsAskedThere w.ups client temporary.binding)
+  pub short : IsShort client
 
 -- no client has this number yet
 pub record IsNobody (w : World) (number : ℕ) : Type 0 where

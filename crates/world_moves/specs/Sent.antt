@@ -1,6 +1,7 @@
 -- What a packet from a client is to the law on moves: a message for each message in it.
-use Rattle.std.specs.Prelude.{◌≡◌, ◌<◌, ⊤, ◌⊎◌, ℕ, false, Option, Some, None, List}
+use Rattle.std.specs.Prelude.{◌≡◌, ◌<◌, ◌≤◌, ⊤, ◌⊎◌, ℕ, false, Option, Some, None, List, length}
 use Rattle.std.specs.List.{AllByRecursion, Contains}
+use Rattle.tl_codec.specs.Standard.{longs_max}
 use Rattle.service_tl.specs.declared.lists.Message.{Message}
 use Rattle.service_tl.specs.declared.item.Item.{Item}
 use Rattle.service_tl.specs.declared.item.Item.TheVariants.{RpcDropAnswer, GetFutureSalts, Ping, DestroySession, MsgsAck, MsgsStateReq, MsgsStateInfo, MsgResendReq, AuthBindTempAuthKey}
@@ -19,12 +20,12 @@ use Rattle.session_moves.specs.Table as moves
 abbrev pub IsBindingCall : List ℕ → Type 0
 IsBindingCall body = (perm nonce expires : ℕ) × (message : List ℕ) × (body ≡ spelling_of (AuthBindTempAuthKey perm nonce expires message))
 
--- an item that a client says beside its calls
+-- an item that a client says beside its calls: its lists of numbers aren't too long to be read
 abbrev pub IsSaidAside : Item → Type 0
-IsSaidAside (MsgsAck numbers) = ⊤
+IsSaidAside (MsgsAck numbers) = length numbers ≤ longs_max
 IsSaidAside (MsgsStateInfo request info) = ⊤
-IsSaidAside (MsgResendReq numbers) = ⊤
-IsSaidAside (MsgsStateReq numbers) = ⊤
+IsSaidAside (MsgResendReq numbers) = length numbers ≤ longs_max
+IsSaidAside (MsgsStateReq numbers) = length numbers ≤ longs_max
 IsSaidAside (Ping id) = ⊤
 IsSaidAside (GetFutureSalts count) = ⊤
 IsSaidAside (DestroySession session) = ⊤

@@ -1,7 +1,7 @@
 -- What is taken for granted of a setting, and of the words and foreign bytes of a run.
 use Rattle.std.specs.Prelude.{◌≡◌, ◌≢◌, ◌↔◌, ◌<◌, ◌^◌, is_some, ℕ, Bool, true, false, Option, Some, None, List, [], ◌∷◌, ◌++◌, map, Contains}
 use Rattle.std.specs.List.{All, AllPairs, flat_map}
-use Rattle.octets.specs.Bytes.{IsBytes}
+use Rattle.octets.specs.Bytes.{HasBytes, IsBytes}
 use Rattle.regs_service.specs.Served.{IsReply}
 use Rattle.temp_keys.specs.declared.binding.Inner.{Inner}
 use Rattle.auth_keys.specs.declared.ring.RingKey.{RingKey}
@@ -36,7 +36,8 @@ pub record IsSound {S V : Type 0} (ring : List RingKey) (setting : Setting S V) 
   pub temporary : is_some (entry_of setting.keys.temporary ring) ≡ true
   pub words : (draw : S) → (setting.step draw).0 < 2 ^ 64
   pub replies : (service : V) (request : List ℕ) → IsReply (setting.serve service request).0 × IsBytes (setting.serve service request).0
-  pub bindings : (perm number : ℕ) (random padding : List ℕ) (inner : Inner) → IsBytes (setting.binding_message perm random number inner padding)
+  pub bindings : (perm number : ℕ) (random padding : List ℕ) (inner : Inner) → HasBytes 16 random → HasBytes 8 padding
+      → IsBytes (setting.binding_message perm random number inner padding)
 
 -- the body of a call is bytes
 abbrev pub IsOfBytes : Event → Type 0

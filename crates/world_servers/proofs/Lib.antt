@@ -40,3 +40,5 @@ pub mod Whole
 pub mod Served
 pub mod Heard
 pub mod Comes
+pub mod Asked
+pub mod Up

@@ -1,6 +1,6 @@
 //! Laws of a server's events and moves, each the contract of a function that does nothing.
 
-ghost use Rattle.std.specs.Prelude.{Bool, ◌==◌, if◌then◌else◌, filter_map, map, ◌++◌, ◌≡◌, ◌≢◌, ◌∷◌, ◌⊎◌, ℕ, false, true, List, [], None, Some, filter};
+ghost use Rattle.std.specs.Prelude.{Bool, ◌==◌, if◌then◌else◌, filter_map, map, ◌++◌, ◌≡◌, ◌≢◌, ◌≤◌, length, ◌∷◌, ◌⊎◌, ℕ, false, true, List, [], None, Some, filter};
 ghost use Rattle.std.specs.List.{All, AllByRecursion, Contains, zip};
 ghost use Rattle.draws.specs.Draws.{word_after};
 ghost use Rattle.salt_line.specs.Rows.{Row};
@@ -43,9 +43,14 @@ ghost use Rattle.world_servers.specs.Servers.{AreNewSalts, AsksThere, CanSay, Go
 ghost use Rattle.server_rules.specs.Events.{Attach, Loss, Packet as Comes, Restart, Tick, Work};
 ghost use Rattle.world_rules.specs.World as rules;
 ghost use Rattle.world_rules.specs.Setting as settings;
+ghost use Rattle.world_rules.specs.Setting.{as_heard};
 ghost use Rattle.world_rules.specs.Ends.{serves};
 ghost use Rattle.world_rules.specs.Premises.{Fresh};
 ghost use Rattle.world_servers.specs.Worlds.{HasServed, StandsIn};
+ghost use Rattle.tl_codec.specs.Standard.{bytes_max};
+ghost use Rattle.envelope.specs.declared.parts.Envelope.{Envelope as Sealed};
+ghost use Rattle.envelope.specs.Packet.{IsEnvelope};
+ghost use Rattle.world_moves.specs.Sent.{IsPacketSent};
 
 use draws::Draw;
 use id_window::laws::others_are_not_above_the_floor;
@@ -441,4 +446,18 @@ pub fn packets_of_worlds_are_moves<D: Draw, V>()
     packing::laws::packets_have_all_messages();
     server_laws::laws::new_sessions_say_so::<D>();
     server_lives::laws::new_sessions_owe_little::<D>();
+}
+
+/// What a server may judge of a packet that a client sent was sent there: the body of each message in it asks what the server
+/// takes it for. The packet could be sealed, and its body isn't longer than the longest string.
+pub fn packets_sent_are_up()
+    ensures { (ups : List Message) (sealed : Sealed) → IsEnvelope sealed → length sealed.body ≤ bytes_max → IsPacketSent ups sealed → IsPacketUp ups (as_heard sealed) }
+{
+    octets::laws::bytes_stay_bytes();
+    octets::laws::parts_are_bytes();
+    tl_codec::laws::exact_reading();
+    tl_codec::laws::written_again();
+    service_tl::laws::items_exact();
+    containers::laws::parts_are_exact();
+    containers::laws::packed_is_unfolded();
 }

@@ -1,4 +1,4 @@
-use Rattle.std.proofs.Common.{rules, sym, subst, ◌∙◌, arith}
+use Rattle.std.proofs.Common.{rules, refl, sym, subst, ◌∙◌, arith}
 use Rattle.client_node.specs.Talks.{rules_of}
 use Rattle.client_node.specs.Trace.{ClientTrace, after_all}
 use Rattle.client_node.specs.declared.plan.Batch.{Batch}
@@ -10,6 +10,7 @@ pub lost-init : goal.lost-init
 lost-init g c =
     record {
       keys = c.requires.keys;
+      calls = refl;
       room = c.requires.room;
       lost = none_lost c.args.plan.now.port (g.N.Net.calls c.args.net.now);
       tells = λ is none few. is;
@@ -34,6 +35,7 @@ lost-preserved g c =
     let same = c.is_lost.ensures.lost c.if-not-is_lost.false in
     record {
       keys = c.connect-next.ensures.keys;
+      calls = c.connect-next.ensures.count ∙ c.lost.invariant.calls;
       room = search rules;
       lost = one_more_lost c.args.plan.now.port c.lost._count (g.N.Net.calls c.args.net.now) (g.N.Net.calls c.lost.net) (g.N.Net.calls c.connect-next.new.net) c.connect-next.result.1 same
           c.lost.invariant.lost c.connect-next.ensures.connected;

@@ -1,7 +1,7 @@
 use Rattle.std.proofs.Common.{◌≡◌, ◌<◌, ◌≤◌, IsSome, length}
 use Rattle.client_node.specs.Course.{Course, Reading}
 use Rattle.client_node.specs.Runs.{LostSoFar}
-use Rattle.client_node.specs.Standing.{HasKeys, IsReading, StandsAs}
+use Rattle.client_node.specs.Standing.{HasKeys, IsReading, StandsAs, count_of}
 use Rattle.client_node.specs.Talks.{piece_bytes, rules_of}
 use Rattle.client_node.proofs.Connecting.{SomeLost}
 use Rattle.client_node.proofs.batch.connect_all.Given as goal
@@ -10,6 +10,7 @@ use Rattle.client_node.proofs.batch.connect_all.Given as goal
 abbrev pub invariant-lost : goal.invariant-lost
 invariant-lost g l = record {
   keys : HasKeys (g.S.Seal.keys l.seal) l.client;
+  calls : count_of l.client ≡ count_of l.fn.client;
   room : length l.into ≡ piece_bytes;
   lost : SomeLost l.plan.port l._count (g.N.Net.calls l.fn.net) (g.N.Net.calls l.net);
   tells : IsSome (g.N.Net.calls l.fn.net) → g.N.Net.faults l.fn.net ≡ 0 → g.N.Net.faults l.net ≤ 1 → IsSome (g.N.Net.calls l.net);

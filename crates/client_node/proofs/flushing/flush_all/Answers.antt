@@ -25,6 +25,7 @@ flushes-preserved g c =
           c.flushes._count c.flushes.client c.flushes.draw c.flushes.wire (seen (g.L.Link.told c.flushes.link) (g.L.Link.faults c.flushes.link)) c.flush_once.new.client c.flush_once.new.draw c.flush_once.new.wire (seen (g.L.Link.told c.flush_once.new.link) (g.L.Link.faults c.flush_once.new.link))
           so_far.so_far (rw (c.in-Ok-true.field-0-test) at one.flow);
       keys = one.keys;
+      calls = one.count ∙ so_far.calls;
       goes_on = λ is. one.goes_on (so_far.goes_on is);
       faults = one.counted ∙ so_far.faults;
       place = one.same_place ∙ so_far.place;

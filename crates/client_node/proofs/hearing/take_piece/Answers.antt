@@ -11,6 +11,7 @@ packets-init g c =
     record {
       heard = ([], refl, none_wrong, (λ reading course reads stands. (tt, stands)), (λ from packets bytes hears. none_heard _ from packets bytes hears));
       keys = λ ring has. has;
+      calls = refl;
       same_out = c.feed.ensures.same_out;
     }
 
@@ -45,6 +46,7 @@ packets-preserved g c =
         hears_more c.feed.new.self c.packets.wire c.take_next-next.new.wire so_far.0 next.0 so_far.4 (λ from packets bytes hears. (next.1.came from packets bytes hears).hears),
       );
       keys = λ ring has. c.take_next-next.ensures.keys ring (c.packets.invariant.keys ring has);
+      calls = c.take_next-next.ensures.count ∙ c.packets.invariant.calls;
       same_out = (now_same.0 ∙ same.0, now_same.1 ∙ same.1, now_same.2 ∙ same.2);
     }
 

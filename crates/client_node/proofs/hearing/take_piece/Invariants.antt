@@ -2,7 +2,7 @@ use Rattle.std.proofs.Common.{◌≡◌, ℕ, List, ◌++◌, length, Option, Al
 use Rattle.cipher_modes.specs.CounterMode.{CtrState}
 use Rattle.transport.specs.Wires.{Hears}
 use Rattle.client_node.specs.Course.{Course, Reading}
-use Rattle.client_node.specs.Standing.{IsReading, KeepsKeys, StandsAs}
+use Rattle.client_node.specs.Standing.{IsReading, KeepsKeys, StandsAs, count_of}
 use Rattle.client_node.specs.Took.{IsNoError, NoneDecides, takes_all}
 use Rattle.client_node.proofs.hearing.take_piece.Given as goal
 
@@ -14,5 +14,6 @@ invariant-packets g l = record {
       → NoneDecides g.D.Draw.step reading l.now course heard × StandsAs l.client l.draw (takes_all g.D.Draw.step reading l.now course heard))
       × ((from : Option CtrState) (packets : List (List ℕ)) (bytes : List ℕ) → Hears l.initial.wire from packets bytes → Hears l.wire from (packets ++ heard) bytes);
   keys : KeepsKeys l.fn.client l.client;
+  calls : count_of l.client ≡ count_of l.fn.client;
   same_out : (l.wire.form ≡ l.fn.wire.form) × (l.wire.writing ≡ l.fn.wire.writing) × (l.wire.number ≡ l.fn.wire.number);
 }

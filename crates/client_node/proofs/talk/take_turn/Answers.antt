@@ -30,6 +30,7 @@ returns-in-End g c =
     let none = no_piece c.read.result c.in-End.is in
     record {
       keys = λ ring has. has;
+      count = refl;
       decided = tt;
       goes_on = λ is. tt;
       first_fault = c.read.ensures.first_fault;

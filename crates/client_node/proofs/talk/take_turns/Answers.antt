@@ -16,6 +16,7 @@ turns-preserved g c =
     let took = rw (c.in-Ok.is) at turn.turn in
     record {
       keys = turn.keys (g.S.Seal.keys c.args.seal.now) c.flush_all.ensures.keys;
+      calls = turn.count ∙ c.flush_all.ensures.count ∙ c.turns.invariant.calls;
       room = search rules;
       goes_on = λ is. subst (λ (answer : Result ℕ End). OnOk answer (IsSome told)) c.in-Ok.is (turn.goes_on (c.in_default.ensures.goes_on (c.turns.invariant.goes_on is)));
       faults = subst (λ (answer : Result ℕ End). CountsTurn answer (g.L.Link.faults c.flush_all.new.link) (g.L.Link.faults c.take_turn-next.new.link)) c.in-Ok.is turn.counted
@@ -35,6 +36,7 @@ pub turns-init : goal.turns-init
 turns-init g c =
     record {
       keys = c.requires.keys;
+      calls = refl;
       room = c.requires.room;
       goes_on = λ is. is;
       faults = refl;

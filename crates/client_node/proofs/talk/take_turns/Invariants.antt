@@ -2,7 +2,7 @@ use Rattle.std.proofs.Common.{◌≡◌, IsSome, length}
 use Rattle.transport.specs.Starts.{Opening}
 use Rattle.client_node.specs.Course.{Course, Reading}
 use Rattle.client_node.specs.Runs.{HasOpened, TurnsSoFar}
-use Rattle.client_node.specs.Standing.{HasKeys, IsReading, StandsAs}
+use Rattle.client_node.specs.Standing.{HasKeys, IsReading, StandsAs, count_of}
 use Rattle.client_node.specs.Talks.{began, piece_bytes, rules_of}
 use Rattle.client_node.specs.Writes.{seen}
 use Rattle.client_node.proofs.talk.take_turns.Given as goal
@@ -11,6 +11,7 @@ use Rattle.client_node.proofs.talk.take_turns.Given as goal
 abbrev pub invariant-turns : goal.invariant-turns
 invariant-turns g l = record {
   keys : HasKeys (g.S.Seal.keys l.seal) l.client;
+  calls : count_of l.client ≡ count_of l.fn.client;
   room : length l.into ≡ piece_bytes;
   goes_on : IsSome (g.L.Link.told l.fn.link) → IsSome (g.L.Link.told l.link);
   faults : g.L.Link.faults l.link ≡ g.L.Link.faults l.fn.link;

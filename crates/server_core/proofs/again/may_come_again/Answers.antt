@@ -1,4 +1,4 @@
-use Rattle.std.proofs.Common.{◌≡◌, ◌∙◌, Bool, false, true, Option, Some, None, sym, refl}
+use Rattle.std.proofs.Common.{◌≡◌, ◌∙◌, false, Option, Some, None, sym, refl}
 use Rattle.std.specs.Prelude.{is_some}
 use Rattle.std.proofs.lemmas.Bool.{false≢true, not-false}
 use Rattle.id_window.specs.declared.mark.Mark.{Mark}

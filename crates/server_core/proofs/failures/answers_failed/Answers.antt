@@ -1,4 +1,4 @@
-use Rattle.std.proofs.Common.{◌≡◌, ◌∙◌, ℕ, ◌+◌, ◌*◌, ◌≤◌, Bool, Option, Some, None, List, [], ◌∷◌, length, ap, sym, subst, refl, arith}
+use Rattle.std.proofs.Common.{◌≡◌, ◌∙◌, ◌+◌, ◌≤◌, Some, None, length, ap, sym, subst, refl, arith}
 use Rattle.waits.specs.Held.{Held}
 use Rattle.waits.specs.declared.job.Job.{Job}
 use Rattle.waits.specs.Jobs.{Queue, first_job, has_failed, without_first}
@@ -6,7 +6,7 @@ use Rattle.server_rules.specs.Event.{Setting, Speaker}
 use Rattle.standing.specs.Says.{setting_of}
 use Rattle.rows.specs.Speaks.{Speaks}
 use Rattle.server_core.specs.One.{fails_all}
-use Rattle.server_core.specs.Failures.{SoFar, blocked_of}
+use Rattle.server_core.specs.Failures.{blocked_of}
 use Rattle.server_core.proofs.Blocked.{none-blocked, none-fails, none-taken}
 use Rattle.server_core.proofs.Steps.{after-some, spends-more, taken}
 use Rattle.server_core.proofs.Uses.{nothing-used, used, uses-more}

@@ -1,5 +1,12 @@
-use Rattle.server_core.proofs.BetweenEvents.{run-keeps}
+use Rattle.server_core.proofs.BetweenEvents.{Keeps, run-keeps}
 use Rattle.server_core.proofs.order_laws.runs_keep_order.Goals as goal
 
 pub returns : goal.returns
-returns g c = λ setting place serve service server draw early is. run-keeps c.servers_stay_in_order.ensures.event setting place serve service server draw early is
+returns g c = λ setting place serve service server draw early short is.
+    let keeps : Keeps g.row.D.Denot g.row.V.Denot = record {
+      order = c.servers_stay_in_order.ensures.event;
+      replies = c.replies_are_few.ensures.event;
+      jobs = c.jobs_are_few.ensures.event;
+      gives = c.events_give_few.ensures.event;
+    } in
+    run-keeps keeps setting place serve service server draw early short is

@@ -1,4 +1,4 @@
-use Rattle.std.proofs.Common.{◌≡◌, ◌∙◌, ◌≤◌, ℕ, Bool, true, false, List, ap, sym, subst, refl, arith}
+use Rattle.std.proofs.Common.{◌≡◌, ◌∙◌, ℕ, false, List, ap, sym, subst, refl}
 use Rattle.std.specs.Prelude.{IsSome, nat_lt}
 use Rattle.std.proofs.lemmas.Bool.{ltb-false}
 use Rattle.auth_keys.specs.Rings.{entry_of}
@@ -10,9 +10,8 @@ use Rattle.standing.specs.declared.standing.Standing.{Standing}
 use Rattle.standing.specs.Names.{name_kept}
 use Rattle.standing.specs.Says.{setting_of}
 use Rattle.standing.specs.Standing.{numbers_left}
-use Rattle.server_core.specs.Among.{Among, left_where, speaks_among, takes_among}
+use Rattle.server_core.specs.Among.{Among, speaks_among, takes_among}
 use Rattle.server_core.specs.One.{says_its_own}
-use Rattle.server_core.specs.Others.{with_last_where}
 use Rattle.server_core.specs.Server.{CanSpeak, IsSound}
 use Rattle.server_core.proofs.Taken.{left-apart, left-bound, left-drawn, left-entered, left-sent, sound-last}
 use Rattle.server_core.proofs.packet_answers.answers_packet.Goals as goal

@@ -5,22 +5,19 @@ use Rattle.std.specs.Prelude.{IsSome}
 use Rattle.id_window.specs.History.{History}
 use Rattle.inbox.specs.declared.judged.Judgement.{Judgement}
 use Rattle.owing.specs.Dues.{Dues}
-use Rattle.owing.specs.Items.{acks_bytes, new_session_bytes}
 use Rattle.rows.specs.declared.due.Due.{Due}
 use Rattle.rows.specs.Entries.{Held}
 use Rattle.rows.specs.Rings.{AreOf}
-use Rattle.rows.specs.Speaks.{Speaks, Spends}
-use Rattle.rows.specs.Spare.{Uses}
 use Rattle.server_rules.specs.Answer.{name_in, opens}
-use Rattle.server_rules.specs.Event.{Owed, Setting, Speaker}
-use Rattle.server_rules.specs.Server.{Session, name_of}
+use Rattle.server_rules.specs.Event.{Setting}
+use Rattle.server_rules.specs.Server.{Session}
 use Rattle.standing.specs.Names.{name_kept}
 use Rattle.standing.specs.Says.{setting_of}
 use Rattle.server_core.specs.Among.{Among, remembers_among, speaks_among, takes_among}
-use Rattle.server_core.specs.Packets.{EndsAmong, bodies_of, history_of, judged_of}
-use Rattle.server_core.specs.Room.{CanSend, settling_bytes, settling_messages, turn_in}
+use Rattle.server_core.specs.Packets.{bodies_of, history_of, judged_of}
+use Rattle.server_core.specs.Room.{turn_in}
 use Rattle.server_core.specs.Settling.{SpeaksAmong}
-use Rattle.server_core.specs.SettlingAll.{AreDue, AreSettling, all_settled, some_repeats}
+use Rattle.server_core.specs.SettlingAll.{AreDue, all_settled, some_repeats}
 use Rattle.server_core.proofs.Attached.{own-rest}
 use Rattle.server_core.proofs.Names.{name-by}
 use Rattle.server_core.proofs.Ordered.{KeepsOrder}

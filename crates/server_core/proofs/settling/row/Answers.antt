@@ -1,4 +1,4 @@
-use Rattle.std.proofs.Common.{◌≡◌, ◌∙◌, sym, subst}
+use Rattle.std.proofs.Common.{◌∙◌, sym, subst}
 use Rattle.server_rules.specs.Event.{Setting}
 use Rattle.server_laws.specs.Order.{jobs_of}
 use Rattle.standing.specs.Says.{setting_of}

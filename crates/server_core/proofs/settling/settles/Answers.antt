@@ -1,4 +1,4 @@
-use Rattle.std.proofs.Common.{◌≡◌, ◌≤◌, ◌+◌, ℕ, arith}
+use Rattle.std.proofs.Common.{arith}
 use Rattle.server_rules.specs.Event.{Setting}
 use Rattle.server_rules.specs.Server.{Name}
 use Rattle.server_rules.specs.Waiting.{tells_of}

@@ -1,13 +1,12 @@
-use Rattle.std.proofs.Common.{◌≡◌, ◌∙◌, ◌+◌, ℕ, Some, List, [], max, ap, sym, subst, refl}
+use Rattle.std.proofs.Common.{◌≡◌, ◌∙◌, ◌+◌, ℕ, List, max, ap, sym, subst}
 use Rattle.waits.specs.Held.{Held}
 use Rattle.waits.specs.declared.job.Job.{Job}
-use Rattle.waits.specs.Jobs.{Queue, ready_job, without_ready}
+use Rattle.waits.specs.Jobs.{without_ready}
 use Rattle.server_rules.specs.Event.{Setting, Speaker}
 use Rattle.standing.specs.declared.standing.Standing.{Standing}
 use Rattle.standing.specs.Rooms.{with_replies_left}
 use Rattle.standing.specs.Standing.{Stands, replies_left}
 use Rattle.standing.specs.Says.{setting_of}
-use Rattle.server_core.specs.Server.{CanSpeak}
 use Rattle.server_core.specs.Speech.{Begins}
 use Rattle.server_core.specs.Working.{Ends, IsRunning, worked}
 use Rattle.server_core.proofs.Names.{some-same}

@@ -1,4 +1,4 @@
-use Rattle.std.proofs.Common.{◌≡◌, ℕ, max, sym, subst}
+use Rattle.std.proofs.Common.{ℕ, max, sym, subst}
 use Rattle.envelope.specs.declared.parts.Dir.TheVariants.{Up}
 use Rattle.envelope.specs.Opening.{IsRefused, Opens}
 use Rattle.standing.specs.Says.{setting_of}

@@ -13,5 +13,6 @@ returns-clause-given g c = λ ring server both.
     does g.S.Seal.lock (g.S.Seal.keys old.seal) c.work.new.self c.work.new.draw c.in_ok-work.field-0
     (λ (at : ℕ). (after_work (setting_of at g.D.Draw.step ring) c.args.k serve service server draw).0)
     old.moment c.args.now server both.0.moment c.is_early.ensures both.1
-    (λ at early. c.runs_keep_order.ensures (setting_of at g.D.Draw.step ring) c.args.k serve service server draw early both.1)
+    (λ at early. c.runs_keep_order.ensures (setting_of at g.D.Draw.step ring) c.args.k serve service server draw early
+    (c.in_ok-work.ensures.short server both.0 both.1.order) both.1)
     (c.in_ok-work.ensures.given ring server both.0 both.1.order)

@@ -1,7 +1,6 @@
-use Rattle.std.proofs.Common.{◌≡◌, ◌∙◌, ◌≤◌, ℕ, Result, Ok, Err, List, [], max, ap, sym, subst, refl}
+use Rattle.std.proofs.Common.{◌≡◌, ◌∙◌, ℕ, Result, Ok, Err, [], max, ap, sym, subst, refl}
 use Rattle.std.specs.Prelude.{IfOk, OnOk}
-use Rattle.octets.specs.declared.memory.Memory.{Memory}
-use Rattle.server_rules.specs.Server.{Name, Server as Rules}
+use Rattle.server_rules.specs.Server.{Name}
 use Rattle.server_rules.specs.Event.{Setting}
 use Rattle.server_rules.specs.Answer.{Answer, after_attach, begun}
 use Rattle.standing.specs.Says.{setting_of}

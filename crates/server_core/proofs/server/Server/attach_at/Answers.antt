@@ -1,4 +1,4 @@
-use Rattle.std.proofs.Common.{◌≡◌, ◌∙◌, ◌<◌, ◌≤◌, ℕ, Bool, true, false, Some, List, [], length, get_or, set, ap, sym, subst, refl, arith}
+use Rattle.std.proofs.Common.{◌≡◌, ◌∙◌, ◌<◌, ◌≤◌, ℕ, Bool, true, false, Some, List, length, get_or, set, ap, sym, subst, refl, arith}
 use Rattle.std.specs.Prelude.{nat_lt}
 use Rattle.std.specs.List.{position, position_or_len}
 use Rattle.std.proofs.lemmas.Bool.{ltb-false}
@@ -7,7 +7,7 @@ use Rattle.std.proofs.lemmas.List.Sums.{passes_at_first}
 use Rattle.owing.specs.Outs.{AreSent}
 use Rattle.rows.specs.Entries.{Held}
 use Rattle.auth_keys.specs.declared.ring.RingKey.{RingKey}
-use Rattle.server_rules.specs.Server.{Name, Server as Rules, is_same, name_of, with_session}
+use Rattle.server_rules.specs.Server.{Name, is_same, name_of}
 use Rattle.server_rules.specs.Event.{Sent, Setting, Speaker, State, speaker_in, spoken}
 use Rattle.server_rules.specs.Answer.{Answer, after_attach, begun, is_spent, room_min}
 use Rattle.standing.specs.declared.standing.Standing.{Standing}
@@ -22,10 +22,8 @@ use Rattle.server_core.specs.Server.{CanSpeak, IsSound, Kept, Stands, without_ke
 use Rattle.server_core.specs.Speech.{Begins, attached}
 use Rattle.server_core.proofs.Attached.{IsThere, attach-gives, attached-name, attached-rest, drawn-where, ends-so, entered-where, sent-where}
 use Rattle.server_core.proofs.Lists.{place-is}
-use Rattle.server_core.proofs.Names.{found-named}
 use Rattle.server_core.proofs.Places.{can-still, one-of, sound-set}
 use Rattle.server_core.proofs.Speaking.{found-at, kept-later, kept-set, sessions-apart, sessions-have_room}
-use Rattle.server_core.proofs.Spent.{own-name}
 use Rattle.server_core.proofs.server.Server.attach_at.Goals as goal
 
 pub lose_spent-requires : goal.lose_spent-requires

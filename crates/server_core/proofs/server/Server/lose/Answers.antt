@@ -1,12 +1,11 @@
-use Rattle.std.proofs.Common.{◌≡◌, ◌∙◌, ◌≤◌, List, length, ap, sym, subst, refl, not, is_some, arith, Option}
-use Rattle.std.specs.List.{All, filter}
+use Rattle.std.proofs.Common.{◌∙◌, List, ap, sym, subst, refl, not, is_some, arith, Option}
 use Rattle.std.proofs.lemmas.List.Elements.{All-filter}
 use Rattle.std.proofs.lemmas.List.Filters.{length-filter_both}
 use Rattle.waits.specs.Held.{Held}
-use Rattle.waits.specs.Jobs.{Queue, without_session as without_jobs_of}
-use Rattle.server_rules.specs.Server.{Name, Server as Rules, without_session}
+use Rattle.waits.specs.Jobs.{without_session as without_jobs_of}
+use Rattle.server_rules.specs.Server.{Name, without_session}
 use Rattle.standing.specs.declared.standing.Standing.{Standing}
-use Rattle.server_core.specs.Sessions.{AreKept, is_kept_as, kept_as, without_kept}
+use Rattle.server_core.specs.Sessions.{AreKept, is_kept_as, without_kept}
 use Rattle.server_core.specs.Server.{CanSpeak, IsSound, Kept, Stands}
 use Rattle.server_core.proofs.Standing.{others-kept, same-found}
 use Rattle.server_core.proofs.server.Server.lose.Goals as goal

@@ -1,4 +1,4 @@
-use Rattle.std.proofs.Common.{◌≡◌, ◌∙◌, ℕ, List, max, ap, sym, subst}
+use Rattle.std.proofs.Common.{◌≡◌, ◌∙◌, ℕ, List, max, ap, subst}
 use Rattle.std.specs.Prelude.{IfOk}
 use Rattle.auth_keys.specs.declared.ring.RingKey.{RingKey}
 use Rattle.envelope.specs.declared.parts.Dir.TheVariants.{Up}
@@ -9,6 +9,7 @@ use Rattle.standing.specs.Says.{setting_of}
 use Rattle.server_core.specs.Effects.{Gives}
 use Rattle.server_core.specs.Packets.{brought_in, effects_in}
 use Rattle.server_core.specs.Server.{Kept}
+use Rattle.server_core.proofs.Outcomes.{on-ok}
 use Rattle.server_core.proofs.server.Server.on_packet.Goals as goal
 
 pub returns-in-Envelope-clause-given : goal.returns-in-Envelope-clause-given
@@ -46,3 +47,13 @@ returns-in-Refused-clause-given g c = λ keys server envelope of stands order op
     let R : List RingKey → Type 0 = λ ring. IsRefused lock ring c.later-moment.result Up packet refusal in
     let M : ℕ → Type 0 = λ now. IsRefused lock ring now Up packet refusal in
     absurd (c.opens_what_it_sealed.ensures.not_both ring latest Up packet envelope refusal opens (subst M moment (subst R same_ring c.in-Refused.ensures.refused)))
+
+pub returns-in-Envelope-clause-accepted : goal.returns-in-Envelope-clause-accepted
+returns-in-Envelope-clause-accepted g c = λ keys server envelope session stands opens found acceptable.
+    on-ok c.hears.result
+    (c.lawful_messages_are_taken.ensures (setting_of (max c.args.self.now.moment c.args.now) g.D.Draw.step keys) (brought_in envelope) server c.args.draw.now session found acceptable)
+
+pub returns-in-Refused-clause-accepted : goal.returns-in-Refused-clause-accepted
+returns-in-Refused-clause-accepted g c = λ keys server envelope session stands opens found acceptable.
+    on-ok c.refuses.result
+    (c.lawful_messages_are_taken.ensures (setting_of (max c.args.self.now.moment c.args.now) g.D.Draw.step keys) (brought_in envelope) server c.args.draw.now session found acceptable)

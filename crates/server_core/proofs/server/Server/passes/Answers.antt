@@ -1,4 +1,4 @@
-use Rattle.std.proofs.Common.{◌≡◌, ◌≤◌, ℕ, ap, sym, subst, refl}
+use Rattle.std.proofs.Common.{◌≤◌, ℕ, ap, sym, subst, refl}
 use Rattle.server_core.specs.Server.{Kept, Stands}
 use Rattle.server_core.proofs.Speaking.{kept-later}
 use Rattle.server_core.proofs.server.Server.passes.Goals as goal

@@ -1,4 +1,4 @@
-use Rattle.std.proofs.Common.{◌≡◌, ◌≢◌, ◌∙◌, ◌+◌, ◌<◌, ◌≤◌, ℕ, true, Some, List, ◌∷◌, length, get_or, map, ap, sym, subst, refl, arith}
+use Rattle.std.proofs.Common.{◌≡◌, ◌∙◌, ◌+◌, ◌≤◌, ℕ, true, Some, List, ◌∷◌, length, map, ap, sym, subst, arith}
 use Rattle.std.specs.List.{insert, position, remove}
 use Rattle.std.proofs.lemmas.List.Edits.{length-remove}
 use Rattle.auth_keys.specs.declared.ring.RingKey.{RingKey}
@@ -15,17 +15,15 @@ use Rattle.server_laws.specs.Order.{jobs_of}
 use Rattle.standing.specs.declared.standing.Standing.{Standing}
 use Rattle.standing.specs.Names.{name_kept}
 use Rattle.standing.specs.Says.{setting_of}
-use Rattle.standing.specs.Standing.{IsAt}
 use Rattle.server_core.specs.Among.{Among, ended_among, heard_among, takes_among}
 use Rattle.server_core.specs.Effects.{Gives}
 use Rattle.server_core.specs.Failures.{blocked_of}
-use Rattle.server_core.specs.Packets.{AreBeside, Fits, HasJudged, bodies_of, brought, judged_of, kept_so, way_of}
-use Rattle.server_core.specs.Server.{CanSpeak, IsSound, Kept, Stands}
+use Rattle.server_core.specs.Packets.{Fits, bodies_of, brought, judged_of, kept_so, way_of}
+use Rattle.server_core.specs.Server.{IsSound, Kept, Stands}
 use Rattle.server_core.specs.Sessions.{AreApart, is_kept_as}
 use Rattle.server_core.specs.SettlingAll.{AreDue, some_repeats}
 use Rattle.server_core.proofs.HeardLemmas.{back-at, beside-known, can-judged, can-lent, fits-few, heard-blocked, judged-so}
 use Rattle.server_core.proofs.Lists.{place-is}
-use Rattle.server_core.proofs.Names.{named}
 use Rattle.server_core.proofs.PacketDues.{are-due}
 use Rattle.server_core.proofs.Speaking.{kept-later, sessions-have_room}
 use Rattle.server_core.proofs.Taken.{due-few}

@@ -1,5 +1,5 @@
-use Rattle.std.proofs.Common.{◌≡◌, ◌≢◌, ◌∙◌, ◌+◌, ◌<◌, ◌≤◌, ℕ, true, Some, None, Result, Ok, Err, List, ◌∷◌, length, get_or, map, ap, sym, subst, refl, arith}
-use Rattle.std.specs.List.{position, position_or_len}
+use Rattle.std.proofs.Common.{◌≡◌, ◌∙◌, ◌+◌, ◌≤◌, ℕ, true, None, Result, Ok, Err, List, ◌∷◌, length, map, ap, sym, subst, refl, arith}
+use Rattle.std.specs.List.{position}
 use Rattle.std.specs.Prelude.{IsSome, OnErr}
 use Rattle.auth_keys.specs.declared.ring.RingKey.{RingKey}
 use Rattle.auth_keys.specs.Rings.{entry_of}
@@ -17,14 +17,13 @@ use Rattle.server_laws.specs.Order.{jobs_of}
 use Rattle.standing.specs.declared.standing.Standing.{Standing}
 use Rattle.standing.specs.Names.{name_kept}
 use Rattle.standing.specs.Says.{setting_of}
-use Rattle.standing.specs.Standing.{IsAt}
 use Rattle.server_core.specs.Among.{Among, ended_among, heard_among, takes_among}
 use Rattle.server_core.specs.Effects.{Gives}
 use Rattle.server_core.specs.Failures.{blocked_of}
-use Rattle.server_core.specs.Packets.{AreBeside, Fits, HasJudged, bodies_of, brought, judged_of, kept_so, way_of}
+use Rattle.server_core.specs.Packets.{Fits, bodies_of, brought, judged_of, kept_so, way_of}
 use Rattle.server_core.specs.Room.{CanTake}
-use Rattle.server_core.specs.Server.{CanSpeak, IsSound, Kept, Stands}
-use Rattle.server_core.specs.Sessions.{AreApart, is_kept_as}
+use Rattle.server_core.specs.Server.{CanSpeak, Kept, Stands}
+use Rattle.server_core.specs.Sessions.{is_kept_as}
 use Rattle.server_core.specs.SettlingAll.{AreDue, some_repeats}
 use Rattle.server_core.proofs.HeardLemmas.{beside-new, can-judged, fits-few, heard-blocked, heard-new, judged-so}
 use Rattle.server_core.proofs.Lists.{no-place}

@@ -1,4 +1,4 @@
-use Rattle.std.proofs.Common.{◌≡◌, ◌∙◌, ◌<◌, ◌≤◌, ℕ, Bool, true, false, Some, List, [], length, get_or, set, ap, sym, subst, refl, arith}
+use Rattle.std.proofs.Common.{◌≡◌, ◌∙◌, ◌<◌, ◌≤◌, ℕ, Bool, true, false, Some, List, length, get_or, set, ap, sym, subst, refl, arith}
 use Rattle.std.specs.Prelude.{nat_lt}
 use Rattle.std.specs.List.{position, position_or_len}
 use Rattle.std.proofs.lemmas.Bool.{ltb-false}
@@ -8,7 +8,7 @@ use Rattle.owing.specs.Outs.{AreSent}
 use Rattle.auth_keys.specs.declared.ring.RingKey.{RingKey}
 use Rattle.waits.specs.declared.job.Job.{Job}
 use Rattle.waits.specs.Jobs.{ready_count, ready_job}
-use Rattle.server_rules.specs.Server.{Name, Server as Rules, is_same, name_of, with_session}
+use Rattle.server_rules.specs.Server.{Name, is_same, name_of}
 use Rattle.server_rules.specs.Event.{Sent, Setting, Speaker, State, speaker_in, spoken}
 use Rattle.server_rules.specs.Answer.{Answer, after_work, begun, is_spent, room_min}
 use Rattle.server_laws.specs.Order.{jobs_of}

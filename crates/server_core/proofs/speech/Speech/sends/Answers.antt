@@ -1,12 +1,10 @@
-use Rattle.std.proofs.Common.{◌≡◌, ◌∙◌, ◌<◌, ◌≤◌, List, length, ap, sym, subst, arith}
-use Rattle.owing.specs.declared.outs.Out.{Out}
+use Rattle.std.proofs.Common.{◌∙◌, ◌<◌, ◌≤◌, length, ap, sym, subst, arith}
 use Rattle.owing.specs.Outs.{AreSent, Going}
 use Rattle.server_rules.specs.Event.{Speaker}
 use Rattle.server_rules.specs.Sending.{sends}
 use Rattle.standing.specs.declared.standing.Standing.{Standing}
 use Rattle.standing.specs.Standing.{Stands}
 use Rattle.standing.specs.Says.{setting_of}
-use Rattle.server_core.specs.One.{says_its_own}
 use Rattle.server_core.proofs.Sending.{its-own, none-sent, nothing-sent, some-sent}
 use Rattle.server_core.proofs.speech.Speech.sends.Goals as goal
 use Rattle.server_core.proofs.speech.Speech.sends.Goals.{then-len-gt0, else-len-gt0}

@@ -1,0 +1,5 @@
+pub mod Bytes
+pub mod PlainTexts
+pub mod Opened
+pub mod BindingTexts
+pub mod Bound
