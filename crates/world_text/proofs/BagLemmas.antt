@@ -1,7 +1,7 @@
 -- All packets, one behind the other, as far as they were gone through.
-use Rattle.std.proofs.Common.{◌≡◌, ◌∙◌, ℕ, ◌+◌, List, [], ◌∷◌, ◌++◌, Some, length, min, take, slice_get, add-one, ap, sym, arith, append-nil, length-append}
+use Rattle.std.proofs.Common.{◌≡◌, ◌∙◌, ℕ, ◌+◌, List, [], ◌∷◌, ◌++◌, Some, length, min, take, drop, slice_get, add-one, ap, sym, subst, arith, append-nil, length-append}
 use Rattle.std.proofs.Math.Seq.{take-suc}
-use Rattle.std.proofs.lemmas.List.{length-take, take-append-le}
+use Rattle.std.proofs.lemmas.List.{length-take, take-append-drop, take-append-le}
 use Rattle.std.proofs.lemmas.Option.{get_or_from_slice_get, slice_get_within}
 use Rattle.std.proofs.lemmas.Grind.{flat_map-append}
 use Rattle.world_text.specs.Bag.{joined}
@@ -28,3 +28,9 @@ pub front_stays : {X : Type 0} (front text more : List X) → take (length front
 front_stays front text more before =
     let count : min (length front) (length text) ≡ length front = sym (length-take (length front) text) ∙ ap length before in
     take-append-le (length front) text more (omega arith) ∙ before
+
+pub fronts_stay : {X : Type 0} (front text whole : List X) → take (length front) text ≡ front → take (length text) whole ≡ text → take (length front) whole ≡ front
+fronts_stay {X = X} front text whole before after =
+    let rest = drop (length text) whole in
+    let all : text ++ rest ≡ whole = ap (λ (start : List X). start ++ rest) (sym after) ∙ take-append-drop (length text) whole in
+    subst (λ (some : List X). take (length front) some ≡ front) all (front_stays front text rest before)

@@ -1,2 +1,3 @@
 pub mod BagLemmas
 pub mod CallLemmas
+pub mod SeatLemmas

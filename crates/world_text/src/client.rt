@@ -25,6 +25,7 @@ pub fn calls_of_client(
     holder: &Holder,
 ) -> Result<(), Memory>
     ensures told { (whole : Client) → StandsFor holder.now whole → OnOk result (into.new ≡ into.old ++ call_lines client 1 (calls_of whole)) }
+    ensures behind { take (length into.old) into.new ≡ into.old }
     ensures unchanged_on_memory { OnErr result (into.new ≡ into.old) }
 {
     let before = into.as_slice().len();

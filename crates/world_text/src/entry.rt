@@ -1,6 +1,6 @@
 //! The line of an entry.
 
-ghost use Rattle.std.specs.Prelude.{◌≡◌, ◌++◌, List, OnOk, OnErr};
+ghost use Rattle.std.specs.Prelude.{◌≡◌, ◌++◌, List, OnOk, OnErr, length, take};
 ghost use Rattle.world_rules.specs.World.{Entered, Seat};
 ghost use Rattle.world_rules.specs.Report.{entry_line, run_word};
 ghost use Rattle.world_text.specs.Entries.{IsLineOf};
@@ -32,6 +32,7 @@ pub struct EntryLine<'a> {
 /// `Memory`, and then the text is as it was.
 pub fn entry_line(alloc: Global, into: &mut Octets, entry: &EntryLine<'_>) -> Result<(), Memory>
     ensures told { (seats : List Seat) (entered : Entered) → IsLineOf entry.now seats entered → OnOk result (into.new ≡ into.old ++ entry_line seats entered) }
+    ensures behind { take (length into.old) into.new ≡ into.old }
     ensures unchanged_on_memory { OnErr result (into.new ≡ into.old) }
 {
     let mut text = Octets::new(alloc);

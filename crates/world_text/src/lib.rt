@@ -5,6 +5,7 @@
 
 mod call;
 mod client;
+mod clients;
 mod entry;
 mod fault;
 pub mod laws;
@@ -15,6 +16,7 @@ mod wire;
 
 pub use call::call_line;
 pub use client::calls_of_client;
+pub use clients::{Clients, lines_of_clients};
 pub use entry::{EntryLine, entry_line};
 pub use fault::submit_cause;
 pub use reply::reply_text;

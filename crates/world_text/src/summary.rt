@@ -53,7 +53,7 @@ impl Counts {
 
     /// Counts the calls of a client beside those before.
     pub fn add(&mut self, holder: &Holder)
-        requires { self.old.calls < 2 ^ 63 }
+        requires { self.old.calls < 2 ^ 64 - 2 ^ 32 }
         ensures counted { (whole : Client) (before : List Call) → StandsFor holder.now whole → self.old ≡ tally_of before → self.new ≡ tally_of (before ++ calls_of whole) }
         ensures few { self.new.calls < self.old.calls + 2 ^ 32 }
     {

@@ -44,11 +44,11 @@ impl Wire for Letters {
 
     ghost packets = { λ letters. letters.first ∷ letters.second ∷ [] };
 
-    fn count(&self) -> u64 {
+    fn packet_count(&self) -> u64 {
         2
     }
 
-    fn packet(&self, place: u64) -> &[u8] {
+    fn packet_at(&self, place: u64) -> &[u8] {
         if place == 0 {
             self.first.as_slice()
         } else {

@@ -17,11 +17,11 @@ pub trait Wire {
     ghost packets: { Self → List (List ℕ) };
 
     /// How many there are.
-    fn count(&self) -> u64
+    fn packet_count(&self) -> u64
         ensures { result ≡ length (packets self.now) };
 
     /// The bytes of the packet at this place, from 0.
-    fn packet(&self, place: u64) -> &[u8]
+    fn packet_at(&self, place: u64) -> &[u8]
         requires { place < length (packets self.now) }
         ensures { slice_get (packets self.now) place ≡ Some result.now };
 }
@@ -46,7 +46,7 @@ fn push_wire<W: Wire>(alloc: Global, text: &mut Octets, wire: &W) -> Result<(), 
     ensures { OnOk result (text.new ≡ text.old ++ packets_line (W.packets wire.now)) }
 {
     text.push_all(alloc, b"packets ")?;
-    push_number(alloc, text, wire.count())?;
+    push_number(alloc, text, wire.packet_count())?;
     text.push_all(alloc, b" ")?;
     push_number(alloc, text, wire_bytes(wire))?;
     text.push_all(alloc, b" ")?;
@@ -60,8 +60,8 @@ pub fn wire_bytes<W: Wire>(wire: &W) -> u128
     ensures { result ≡ length (joined (W.packets wire.now)) }
 {
     let mut bytes = 0u128;
-    for place in 0..wire.count() {
-        bytes += wire.packet(place).len() as u128;
+    for place in 0..wire.packet_count() {
+        bytes += wire.packet_at(place).len() as u128;
     }
     bytes
 }
@@ -71,8 +71,8 @@ fn digest_of<W: Wire>(wire: &W) -> [u8; 32]
     ensures { result ≡ sha256 (joined (W.packets wire.now)) }
 {
     let mut hasher = Sha256::new();
-    for place in 0..wire.count() {
-        hasher.update(wire.packet(place));
+    for place in 0..wire.packet_count() {
+        hasher.update(wire.packet_at(place));
     }
     hasher.finalize()
 }
