@@ -13,6 +13,7 @@ use Rattle.framing.specs.Streams.{Begins, Faulty, Stream}
 use Rattle.transport.specs.Directions.{through}
 use Rattle.transport.specs.Forms.{framing_of}
 use Rattle.client_node.specs.declared.end.End.{End}
+use Rattle.client_node.proofs.Passing.{begins_by}
 use Rattle.client_node.specs.declared.end.End.TheVariants as ends
 
 pub takes_append : {S : Type 0} (step : S → ℕ × S) (reading : Reading) (now : ℕ) (course : Course S) (front : List (List ℕ)) (packet : List ℕ)
@@ -98,6 +99,13 @@ stands_same step reading now course heard middle between left drawn same stands 
     subst (λ (one : Holder). StandsAs one drawn (takes_all step reading now course heard)) (sym same.0)
     (subst (λ one. StandsAs middle one (takes_all step reading now course heard)) (sym same.1) stands)
 
+-- the packets so far are those of what came
+heard_begins : (line other : Line) (from : Option CtrState) (packets : List (List ℕ)) (bytes : List ℕ) → line.form ≡ other.form → Hears line from packets bytes
+    → Begins (framing_of other.form) packets (through from bytes)
+heard_begins line other from packets bytes same hears =
+    subst (λ form. Begins (framing_of form) packets (through from bytes)) same
+    (begins_by (framing_of line.form) line.held.fault packets line.held.left (through from bytes) hears.stands.text)
+
 -- ---- a packet ends the connection
 
 pub came_failed : {S : Type 0} (step : S → ℕ × S) (lock : Lock) (keys : List RingKey) (now : ℕ) (kept : Holder) (draw : S) (line : Line) (packet : List ℕ) (end : End)
@@ -136,7 +144,8 @@ piece_failed step lock keys now kept draw line fed piece heard middle between li
       heard = heard;
       sizes = sizes;
       took = λ reading course reads stands. ((took reading course reads stands).0, next.took reading (takes_all step reading now course heard) reads (took reading course reads stands).1);
-      came = λ from packets bytes hearing. tt;
+      came = λ from packets bytes hearing.
+          inr (heard_begins line_between line from (packets ++ heard) (bytes ++ piece) form (hears from packets (bytes ++ piece) (feeds from packets bytes hearing)));
     }
 piece_failed step lock keys now kept draw line fed piece heard middle between line_between ends.Lost left drawn line_then feeds sizes took hears form can (same, next) =
     record {

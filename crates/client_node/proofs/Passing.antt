@@ -1,9 +1,10 @@
 -- What a link and a clock tell of several steps.
-use Rattle.std.proofs.Common.{◌≡◌, ℕ, List, [], ◌∷◌, ◌++◌, length, Option, Some, None, IfNone, IfSome, IsSomeAnd, refl, sym, ap, subst, ◌∙◌, append_assoc, append-nil}
+use Rattle.std.proofs.Common.{◌≡◌, ℕ, List, [], ◌∷◌, ◌++◌, length, Option, Some, None, IfNone, IfSome, IsSomeAnd, MatchOption, refl, sym, ap, subst, ◌∙◌, append_assoc, append-nil}
 use Rattle.cipher_modes.specs.CounterMode.{CtrState}
 use Rattle.framing.specs.Held.{Held}
-use Rattle.framing.specs.Holding.{Stands}
-use Rattle.framing.specs.Streams.{Frames}
+use Rattle.tl_codec.specs.declared.fault.FrameFault.{FrameFault}
+use Rattle.framing.specs.Holding.{IsBehind, Stands}
+use Rattle.framing.specs.Streams.{Begins, Faulty, Form, Frames}
 use Rattle.transport.specs.Directions.{behind, through}
 use Rattle.transport.specs.Forms.{framing_of}
 use Rattle.transport.specs.Wires.{Hears, IsNumbered, Line, Tells}
@@ -15,6 +16,19 @@ use Rattle.client_node.specs.Runs.{Gave, ReadBy, ReadsBy}
 use Rattle.client_node.specs.Talks.{FailsReading, FailsWriting, Passed, PassedFront, Passes, Place, Rules, Said, piece_bytes, says}
 use Rattle.client_node.specs.Writes.{Breaks, Seen, Writes, Wrote, WroteFront}
 use Rattle.client_node.proofs.Flowing.{told_both}
+
+-- ---- the packets of what came
+
+begins_behind : (form : Form) (packets : List (List ℕ)) (left bytes : List ℕ) → IsBehind form packets left bytes → Begins form packets bytes
+begins_behind form packets left bytes behind = record { frames = behind.frames; rest = left; each = behind.each; whole = behind.whole }
+
+begins_faulty : (form : Form) (packets : List (List ℕ)) (fault : FrameFault) (bytes : List ℕ) → Faulty form packets fault bytes → Begins form packets bytes
+begins_faulty form packets fault bytes faulty = record { frames = faulty.frames; rest = faulty.rest; each = faulty.each; whole = faulty.whole }
+
+pub begins_by : (form : Form) (fault : Option FrameFault) (packets : List (List ℕ)) (left bytes : List ℕ)
+    → MatchOption fault (IsBehind form packets left bytes) (λ fault. Faulty form packets fault bytes) → Begins form packets bytes
+begins_by form None packets left bytes stands = begins_behind form packets left bytes stands
+begins_by form (Some fault) packets left bytes stands = begins_faulty form packets fault bytes stands
 
 -- ---- a wire, by what stays of it
 

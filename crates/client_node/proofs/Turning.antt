@@ -3,9 +3,7 @@ use Rattle.std.proofs.Common.{◌≡◌, ◌<◌, ◌≤◌, ◌+◌, ℕ, Bool,
 use Rattle.auth_keys.specs.declared.ring.RingKey.{RingKey}
 use Rattle.envelope.specs.Packet.{Lock}
 use Rattle.cipher_modes.specs.CounterMode.{CtrState}
-use Rattle.tl_codec.specs.declared.fault.FrameFault.{FrameFault}
-use Rattle.framing.specs.Holding.{IsBehind, Stands}
-use Rattle.framing.specs.Streams.{Begins, Faulty, Form, Frames, Stream}
+use Rattle.framing.specs.Streams.{Begins, Faulty, Frames, Stream}
 use Rattle.transport.specs.Directions.{through}
 use Rattle.transport.specs.Forms.{framing_of}
 use Rattle.transport.specs.Starts.{Opening}
@@ -25,20 +23,9 @@ use Rattle.client_node.specs.Took.{CameAll, IsDone, IsLost, TookAll, takes_all}
 use Rattle.client_node.specs.Writes.{Seen, Writes}
 use Rattle.client_node.specs.declared.end.End.{End}
 use Rattle.client_node.specs.declared.end.End.TheVariants as ends
-use Rattle.client_node.proofs.Passing.{fails_read, fails_said, gave_more, gave_none, hears_as, passes_none, passes_read, passes_said, tells_as}
+use Rattle.client_node.proofs.Passing.{begins_by, fails_read, fails_said, gave_more, gave_none, hears_as, passes_none, passes_read, passes_said, tells_as}
 
 -- ---- the packets of what came
-
-begins_behind : (form : Form) (packets : List (List ℕ)) (left bytes : List ℕ) → IsBehind form packets left bytes → Begins form packets bytes
-begins_behind form packets left bytes behind = record { frames = behind.frames; rest = left; each = behind.each; whole = behind.whole }
-
-begins_faulty : (form : Form) (packets : List (List ℕ)) (fault : FrameFault) (bytes : List ℕ) → Faulty form packets fault bytes → Begins form packets bytes
-begins_faulty form packets fault bytes faulty = record { frames = faulty.frames; rest = faulty.rest; each = faulty.each; whole = faulty.whole }
-
-begins_by : (form : Form) (fault : Option FrameFault) (packets : List (List ℕ)) (left bytes : List ℕ)
-    → MatchOption fault (IsBehind form packets left bytes) (λ fault. Faulty form packets fault bytes) → Begins form packets bytes
-begins_by form None packets left bytes stands = begins_behind form packets left bytes stands
-begins_by form (Some fault) packets left bytes stands = begins_faulty form packets fault bytes stands
 
 begins_as : (line : Line) (opening : Opening) (packets : List (List ℕ)) (bytes : List ℕ) → line.form ≡ opening.form → Hears line opening.down packets bytes
     → Begins (framing_of opening.form) packets (through opening.down bytes)
@@ -280,7 +267,9 @@ ends_hearing step lock keys reading opening place first last heard size ends.Dec
     (took.0, took.1, took.2, took.3, took.4, begins_as last opening (place.heard ++ heard) place.came form_then came)
 ends_hearing step lock keys reading opening place first last heard size ends.Lost kept draw form form_then took came =
     (took.0, loses_by first opening (place.heard ++ heard) place.came form came)
-ends_hearing step lock keys reading opening place first last heard size ends.Memory kept draw form form_then took came = took.0
+ends_hearing step lock keys reading opening place first last heard size ends.Memory kept draw form form_then took (inl none) = (took.0, inl none)
+ends_hearing step lock keys reading opening place first last heard size ends.Memory kept draw form form_then took (inr begins) =
+    (took.0, inr (subst (λ one. Begins (framing_of one) (place.heard ++ heard) (through opening.down place.came)) form begins))
 ends_hearing step lock keys reading opening place first last heard size ends.TurnsSpent kept draw form form_then took came = absurd took
 ends_hearing step lock keys reading opening place first last heard size ends.Spent kept draw form form_then took came = absurd took
 

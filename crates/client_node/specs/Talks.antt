@@ -172,7 +172,7 @@ Loses opening packets came =
     ⊎ ((fault : FrameFault) × Faulty (framing_of opening.form) packets fault (through opening.down came))
 
 -- How the packets that were heard of a piece ended the connection: the last one decides each call; none does, and what is behind
--- them loses it; none does, and memory ran out, maybe when a further packet was heard.
+-- them loses it; none does, and memory ran out, when the piece was taken or a further packet was heard.
 abbrev pub EndsHearing : {S : Type 0} → Rules S → Opening → Place S → List (List ℕ) → End → Type 0
 EndsHearing rules opening place heard ends.Decided =
     (front : List (List ℕ)) × (last : List ℕ) × (heard ≡ front ++ last ∷ [])
@@ -181,7 +181,9 @@ EndsHearing rules opening place heard ends.Decided =
     × Begins (framing_of opening.form) (place.heard ++ heard) (through opening.down place.came)
 EndsHearing rules opening place heard ends.Lost =
     NoneDecides rules.setting.step rules.reading place.now place.course heard × Loses opening (place.heard ++ heard) place.came
-EndsHearing rules opening place heard ends.Memory = NoneDecides rules.setting.step rules.reading place.now place.course heard
+EndsHearing rules opening place heard ends.Memory =
+    NoneDecides rules.setting.step rules.reading place.now place.course heard
+    × ((heard ≡ []) ⊎ Begins (framing_of opening.form) (place.heard ++ heard) (through opening.down place.came))
 EndsHearing rules opening place heard ends.TurnsSpent = ⊥
 EndsHearing rules opening place heard ends.Spent = ⊥
 

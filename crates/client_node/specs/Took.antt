@@ -140,7 +140,7 @@ abbrev pub CameAll : Line → Option CtrState → List (List ℕ) → List ℕ �
 CameAll line from packets bytes heard size (Ok done) line_then = IsDone line from packets bytes heard size line_then
 CameAll line from packets bytes heard size (Err Decided) line_then = Hears line_then from (packets ++ heard) bytes
 CameAll line from packets bytes heard size (Err Lost) line_then = IsLost line from (packets ++ heard) bytes
-CameAll line from packets bytes heard size (Err Memory) line_then = ⊤
+CameAll line from packets bytes heard size (Err Memory) line_then = (heard ≡ []) ⊎ Begins (framing_of line.form) (packets ++ heard) (through from bytes)
 CameAll line from packets bytes heard size (Err TurnsSpent) line_then = ⊥
 CameAll line from packets bytes heard size (Err Spent) line_then = ⊥
 

@@ -1,10 +1,10 @@
-use Rattle.std.proofs.Common.{[], ◌∷◌, ◌++◌, refl, ◌∙◌}
+use Rattle.std.proofs.Common.{[], ◌∷◌, ◌++◌, inl, refl, ◌∙◌}
 use Rattle.client_node.proofs.HearingSteps.{count_more, hears_more, none_heard, none_wrong, piece_done, piece_failed, sizes_more, took_more}
 use Rattle.client_node.proofs.hearing.take_piece.Goals as goal
 
 pub returns-in-Err-clause-took : goal.returns-in-Err-clause-took
 returns-in-Err-clause-took g c =
-    record { heard = []; sizes = none_wrong; took = λ reading course reads stands. (tt, stands); came = λ from packets bytes hears. tt }
+    record { heard = []; sizes = none_wrong; took = λ reading course reads stands. (tt, stands); came = λ from packets bytes hears. inl refl }
 
 pub packets-init : goal.packets-init
 packets-init g c =
