@@ -33,9 +33,8 @@ use Rattle.world_rules.specs.Setting.{Setting, at_client}
 use Rattle.world_rules.specs.World.{Packet, Seat, World, changed_from_0, lives}
 use Rattle.world_rules.specs.Ends.{acts, flushes, seat_changed, sent_up}
 use Rattle.world_rules.specs.Premises.{drawn_for_session, names_drawn, sessions_drawn}
-use Rattle.world_law.specs.Made.{IsDown}
 use Rattle.world_servers.specs.Worlds.{StandsIn as AreServersIn}
-use Rattle.world_law.specs.Standing.{AreSeated, HasMoves, IsBagged, IsKeyOf, IsSeated, WorldStands, key_at}
+use Rattle.world_law.specs.Standing.{AreSeated, HasMoves, IsBagged, IsDown, IsKeyOf, IsSeated, WorldStands, key_at}
 use Rattle.world_law.proofs.Lists.{all_append, map_all}
 use Rattle.world_law.proofs.Places.{changed_other, changed_there}
 use Rattle.world_law.proofs.Counting.{AreFresh, count, count_append}

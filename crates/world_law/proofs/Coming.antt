@@ -16,27 +16,20 @@ use Rattle.world_rules.specs.Setting.{Setting}
 use Rattle.world_rules.specs.World.{Packet, Seat, World, bytes_of, counted, owner, seat_now}
 use Rattle.world_rules.specs.Ends.{acts, comes_down, comes_to_owner, seated, with_seat}
 use Rattle.world_rules.specs.Premises.{IsSealed, OpensOnly}
-use Rattle.world_law.specs.Standing.{HasMoves, IsBagged, IsThere, WorldStands}
-use Rattle.world_law.specs.Made.{AreLawful, IsDown, IsLawful, IsReadAgain}
+use Rattle.world_law.specs.Standing.{HasMoves, IsBagged, IsDown, IsThere, WorldStands}
+use Rattle.world_law.specs.Made.{AreSealed, IsSealedPacket}
 use Rattle.world_law.proofs.Lists.{each_of}
 use Rattle.world_law.proofs.Known.{Moving, Still}
 use Rattle.world_law.proofs.Provenance.{foreign_made, given_made}
 use Rattle.world_law.proofs.Clients.{Acts, ServersStill, heard_so}
 
 module _ {S V : Type 0} (known : Moving) (still : Still) (servers : ServersStill S V) (acts_so : Acts) (lock : Lock) (ring : List RingKey) (setting : Setting S V)
-    (seals : OpensWhatItSealed lock) (so : IsSealed lock ring setting) (w : Moved) (world : World S V) (h : WorldStands w world) (lawful : AreLawful lock ring setting world) where
+    (seals : OpensWhatItSealed lock) (so : IsSealed lock ring setting) (w : Moved) (world : World S V) (h : WorldStands w world) (lawful : AreSealed lock ring setting world) where
   -- a packet of the world stands there
   pub in_bag : (packet : Packet) (dir : Dir) (envelope : Envelope) → Contains world.bag packet → packet.dir ≡ dir → packet.envelope ≡ envelope → IsThere w world.seats dir envelope
   in_bag packet dir envelope among way same =
       subst (λ (e : Envelope). IsThere w world.seats dir e) same
       (subst (λ (d : Dir). IsThere w world.seats d packet.envelope) way (each_of (IsBagged w world.seats) world.bag h.bag packet among))
-
-  -- and a client finds in it what went out
-  found_down : (packet : Packet) (envelope : Envelope) → Contains world.bag packet → packet.dir ≡ Down → packet.envelope ≡ envelope → IsDown w envelope
-  found_down packet envelope among way same =
-      let read : IsReadAgain packet.dir packet.envelope = (each_of (IsLawful lock ring setting) world.bag lawful packet among).read in
-      let down : IsReadAgain Down envelope = subst (λ (e : Envelope). IsReadAgain Down e) same (subst (λ (d : Dir). IsReadAgain d packet.envelope) way read) in
-      down w (in_bag packet Down envelope among way same)
 
   came_down : (place : ℕ) (bytes : List ℕ) (seat : Seat) → slice_get world.seats place ≡ Some seat
       → ((envelope : Envelope) → setting.opens (seat_now seat) Down bytes ≡ Some envelope → IsDown w envelope) → HasMoves (comes_down setting (suc place) bytes seat world)
@@ -63,8 +56,8 @@ module _ {S V : Type 0} (known : Moving) (still : Still) (servers : ServersStill
   pub given_down : (packet : Packet) → Contains world.bag packet → packet.dir ≡ Down → HasMoves (comes_to_owner setting (bytes_of setting packet) (owner packet.envelope.session world.seats) world)
   given_down packet among way =
       to_owner (bytes_of setting packet) (owner packet.envelope.session world.seats)
-      (λ seat envelope is. found_down packet envelope among way
-      (given_made lock ring setting seals so (seat_now seat) packet envelope (each_of (IsLawful lock ring setting) world.bag lawful packet among).sealed
+      (λ seat envelope is. in_bag packet Down envelope among way
+      (given_made lock ring setting seals so (seat_now seat) packet envelope (each_of (IsSealedPacket lock ring setting) world.bag lawful packet among)
       (ap (λ (d : Dir). setting.opens (seat_now seat) d (bytes_of setting packet)) way ∙ is)))
 
   -- foreign bytes
@@ -74,4 +67,4 @@ module _ {S V : Type 0} (known : Moving) (still : Still) (servers : ServersStill
       at_number client bytes
       (λ seat envelope at is.
       let of = foreign_made lock ring setting seals so world (seat_now seat) Down bytes envelope lawful (only seat at) is in
-      found_down of.packet envelope of.made of.way of.same)
+      in_bag of.packet Down envelope of.made of.way of.same)

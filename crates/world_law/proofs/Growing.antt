@@ -46,7 +46,7 @@ same_names one other is =
 pub names_same : (one : Name) → is_same one one ≡ true
 names_same one = and_from (one.key == one.key) (one.session == one.session) (eq-eqb one.key one.key refl) (eq-eqb one.session one.session refl)
 
-cases_names : (one other : Name) → (one ≡ other) ⊎ (one ≢ other)
+pub cases_names : (one other : Name) → (one ≡ other) ⊎ (one ≢ other)
 cases_names one other =
     elim (cases_Bool (is_same one other)) [
       | inl is ↦ inl (same_names one other is)
@@ -87,7 +87,7 @@ found_is test (y ∷ xs) x is =
     ]
 
 -- a member that passes is found, or one before it
-none_found : {X : Type 0} (test : X → Bool) (xs : List X) (x : X) → Contains xs x → find test xs ≡ None → test x ≡ false
+pub none_found : {X : Type 0} (test : X → Bool) (xs : List X) (x : X) → Contains xs x → find test xs ≡ None → test x ≡ false
 none_found test [] x among none = let below : among.0 < 0 = among.1 in absurd (omega (arith, below))
 none_found test (y ∷ xs) x among none =
     elim (cases_Bool (test y)) [
@@ -126,7 +126,7 @@ module _ (x : ℕ) (before : List Session) where
     abbrev Says : (Speaker S → Speaker S) → Type 0
     Says speak = (speaker : Speaker S) → (name_of (speak speaker).session ≡ name_of speaker.session) × (drawn x speaker.session ≤ drawn x (speak speaker).session)
 
-    said_name : (a b : Speaker S) → SaidFor S a b → name_of b.session ≡ name_of a.session
+    pub said_name : (a b : Speaker S) → SaidFor S a b → name_of b.session ≡ name_of a.session
     said_name a b its = by_parts (name_of b.session) (name_of a.session) its.key its.number
 
     spoken_holds : (at : Name) (speak : Speaker S → Speaker S) (state : State S) → Says speak → Holds state.sessions → (found : Option Session) → session_named at state.sessions ≡ found
@@ -144,7 +144,7 @@ module _ (x : ℕ) (before : List Session) where
           | inr differs ↦ subst (λ (f : Option Session). Grows b f) (sym (k.others at (name_of b) speak state y is name_z differs)) (h b among)
         ]
 
-    speaks_holds : (at : Name) (speak : Speaker S → Speaker S) (state : State S) → Says speak → Holds state.sessions → Holds (speaks at speak state).sessions
+    pub speaks_holds : (at : Name) (speak : Speaker S → Speaker S) (state : State S) → Says speak → Holds state.sessions → Holds (speaks at speak state).sessions
     speaks_holds at speak state says_so h = spoken_holds at speak state says_so h (session_named at state.sessions) refl
 
     pub lost_holds : (other : Name) (sessions : List Session) → Holds sessions → Holds (without_session other sessions)
@@ -226,7 +226,7 @@ module _ (x : ℕ) (before : List Session) where
     acks_name [] speaker = refl
     acks_name (number ∷ numbers) speaker = refl
 
-    opens_name : (history : History) (judged : List Judgement) (speaker : Speaker S) → name_of (opens setting history judged speaker).session ≡ name_of speaker.session
+    pub opens_name : (history : History) (judged : List Judgement) (speaker : Speaker S) → name_of (opens setting history judged speaker).session ≡ name_of speaker.session
     opens_name history judged speaker =
         let ready : Speaker S = record speaker { session = record speaker.session { history = history } } in
         acks_name (acks_of judged) (if has_accepted ready.session then ready else says_it_is_new setting ready)
@@ -250,7 +250,7 @@ module _ (x : ℕ) (before : List Session) where
     placed_holds [] state h = h
     placed_holds (session ∷ sessions) state h = lost_holds (name_of session) state.sessions h
 
-    place_holds : (state : State S) → Holds state.sessions → Holds (with_place state).sessions
+    pub place_holds : (state : State S) → Holds state.sessions → Holds (with_place state).sessions
     place_holds state h = cond_both _ state (without_first state.sessions state) (λ (s : State S). Holds s.sessions) (λ is. h) (λ is. placed_holds state.sessions state h)
 
     -- one more stands last
@@ -308,7 +308,7 @@ module _ (x : ℕ) (before : List Session) where
     sealed_session salt [] speaker = refl
     sealed_session salt (packet ∷ packets) speaker = sealed_session salt packets (seals setting salt speaker packet)
 
-    sends_name : (messages : List Message) (speaker : Speaker S) → name_of (sends setting messages speaker).session ≡ name_of speaker.session
+    pub sends_name : (messages : List Message) (speaker : Speaker S) → name_of (sends setting messages speaker).session ≡ name_of speaker.session
     sends_name messages speaker =
         let ready : Speaker S = needs_salts setting 1 speaker in
         let counters = after_packets setting.now ready.session.counters messages in

@@ -13,9 +13,7 @@ use Rattle.world_moves.specs.Clients.{StandsAs}
 use Rattle.world_moves.specs.Sent.{IsPacketSent, IsSent, WasSent}
 use Rattle.client_rules.specs.Taking.{message_in}
 use Rattle.world_rules.specs.World.{Packet, Seat}
-use Rattle.world_rules.specs.Setting.{as_heard}
-use Rattle.world_servers.specs.Sending.{WentOut}
-use Rattle.world_law.specs.Standing.{AreSeated, IsBagged, IsKeyOf, IsSeated, IsThere, key_at}
+use Rattle.world_law.specs.Standing.{AreSeated, IsBagged, IsDown, IsKeyOf, IsSeated, IsThere, key_at}
 use Rattle.world_law.proofs.Lists.{map_all}
 
 -- ---- packets
@@ -62,14 +60,12 @@ module _ (w v : World) (seats later : List Seat) (extends : Extends w v) (keep :
         holds = keep h.place key h.holds;
       }
 
-  pub down_still : (envelope : Envelope) → WentOut w (as_heard envelope) → WentOut v (as_heard envelope)
+  pub down_still : (envelope : Envelope) → IsDown w envelope → IsDown v envelope
   down_still envelope h = record {
     unique = h.unique;
-    group = h.group;
-    body = h.body;
-    spoken = record { items = h.spoken.items; spelt = h.spoken.spelt; there = extends.packets _ h.spoken.there };
     made = extends.servers.made h.unique h.made;
     session = extends.servers.session h.unique h.made ∙ h.session;
+    there = extends.packets _ h.there;
   }
 
   there_still : (dir : Dir) (envelope : Envelope) → IsThere w seats dir envelope → IsThere v later dir envelope

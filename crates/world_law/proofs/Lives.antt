@@ -55,10 +55,10 @@ module _ (x : ℕ) where
   abbrev pub all_drawn : List Session → ℕ
   all_drawn sessions = count x (flat_map drawn_for_session sessions)
 
-  first_drawn : (o : Session) (sessions : List Session) → all_drawn (o ∷ sessions) ≡ drawn x o + all_drawn sessions
+  pub first_drawn : (o : Session) (sessions : List Session) → all_drawn (o ∷ sessions) ≡ drawn x o + all_drawn sessions
   first_drawn o sessions = count_append x (drawn_for_session o) (flat_map drawn_for_session sessions)
 
-  more_drawn : (xs ys : List Session) → all_drawn (xs ++ ys) ≡ all_drawn xs + all_drawn ys
+  pub more_drawn : (xs ys : List Session) → all_drawn (xs ++ ys) ≡ all_drawn xs + all_drawn ys
   more_drawn [] ys = omega arith
   more_drawn (o ∷ xs) ys =
       omega (arith, first_drawn o (xs ++ ys), first_drawn o xs, more_drawn xs ys)
@@ -84,7 +84,7 @@ module _ (x : ℕ) where
       ]
 
   -- one of a name and those of other names
-  one_drawn : (name : Name) (xs : List Session) (o : Session) → session_named name xs ≡ Some o → drawn x o + all_drawn (without_session name xs) ≤ all_drawn xs
+  pub one_drawn : (name : Name) (xs : List Session) (o : Session) → session_named name xs ≡ Some o → drawn x o + all_drawn (without_session name xs) ≤ all_drawn xs
   one_drawn name [] o is = absurd (cc)
   one_drawn name (y ∷ xs) o is =
       elim (cases_Bool (is_named name y)) [
@@ -100,7 +100,7 @@ module _ (x : ℕ) where
 
   -- ---- names that are there
 
-  has_found : (name : Name) (xs : List Session) → ((o : Session) × (session_named name xs ≡ Some o) × (has_named name xs ≡ true)) ⊎ (has_named name xs ≡ false)
+  pub has_found : (name : Name) (xs : List Session) → ((o : Session) × (session_named name xs ≡ Some o) × (has_named name xs ≡ true)) ⊎ (has_named name xs ≡ false)
   has_found name [] = inr refl
   has_found name (y ∷ xs) =
       elim (cases_Bool (is_named name y)) [
@@ -112,7 +112,7 @@ module _ (x : ℕ) where
             ]
       ]
 
-  has_without : (name other : Name) → name ≢ other → (xs : List Session) → has_named name (without_session other xs) ≡ has_named name xs
+  pub has_without : (name other : Name) → name ≢ other → (xs : List Session) → has_named name (without_session other xs) ≡ has_named name xs
   has_without name other differs [] = refl
   has_without name other differs (y ∷ xs) =
       elim (cases_Bool (is_named other y)) [
@@ -126,7 +126,7 @@ module _ (x : ℕ) where
         | inr fails ↦ rw fails (ap (λ (b : Bool). is_named name y || b) (has_without name other differs xs))
       ]
 
-  missing_alike : (before ys zs : List Session) → ((b : Session) → Contains before b → has_named (name_of b) zs ≡ has_named (name_of b) ys) → missing before zs ≡ missing before ys
+  pub missing_alike : (before ys zs : List Session) → ((b : Session) → Contains before b → has_named (name_of b) zs ≡ has_named (name_of b) ys) → missing before zs ≡ missing before ys
   missing_alike [] ys zs alike = refl
   missing_alike (b ∷ before) ys zs alike =
       let rest = missing_alike before ys zs (λ o among. alike o (later o b before among)) in
@@ -223,7 +223,7 @@ module _ (x : ℕ) where
               ]
         ]
 
-    left_drawn : all_drawn all ≤ all_drawn (missing all left) + all_drawn left
+    pub left_drawn : all_drawn all ≤ all_drawn (missing all left) + all_drawn left
     left_drawn =
         let same : missing all left ≡ filter out all = filter_alike (λ (o : Session). not (has_named (name_of o) left)) out all out_missing in
         omega (arith, both_drawn out all, ap all_drawn same)

@@ -10,15 +10,16 @@ use Rattle.envelope.specs.Packet.{Lock}
 use Rattle.sched_text.specs.declared.event.Event.{Event}
 use Rattle.sched_text.specs.declared.event.Event.TheVariants as line
 use Rattle.server_laws.specs.Order.{AreOrdered}
-use Rattle.session_moves.specs.World.{start}
+use Rattle.session_moves.specs.World.{World as Moved, start}
 use Rattle.world_rules.specs.Setting.{Setting}
 use Rattle.world_rules.specs.World.{Seat, World, begins, counted, seat_now, server_now}
 use Rattle.world_rules.specs.Premises.{Fresh, IsByNoChance, IsSealed, NoChance, OpensOnly, names_drawn}
 use Rattle.world_rules.specs.Refusals.{ForeignOpens, NoClient, Refusal, by_client, opened, refusal, unless}
 use Rattle.world_rules.specs.Refusals as refusals
 use Rattle.world_rules.specs.Run.{after, is_in_the_way, step, step_any}
+use Rattle.world_law.specs.Plain.{AreSaidPlainly, SaysPlainly}
 use Rattle.world_law.specs.Standing.{HasMoves, WorldStands}
-use Rattle.world_law.specs.Made.{AreLawful, IsLawful}
+use Rattle.world_law.specs.Made.{AreSealed, IsSealedPacket}
 use Rattle.world_law.proofs.Counting.{fewer_fresh}
 use Rattle.world_law.proofs.Growing.{Speaks}
 use Rattle.world_law.proofs.Names.{names_stay}
@@ -88,8 +89,8 @@ module _ {S V : Type 0} (laws : Laws S V) (k : Speaks S) (lock : Lock) (ring : L
   abbrev Keeps : World S V → Type 0
   Keeps world = IsServed setting world
 
-  abbrev LawfulIn : World S V → Type 0
-  LawfulIn world = AreLawful lock ring setting world
+  abbrev SealedIn : World S V → Type 0
+  SealedIn world = AreSealed lock ring setting world
 
   event_served : (world : World S V) (event : Event) → Keeps world → Keeps (after setting world event)
   event_served world event h = served_on setting (laws.order setting) world event h
@@ -99,8 +100,8 @@ module _ {S V : Type 0} (laws : Laws S V) (k : Speaks S) (lock : Lock) (ring : L
       let back = fewer_fresh (names_drawn world) (names_drawn (after setting world event)) (names_stay k laws.alone setting world h.ordered.names event) (fresh.some, fresh.apart) in
       record { some = back.0; apart = back.1 }
 
-  event_lawful : (world : World S V) (event : Event) → LawfulIn (after setting world event) → LawfulIn world
-  event_lawful world event h = packets_stay (IsLawful lock ring setting) setting world event h
+  event_sealed : (world : World S V) (event : Event) → SealedIn (after setting world event) → SealedIn world
+  event_sealed world event h = packets_stay (IsSealedPacket lock ring setting) setting world event h
 
   -- what a step keeps
   abbrev Steps : (World S V → Event → World S V) → Type 0
@@ -123,21 +124,21 @@ module _ {S V : Type 0} (laws : Laws S V) (k : Speaks S) (lock : Lock) (ring : L
           | inr on ↦ event_fresh world event h (subst Fresh on there)
         ]
 
-    lawful_back : (world : World S V) (events : List Event) → LawfulIn (fold next world events) → LawfulIn world
-    lawful_back world [] h = h
-    lawful_back world (event ∷ events) h =
-        let there : LawfulIn (next world event) = lawful_back (next world event) events h in
+    sealed_back : (world : World S V) (events : List Event) → SealedIn (fold next world events) → SealedIn world
+    sealed_back world [] h = h
+    sealed_back world (event ∷ events) h =
+        let there : SealedIn (next world event) = sealed_back (next world event) events h in
         elim (steps world event) [
-          | inl same ↦ subst LawfulIn same there
-          | inr on ↦ event_lawful world event (subst LawfulIn on there)
+          | inl same ↦ subst SealedIn same there
+          | inr on ↦ event_sealed world event (subst SealedIn on there)
         ]
 
-    next_moves : (world : World S V) (event : Event) → HasMoves world → LawfulIn world → Fresh (next world event) → (next world event ≡ after setting world event → IsByNoChance setting world event)
-        → HasMoves (next world event)
-    next_moves world event h lawful fresh chance =
+    next_moves : (world : World S V) (event : Event) → HasMoves world → SealedIn world → Fresh (next world event) → (next world event ≡ after setting world event → IsByNoChance setting world event)
+        → ((w : Moved) → WorldStands w world → SaysPlainly w world (after setting world event)) → HasMoves (next world event)
+    next_moves world event h sealed fresh chance plain =
         elim (steps world event) [
           | inl same ↦ subst HasMoves (sym same) h
-          | inr on ↦ subst HasMoves (sym on) (goes_on laws lock ring setting seals so h.0 world h.1 lawful event (chance on) (subst Fresh on fresh))
+          | inr on ↦ subst HasMoves (sym on) (goes_on laws lock ring setting seals so h.0 world h.1 sealed event (chance on) (subst Fresh on fresh) (plain h.0 h.1))
         ]
 
   any_steps : Steps (step_any setting)
@@ -155,31 +156,32 @@ module _ {S V : Type 0} (laws : Laws S V) (k : Speaks S) (lock : Lock) (ring : L
       ]
 
   pub run_any : (world : World S V) (events : List Event) → HasMoves world → Keeps world → NoChance setting world events → Fresh (fold (step_any setting) world events)
-      → LawfulIn (fold (step_any setting) world events) → HasMoves (fold (step_any setting) world events)
-  run_any world [] h kept chance fresh lawful = h
-  run_any world (event ∷ events) h kept chance fresh lawful =
+      → SealedIn (fold (step_any setting) world events) → AreSaidPlainly (step_any setting) setting world events → HasMoves (fold (step_any setting) world events)
+  run_any world [] h kept chance fresh sealed plain = h
+  run_any world (event ∷ events) h kept chance fresh sealed plain =
       let behind : World S V = step_any setting world event in
       let kept_on : Keeps behind = next_served (step_any setting) any_steps world event kept in
       run_any behind events
-      (next_moves (step_any setting) any_steps world event h (lawful_back (step_any setting) any_steps world (event ∷ events) lawful)
-      (fresh_back (step_any setting) any_steps behind events kept_on fresh) (λ on. chance.0))
-      kept_on chance.1 fresh lawful
+      (next_moves (step_any setting) any_steps world event h (sealed_back (step_any setting) any_steps world (event ∷ events) sealed)
+      (fresh_back (step_any setting) any_steps behind events kept_on fresh) (λ on. chance.0) plain.0)
+      kept_on chance.1 fresh sealed plain.1
 
-  step_moves : (world : World S V) (event : Event) → HasMoves world → LawfulIn world → Fresh (step setting world event) → HasMoves (step setting world event)
-  step_moves world event h lawful fresh =
+  step_moves : (world : World S V) (event : Event) → HasMoves world → SealedIn world → Fresh (step setting world event)
+      → ((w : Moved) → WorldStands w world → SaysPlainly w world (after setting world event)) → HasMoves (step setting world event)
+  step_moves world event h sealed fresh plain =
       elim (cases_Bool (is_some (refusal setting world event))) [
         | inl is ↦ rw is h
         | inr fine ↦
-            rw fine (goes_on laws lock ring setting seals so h.0 world h.1 lawful event (no_chance setting world event fine)
-            (subst (λ (b : Bool). Fresh (if b then world else after setting world event)) fine fresh))
+            rw fine (goes_on laws lock ring setting seals so h.0 world h.1 sealed event (no_chance setting world event fine)
+            (subst (λ (b : Bool). Fresh (if b then world else after setting world event)) fine fresh) (plain h.0 h.1))
       ]
 
-  pub run_all : (world : World S V) (events : List Event) → HasMoves world → Keeps world → Fresh (fold (step setting) world events) → LawfulIn (fold (step setting) world events)
-      → HasMoves (fold (step setting) world events)
-  run_all world [] h kept fresh lawful = h
-  run_all world (event ∷ events) h kept fresh lawful =
+  pub run_all : (world : World S V) (events : List Event) → HasMoves world → Keeps world → Fresh (fold (step setting) world events) → SealedIn (fold (step setting) world events)
+      → AreSaidPlainly (step setting) setting world events → HasMoves (fold (step setting) world events)
+  run_all world [] h kept fresh sealed plain = h
+  run_all world (event ∷ events) h kept fresh sealed plain =
       let behind : World S V = step setting world event in
       let kept_on : Keeps behind = next_served (step setting) its_steps world event kept in
       run_all behind events
-      (step_moves world event h (lawful_back (step setting) its_steps world (event ∷ events) lawful) (fresh_back (step setting) its_steps behind events kept_on fresh))
-      kept_on fresh lawful
+      (step_moves world event h (sealed_back (step setting) its_steps world (event ∷ events) sealed) (fresh_back (step setting) its_steps behind events kept_on fresh) plain.0)
+      kept_on fresh sealed plain.1

@@ -1,5 +1,5 @@
 -- An event of the server, in a world.
-use Rattle.std.proofs.Common.{◌≡◌, ℕ, suc, List, [], Option, Some, None, refl, sym, ap, subst, ◌∙◌, arith}
+use Rattle.std.proofs.Common.{◌≡◌, ℕ, suc, List, [], Option, Some, None, refl, sym, ap, subst, ◌∙◌, arith, ◌∷◌}
 use Rattle.std.specs.Prelude.{option_map, slice_get}
 use Rattle.std.specs.List.{All, AllByRecursion, Contains}
 use Rattle.std.proofs.lemmas.List.Elements.{Contains-append_right}
@@ -23,7 +23,8 @@ use Rattle.world_servers.specs.Leading.{Leads}
 use Rattle.world_servers.specs.Sending.{WentOut}
 use Rattle.world_servers.specs.Servers.{IsPacketUp}
 use Rattle.world_servers.specs.Worlds.{HasServed, StandsIn as AreServersIn}
-use Rattle.world_law.specs.Standing.{HasMoves, IsBagged, IsKeyOf, IsSeated, IsThere, WorldStands, key_at}
+use Rattle.world_law.specs.Plain.{HasServedPlainly, SaysPlainly}
+use Rattle.world_law.specs.Standing.{IsDown, HasMoves, IsBagged, IsKeyOf, IsSeated, IsThere, WorldStands, key_at}
 use Rattle.world_law.proofs.Lists.{all_append, each_of, map_all}
 use Rattle.world_law.proofs.Known.{Moving, Still}
 use Rattle.world_law.proofs.Nobody.{nobody_by_servers}
@@ -55,11 +56,16 @@ module _ {S V : Type 0} (known : Moving) (still : Still) (alone : Themselves S) 
   still_seated list lawful own i None n = nobody_by_servers known w i list own n
   still_seated list lawful own i (Some seat) s = still.servers w i list seat.client h.reached lawful own s
 
-  down_bagged : (v : Moved) (packet : Packet) → (packet.dir ≡ Down) × WentOut v (as_heard packet.envelope) → IsBagged v world.seats packet
-  down_bagged v packet its = subst (λ (d : Dir). IsThere v world.seats d packet.envelope) (sym its.0) its.1
+  down_bagged : (v : Moved) (packet : Packet) → packet.dir ≡ Down → IsDown v packet.envelope → IsBagged v world.seats packet
+  down_bagged v packet way down = subst (λ (d : Dir). IsThere v world.seats d packet.envelope) (sym way) down
+
+  all_bagged : (v : Moved) (packets : List Packet) → AllByRecursion (λ (packet : Packet). (packet.dir ≡ Down) × WentOut v (as_heard packet.envelope)) packets
+      → AllByRecursion (λ (packet : Packet). IsDown v packet.envelope) packets → AllByRecursion (IsBagged v world.seats) packets
+  all_bagged v [] went read = tt
+  all_bagged v (packet ∷ packets) went read = (down_bagged v packet went.0.0 read.0, all_bagged v packets went.1 read.1)
 
   module _ (event : ServerEvent) where
-    by_leads : (l : Leads w (λ later. HasServed later world (serves setting event world)))
+    by_leads : (l : Leads w (λ later. HasServedPlainly later world (serves setting event world)))
         → ((P : ℕ → ℕ → Type 0) → AllByRecursion (λ (session : Session). P session.number session.key) (lives world)
         → ((n k : ℕ) → IsKeyOf w world.seats n k → P n k)
         → AllByRecursion (λ (session : Session). P session.number session.key) (lives (serves setting event world)))
@@ -69,7 +75,7 @@ module _ {S V : Type 0} (known : Moving) (still : Still) (alone : Themselves S) 
         let extends : Extends w v = known.extends w l.moves l.lawful in
         let key_on : (n k : ℕ) → IsKeyOf w world.seats n k → IsKeyOf v world.seats n k =
         λ n k. key_still w v world.seats world.seats extends (keys_same world.seats) h.seats (λ c s. known.owned w l.moves c s l.lawful) n k in
-        let served : HasServed v world (serves setting event world) = l.gives in
+        let served : HasServed v world (serves setting event world) = l.gives.served in
         record {
           reached = known.reached w l.moves h.reached l.lawful;
           seats = λ i. still_seated l.moves l.lawful l.own i (slice_get world.seats i) (h.seats i);
@@ -81,43 +87,58 @@ module _ {S V : Type 0} (known : Moving) (still : Still) (alone : Themselves S) 
           bag = subst (λ (bag : List Packet). AllByRecursion (IsBagged v world.seats) bag) (sym served.bag)
               (all_append (IsBagged v world.seats) world.bag served.packets
               (bag_still w v world.seats world.seats extends (keys_same world.seats) h.seats (λ c s. known.owned w l.moves c s l.lawful) world.bag h.bag)
-              (map_all (λ (packet : Packet). (packet.dir ≡ Down) × WentOut v (as_heard packet.envelope)) (IsBagged v world.seats) served.packets (λ packet is its. down_bagged v packet its) served.down));
+              (all_bagged v served.packets served.down l.gives.read));
         }
 
-    leads : (l : Leads w (λ later. HasServed later world (serves setting event world)))
+    leads : (l : Leads w (λ later. HasServedPlainly later world (serves setting event world)))
         → ((P : ℕ → ℕ → Type 0) → AllByRecursion (λ (session : Session). P session.number session.key) (lives world)
         → ((n k : ℕ) → IsKeyOf w world.seats n k → P n k)
         → AllByRecursion (λ (session : Session). P session.number session.key) (lives (serves setting event world))) → HasMoves (serves setting event world)
     leads l names = (after_all w l.moves, by_leads l names)
 
-  pub ticked : Fresh (serves setting (Tick world.clock) world) → HasMoves (serves setting (Tick world.clock) world)
-  ticked fresh =
-      leads (Tick world.clock) (serving.tick w setting world world.clock h.reached h.server h.ordered fresh) (λ P all keys. tick_named P alone setting world all world.clock)
+  pub ticked : Fresh (serves setting (Tick world.clock) world) → SaysPlainly w world (serves setting (Tick world.clock) world) → HasMoves (serves setting (Tick world.clock) world)
+  ticked fresh plain =
+      leads (Tick world.clock) (plain (serving.tick w setting world world.clock h.reached h.server h.ordered fresh)) (λ P all keys. tick_named P alone setting world all world.clock)
 
-  pub worked : (place : ℕ) → Fresh (serves setting (Work world.clock place) world) → HasMoves (serves setting (Work world.clock place) world)
-  worked place fresh =
-      leads (Work world.clock place) (serving.work w setting world world.clock place h.reached h.server h.ordered fresh)
+  pub worked : (place : ℕ) → Fresh (serves setting (Work world.clock place) world) → SaysPlainly w world (serves setting (Work world.clock place) world) → HasMoves (serves setting (Work world.clock place) world)
+  worked place fresh plain =
+      leads (Work world.clock place) (plain (serving.work w setting world world.clock place h.reached h.server h.ordered fresh))
       (λ P all keys. work_named P alone setting world all world.clock place)
 
-  pub attached : (name : Name) → Fresh (serves setting (Attach world.clock name) world) → HasMoves (serves setting (Attach world.clock name) world)
-  attached name fresh =
-      leads (Attach world.clock name) (serving.attach w setting world world.clock name h.reached h.server h.ordered fresh)
+  pub attached : (name : Name) → Fresh (serves setting (Attach world.clock name) world) → SaysPlainly w world (serves setting (Attach world.clock name) world) → HasMoves (serves setting (Attach world.clock name) world)
+  attached name fresh plain =
+      leads (Attach world.clock name) (plain (serving.attach w setting world world.clock name h.reached h.server h.ordered fresh))
       (λ P all keys. attach_named P alone setting world all world.clock name)
 
-  pub lost : (name : Name) → HasMoves (serves setting (Loss name) world)
-  lost name = leads (Loss name) (serving.loss w setting world name h.server) (λ P all keys. loss_named P alone setting world all name)
+  pub lost : (name : Name) → SaysPlainly w world (serves setting (Loss name) world) → HasMoves (serves setting (Loss name) world)
+  lost name plain = leads (Loss name) (plain (serving.loss w setting world name h.server)) (λ P all keys. loss_named P alone setting world all name)
 
-  pub restarted : HasMoves (record (serves setting Restart world) { start = suc world.start })
-  restarted =
-      let l = serving.restart w setting world h.reached h.server in
-      let s = by_leads Restart l (λ P all keys. restart_named P alone setting world all) in
+  pub restarted : SaysPlainly w world (record (serves setting Restart world) { start = suc world.start }) → HasMoves (record (serves setting Restart world) { start = suc world.start })
+  restarted plain =
+      let first = serving.restart w setting world h.reached h.server in
+      let l = plain (record {
+        moves = first.moves;
+        lawful = first.lawful;
+        own = first.own;
+        gives = record { stands = first.gives.stands; packets = first.gives.packets; bag = first.gives.bag; down = first.gives.down };
+      }) in
+      let again : Leads w (λ later. HasServedPlainly later world (serves setting Restart world)) = record {
+        moves = l.moves;
+        lawful = l.lawful;
+        own = l.own;
+        gives = record {
+          served = record { stands = l.gives.served.stands; packets = l.gives.served.packets; bag = l.gives.served.bag; down = l.gives.served.down };
+          read = l.gives.read;
+        };
+      } in
+      let s = by_leads Restart again (λ P all keys. restart_named P alone setting world all) in
       (after_all w l.moves, record { reached = s.reached; seats = s.seats; server = s.server; ordered = s.ordered; keys = s.keys; bag = s.bag })
 
   -- ---- a packet
 
-  pub unopened : HasMoves (serves setting (Comes world.clock None) world)
-  unopened =
-      leads (Comes world.clock None) (record { moves = []; lawful = tt; own = λ j d below. absurd (omega arith); gives = serving.unopened w setting world world.clock h.server })
+  pub unopened : SaysPlainly w world (serves setting (Comes world.clock None) world) → HasMoves (serves setting (Comes world.clock None) world)
+  unopened plain =
+      leads (Comes world.clock None) (plain (record { moves = []; lawful = tt; own = λ j d below. absurd (omega arith); gives = serving.unopened w setting world world.clock h.server }))
       (λ P all keys. unopened_named P alone setting world all world.clock)
 
   one_key : (envelope : Envelope) → IsKeyOf w world.seats envelope.session envelope.key → (other : Session) → Contains (lives world) other → other.number ≡ envelope.session → other.key ≡ envelope.key
@@ -129,18 +150,20 @@ module _ {S V : Type 0} (known : Moving) (still : Still) (alone : Themselves S) 
       cc
 
   pub opened : (envelope : Envelope) → IsPacketUp w.ups (as_heard envelope) × IsKeyOf w world.seats envelope.session envelope.key
-      → Fresh (serves setting (Comes world.clock (Some (as_heard envelope))) world) → HasMoves (serves setting (Comes world.clock (Some (as_heard envelope))) world)
-  opened envelope its fresh =
+      → Fresh (serves setting (Comes world.clock (Some (as_heard envelope))) world) → SaysPlainly w world (serves setting (Comes world.clock (Some (as_heard envelope))) world)
+      → HasMoves (serves setting (Comes world.clock (Some (as_heard envelope))) world)
+  opened envelope its fresh plain =
       leads (Comes world.clock (Some (as_heard envelope)))
-      (serving.packet w setting world world.clock (as_heard envelope) h.reached h.server h.ordered fresh its.0
-      (λ other among same. one_key envelope its.1 other (Contains-append_right world.lost world.server.sessions other among) same))
+      (plain (serving.packet w setting world world.clock (as_heard envelope) h.reached h.server h.ordered fresh its.0
+      (λ other among same. one_key envelope its.1 other (Contains-append_right world.lost world.server.sessions other among) same)))
       (λ P all keys. packet_named P alone setting world all world.clock (as_heard envelope) (keys envelope.session envelope.key its.1))
 
   by_opening : (found : Option Envelope) → ((envelope : Envelope) → found ≡ Some envelope → IsPacketUp w.ups (as_heard envelope) × IsKeyOf w world.seats envelope.session envelope.key)
-      → Fresh (serves setting (Comes world.clock (option_map as_heard found)) world) → HasMoves (serves setting (Comes world.clock (option_map as_heard found)) world)
-  by_opening None so fresh = unopened
-  by_opening (Some envelope) so fresh = opened envelope (so envelope refl) fresh
+      → Fresh (serves setting (Comes world.clock (option_map as_heard found)) world) → SaysPlainly w world (serves setting (Comes world.clock (option_map as_heard found)) world)
+      → HasMoves (serves setting (Comes world.clock (option_map as_heard found)) world)
+  by_opening None so fresh plain = unopened plain
+  by_opening (Some envelope) so fresh plain = opened envelope (so envelope refl) fresh plain
 
   pub came_up : (bytes : List ℕ) → ((envelope : Envelope) → setting.opens (server_now world) Up bytes ≡ Some envelope → IsPacketUp w.ups (as_heard envelope) × IsKeyOf w world.seats envelope.session envelope.key)
-      → Fresh (comes_up setting bytes world) → HasMoves (comes_up setting bytes world)
-  came_up bytes so fresh = by_opening (setting.opens (server_now world) Up bytes) so fresh
+      → Fresh (comes_up setting bytes world) → SaysPlainly w world (comes_up setting bytes world) → HasMoves (comes_up setting bytes world)
+  came_up bytes so fresh plain = by_opening (setting.opens (server_now world) Up bytes) so fresh plain

@@ -1,19 +1,19 @@
 -- How a world of servers and clients stands in a world of the law on moves. There a client is told by its place among the
 -- clients, from 0.
-use Rattle.std.specs.Prelude.{◌≡◌, ℕ, Option, Some, None, option_map, slice_get, List}
-use Rattle.std.specs.List.{AllByRecursion}
+use Rattle.std.specs.Prelude.{◌≡◌, ◌≢◌, ℕ, Option, Some, None, option_map, slice_get, List}
+use Rattle.std.specs.List.{AllByRecursion, Contains}
 use Rattle.envelope.specs.declared.parts.Dir.{Dir}
 use Rattle.envelope.specs.declared.parts.Dir.TheVariants.{Up, Down}
 use Rattle.envelope.specs.declared.parts.Envelope.{Envelope}
 use Rattle.server_laws.specs.Order.{AreOrdered}
+use Rattle.session_moves.specs.Table.Status.{Unmade}
 use Rattle.session_moves.specs.World as moves
 use Rattle.session_moves.specs.World.{Owns}
 use Rattle.session_moves.specs.Reached.{Reached}
 use Rattle.world_moves.specs.Clients.{IsNobody, StandsAs}
+use Rattle.world_moves.specs.Packets.{packet_items}
 use Rattle.world_moves.specs.Sent.{IsPacketSent}
-use Rattle.world_rules.specs.Setting.{as_heard}
 use Rattle.world_rules.specs.World.{Packet, Seat, World, lives}
-use Rattle.world_servers.specs.Sending.{WentOut}
 use Rattle.world_servers.specs.Worlds.{StandsIn as AreServersIn}
 
 -- ---- clients
@@ -40,11 +40,19 @@ pub record IsKeyOf (w : moves.World) (seats : List Seat) (session key : ℕ) : T
 
 -- ---- packets
 
--- A packet up has messages that were sent there, under a session number of a client with its key. A packet down went
--- out there, with its messages.
+-- a packet down is one of those that were made there, by a server session of its session number, with the items that a
+-- client reads in it
+pub record IsDown (w : moves.World) (envelope : Envelope) : Type 0 where
+  pub unique : ℕ
+  pub made : (w.servers unique).status ≢ Unmade
+  pub session : (w.servers unique).session ≡ envelope.session
+  pub there : Contains w.downs (record { server = unique; items = packet_items envelope })
+
+-- A packet up has messages that were sent there, under a session number of a client with its key. A packet down is one
+-- of the law's, with the items that a client reads in it.
 abbrev pub IsThere : moves.World → List Seat → Dir → Envelope → Type 0
 IsThere w seats Up envelope = IsPacketSent w.ups envelope × IsKeyOf w seats envelope.session envelope.key
-IsThere w seats Down envelope = WentOut w (as_heard envelope)
+IsThere w seats Down envelope = IsDown w envelope
 
 abbrev pub IsBagged : moves.World → List Seat → Packet → Type 0
 IsBagged w seats packet = IsThere w seats packet.dir packet.envelope

@@ -11,7 +11,7 @@ pub returns-clause-begins : goal.returns-clause-begins
 returns-clause-begins g c = λ setting draw. begun setting draw c.servers_stay_in_order.ensures.fresh
 
 pub returns-clause-event : goal.returns-clause-event
-returns-clause-event g c = λ lock ring setting w world event seals so h lawful chance fresh.
+returns-clause-event g c = λ lock ring setting w world event seals so h sealed chance fresh plain.
     goes_on
     (record {
       moving = record { reached = c.moves_go_on.ensures.reached; extends = c.moves_only_add.ensures; owned = c.clients_and_bodies_last.ensures.owned; one_owner = c.names_are_apart.ensures.one_owner; clients = c.moves_leave.ensures.clients; calls = c.moves_leave.ensures.calls; submitted = c.moves_leave.ensures.submitted; other_clients = c.moves_leave.ensures.other_clients; other_calls = c.moves_leave.ensures.other_calls };
@@ -21,12 +21,13 @@ returns-clause-event g c = λ lock ring setting w world event seals so h lawful 
       flushes = c.clients_flush.ensures;
       alone = record { owes = c.sessions_speak_for_themselves.ensures.owes; gives_up = c.sessions_speak_for_themselves.ensures.gives_up; finishes = c.sessions_speak_for_themselves.ensures.finishes; attaches = c.sessions_speak_for_themselves.ensures.attaches };
       serves = record { tick = c.events_of_worlds_are_moves.ensures.tick; work = c.events_of_worlds_are_moves.ensures.work; attach = c.events_of_worlds_are_moves.ensures.attach; loss = c.events_of_worlds_are_moves.ensures.loss; restart = c.events_of_worlds_are_moves.ensures.restart; unopened = c.events_of_worlds_are_moves.ensures.unopened; packet = c.packets_of_worlds_are_moves.ensures };
+      judged = c.packets_sent_are_up.ensures;
       order = λ setting course event. c.servers_stay_in_order.ensures.event (at_server setting) setting.serve setting.fresh course event;
     })
-    lock ring setting seals so w world h lawful event chance fresh
+    lock ring setting seals so w world h sealed event chance fresh plain
 
 pub returns-clause-schedule : goal.returns-clause-schedule
-returns-clause-schedule g c = λ lock ring setting draw events seals so fresh lawful.
+returns-clause-schedule g c = λ lock ring setting draw events seals so fresh sealed plain.
     run_all
     (record {
       moving = record { reached = c.moves_go_on.ensures.reached; extends = c.moves_only_add.ensures; owned = c.clients_and_bodies_last.ensures.owned; one_owner = c.names_are_apart.ensures.one_owner; clients = c.moves_leave.ensures.clients; calls = c.moves_leave.ensures.calls; submitted = c.moves_leave.ensures.submitted; other_clients = c.moves_leave.ensures.other_clients; other_calls = c.moves_leave.ensures.other_calls };
@@ -36,14 +37,15 @@ returns-clause-schedule g c = λ lock ring setting draw events seals so fresh la
       flushes = c.clients_flush.ensures;
       alone = record { owes = c.sessions_speak_for_themselves.ensures.owes; gives_up = c.sessions_speak_for_themselves.ensures.gives_up; finishes = c.sessions_speak_for_themselves.ensures.finishes; attaches = c.sessions_speak_for_themselves.ensures.attaches };
       serves = record { tick = c.events_of_worlds_are_moves.ensures.tick; work = c.events_of_worlds_are_moves.ensures.work; attach = c.events_of_worlds_are_moves.ensures.attach; loss = c.events_of_worlds_are_moves.ensures.loss; restart = c.events_of_worlds_are_moves.ensures.restart; unopened = c.events_of_worlds_are_moves.ensures.unopened; packet = c.packets_of_worlds_are_moves.ensures };
+      judged = c.packets_sent_are_up.ensures;
       order = λ setting course event. c.servers_stay_in_order.ensures.event (at_server setting) setting.serve setting.fresh course event;
     })
     (record { own = c.sessions_speak.ensures.own; others = c.sessions_speak.ensures.others })
     lock ring setting seals so (begins setting draw) events (start, begun setting draw c.servers_stay_in_order.ensures.fresh)
-    (begins_served setting (λ course event. c.servers_stay_in_order.ensures.event (at_server setting) setting.serve setting.fresh course event) c.servers_stay_in_order.ensures.fresh draw) fresh lawful
+    (begins_served setting (λ course event. c.servers_stay_in_order.ensures.event (at_server setting) setting.serve setting.fresh course event) c.servers_stay_in_order.ensures.fresh draw) fresh sealed plain
 
 pub returns-clause-any : goal.returns-clause-any
-returns-clause-any g c = λ lock ring setting draw events seals so chance fresh lawful.
+returns-clause-any g c = λ lock ring setting draw events seals so chance fresh sealed plain.
     run_any
     (record {
       moving = record { reached = c.moves_go_on.ensures.reached; extends = c.moves_only_add.ensures; owned = c.clients_and_bodies_last.ensures.owned; one_owner = c.names_are_apart.ensures.one_owner; clients = c.moves_leave.ensures.clients; calls = c.moves_leave.ensures.calls; submitted = c.moves_leave.ensures.submitted; other_clients = c.moves_leave.ensures.other_clients; other_calls = c.moves_leave.ensures.other_calls };
@@ -53,8 +55,9 @@ returns-clause-any g c = λ lock ring setting draw events seals so chance fresh 
       flushes = c.clients_flush.ensures;
       alone = record { owes = c.sessions_speak_for_themselves.ensures.owes; gives_up = c.sessions_speak_for_themselves.ensures.gives_up; finishes = c.sessions_speak_for_themselves.ensures.finishes; attaches = c.sessions_speak_for_themselves.ensures.attaches };
       serves = record { tick = c.events_of_worlds_are_moves.ensures.tick; work = c.events_of_worlds_are_moves.ensures.work; attach = c.events_of_worlds_are_moves.ensures.attach; loss = c.events_of_worlds_are_moves.ensures.loss; restart = c.events_of_worlds_are_moves.ensures.restart; unopened = c.events_of_worlds_are_moves.ensures.unopened; packet = c.packets_of_worlds_are_moves.ensures };
+      judged = c.packets_sent_are_up.ensures;
       order = λ setting course event. c.servers_stay_in_order.ensures.event (at_server setting) setting.serve setting.fresh course event;
     })
     (record { own = c.sessions_speak.ensures.own; others = c.sessions_speak.ensures.others })
     lock ring setting seals so (begins setting draw) events (start, begun setting draw c.servers_stay_in_order.ensures.fresh)
-    (begins_served setting (λ course event. c.servers_stay_in_order.ensures.event (at_server setting) setting.serve setting.fresh course event) c.servers_stay_in_order.ensures.fresh draw) chance fresh lawful
+    (begins_served setting (λ course event. c.servers_stay_in_order.ensures.event (at_server setting) setting.serve setting.fresh course event) c.servers_stay_in_order.ensures.fresh draw) chance fresh sealed plain
