@@ -1,0 +1,4 @@
+pub mod BagLemmas
+pub mod Serving
+pub mod Heard
+pub mod Moments
