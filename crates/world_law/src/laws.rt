@@ -1,0 +1,132 @@
+//! Laws of worlds over every schedule, each the contract of a function that does nothing.
+
+ghost use Rattle.std.specs.Prelude.{◌≡◌, ℕ, List, Some};
+ghost use Rattle.auth_keys.specs.declared.ring.RingKey.{RingKey};
+ghost use Rattle.regs_service.specs.Served.{Served};
+ghost use Rattle.envelope.specs.declared.parts.Dir.{Dir};
+ghost use Rattle.envelope.specs.declared.parts.Envelope.{Envelope};
+ghost use Rattle.envelope.specs.Lawful.{OpensWhatItSealed};
+ghost use Rattle.envelope.specs.Packet.{Lock};
+ghost use Rattle.server_laws.specs.Order.{AreOrdered};
+ghost use Rattle.session_moves.specs.World.{World as Moved, start as empty};
+ghost use Rattle.sched_text.specs.declared.event.Event.{Event};
+ghost use Rattle.world_rules.specs.Setting.{Setting};
+ghost use Rattle.world_rules.specs.World.{Packet, World, begins, bytes_of};
+ghost use Rattle.world_rules.specs.Premises.{Fresh, IsByNoChance, IsSealed, NoChance, OpensOnly};
+ghost use Rattle.world_rules.specs.Once.{Once, ran_in};
+ghost use Rattle.world_rules.specs.Run.{after, run_of, run_of_any, step, step_any};
+ghost use Rattle.world_law.specs.Made.{AreLawfulPackets, IsOfPacket, IsSealedPacket, IsShort};
+ghost use Rattle.world_law.specs.Small.{AreSaidSmall, SaysSmall};
+ghost use Rattle.world_law.specs.Standing.{HasMoves, WorldStands};
+
+use draws::Draw;
+use session_moves::laws::{
+    clients_and_bodies_last, moves_execute_once, moves_go_on, moves_leave, moves_only_add,
+    names_are_apart, what_was_not_made_is_blank,
+};
+use world_moves::laws::{
+    clients_flush, clients_hear, clients_join, clients_renew_and_end, clients_submit,
+    others_stand_still, wishes_are_no_moves,
+};
+use world_servers::laws::{
+    events_of_worlds_are_moves, packets_are_read_as_they_went_out, packets_of_worlds_are_moves,
+    packets_sent_are_up, servers_stand_still,
+};
+
+/// After every schedule, what ran in each start of the server has the replies that the service gives to these requests, one
+/// after the other, from its fresh state. So it is too where foreign bytes that open are taken like packets.
+pub fn starts_are_served<D: Draw, V>()
+    ensures all { (setting : Setting D V) (draw : D) (events : List Event) (start : ℕ)
+        → Served setting.serve setting.fresh (ran_in start (run_of setting draw events).entries) }
+    ensures any { (setting : Setting D V) (draw : D) (events : List Event) (start : ℕ)
+        → Served setting.serve setting.fresh (ran_in start (run_of_any setting draw events).entries) }
+{
+    server_laws::laws::servers_stay_in_order::<D, V>();
+}
+
+/// Where bytes are those of a packet that was made, what opens is its envelope; and where foreign bytes open by no chance,
+/// what opens is the envelope of a packet of the world that goes that way. Each envelope that opens is lawful and short.
+pub fn what_opens_was_made<D: Draw, V>()
+    ensures given { (lock : Lock) (ring : List RingKey) (setting : Setting D V) (now : ℕ) (packet : Packet) (envelope : Envelope) → OpensWhatItSealed lock
+        → IsSealed lock ring setting → IsSealedPacket lock ring setting packet
+        → setting.opens now packet.dir (bytes_of setting packet) ≡ Some envelope → packet.envelope ≡ envelope }
+    ensures foreign { (lock : Lock) (ring : List RingKey) (setting : Setting D V) (world : World D V) (now : ℕ) (dir : Dir) (bytes : List ℕ) (envelope : Envelope)
+        → OpensWhatItSealed lock → IsSealed lock ring setting → AreLawfulPackets lock ring setting world → OpensOnly setting world now dir bytes
+        → setting.opens now dir bytes ≡ Some envelope → IsOfPacket world dir envelope }
+    ensures short { (lock : Lock) (ring : List RingKey) (setting : Setting D V) (now : ℕ) (dir : Dir) (bytes : List ℕ) (envelope : Envelope)
+        → OpensWhatItSealed lock → IsSealed lock ring setting → setting.opens now dir bytes ≡ Some envelope → IsShort envelope }
+{}
+
+/// No event takes away a word that was drawn for a session number, a unique number or a salt, nor a packet: where these words
+/// differ behind an event, and aren't 0, they did so before it, and where all packets are lawful behind it, they were.
+pub fn worlds_only_grow<D: Draw, V>()
+    ensures words { (setting : Setting D V) (world : World D V) (event : Event) → AreOrdered world.server.sessions world.server.jobs
+        → Fresh (after setting world event) → Fresh world }
+    ensures packets { (lock : Lock) (ring : List RingKey) (setting : Setting D V) (world : World D V) (event : Event)
+        → AreLawfulPackets lock ring setting (after setting world event) → AreLawfulPackets lock ring setting world }
+{
+    server_laws::laws::sessions_speak::<D>();
+    server_laws::laws::sessions_speak_for_themselves::<D>();
+}
+
+/// Every event of a world is a list of lawful moves, and so some list of lawful moves leads to where the world of a schedule
+/// stands, with its clients, sessions, jobs, packets and entries. The premises: a seal that opens what it sealed, foreign
+/// bytes that open by no chance (a schedule refuses those that open), words that aren't 0 and differ; and two on sizes, which
+/// aren't shown of the rules: each packet is one that may be sealed, a server's container a lawful one, and the numbers of
+/// what a server says fit their places.
+pub fn worlds_are_moves<D: Draw, V>()
+    ensures begins { (setting : Setting D V) (draw : D) → WorldStands empty (begins setting draw) }
+    ensures event { (lock : Lock) (ring : List RingKey) (setting : Setting D V) (w : Moved) (world : World D V) (event : Event) → OpensWhatItSealed lock
+        → IsSealed lock ring setting → WorldStands w world → AreLawfulPackets lock ring setting world → IsByNoChance setting world event
+        → Fresh (after setting world event) → SaysSmall w world (after setting world event)
+        → AreLawfulPackets lock ring setting (after setting world event) → HasMoves (after setting world event) }
+    ensures schedule { (lock : Lock) (ring : List RingKey) (setting : Setting D V) (draw : D) (events : List Event) → OpensWhatItSealed lock
+        → IsSealed lock ring setting → Fresh (run_of setting draw events) → AreLawfulPackets lock ring setting (run_of setting draw events)
+        → AreSaidSmall (step setting) setting (begins setting draw) events → HasMoves (run_of setting draw events) }
+    ensures any { (lock : Lock) (ring : List RingKey) (setting : Setting D V) (draw : D) (events : List Event) → OpensWhatItSealed lock
+        → IsSealed lock ring setting → NoChance setting (begins setting draw) events → Fresh (run_of_any setting draw events)
+        → AreLawfulPackets lock ring setting (run_of_any setting draw events)
+        → AreSaidSmall (step_any setting) setting (begins setting draw) events → HasMoves (run_of_any setting draw events) }
+{
+    moves_go_on();
+    moves_leave();
+    moves_only_add();
+    clients_and_bodies_last();
+    names_are_apart();
+    clients_join();
+    clients_submit();
+    wishes_are_no_moves();
+    clients_renew_and_end();
+    clients_flush::<D>();
+    clients_hear();
+    others_stand_still();
+    servers_stand_still();
+    events_of_worlds_are_moves::<D, V>();
+    packets_of_worlds_are_moves::<D, V>();
+    packets_sent_are_up();
+    packets_are_read_as_they_went_out();
+    server_laws::laws::servers_stay_in_order::<D, V>();
+    server_laws::laws::sessions_speak::<D>();
+    server_laws::laws::sessions_speak_for_themselves::<D>();
+}
+
+/// Each call executes at most once, as its client sent it, and what is told of it is so: over every schedule, under the
+/// premises of `worlds_are_moves`, and wherever a world stands in a world of the law.
+pub fn calls_execute_once<D: Draw, V>()
+    ensures schedule { (lock : Lock) (ring : List RingKey) (setting : Setting D V) (draw : D) (events : List Event) → OpensWhatItSealed lock
+        → IsSealed lock ring setting → Fresh (run_of setting draw events) → AreLawfulPackets lock ring setting (run_of setting draw events)
+        → AreSaidSmall (step setting) setting (begins setting draw) events → Once setting (run_of setting draw events) }
+    ensures any { (lock : Lock) (ring : List RingKey) (setting : Setting D V) (draw : D) (events : List Event) → OpensWhatItSealed lock
+        → IsSealed lock ring setting → NoChance setting (begins setting draw) events → Fresh (run_of_any setting draw events)
+        → AreLawfulPackets lock ring setting (run_of_any setting draw events)
+        → AreSaidSmall (step_any setting) setting (begins setting draw) events → Once setting (run_of_any setting draw events) }
+    ensures standing { (setting : Setting D V) (w : Moved) (world : World D V) → WorldStands w world
+        → ((start : ℕ) → Served setting.serve setting.fresh (ran_in start world.entries)) → Once setting world }
+{
+    moves_execute_once();
+    moves_leave();
+    names_are_apart();
+    what_was_not_made_is_blank();
+    starts_are_served::<D, V>();
+    worlds_are_moves::<D, V>();
+}
