@@ -12,12 +12,13 @@ use Rattle.world_rules.specs.World.{World, begins}
 use Rattle.world_rules.specs.Premises.{Fresh, names_drawn}
 use Rattle.world_rules.specs.Refusals.{refusal}
 use Rattle.world_rules.specs.Run.{after, is_in_the_way, step, step_any}
-use Rattle.world_law.specs.Words.{AreDrawn, given_step, times}
+use Rattle.world_law.specs.Words.{AreDrawn, HavePlaces, given_step, times}
 use Rattle.world_law.proofs.Counting.{AreFresh, count, fewer_fresh, none_some, once_apart}
 use Rattle.world_law.proofs.Named.{Themselves}
 use Rattle.world_law.proofs.Growing.{Speaks}
 use Rattle.world_law.proofs.Served.{IsServed, stepped, stepped_any}
 use Rattle.world_law.proofs.Later.{IsLater, later_itself, later_then}
+use Rattle.world_law.proofs.Chosen.{have_places}
 use Rattle.world_law.proofs.Words.{event_drew, names_of}
 
 times_count : (word : ℕ) (words : List ℕ) → times word words ≡ count word words
@@ -85,6 +86,12 @@ module _ {S V : Type 0} (setting : Setting S V) where
       let back = fewer_fresh (names_drawn world) (next_words setting.step n draw)
       (λ x. let le = names x in omega (arith, le, times_count x (names_drawn world), times_count x (next_words setting.step n draw))) fresh in
       record { some = back.0; apart = back.1 }
+
+  pub drawn_places : (draw : S) (n : ℕ) (world : World S V) → AreDrawn setting (begins setting draw) n world → HavePlaces setting.step draw n (names_drawn world)
+  drawn_places draw n world h =
+      let names = h.names in
+      have_places setting.step draw (names_drawn world) n
+      (λ x. let le = names x in omega (arith, le, times_count x (names_drawn world), times_count x (next_words setting.step n draw)))
 
 -- ---- a `StepDraw`
 

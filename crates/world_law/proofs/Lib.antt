@@ -30,6 +30,7 @@ pub mod Later
 pub mod Drew
 pub mod Filled
 pub mod Words
+pub mod Chosen
 pub mod Drawing
 pub mod Bags
 pub mod Runs

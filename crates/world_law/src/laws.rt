@@ -14,13 +14,13 @@ ghost use Rattle.session_moves.specs.World.{World as Moved, start as empty};
 ghost use Rattle.sched_text.specs.declared.event.Event.{Event};
 ghost use Rattle.world_rules.specs.Setting.{Setting};
 ghost use Rattle.world_rules.specs.World.{Packet, World, begins, bytes_of};
-ghost use Rattle.world_rules.specs.Premises.{Fresh, IsByNoChance, IsSealed, NoChance, OpensOnly};
+ghost use Rattle.world_rules.specs.Premises.{Fresh, IsByNoChance, IsSealed, NoChance, OpensOnly, names_drawn};
 ghost use Rattle.world_rules.specs.Once.{Once, ran_in};
 ghost use Rattle.world_rules.specs.Run.{after, run_of, run_of_any, step, step_any};
 ghost use Rattle.world_law.specs.Made.{AreLawfulPackets, IsOfPacket, IsSealedPacket, IsShort};
 ghost use Rattle.world_law.specs.Small.{AreSaidSmall, SaysSmall};
 ghost use Rattle.world_law.specs.Standing.{HasMoves, WorldStands};
-ghost use Rattle.world_law.specs.Words.{AreDrawn, given_step};
+ghost use Rattle.world_law.specs.Words.{AreDrawn, HavePlaces, given_step};
 
 use draws::{Draw, StepDraw};
 use session_moves::laws::{
@@ -135,13 +135,15 @@ pub fn calls_execute_once<D: Draw, V>()
 }
 
 /// From a world to the one behind its event, and over every schedule from its beginning, some number of words is drawn, and
-/// each word stands among the names further at most as often as among these. So the names aren't 0 and differ wherever the
-/// words drawn aren't and do.
+/// each word stands among the names further at most as often as among these: from its beginning on, a world's names are the
+/// words of places that are pairwise different. So they aren't 0 and differ wherever the words drawn aren't and do.
 pub fn names_are_words_drawn<D: Draw, V>()
     ensures event { (setting : Setting D V) (world : World D V) (event : Event) → AreOrdered world.server.sessions world.server.jobs
         → (n : ℕ) × AreDrawn setting world n (after setting world event) }
     ensures schedule { (setting : Setting D V) (draw : D) (events : List Event) → (n : ℕ) × AreDrawn setting (begins setting draw) n (run_of setting draw events) }
     ensures any { (setting : Setting D V) (draw : D) (events : List Event) → (n : ℕ) × AreDrawn setting (begins setting draw) n (run_of_any setting draw events) }
+    ensures places { (setting : Setting D V) (draw : D) (n : ℕ) (world : World D V) → AreDrawn setting (begins setting draw) n world
+        → HavePlaces setting.step draw n (names_drawn world) }
     ensures fresh { (setting : Setting D V) (draw : D) (n : ℕ) (world : World D V) → AreDrawn setting (begins setting draw) n world
         → All (λ word. word ≢ 0) (next_words setting.step n draw) → AllPairs (λ word other. word ≢ other) (next_words setting.step n draw) → Fresh world }
 {

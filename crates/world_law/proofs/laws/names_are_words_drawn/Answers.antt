@@ -2,7 +2,7 @@ use Rattle.world_rules.specs.Setting.{at_server}
 use Rattle.world_rules.specs.World.{begins}
 use Rattle.world_rules.specs.Run.{after, run_of, run_of_any}
 use Rattle.world_law.proofs.Served.{begins_served}
-use Rattle.world_law.proofs.Drawing.{any_between, as_drawn, drawn_fresh, event_between, run_between}
+use Rattle.world_law.proofs.Drawing.{any_between, as_drawn, drawn_fresh, drawn_places, event_between, run_between}
 use Rattle.world_law.proofs.laws.names_are_words_drawn.Goals as goal
 
 pub returns-clause-event : goal.returns-clause-event
@@ -30,3 +30,6 @@ returns-clause-any g c = λ setting draw events.
 
 pub returns-clause-fresh : goal.returns-clause-fresh
 returns-clause-fresh g c = λ setting draw n world h some apart. drawn_fresh setting draw n world h (some, apart)
+
+pub returns-clause-places : goal.returns-clause-places
+returns-clause-places g c = λ setting draw n world h. drawn_places setting draw n world h
