@@ -1,5 +1,5 @@
 -- All of a connection, and all attempts of a batch.
-use Rattle.std.proofs.Common.{◌≡◌, ◌≤◌, ◌+◌, ℕ, true, false, List, [], ◌∷◌, ◌++◌, length, Option, Some, None, IfSome, IsSome, IsSomeAnd, Err, ◌⊎◌, inl, inr, refl, sym, ap, subst, ◌∙◌, append_assoc, append-nil, arith}
+use Rattle.std.proofs.Common.{◌≡◌, ◌≤◌, ◌+◌, ℕ, true, false, List, [], ◌∷◌, ◌++◌, length, Option, Some, None, IfSome, IsSome, IsSomeAnd, ◌⊎◌, inl, inr, refl, sym, ap, subst, ◌∙◌, append_assoc, append-nil, arith}
 use Rattle.auth_keys.specs.declared.ring.RingKey.{RingKey}
 use Rattle.draws.specs.Draws.{draw_after, next_bytes}
 use Rattle.envelope.specs.Packet.{Lock}
@@ -14,11 +14,11 @@ use Rattle.mt_edge.specs.declared.net_call.Outcome.TheVariants.{Failed, Open, Do
 use Rattle.mt_edge.specs.declared.source.Got.TheVariants as got
 use Rattle.client_rules.specs.Client.{Client}
 use Rattle.client_core.specs.declared.holder.Holder.{Holder}
-use Rattle.client_node.specs.Course.{Course, Phase, Reading, attached_in, attaches, is_decided, renews}
+use Rattle.client_node.specs.Course.{Course, Phase, Reading, attached_in, attaches, is_decided}
 use Rattle.client_node.specs.Ends.{batch_by}
 use Rattle.client_node.specs.Runs.{Conversed, Gave, HasOpened, LostSoFar, Talked, Tried}
 use Rattle.client_node.specs.Standing.{StandsAs, StandsFor, phase_of}
-use Rattle.client_node.specs.Talks.{Began, Close, Connection, FailsWriting, Heard, IsStart, Passed, PassedFront, Passes, Place, Refused, Rules, Shows, ShowsClose, Stopped, TurnsDone, Unread, Unstarted, began, begun, drawn, rules_of}
+use Rattle.client_node.specs.Talks.{Began, Close, Connection, Heard, PassedFront, Place, Refused, Rules, Shows, ShowsClose, Stopped, TurnsDone, Unread, Unstarted, begun, drawn, rules_of}
 use Rattle.client_node.specs.Trace.{AreNoted, Attempt, ClientTrace, IsNoted, Made, NoLink, UndecidedIn, after_all, all_moments}
 use Rattle.client_node.specs.Writes.{Seen, Writes, WroteFront, seen}
 use Rattle.client_node.specs.declared.end.End.{End}

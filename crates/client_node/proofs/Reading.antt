@@ -1,16 +1,15 @@
 -- What a read of a piece tells.
-use Rattle.std.proofs.Common.{◌≡◌, ◌<◌, ◌≤◌, ◌⊎◌, ℕ, List, [], ◌∷◌, ◌++◌, length, min, take, Option, Some, None, IfSome, IsSomeAnd, Result, Ok, Err, inl, inr, refl, sym, ap, subst, ◌∙◌, length-take, arith}
+use Rattle.std.proofs.Common.{◌≡◌, ◌<◌, ◌≤◌, ◌⊎◌, ℕ, List, [], ◌∷◌, ◌++◌, length, take, Option, IfSome, IsSomeAnd, Result, inl, inr, refl, sym, ap, subst, ◌∙◌, length-take, arith}
 use Rattle.auth_keys.specs.declared.ring.RingKey.{RingKey}
 use Rattle.envelope.specs.Packet.{Lock}
 use Rattle.transport.specs.Wires.{Line}
 use Rattle.mt_edge.specs.Faults.{one_more}
 use Rattle.mt_edge.specs.Got.{Counts}
 use Rattle.mt_edge.specs.Links.{ReadsOver, Told}
-use Rattle.mt_edge.specs.declared.link_read.LinkRead.{LinkRead}
 use Rattle.mt_edge.specs.declared.source.Got.{Got}
 use Rattle.mt_edge.specs.declared.source.Got.TheVariants as got
 use Rattle.client_core.specs.declared.holder.Holder.{Holder}
-use Rattle.client_node.specs.Runs.{Gave, GotPiece, MissedPiece, ReadBy, ReadsBy}
+use Rattle.client_node.specs.Runs.{Gave, GotPiece, MissedPiece, ReadBy}
 use Rattle.client_node.specs.Talks.{IsNoPiece, piece_bytes}
 use Rattle.client_node.specs.Took.{TookPiece}
 use Rattle.client_node.specs.Writes.{Seen}

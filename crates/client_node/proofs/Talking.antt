@@ -1,6 +1,5 @@
 -- How a connection's count of faults and its decided calls follow from those of its parts.
-use Rattle.std.proofs.Common.{◌≡◌, ℕ, Bool, true, false, Result, Ok, Err, inl, inr, refl, sym, subst, ◌∙◌}
-use Rattle.mt_edge.specs.Got.{Counts}
+use Rattle.std.proofs.Common.{◌≡◌, ℕ, Result, Ok, Err, inl, inr, subst}
 use Rattle.mt_edge.specs.Faults.{one_more}
 use Rattle.client_core.specs.declared.holder.Holder.{Holder}
 use Rattle.client_node.specs.Ends.{CountsLink, CountsTurn}

@@ -1,5 +1,5 @@
 -- One turn more of a connection, and how it ends.
-use Rattle.std.proofs.Common.{◌≡◌, ◌<◌, ◌≤◌, ◌+◌, ℕ, Bool, List, [], ◌∷◌, ◌++◌, length, All, MatchOption, Option, Some, None, Result, Ok, Err, inl, inr, refl, sym, ap, subst, ◌∙◌, append_assoc, append-nil, arith}
+use Rattle.std.proofs.Common.{◌≡◌, ◌<◌, ◌≤◌, ◌+◌, ℕ, Bool, List, [], ◌∷◌, ◌++◌, length, Option, Ok, Err, inl, inr, refl, sym, ap, subst, ◌∙◌, append_assoc, append-nil, arith}
 use Rattle.auth_keys.specs.declared.ring.RingKey.{RingKey}
 use Rattle.envelope.specs.Packet.{Lock}
 use Rattle.cipher_modes.specs.CounterMode.{CtrState}
@@ -11,16 +11,15 @@ use Rattle.transport.specs.Wires.{Hears, Line, Tells}
 use Rattle.mt_edge.specs.Faults.{one_more}
 use Rattle.mt_edge.specs.declared.source.Got.{Got}
 use Rattle.mt_edge.specs.declared.source.Got.TheVariants as got
-use Rattle.client_rules.specs.Sending.{Setting}
 use Rattle.client_core.specs.Flushed.{setting_of}
 use Rattle.client_core.specs.declared.holder.Holder.{Holder}
 use Rattle.client_node.specs.Course.{Course, Reading}
 use Rattle.client_node.specs.Flow.{AllFlushes, FlowedBy, Follows, FramedBy}
 use Rattle.client_node.specs.Runs.{Gave, GotPiece, MissedPiece, ReadsBy, Talked, TookTurn, TurnsSoFar}
 use Rattle.client_node.specs.Standing.{IsReading, StandsAs}
-use Rattle.client_node.specs.Talks.{AreFramed, AreWhole, Close, EndsHearing, Heard, IsNoPiece, IsReady, IsSaid, IsText, IsTurn, Loses, Passes, Place, Rules, Said, ShowsClose, Stopped, Talk, Turn, TurnsDone, Unread, closes, gets, hears_all, reads, rules_of, says, turned, turns_from, turns_max}
+use Rattle.client_node.specs.Talks.{AreFramed, AreWhole, EndsHearing, Heard, IsNoPiece, IsReady, IsSaid, IsText, Loses, Passes, Place, Rules, Said, ShowsClose, Stopped, Turn, TurnsDone, Unread, gets, hears_all, reads, rules_of, says, turned, turns_from, turns_max}
 use Rattle.client_node.specs.Took.{CameAll, IsDone, IsLost, TookAll, takes_all}
-use Rattle.client_node.specs.Writes.{Seen, Writes}
+use Rattle.client_node.specs.Writes.{Seen}
 use Rattle.client_node.specs.declared.end.End.{End}
 use Rattle.client_node.specs.declared.end.End.TheVariants as ends
 use Rattle.client_node.proofs.Passing.{begins_by, fails_read, fails_said, gave_more, gave_none, hears_as, passes_none, passes_read, passes_said, tells_as}

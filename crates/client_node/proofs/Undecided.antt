@@ -9,10 +9,9 @@ use Rattle.client_rules.specs.Asking.{alone, alone_if_sent}
 use Rattle.client_rules.specs.Client.{Client, calls_of}
 use Rattle.client_rules.specs.Events.{fate_renewed}
 use Rattle.client_rules.specs.Learning.{settled_if}
-use Rattle.mt_edge.specs.declared.source.Got.{Got}
-use Rattle.client_node.specs.Course.{Course, Phase, Opening as Learning, Open, Ended, Reading, attached_in, attaches, hears, is_decided, is_undecided, must_renew, renews, renews_if, renews_unless, takes_packet}
+use Rattle.client_node.specs.Course.{Course, Phase, Opening as Learning, Open, Ended, Reading, attached_in, hears, is_decided, is_undecided, must_renew, renews, renews_if, renews_unless, takes_packet}
 use Rattle.client_node.specs.Ends.{batch_by}
-use Rattle.client_node.specs.Talks.{Began, Close, Connection, Heard, IsClosed, IsConnection, IsTalk, Place, Refused, Rules, Said, Stopped, Talk, TurnsDone, Unread, Unstarted, UndecidedBy, begun, closes, course_after, end_by, end_of, place_after, turns_from}
+use Rattle.client_node.specs.Talks.{Began, Close, Connection, Heard, IsClosed, IsConnection, Place, Refused, Rules, Said, Stopped, TurnsDone, Unread, Unstarted, UndecidedBy, begun, closes, course_after, end_by, end_of, turns_from}
 use Rattle.client_node.specs.Took.{NoneDecides, takes_all}
 use Rattle.client_node.specs.Trace.{AreLost, Attempt, IsAttempt, Made, NoLink, UndecidedIn, after_all, attempted, end_of_attempt}
 use Rattle.client_node.specs.declared.end.End.{End}

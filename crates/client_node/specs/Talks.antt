@@ -1,6 +1,6 @@
 -- What a client says and hears over one connection, worked out from the moments, the words and the pieces that are read
 -- (core.telegram.org/mtproto/mtproto-transports).
-use Rattle.std.specs.Prelude.{◌≡◌, ◌<◌, ◌≤◌, ◌⊎◌, ℕ, Bool, true, false, List, [], ◌∷◌, ◌++◌, length, All, Option, Some, IfSome, IsSomeAnd, Err, ⊤}
+use Rattle.std.specs.Prelude.{◌≡◌, ◌<◌, ◌≤◌, ◌⊎◌, ℕ, Bool, true, false, List, [], ◌∷◌, ◌++◌, length, All, IfSome, IsSomeAnd, Err, ⊤}
 use Rattle.draws.specs.Draws.{draw_after, next_bytes}
 use Rattle.auth_keys.specs.declared.ring.RingKey.{RingKey}
 use Rattle.envelope.specs.Packet.{Lock}

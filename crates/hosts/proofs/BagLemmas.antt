@@ -1,5 +1,5 @@
 -- Batches that stand one after the other, and the packet of a place in all of them.
-use Rattle.std.proofs.Common.{◌≡◌, ◌≢◌, ◌∙◌, ℕ, zero, suc, ◌+◌, ◌-◌, ◌<◌, ◌≤◌, Option, None, List, [], ◌∷◌, ◌++◌, length, get_or, ap, refl, sym, subst, inl, inr, arith, length-append}
+use Rattle.std.proofs.Common.{◌≡◌, ◌≢◌, ◌∙◌, ℕ, zero, suc, ◌+◌, ◌-◌, ◌<◌, ◌≤◌, None, List, [], ◌∷◌, ◌++◌, length, get_or, ap, refl, sym, inl, inr, arith, length-append}
 use Rattle.std.specs.List.{flat_map, slice_get}
 use Rattle.std.specs.List.Sorted.{IsNonDecreasingBy}
 use Rattle.std.proofs.lemmas.Option.{slice_get_past}
@@ -8,7 +8,7 @@ use Rattle.hosts.specs.declared.bag.Batch.{Batch}
 use Rattle.std.proofs.lemmas.List.Concat.{flat_map-append}
 use Rattle.hosts.specs.Bags.{AreCounted, IsBag}
 use Rattle.world_rules.specs.World.{counted}
-use Rattle.hosts.specs.Made.{Made, packets_in}
+use Rattle.hosts.specs.Made.{packets_in}
 
 -- one more batch
 pub counted-more : (n : ℕ) (batches : List Batch) (batch : Batch) → AreCounted n batches → batch.before ≡ n + length (flat_map packets_in batches)

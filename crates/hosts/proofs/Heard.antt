@@ -1,5 +1,5 @@
 -- What bytes do that come to a server.
-use Rattle.std.proofs.Common.{◌≡◌, ◌∙◌, ℕ, ◌≤◌, max, true, false, List, [], ◌∷◌, Option, Some, None, ap, refl, sym, subst, arith}
+use Rattle.std.proofs.Common.{◌≡◌, ◌∙◌, ℕ, ◌≤◌, max, true, false, List, [], ◌∷◌, Option, Some, None, ap, refl, sym, subst}
 use Rattle.envelope.specs.Lawful.{OpensWhatItSealed}
 use Rattle.std.specs.Prelude.{is_some, option_map}
 use Rattle.auth_keys.specs.declared.ring.RingKey.{RingKey}
@@ -18,7 +18,6 @@ use Rattle.server_core.specs.declared.desk.Heard.{Heard}
 use Rattle.server_core.specs.declared.desk.Heard.TheVariants.{Judged, NotOpened}
 use Rattle.server_core.specs.declared.desk.Reply.{Reply}
 use Rattle.server_rules.specs.Answer.{after_packet}
-use Rattle.server_rules.specs.Event.{Setting as ServerSetting}
 use Rattle.server_rules.specs.Events.{Course, Packet as Comes, after_event}
 use Rattle.server_rules.specs.Server.{Server, Session}
 use Rattle.standing.specs.Says.{setting_of}

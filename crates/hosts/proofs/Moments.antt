@@ -1,5 +1,5 @@
 -- Events of the server at the moment of its clock.
-use Rattle.std.proofs.Common.{◌≡◌, ◌∙◌, ℕ, suc, ◌+◌, max, Option, Some, None, List, [], ap, refl, subst, arith}
+use Rattle.std.proofs.Common.{◌≡◌, ◌∙◌, ℕ, suc, ◌+◌, max, Option, Some, None, List, ap, refl, subst, arith}
 use Rattle.auth_keys.specs.declared.ring.RingKey.{RingKey}
 use Rattle.envelope.specs.Packet.{Lock}
 use Rattle.msg_ids.specs.Moments.{moment_of}

@@ -1,5 +1,5 @@
 -- What an event of the server does to a world.
-use Rattle.std.proofs.Common.{◌≡◌, ◌∙◌, ℕ, zero, suc, ◌+◌, ◌≤◌, max, List, [], ◌∷◌, ◌++◌, map, Option, Some, None, ap, refl, sym, subst, arith}
+use Rattle.std.proofs.Common.{◌≡◌, ◌∙◌, ℕ, max, List, [], ◌∷◌, ◌++◌, map, ap, refl, sym, subst}
 use Rattle.std.proofs.lemmas.List.{map-append, append-nil}
 use Rattle.auth_keys.specs.declared.ring.RingKey.{RingKey}
 use Rattle.envelope.specs.Packet.{Lock}
@@ -9,7 +9,7 @@ use Rattle.owing.specs.Outs.{AreSent}
 use Rattle.owing.specs.declared.outs.Out.{Out}
 use Rattle.regs_service.specs.Served.{Step}
 use Rattle.server_core.specs.Effects.{Gives}
-use Rattle.server_core.specs.Server.{Kept, Stands as ServerStands}
+use Rattle.server_core.specs.Server.{Kept}
 use Rattle.server_core.specs.declared.effects.Effects.{Effects}
 use Rattle.server_laws.specs.Order.{AreOrdered}
 use Rattle.server_rules.specs.Answer.{Answer}

@@ -1,13 +1,12 @@
 -- What events do one after the other.
-use Rattle.std.proofs.Common.{◌≡◌, ◌+◌, zero, suc, arith, ℕ, Bool, true, false, List, [], ◌∷◌, ◌++◌, Option, Some, None, IfSome, IsSomeAnd, refl, sym, ap, subst, ◌∙◌, append_assoc, append-nil}
+use Rattle.std.proofs.Common.{◌≡◌, ◌+◌, zero, suc, arith, ℕ, List, [], ◌∷◌, ◌++◌, Option, Some, None, refl, sym, ap, subst, ◌∙◌, append_assoc}
 use Rattle.auth_keys.specs.declared.ring.RingKey.{RingKey}
-use Rattle.cipher_modes.specs.CounterMode.{CtrState}
 use Rattle.envelope.specs.Packet.{Lock}
 use Rattle.mt_edge.specs.Links.{Told}
 use Rattle.regs_service.specs.Served.{Step}
-use Rattle.server_node.specs.Doing.{Did, Due, Followed, IsPart, Side, Stands, StandsBy, rules_of, then_due}
-use Rattle.server_node.specs.Steps.{LineTells, SentBy}
-use Rattle.server_node.specs.Trace.{Act, IsOutside, Outside, Rules, Run, Talk, Tick, after_acts, runs, work_acts}
+use Rattle.server_node.specs.Doing.{Did, Due, IsPart, Side, StandsBy, then_due}
+use Rattle.server_node.specs.Steps.{SentBy}
+use Rattle.server_node.specs.Trace.{Act, Rules, Run, Talk, Tick, after_acts, rules_of, runs, work_acts}
 use Rattle.server_node.specs.Writes.{WrittenBy, Wrote, WroteBy, WroteFront}
 use Rattle.server_node.specs.declared.conn.ConnEnd.{ConnEnd}
 use Rattle.server_node.specs.declared.conn.ConnEnd.TheVariants as ends
@@ -56,7 +55,7 @@ pub acts_both : {S V : Type 0} (rules : Rules S V) (talk : Talk S V) (one other 
 acts_both rules talk [] other = refl
 acts_both rules talk (act ∷ acts) other = acts_both rules (after_acts rules talk (act ∷ [])) acts other
 
-part_both : (end : Option ConnEnd) (whole acts more done : List Act) → whole ≡ acts → IsPart end more done → IsPart end (whole ++ more) (acts ++ done)
+pub part_both : (end : Option ConnEnd) (whole acts more done : List Act) → whole ≡ acts → IsPart end more done → IsPart end (whole ++ more) (acts ++ done)
 part_both None whole acts more done same part = ap (λ (some : List Act). some ++ more) same ∙ ap (λ (some : List Act). acts ++ some) part
 part_both (Some end) whole acts more done same (rest, part) =
     (rest, ap (λ (some : List Act). some ++ more) same ∙ ap (λ (some : List Act). acts ++ some) part ∙ sym (append_assoc acts done rest))

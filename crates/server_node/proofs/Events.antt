@@ -1,11 +1,10 @@
 -- One event of a desk, and what is sent of it.
-use Rattle.std.proofs.Common.{◌≡◌, ◌≢◌, max, ◌≤◌, ◌%◌, ◌+◌, ◌&&◌, nat_le, ◌==◌, ℕ, Bool, true, false, if◌then◌else◌, List, [], ◌∷◌, ◌++◌, length, map, Option, Some, None, refl, sym, ap, subst, ◌∙◌, append-nil, arith}
+use Rattle.std.proofs.Common.{◌≡◌, ◌≢◌, max, ◌&&◌, ℕ, Bool, true, false, if◌then◌else◌, List, [], ◌∷◌, ◌++◌, map, Option, Some, None, refl, sym, ap, subst, ◌∙◌, append-nil, arith}
 use Rattle.std.specs.List.{filter}
 use Rattle.auth_keys.specs.declared.ring.RingKey.{RingKey}
 use Rattle.envelope.specs.declared.parts.Dir.TheVariants.{Down}
 use Rattle.envelope.specs.Lawful.{OpensWhatItSealed}
 use Rattle.envelope.specs.Packet.{Lock, Sealed}
-use Rattle.mt_edge.specs.Links.{Told}
 use Rattle.owing.specs.Outs.{AreSent, IsSent, sealed_envelope}
 use Rattle.owing.specs.declared.outs.Out.{Out}
 use Rattle.regs_service.specs.Served.{Step}
@@ -21,10 +20,10 @@ use Rattle.cipher_modes.specs.CounterMode.{CtrState}
 use Rattle.framing.specs.Streams as streams
 use Rattle.transport.specs.Directions.{through}
 use Rattle.transport.specs.Forms.{framing_of}
-use Rattle.server_node.specs.Doing.{Did, Due, IsEventEnd, IsPacketEnd, IsPart, Serves, Side, Stands, StandsBy, end_by, rules_of}
+use Rattle.server_node.specs.Doing.{Did, Due, IsEventEnd, IsPacketEnd, IsPart, Side, Stands, StandsBy, end_by}
 use Rattle.server_node.specs.Names.{was_heard}
 use Rattle.server_node.specs.Steps.{HearsAlike, IsQuiet, IsSendEnd, LineFront, LineTells, Said, SentBy, goes_out, going_out, is_sendable}
-use Rattle.server_node.specs.Trace.{Act, Attach, Run, Tick, IsOutside, Outside, Rules, Talk, after_act, gives, going, name_to}
+use Rattle.server_node.specs.Trace.{Act, Attach, IsOutside, Outside, Rules, Run, Talk, Tick, after_act, gives, going, name_to, rules_of}
 use Rattle.server_node.specs.Writes.{WrittenBy}
 use Rattle.server_node.specs.declared.conn.ConnEnd.{ConnEnd}
 use Rattle.server_node.specs.declared.conn.ConnEnd.TheVariants as ends
@@ -146,7 +145,7 @@ front_all (lines.Framed wire) to packets text tells = record {
   frames = subst (λ bytes. streams.Frames (framing_of wire.form) 0 packets (through to bytes)) (sym (append-nil text)) tells.frames;
 }
 
-same_tells : (line : Line) (to : Option CtrState) (packets : List (List ℕ)) (text : List ℕ) → LineTells line to packets text → LineTells line to packets (text ++ [])
+pub same_tells : (line : Line) (to : Option CtrState) (packets : List (List ℕ)) (text : List ℕ) → LineTells line to packets text → LineTells line to packets (text ++ [])
 same_tells line to packets text tells = subst (λ bytes. LineTells line to packets bytes) (sym (append-nil text)) tells
 
 fault_ends : {S V : Type 0} (step : S → ℕ × S) (serve : Step V) (lock : Lock) (ring : List RingKey) (side later : Side S V) (due : Due S V) (fault : DeskFault)

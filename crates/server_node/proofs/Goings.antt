@@ -1,10 +1,10 @@
 -- What a link is after one part and then another, and how many packets are left.
-use Rattle.std.proofs.Common.{◌≡◌, ◌≢◌, ◌≤◌, ◌-◌, ℕ, zero, suc, List, ◌++◌, Option, Some, None, IfSome, IsSome, IsSomeAnd, Result, Ok, Err, refl, sym, ap, subst, ◌∙◌, append_assoc, arith}
+use Rattle.std.proofs.Common.{◌≡◌, ◌≢◌, ℕ, zero, suc, List, ◌++◌, Option, Some, None, IfSome, IsSomeAnd, Ok, Err, refl, sym, ap, subst, ◌∙◌, append_assoc, arith}
 use Rattle.mt_edge.specs.Links.{Told}
 use Rattle.server_core.specs.declared.desk.DeskFault.{DeskFault}
 use Rattle.server_node.specs.Doing.{IsEventEnd, IsFeedEnd, IsPacketEnd, IsPieceEnd, stop_by}
 use Rattle.server_node.specs.Record.{Answered, IsFewer, Stops, counted_down}
-use Rattle.server_node.specs.Writes.{CountsBy, Goes, GoesOn, OnlyWrites, Wrote}
+use Rattle.server_node.specs.Writes.{CountsBy, Goes, GoesOn, OnlyWrites}
 use Rattle.server_node.specs.declared.conn.ConnEnd.{ConnEnd}
 use Rattle.server_node.specs.declared.conn.ConnEnd.TheVariants as ends
 use Rattle.server_node.specs.Steps.{HearsAlike}
@@ -89,7 +89,7 @@ packet_is_piece_end MayAnswer (Some ends.Stopped) can = absurd can
 
 -- ---- packets that are left
 
-same_fewer : (left : Option ℕ) → IsFewer left left
+pub same_fewer : (left : Option ℕ) → IsFewer left left
 same_fewer None = refl
 same_fewer (Some left) = omega arith
 

@@ -1,6 +1,12 @@
+pub mod AllPackets
+pub mod Answering
+pub mod Becoming
 pub mod Doings
 pub mod Events
 pub mod Going
 pub mod Goings
+pub mod Hearing
+pub mod Packets
+pub mod Serving
 pub mod Turning
 pub mod Writing

@@ -1,5 +1,5 @@
 -- The reads of a connection, one after the other.
-use Rattle.std.proofs.Common.{◌≡◌, ◌≢◌, ◌≤◌, ◌<◌, ◌+◌, ℕ, zero, suc, List, [], ◌∷◌, ◌++◌, length, All, Option, Some, None, IfSome, IsSomeAnd, inl, inr, refl, sym, ap, subst, ◌∙◌, append_assoc, append-nil, length-append, arith}
+use Rattle.std.proofs.Common.{◌≡◌, ◌≢◌, ◌<◌, ◌+◌, ℕ, zero, suc, List, [], ◌∷◌, ◌++◌, length, All, Option, Some, None, IfSome, IsSomeAnd, inl, inr, refl, sym, ap, subst, ◌∙◌, append_assoc, append-nil, length-append, arith}
 use Rattle.std.proofs.lemmas.List.Elements.{All-append}
 use Rattle.mt_edge.specs.Links.{Told, ReadsOver}
 use Rattle.mt_edge.specs.declared.link_read.LinkRead.{LinkRead}

@@ -1,5 +1,5 @@
 -- What the events of a connection do, over a desk, a line and a link: scaffolding of proofs, and no promise.
-use Rattle.std.specs.Prelude.{◌≡◌, ◌≢◌, ◌⊎◌, ℕ, max, List, [], ◌∷◌, ◌++◌, zero, suc, Option, Some, None, Result, Ok, Err, ⊤}
+use Rattle.std.specs.Prelude.{◌≡◌, ◌≢◌, ◌⊎◌, ℕ, List, ◌++◌, zero, suc, Option, Some, None, Result, Ok, Err, ⊤}
 use Rattle.auth_keys.specs.declared.ring.RingKey.{RingKey}
 use Rattle.cipher_modes.specs.CounterMode.{CtrState}
 use Rattle.envelope.specs.Packet.{Lock}
@@ -9,7 +9,7 @@ use Rattle.server_rules.specs.Server.{Server}
 use Rattle.server_core.specs.declared.desk.DeskFault.{DeskFault}
 use Rattle.server_core.specs.declared.desk.DeskFault.TheVariants as faults
 use Rattle.server_node.specs.Steps.{IsQuiet, LineTells, SentBy}
-use Rattle.server_node.specs.Trace.{Act, IsOutside, Outside, Rules, Talk, after_acts, work_acts}
+use Rattle.server_node.specs.Trace.{rules_of, Act, IsOutside, Outside, Rules, Talk, after_acts, work_acts}
 use Rattle.server_node.specs.Writes.{WrittenBy}
 use Rattle.server_node.specs.declared.conn.ConnEnd.{ConnEnd}
 use Rattle.server_node.specs.declared.conn.ConnEnd.TheVariants as ends
@@ -67,9 +67,6 @@ pub record Followed {S V : Type 0} (rules : Rules S V) (side : Side S V) (due : 
   pub part : IsPart end (due rules talk) acts
   pub stands : StandsBy end later (after_acts rules talk acts)
   pub sends : (to : Option CtrState) (text : List ℕ) → LineTells side.line to talk.sent text → SentBy end later.line to (after_acts rules talk acts).sent (text ++ bytes)
-
-abbrev pub rules_of : {S V : Type 0} → (S → ℕ × S) → Step V → Outside → Rules S V
-rules_of step serve outside = record { step = step; serve = serve; outside = outside }
 
 -- These events came, and their packets were written, for whatever this stood for.
 pub record Did {S V : Type 0} (step : S → ℕ × S) (serve : Step V) (lock : Lock) (ring : List RingKey) (side : Side S V) (due : Due S V) (end : Option ConnEnd) (later : Side S V) : Type 0 where
@@ -171,3 +168,11 @@ abbrev pub stop_by : Option ℕ → Result Unit ConnEnd
 stop_by None = Ok tt
 stop_by (Some zero) = Err ends.Stopped
 stop_by (Some (suc left)) = Ok tt
+
+-- ---- events alone
+
+-- These events came, for whatever this stood for.
+pub record Became {S V : Type 0} (step : S → ℕ × S) (serve : Step V) (lock : Lock) (ring : List RingKey) (side : Side S V) (due : Due S V) (end : Option ConnEnd) (later : Side S V) : Type 0 where
+  pub acts : List Act
+  pub part : (outside : Outside) (talk : Talk S V) → IsOutside lock ring outside → Stands side talk → IsPart end (due (rules_of step serve outside) talk) acts
+  pub stands : (outside : Outside) (talk : Talk S V) → IsOutside lock ring outside → Stands side talk → StandsBy end later (after_acts (rules_of step serve outside) talk acts)

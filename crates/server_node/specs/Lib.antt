@@ -4,3 +4,5 @@ pub mod Record
 pub mod Steps
 pub mod Trace
 pub mod Doing
+pub mod Coming
+pub mod Served

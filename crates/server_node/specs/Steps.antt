@@ -1,5 +1,5 @@
 -- What the private parts of a connection do: scaffolding of proofs, and no promise.
-use Rattle.std.specs.Prelude.{◌≡◌, ℕ, nat_le, ◌==◌, ◌%◌, ◌&&◌, Bool, List, [], ◌∷◌, ◌++◌, length, map, Option, Some, None, ⊤}
+use Rattle.std.specs.Prelude.{◌≡◌, ℕ, nat_le, ◌==◌, ◌%◌, ◌&&◌, Bool, List, [], ◌++◌, length, map, Option, Some, None, ⊤}
 use Rattle.std.specs.List.{filter}
 use Rattle.cipher_modes.specs.CounterMode.{CtrState}
 use Rattle.framing.specs.Streams.{Frames}
@@ -28,10 +28,6 @@ goes_out heard out = was_heard heard (record { key = out.key; session = out.sess
 
 abbrev pub going_out : List SessionName → List Out → List (List ℕ)
 going_out heard outs = map (λ out. out.packet) (filter (goes_out heard) outs)
-
--- the transport error of an unknown key: -404
-abbrev pub unknown_key : List ℕ
-unknown_key = 0x6c ∷ 0xfe ∷ 0xff ∷ 0xff ∷ []
 
 -- ---- a line
 

@@ -1,6 +1,6 @@
 -- What a connection makes of a server: its events, and the packets that go out on it.
-use Rattle.std.specs.Prelude.{◌≡◌, ◌<◌, ◌⊎◌, ℕ, zero, suc, max, ◌==◌, ◌&&◌, Bool, true, false, if◌then◌else◌, List, [], ◌∷◌, ◌++◌, fold, map, Result, Ok, Err, ⊤}
-use Rattle.std.specs.List.{filter, list_any}
+use Rattle.std.specs.Prelude.{◌≡◌, ℕ, zero, suc, max, if◌then◌else◌, List, [], ◌∷◌, ◌++◌, fold, map, Result, Ok, Err}
+use Rattle.std.specs.List.{filter}
 use Rattle.auth_keys.specs.declared.ring.RingKey.{RingKey}
 use Rattle.envelope.specs.declared.parts.Dir.TheVariants.{Up, Down}
 use Rattle.envelope.specs.declared.parts.Envelope.{Envelope}
@@ -10,7 +10,6 @@ use Rattle.envelope.specs.Opening.{IsRefused, Opens}
 use Rattle.envelope.specs.Packet.{Lock, Sealed}
 use Rattle.owing.specs.Outs.{sealed_envelope}
 use Rattle.regs_service.specs.Served.{Step}
-use Rattle.waits.specs.Jobs.{ready_count}
 use Rattle.rows.specs.Rings.{AreOf}
 use Rattle.standing.specs.Says.{Keys, setting_of}
 use Rattle.server_rules.specs.Answer.{Answer, after_attach, after_packet, after_tick, after_work}
@@ -18,7 +17,7 @@ use Rattle.server_rules.specs.Event.{Sent, Setting}
 use Rattle.server_rules.specs.Server.{Server}
 use Rattle.server_core.specs.Packets.{brought_in}
 use Rattle.server_node.specs.Names.{was_heard, with_name}
-use Rattle.server_node.specs.Steps.{unknown_key}
+use Rattle.server_node.specs.Writes.{unknown_key}
 use Rattle.server_node.specs.declared.heard.SessionName.{SessionName}
 
 -- ---- what the events stand on
@@ -45,6 +44,9 @@ pub record Rules (S V : Type 0) : Type 0 where
   pub step : S → ℕ × S
   pub serve : Step V
   pub outside : Outside
+
+abbrev pub rules_of : {S V : Type 0} → (S → ℕ × S) → Step V → Outside → Rules S V
+rules_of step serve outside = record { step = step; serve = serve; outside = outside }
 
 -- ---- a connection between events
 
@@ -135,7 +137,18 @@ runs now (suc count) = Run now ∷ runs now count
 abbrev pub work_acts : ℕ → ℕ → List Act
 work_acts now count = Tick now ∷ runs now count
 
--- each of so many runs finds a ready job
-abbrev pub AreReady : {S V : Type 0} → Rules S V → ℕ → ℕ → Talk S V → Type 0
-AreReady rules now zero talk = ⊤
-AreReady rules now (suc count) talk = (0 < ready_count talk.server.jobs) × AreReady rules now count (after_act rules talk (Run now))
+-- ---- the events of a connection
+
+-- a piece that was read: the moment after the read, the packets that are whole with it, and how many jobs run then
+pub record Turn : Type 0 where
+  pub now : ℕ
+  pub packets : List (List ℕ)
+  pub runs : ℕ
+
+-- its packets come, and then there is a tick, and the first ready job runs, so many times
+abbrev pub turn_acts : {S V : Type 0} → Rules S V → Turn → Talk S V → List Act
+turn_acts rules turn talk = packets_acts rules turn.now turn.packets talk ++ work_acts turn.now turn.runs
+
+abbrev pub turns_acts : {S V : Type 0} → Rules S V → List Turn → Talk S V → List Act
+turns_acts rules [] talk = []
+turns_acts rules (turn ∷ turns) talk = turn_acts rules turn talk ++ turns_acts rules turns (after_acts rules talk (turn_acts rules turn talk))

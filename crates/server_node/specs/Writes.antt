@@ -1,9 +1,13 @@
 -- What is written over a link, by how the connection ended then, if it did.
-use Rattle.std.specs.Prelude.{◌≡◌, ℕ, List, [], ◌++◌, Option, Some, None, IfSome, IsSome, IsSomeAnd, Result, Ok, Err}
+use Rattle.std.specs.Prelude.{◌≡◌, ℕ, List, [], ◌∷◌, ◌++◌, Option, Some, None, IfSome, IsSome, IsSomeAnd, Result, Ok, Err}
 use Rattle.mt_edge.specs.Faults.{one_more}
 use Rattle.mt_edge.specs.Links.{Told}
 use Rattle.server_node.specs.declared.conn.ConnEnd.{ConnEnd}
 use Rattle.server_node.specs.declared.conn.ConnEnd.TheVariants as ends
+
+-- the transport error of an unknown key: -404
+abbrev pub unknown_key : List ℕ
+unknown_key = 0x6c ∷ 0xfe ∷ 0xff ∷ 0xff ∷ []
 
 -- how it ended, if it did
 abbrev pub end_in : {X : Type 0} → Result X ConnEnd → Option ConnEnd

@@ -1,8 +1,8 @@
 //! What is written over a connection.
 
 ghost use Rattle.std.specs.Prelude.{◌≡◌, ◌∷◌, [], List, IfErr, OnOk};
-ghost use Rattle.server_node.specs.Steps.{Framings, HearsAlike, IsSameIn, IsSendEnd, Said, going_out, is_sendable, unknown_key};
-ghost use Rattle.server_node.specs.Writes.{Goes, WrittenBy, end_in};
+ghost use Rattle.server_node.specs.Steps.{Framings, HearsAlike, IsSameIn, IsSendEnd, Said, going_out, is_sendable};
+ghost use Rattle.server_node.specs.Writes.{Goes, WrittenBy, end_in, unknown_key};
 ghost use Rattle.server_node.specs.declared.heard.SessionName.{SessionName as Name};
 
 use crate::conn::ConnEnd;

@@ -3,8 +3,10 @@
 ghost use Rattle.std.specs.Prelude.{◌≡◌, ◌≢◌, ◌<◌, IfSome, IsSome, IsSomeAnd, length};
 ghost use Rattle.server_core.specs.declared.desk.DeskFault.{DeskFault};
 ghost use Rattle.server_core.specs.declared.desk.DeskFault.TheVariants as faults;
+ghost use Rattle.server_node.specs.Coming.{TookPiece, TookTurn, TookWhole, line_in};
 ghost use Rattle.server_node.specs.Doing.{IsPieceEnd, IsTurnEnd};
 ghost use Rattle.server_node.specs.Record.{Answered, ReadTo, Turned};
+ghost use Rattle.server_node.specs.Served.{Served};
 ghost use Rattle.server_node.specs.Writes.{CountsBy, Goes, end_in};
 
 use crate::conn::{Conn, ConnEnd};
@@ -43,6 +45,9 @@ fn take_whole<L: Link, K: Desk, V: Service>(
     most: usize,
 ) -> Result<(), ConnEnd>
     requires some { left.old ≢ Some 0 }
+    ensures took { (service : V) → TookWhole K.D.step V.step K.S.lock (K.keys desk.old)
+        (record { desk = K.StandsFor desk.old; drawn = K.drawn desk.old; service = service; heard = heard.old; line = line.old; told = L.told link.old }) now (end_in result)
+        (record { desk = K.StandsFor desk.new; drawn = K.drawn desk.new; service = service; heard = heard.new; line = line.new; told = L.told link.new }) }
     ensures goes { Goes (end_in result) (L.place link.old) (L.faults link.old) (L.told link.old) (L.place link.new) (L.faults link.new) (L.told link.new) }
     ensures ends { IsPieceEnd K.MayAnswer (end_in result) }
     ensures left { Answered (end_in result) left.old left.new }
@@ -71,6 +76,9 @@ fn take_piece<L: Link, K: Desk, V: Service>(
     left: &mut Option<u64>,
 ) -> Result<Line, ConnEnd>
     requires some { left.old ≢ Some 0 }
+    ensures took { TookPiece K.D.step V.step K.S.lock (K.keys desk.old)
+        (record { desk = K.StandsFor desk.old; drawn = K.drawn desk.old; service = service.old; heard = heard.old; line = line; told = L.told link.old }) now (end_in result)
+        (record { desk = K.StandsFor desk.new; drawn = K.drawn desk.new; service = service.new; heard = heard.new; line = line_in result; told = L.told link.new }) }
     ensures goes { Goes (end_in result) (L.place link.old) (L.faults link.old) (L.told link.old) (L.place link.new) (L.faults link.new) (L.told link.new) }
     ensures ends { IsPieceEnd K.MayAnswer (end_in result) }
     ensures left { Answered (end_in result) left.old left.new }
@@ -108,6 +116,9 @@ fn take_turn<L: Link, K: Desk, V: Service, C: Clock>(
 ) -> Result<Line, ConnEnd>
     requires room { 0 < length into.old }
     requires some { left.old ≢ Some 0 }
+    ensures took { TookTurn K.D.step V.step K.S.lock (K.keys desk.old)
+        (record { desk = K.StandsFor desk.old; drawn = K.drawn desk.old; service = service.old; heard = heard.old; line = line; told = L.told link.old }) (end_in result)
+        (record { desk = K.StandsFor desk.new; drawn = K.drawn desk.new; service = service.new; heard = heard.new; line = line_in result; told = L.told link.new }) }
     ensures turned { IfSome (L.told link.new) (λ after. IsSomeAnd (L.told link.old) (λ before. Turned (end_in result) (length into.new) before after)) }
     ensures same_place { L.place link.new ≡ L.place link.old }
     ensures counted { CountsBy (end_in result) (L.faults link.old) (L.faults link.new) }
@@ -142,6 +153,7 @@ fn take_turns<L: Link, K: Desk, V: Service, C: Clock>(
 ) -> ConnEnd
     requires room { length into.old ≡ 65536 }
     requires some { left.old ≢ Some 0 }
+    ensures served { Served K.D.step V.step K.S.lock (K.keys desk.old) result (K.StandsFor desk.old) (K.drawn desk.old) service.old (K.StandsFor desk.new) (K.drawn desk.new) service.new }
     ensures record { IfSome (L.told link.new) (λ after. IsSomeAnd (L.told link.old) (λ before. ReadTo result before after)) }
     ensures same_place { L.place link.new ≡ L.place link.old }
     ensures counted { CountsBy (Some result) (L.faults link.old) (L.faults link.new) }
@@ -176,10 +188,15 @@ pub fn serve_one<L: Link, K: Desk, V: Service, C: Clock>(
     left: &mut Option<u64>,
 ) -> (L, ConnEnd)
     requires some { left.old ≢ Some 0 }
+    // Its events are those of turns, in order, and the desk, the draw and the service are then what the rules give by them.
+    ensures served { Served K.D.step V.step K.S.lock (K.keys desk.old) result.1 (K.StandsFor desk.old) (K.drawn desk.old) service.old (K.StandsFor desk.new) (K.drawn desk.new) service.new }
+    // What was read: pieces, each into 65,536 bytes of room, and the read that ended it, if one did.
     ensures record { IfSome (L.told result.0) (λ after. IsSomeAnd (L.told conn) (λ before. ReadTo result.1 before after)) }
     ensures same_place { L.place result.0 ≡ L.place conn }
+    // One call of the link failed exactly where it ended by that, and no other did.
     ensures counted { CountsBy (Some result.1) (L.faults conn) (L.faults result.0) }
     ensures first_fault { IsSome (L.told conn) → L.faults conn ≡ 0 → IsSome (L.told result.0) }
+    // None is left exactly where it ended by that.
     ensures left { Answered (Some result.1) left.old left.new }
     ensures journal { (fault : DeskFault) → result.1 ≡ ConnEnd.Journal fault → K.MayAnswer fault × (fault ≢ faults.Memory) }
     ensures same_keys { K.keys desk.new ≡ K.keys desk.old }

@@ -1,9 +1,10 @@
 //! What a connection brings.
 
-ghost use Rattle.std.specs.Prelude.{◌≡◌, ◌≢◌, ◌∷◌, []};
+ghost use Rattle.std.specs.Prelude.{◌≡◌, ◌≢◌, ◌∷◌, [], IfErr};
+ghost use Rattle.server_node.specs.Coming.{CameBy, NextBy, SameOut, SaysBy, TookAll, TookBy, came_by};
 ghost use Rattle.server_node.specs.Doing.{Did, IsEventEnd, IsPacketEnd, IsPieceEnd, end_by, stop_by};
 ghost use Rattle.server_node.specs.Record.{Answered, counted_down};
-ghost use Rattle.server_node.specs.Steps.{HearsAlike, IsSameIn};
+ghost use Rattle.server_node.specs.Steps.{IsSameIn, IsSendEnd};
 ghost use Rattle.server_node.specs.Trace.{Attach};
 ghost use Rattle.server_node.specs.Writes.{Goes, end_in};
 
@@ -12,12 +13,12 @@ use crate::heard::{HeardSessions, SessionName};
 use crate::line::Line;
 use crate::sending::{say_framed, say_unknown};
 use envelope::Refusal;
-use envelope::laws::opens_what_it_sealed;
+use envelope::laws::{one_refusal, opens_what_it_sealed};
 use msg_ids::Moment;
 use mt_edge::Link;
 use octets::{Memory, Octets};
 use regs_service::Service;
-use server_core::{Desk, DeskFault, Heard};
+use server_core::{Desk, DeskFault, Heard, Reply};
 use std::alloc::Global;
 use transport::{Framed, Next, Wire};
 
@@ -70,9 +71,80 @@ enum Came {
     First(SessionName),
 }
 
+// The desk takes the next packet of the connection, where one is whole.
+#[tactic(auto, using(crate::proofs::Events::fault_is_packet_end))]
+fn take_next<K: Desk>(
+    alloc: Global,
+    desk: &mut K,
+    now: Moment,
+    wire: &mut Wire<Framed>,
+) -> Result<Option<Reply>, ConnEnd>
+    ensures next { NextBy K.D.step K.S.lock (K.keys desk.old) (K.StandsFor desk.old) (K.drawn desk.old) now wire.old result (K.StandsFor desk.new) (K.drawn desk.new) wire.new }
+    ensures same_out { SameOut wire.old wire.new }
+    ensures ends { IsPacketEnd K.MayAnswer (end_in result) }
+    ensures no_fault { IfErr result (λ end. end ≢ ConnEnd.LinkFault) }
+    ensures same_keys { K.keys desk.new ≡ K.keys desk.old }
+{
+    match wire.next() {
+        Next::Packet(packet) => match desk.on_packet(alloc, now, packet) {
+            Ok(reply) => Ok(Some(reply)),
+            Err(fault) => Err(end_of(fault)),
+        },
+        Next::More => Ok(None),
+        Next::Fault(fault) => Err(ConnEnd::Frame(fault)),
+    }
+}
+
+// What a packet owes is sent.
+#[tactic(auto, using(crate::proofs::Going::said_memory, crate::proofs::Goings::goes_none, crate::proofs::Goings::goes_same))]
+fn answer<L: Link>(
+    alloc: Global,
+    reply: &Reply,
+    wire: &mut Wire<Framed>,
+    link: &mut L,
+    heard: &mut HeardSessions,
+    text: &mut Octets,
+) -> Result<Came, ConnEnd>
+    ensures says { SaysBy wire.old heard.old (L.told link.old) reply.now.heard reply.now.out.outs result wire.new heard.new (L.told link.new) }
+    ensures goes { Goes (end_in result) (L.place link.old) (L.faults link.old) (L.told link.old) (L.place link.new) (L.faults link.new) (L.told link.new) }
+    ensures ends { IsSendEnd (end_in result) }
+    ensures same_in { IsSameIn wire.old wire.new }
+{
+    match reply.heard {
+        Heard::NotOpened(Refusal::NoKey { id: _ }) => {
+            match say_unknown(alloc, wire, link, text) {
+                Ok(()) => Ok(Came::Packet),
+                Err(end) => Err(end),
+            }
+        }
+        Heard::NotOpened(_) => Ok(Came::Packet),
+        Heard::Judged { key, session } => {
+            let name = SessionName { key, session };
+            match heard.note(name) {
+                Ok(is_first) => match say_framed(alloc, wire, link, heard, &reply.out, text) {
+                    Ok(()) => Ok(came_of(is_first, name)),
+                    Err(end) => Err(end),
+                },
+                Err(Memory) => Err(ConnEnd::Memory),
+            }
+        }
+    }
+}
+
+// A packet came of a session of this name.
+fn came_of(is_first: bool, name: SessionName) -> Came
+    ensures { result ≡ came_by is_first name }
+{
+    if is_first {
+        Came::First(name)
+    } else {
+        Came::Packet
+    }
+}
+
 // The desk takes the next packet of the connection, where one is whole, and what it owes is sent.
-#[tactic(auto, using(crate::proofs::Events::fault_is_packet_end, crate::proofs::Events::send_is_packet_end, crate::proofs::Events::fault_of_desk, crate::proofs::Goings::goes_same))]
-fn hear<L: Link, K: Desk>(
+#[tactic(auto, using(crate::proofs::Goings::goes_none, crate::proofs::Goings::goes_same, crate::proofs::Events::send_is_packet_end))]
+fn hear<L: Link, K: Desk, V: Service>(
     alloc: Global,
     desk: &mut K,
     now: Moment,
@@ -81,37 +153,21 @@ fn hear<L: Link, K: Desk>(
     heard: &mut HeardSessions,
     text: &mut Octets,
 ) -> Result<Came, ConnEnd>
+    ensures came { CameBy K.D.step V.step K.S.lock (K.keys desk.old)
+        (λ (service : V). record { desk = K.StandsFor desk.old; drawn = K.drawn desk.old; service = service; heard = heard.old; line = Line.Framed wire.old; told = L.told link.old })
+        now wire.old wire.new result
+        (λ (service : V). record { desk = K.StandsFor desk.new; drawn = K.drawn desk.new; service = service; heard = heard.new; line = Line.Framed wire.new; told = L.told link.new }) }
     ensures goes { Goes (end_in result) (L.place link.old) (L.faults link.old) (L.told link.old) (L.place link.new) (L.faults link.new) (L.told link.new) }
     ensures ends { IsPacketEnd K.MayAnswer (end_in result) }
+    ensures same_form { wire.new.form ≡ wire.old.form }
     ensures same_keys { K.keys desk.new ≡ K.keys desk.old }
 {
-    let reply = match wire.next() {
-        Next::Packet(packet) => match desk.on_packet(alloc, now, packet) {
-            Ok(reply) => reply,
-            Err(fault) => return Err(end_of(fault)),
-        },
-        Next::More => return Ok(Came::Nothing),
-        Next::Fault(fault) => return Err(ConnEnd::Frame(fault)),
-    };
-    match reply.heard {
-        Heard::NotOpened(Refusal::NoKey { id: _ }) => {
-            say_unknown(alloc, wire, link, text)?;
-            Ok(Came::Packet)
-        }
-        Heard::NotOpened(_) => Ok(Came::Packet),
-        Heard::Judged { key, session } => {
-            let name = SessionName { key, session };
-            let is_first = match heard.note(name) {
-                Ok(is_first) => is_first,
-                Err(Memory) => return Err(ConnEnd::Memory),
-            };
-            say_framed(alloc, wire, link, heard, &reply.out, text)?;
-            Ok(if is_first {
-                Came::First(name)
-            } else {
-                Came::Packet
-            })
-        }
+    opens_what_it_sealed::<K::S>();
+    one_refusal();
+    match take_next(alloc, desk, now, wire) {
+        Ok(Some(reply)) => answer(alloc, &reply, wire, link, heard, text),
+        Ok(None) => Ok(Came::Nothing),
+        Err(end) => Err(end),
     }
 }
 
@@ -127,11 +183,16 @@ fn take_packet<L: Link, K: Desk, V: Service>(
     heard: &mut HeardSessions,
     text: &mut Octets,
 ) -> Result<bool, ConnEnd>
+    ensures took { TookBy K.D.step V.step K.S.lock (K.keys desk.old)
+        (λ (service : V). record { desk = K.StandsFor desk.old; drawn = K.drawn desk.old; service = service; heard = heard.old; line = Line.Framed wire.old; told = L.told link.old })
+        now wire.old wire.new result
+        (λ (service : V). record { desk = K.StandsFor desk.new; drawn = K.drawn desk.new; service = service; heard = heard.new; line = Line.Framed wire.new; told = L.told link.new }) }
     ensures goes { Goes (end_in result) (L.place link.old) (L.faults link.old) (L.told link.old) (L.place link.new) (L.faults link.new) (L.told link.new) }
     ensures ends { IsPacketEnd K.MayAnswer (end_in result) }
+    ensures same_form { wire.new.form ≡ wire.old.form }
     ensures same_keys { K.keys desk.new ≡ K.keys desk.old }
 {
-    match hear(alloc, desk, now, wire, link, heard, text) {
+    match hear::<L, K, V>(alloc, desk, now, wire, link, heard, text) {
         Ok(Came::Nothing) => Ok(false),
         Ok(Came::Packet) => Ok(true),
         Ok(Came::First(name)) => {
@@ -180,6 +241,10 @@ pub(crate) fn take_packets<L: Link, K: Desk, V: Service>(
     most: usize,
 ) -> Result<(), ConnEnd>
     requires some { left.old ≢ Some 0 }
+    ensures took { TookAll K.D.step V.step K.S.lock (K.keys desk.old)
+        (λ (service : V). record { desk = K.StandsFor desk.old; drawn = K.drawn desk.old; service = service; heard = heard.old; line = Line.Framed wire.old; told = L.told link.old })
+        now most wire.old wire.new left.old left.new (end_in result)
+        (λ (service : V). record { desk = K.StandsFor desk.new; drawn = K.drawn desk.new; service = service; heard = heard.new; line = Line.Framed wire.new; told = L.told link.new }) }
     ensures goes { Goes (end_in result) (L.place link.old) (L.faults link.old) (L.told link.old) (L.place link.new) (L.faults link.new) (L.told link.new) }
     ensures ends { IsPieceEnd K.MayAnswer (end_in result) }
     ensures left { Answered (end_in result) left.old left.new }

@@ -8,7 +8,7 @@ use auth_keys::Ring;
 use draws::StepDraw;
 use envelope::{Dir, Envelope, MtSeal, Seal};
 use msg_ids::Moment;
-use mt_edge::{ListClock, MemLink};
+use mt_edge::{Linked, ListClock, MemLink, MemNet, Net, NetCall, Outcome};
 use octets::{Memory, Octets};
 use regs_service::{Regs, Service};
 use server_core::{Plain, Server};
@@ -61,12 +61,16 @@ fn brought(alloc: Global, seal: &MtSeal) -> Result<Octets, Fail> {
     Ok(text)
 }
 
-// The first packet of a session is answered, and then its attach.
-#[test]
-fn a_session_is_answered_and_attached(rt: HostRuntime) -> Result<(), Fail> {
-    let alloc = rt.alloc();
+// What a connection that brings it came to over memory, where these calls of its link fail, and the net that it was of.
+fn served(alloc: Global, failing: &[u64]) -> Result<(ConnEnd, MemNet), Fail> {
     let seal = MtSeal::new(ring(alloc)?);
     let text = brought(alloc, &seal)?;
+    let mut links = Vec::new(alloc);
+    links.push(MemLink::new(alloc, text.as_slice(), 100, failing, 1_000, 10)?)?;
+    let mut net = MemNet::new(alloc, links, &[], 8)?;
+    let Linked::Link(link) = net.accept() else {
+        return Err(Fail::new("no link"));
+    };
     let mut server = Server::new(alloc, seal);
     let mut draw = StepDraw::new();
     let mut desk = Plain {
@@ -75,17 +79,46 @@ fn a_session_is_answered_and_attached(rt: HostRuntime) -> Result<(), Fail> {
     };
     let mut service = Regs::fresh(alloc);
     let mut clock = ListClock::new(alloc, &[Moment::new(0)])?;
-    let link = MemLink::new(alloc, text.as_slice(), 100, &[], 1_000, 10)?;
-    let mut left = None;
-    let (link, end) = serve_one(
-        alloc,
-        Conn::new(link),
-        &mut desk,
-        &mut service,
-        &mut clock,
-        &mut left,
+    let conn = Conn::new(link);
+    let (link, end) = serve_one(alloc, conn, &mut desk, &mut service, &mut clock, &mut None);
+    net.done(link);
+    Ok((end, net))
+}
+
+// What was written over the connection of a net.
+fn written(net: &MemNet) -> &[u8] {
+    match net.calls().first() {
+        Some(
+            NetCall::Accept {
+                outcome: Outcome::Done { told, .. },
+            },
+        ) => told.written(),
+        _ => &[],
+    }
+}
+
+// Whether these are two frames of the intermediate form, of 168 and 104 bytes.
+fn are_two_frames(text: &[u8]) -> bool {
+    text.len() == 280 && text.starts_with(b"\xa8\0\0\0") && text[172..].starts_with(b"\x68\0\0\0")
+}
+
+// A session's first packet is answered, and then its attach.
+#[test]
+fn a_session_is_answered_and_attached(rt: HostRuntime) -> Result<(), Fail> {
+    let (end, net) = served(rt.alloc(), &[])?;
+    assert_eq!(rt;
+        (end, are_two_frames(written(&net))),
+        (ConnEnd::Ended, true)
     );
-    assert_eq!(rt; end, ConnEnd::Ended);
-    assert_eq!(rt; link.faults(), 0);
+    Ok(())
+}
+
+// A read, two writes of the answer, two of the attach, and a read that comes to the end: whichever fails ends it.
+#[test]
+fn each_call_that_fails_ends_it(rt: HostRuntime) -> Result<(), Fail> {
+    for call in 1..=7u64 {
+        let (end, _) = served(rt.alloc(), &[call])?;
+        assert_eq!(rt; end == ConnEnd::LinkFault, call <= 6);
+    }
     Ok(())
 }

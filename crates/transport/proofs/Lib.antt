@@ -7,3 +7,4 @@ pub mod SentStarts
 pub mod Meeting
 pub mod InOrder
 pub mod Answering
+pub mod Wholes

@@ -1,7 +1,6 @@
 -- A server's end meets the client's end that began.
-use Rattle.std.proofs.Common.{◌≡◌, ◌≢◌, ℕ, ◌≤◌, Bool, true, List, [], ◌++◌, length, length-append, Option, arith, sym, ap, subst, ◌∙◌}
+use Rattle.std.proofs.Common.{◌≡◌, ◌≢◌, ℕ, Bool, true, List, [], ◌++◌, length-append, arith, sym, ap, subst, ◌∙◌}
 use Rattle.std.proofs.lemmas.List.{take-append-le}
-use Rattle.cipher_modes.specs.CounterMode.{CtrState}
 use Rattle.transport.specs.Directions.{through}
 use Rattle.transport.specs.Forms.{IsSent, frame_of}
 use Rattle.transport.specs.Starts.{IsAwaited, IsRefused, IsSentStart, Opening, Starts}
@@ -13,7 +12,7 @@ use Rattle.transport.proofs.SentStarts.{taken}
 use Rattle.transport.proofs.Starting.{same_plain, starts_on}
 
 -- what 64 bytes tell, they tell with more behind them
-refused_on : (bytes wire more : List ℕ) → IsRefused bytes wire → IsRefused (bytes ++ more) wire
+pub refused_on : (bytes wire more : List ℕ) → IsRefused bytes wire → IsRefused (bytes ++ more) wire
 refused_on bytes wire more r =
     record {
       enough = omega (arith, r.enough, length-append bytes more);

@@ -5,3 +5,4 @@ pub mod Starts
 pub mod Wires
 pub mod Steps
 pub mod Told
+pub mod Ends

@@ -10,6 +10,7 @@ ghost use Rattle.transport.specs.Directions.{through};
 ghost use Rattle.transport.specs.Forms.{IsSent, frame_of, framing_of};
 ghost use Rattle.transport.specs.Starts.{BeginsFull, IsAwaited, IsRefused, IsSentStart, Opening, Starts};
 ghost use Rattle.transport.specs.Wires.{HasBegun, HasStarted, Hears, Line, Tells};
+ghost use Rattle.transport.specs.Ends.{Sends};
 ghost use Rattle.transport.specs.declared.form.Form.{Form as Framings};
 ghost use Rattle.transport.specs.declared.form.Form.TheVariants as forms;
 
@@ -75,6 +76,16 @@ pub fn ends_meet()
         × (started.rest ++ later ≡ through client.writing (frame_of form client.number packet) ++ more)
         × Hears server begun.opening.up [] started.rest
         × Tells server begun.opening.down [] [] }
+{
+    one_answer();
+}
+
+/// The same over all bytes of a connection from the client, its start among them: a server's end that was given a front of
+/// what a client's end has sent refuses none of it, and knows the form once it has it all.
+pub fn sent_bytes_are_taken()
+    ensures not_awaited { (client : Line) (sent : List (List ℕ)) (bytes : List ℕ) → Sends client sent bytes → IsAwaited bytes → ⊥ }
+    ensures not_refused { (client : Line) (sent : List (List ℕ)) (bytes later wire : List ℕ)
+        → Sends client sent (bytes ++ later) → IsRefused bytes wire → ⊥ }
 {
     one_answer();
 }

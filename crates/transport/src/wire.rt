@@ -10,9 +10,10 @@ use cipher_modes::Ctr;
 use cipher_modes::laws::{ctr_pieces_equal_the_whole, ctr_undoes_itself};
 use draws::Draw;
 use frame_full::Framer;
-use framing::laws::{buffers_stand, streams_go_on};
+use framing::laws::{buffers_stand, one_reading, streams_go_on};
 use framing::{Incoming, Next};
 use obfus::Init;
+use obfus::laws::one_answer;
 use octets::{Buffer, Memory, Octets};
 use std::alloc::Global;
 use std::marker::Model;
@@ -56,6 +57,7 @@ impl Wire<Raw> {
     ghost use Rattle.transport.specs.Starts.{IsAwaited, IsOpened, IsRefused, Opening, Starts};
     ghost use Rattle.transport.specs.Steps.{IfRaw, IfFramed, IfStart, IfMemory, IsRaw, IsFramedOrMemory, IsStart};
     ghost use Rattle.transport.specs.Wires.{HasStarted};
+    ghost use Rattle.transport.specs.Ends.{Takes};
 
     /// A server's end that no byte has come to. Takes no memory.
     pub fn server() -> Wire<Raw>
@@ -70,6 +72,7 @@ impl Wire<Raw> {
         ensures awaits { IfRaw result (λ wire. (wire ≡ self ++ piece.now) × IsAwaited (self ++ piece.now)) }
         ensures only_awaits { IsAwaited (self ++ piece.now) → IsRaw result }
         ensures opens { IfFramed result (λ wire. HasStarted wire (self ++ piece.now)) }
+        ensures takes { IfFramed result (λ wire. Takes wire [] (self ++ piece.now)) }
         ensures only_opens { (opening : Opening) (rest : List ℕ) → Starts (self ++ piece.now) opening rest → IsFramedOrMemory result }
         ensures refuses { IfStart result (λ bytes. IsRefused (self ++ piece.now) bytes) }
         ensures only_refuses { (bytes : List ℕ) → IsRefused (self ++ piece.now) bytes → IsStart bytes result }
@@ -120,16 +123,18 @@ impl Wire<Framed> {
     ghost use Rattle.tl_codec.specs.declared.fault.FrameFault.{FrameFault};
     ghost use Rattle.framing.specs.Streams as streams;
     ghost use Rattle.framing.specs.Held.{nothing};
-    ghost use Rattle.framing.specs.Holding.{Answers, IsFault, Rests, taken};
+    ghost use Rattle.framing.specs.Holding.{Answers, IsFault, IsMore, Rests, taken};
     ghost use Rattle.transport.specs.contracts.framed.Framed as framed;
     ghost use Rattle.transport.specs.contracts.wire.Wire.{the_row};
     ghost use Rattle.transport.specs.Forms.{framing_of, frame_of, IsSent};
     ghost use Rattle.transport.specs.Directions.{through};
-    ghost use Rattle.std.specs.Prelude.{◌≢◌, true};
+    ghost use Rattle.std.specs.Prelude.{◌≢◌, Bool, drop, true};
     ghost use Rattle.draws.specs.Draws.{draw_after, next_bytes};
     ghost use Rattle.transport.specs.Starts.{IsSentStart, words_drawn};
     ghost use Rattle.transport.specs.declared.form.Form.TheVariants as forms;
     ghost use Rattle.transport.specs.Wires.{Line, Hears, Tells, HasBegun};
+    ghost use Rattle.transport.specs.Ends.{Sends, Takes, packet_of};
+    ghost use Rattle.transport.specs.declared.form.Form.{Form as Framings};
 
     // An end of this form, whose two directions go through these streams. Takes no memory.
     fn new(alloc: Global, form: Form, reading: Option<Ctr>, writing: Option<Ctr>) -> Wire<Framed>
@@ -186,6 +191,7 @@ impl Wire<Framed> {
     pub fn feed(&mut self, alloc: Global, piece: &[u8]) -> Result<(), Memory>
         ensures hears { OnOk result ((from : Option CtrState) (packets : List (List ℕ)) (bytes : List ℕ)
             → Hears self.old from packets bytes → Hears self.new from packets (bytes ++ piece.now)) }
+        ensures takes { OnOk result ((packets : List (List ℕ)) (bytes : List ℕ) → Takes self.old packets bytes → Takes self.new packets (bytes ++ piece.now)) }
         ensures same_out { (self.new.form ≡ self.old.form) × (self.new.writing ≡ self.old.writing) × (self.new.number ≡ self.old.number) }
         ensures nothing_after_a_fault { IfSome self.old.held.fault (λ _. (result ≡ Ok tt) × (self.new ≡ self.old)) }
         ensures unchanged_on_memory { OnErr result (self.new ≡ self.old) }
@@ -201,12 +207,21 @@ impl Wire<Framed> {
     pub fn next(&mut self) -> Next<'_>
         ensures answers { (from : Option CtrState) (packets : List (List ℕ)) (bytes : List ℕ)
             → Hears self.old from packets bytes → Answers (framing_of self.old.form) packets (through from bytes) result }
+        ensures sent { (client : Line) (sent heard left : List (List ℕ)) (packet bytes : List ℕ)
+            → Sends client sent bytes → Takes self.old heard bytes → drop (length heard) sent ≡ packet ∷ left → packet_of result ≡ Some packet }
+        ensures no_more { (client : Line) (sent heard : List (List ℕ)) (bytes : List ℕ)
+            → Sends client sent bytes → Takes self.old heard bytes → drop (length heard) sent ≡ [] → IsMore result }
         ensures* after { sem 𝓛 (Rests (the_row framed.the_row) self.entry (λ after.
             ((from : Option CtrState) (packets : List (List ℕ)) (bytes : List ℕ)
             → Hears self.old from packets bytes → Hears after from (taken packets result) bytes)
             × (after.form ≡ self.old.form) × (after.writing ≡ self.old.writing) × (after.number ≡ self.old.number)
-            × ((fault : FrameFault) → IsFault fault result → after.held.fault ≡ Some fault))) }
+            × ((fault : FrameFault) → IsFault fault result → after.held.fault ≡ Some fault)
+            × ((packets : List (List ℕ)) (bytes : List ℕ) → Takes self.old packets bytes → Takes after (taken packets result) bytes))) }
     {
+        ctr_pieces_equal_the_whole();
+        one_reading::<Form>();
+        streams_go_on::<Form>();
+        one_answer();
         self.state.next()
     }
 
@@ -222,6 +237,10 @@ impl Wire<Framed> {
         ensures tells { OnOk result ((to : Option CtrState) (packets : List (List ℕ)) (bytes : List ℕ)
             → Tells self.old to packets bytes
             → Tells self.new to (packets ++ packet.now ∷ []) (bytes ++ through self.old.writing (frame_of self.old.form self.old.number packet.now))) }
+        ensures sends_first { OnOk result ((form : Framings) (obfuscate : Bool) (drawn : List ℕ) → (obfuscate ≡ true → form ≢ forms.Full)
+            → HasBegun self.old form out.old → IsSentStart obfuscate form drawn out.old → Sends self.new (packet.now ∷ []) out.new) }
+        ensures sends { OnOk result ((packets more : List (List ℕ)) → Sends self.old packets out.old → more ≡ packets ++ packet.now ∷ []
+            → Sends self.new more out.new) }
         ensures same_in { (self.new.form ≡ self.old.form) × (self.new.held ≡ self.old.held) × (self.new.reading ≡ self.old.reading) }
         ensures unchanged_on_memory { OnErr result ((self.new ≡ self.old) × (out.new ≡ out.old)) }
     {

@@ -72,7 +72,7 @@ fn down<S: Seal>(
 }
 
 // The client that a step opened.
-fn opens(step: OpeningStep) -> Result<OpenClient, Fail>
+pub(crate) fn opens(step: OpeningStep) -> Result<OpenClient, Fail>
     ensures { IfOk result (λ client. client ≡ opening_left step) }
 {
     match step {

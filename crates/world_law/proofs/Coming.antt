@@ -17,14 +17,14 @@ use Rattle.world_rules.specs.World.{Packet, Seat, World, bytes_of, counted, owne
 use Rattle.world_rules.specs.Ends.{acts, comes_down, comes_to_owner, seated, with_seat}
 use Rattle.world_rules.specs.Premises.{IsSealed, OpensOnly}
 use Rattle.world_law.specs.Standing.{HasMoves, IsBagged, IsDown, IsThere, WorldStands}
-use Rattle.world_law.specs.Made.{AreSealed, IsSealedPacket}
+use Rattle.world_law.specs.Made.{AreLawfulPackets, IsLawfulPacket}
 use Rattle.world_law.proofs.Lists.{each_of}
 use Rattle.world_law.proofs.Known.{Moving, Still}
 use Rattle.world_law.proofs.Provenance.{foreign_made, given_made}
 use Rattle.world_law.proofs.Clients.{Acts, ServersStill, heard_so}
 
 module _ {S V : Type 0} (known : Moving) (still : Still) (servers : ServersStill S V) (acts_so : Acts) (lock : Lock) (ring : List RingKey) (setting : Setting S V)
-    (seals : OpensWhatItSealed lock) (so : IsSealed lock ring setting) (w : Moved) (world : World S V) (h : WorldStands w world) (lawful : AreSealed lock ring setting world) where
+    (seals : OpensWhatItSealed lock) (so : IsSealed lock ring setting) (w : Moved) (world : World S V) (h : WorldStands w world) (lawful : AreLawfulPackets lock ring setting world) where
   -- a packet of the world stands there
   pub in_bag : (packet : Packet) (dir : Dir) (envelope : Envelope) → Contains world.bag packet → packet.dir ≡ dir → packet.envelope ≡ envelope → IsThere w world.seats dir envelope
   in_bag packet dir envelope among way same =
@@ -57,7 +57,7 @@ module _ {S V : Type 0} (known : Moving) (still : Still) (servers : ServersStill
   given_down packet among way =
       to_owner (bytes_of setting packet) (owner packet.envelope.session world.seats)
       (λ seat envelope is. in_bag packet Down envelope among way
-      (given_made lock ring setting seals so (seat_now seat) packet envelope (each_of (IsSealedPacket lock ring setting) world.bag lawful packet among)
+      (given_made lock ring setting seals so (seat_now seat) packet envelope (each_of (IsLawfulPacket lock ring setting) world.bag lawful packet among).sealed
       (ap (λ (d : Dir). setting.opens (seat_now seat) d (bytes_of setting packet)) way ∙ is)))
 
   -- foreign bytes

@@ -10,7 +10,7 @@ use Rattle.envelope.specs.Packet.{IsEnvelope, Lock}
 use Rattle.tl_codec.specs.Standard.{bytes_max}
 use Rattle.session_moves.specs.Table as moves
 use Rattle.world_moves.specs.Sent.{IsPacketSent}
-use Rattle.world_law.specs.Plain.{SaysPlainly}
+use Rattle.world_law.specs.Small.{SaysSmall}
 use Rattle.sched_text.specs.declared.event.Event.{Event}
 use Rattle.sched_text.specs.declared.event.Event.TheVariants as line
 use Rattle.server_rules.specs.Events.{Attach, Course, Event as ServerEvent, Loss, after_event}
@@ -23,7 +23,7 @@ use Rattle.world_rules.specs.Premises.{Fresh, IsByNoChance, IsSealed, OpensOnly}
 use Rattle.world_rules.specs.Run.{after, present_name, works}
 use Rattle.world_servers.specs.Servers.{IsPacketUp}
 use Rattle.world_law.specs.Standing.{HasMoves, IsKeyOf, IsThere, WorldStands}
-use Rattle.world_law.specs.Made.{AreSealed, IsSealedPacket, IsShort}
+use Rattle.world_law.specs.Made.{AreLawfulPackets, IsLawfulPacket, IsShort}
 use Rattle.world_law.proofs.Acting.{IsOfClients}
 use Rattle.world_law.proofs.Lists.{each_of}
 use Rattle.world_law.proofs.Places.{get_there}
@@ -33,7 +33,7 @@ use Rattle.world_law.proofs.Clients.{Acts, Flushes, ServersStill}
 use Rattle.world_law.proofs.Wishes.{by_themselves}
 use Rattle.world_law.proofs.Coming.{foreign_down, given_down, in_bag}
 use Rattle.world_law.proofs.Named.{Themselves}
-use Rattle.world_law.proofs.Servers.{Serves, attached, came_up, lost, restarted, ticked, worked}
+use Rattle.world_law.proofs.Servers.{Reads, Serves, attached, came_up, lost, restarted, ticked, worked}
 
 counted_there : (number : ℕ) (bag : List Packet) (packet : Packet) → counted number bag ≡ Some packet → Contains bag packet
 counted_there zero bag packet is = let none : None ≡ Some packet = is in absurd (cc)
@@ -48,12 +48,16 @@ pub record Laws (S V : Type 0) : Type 0 where
   pub flushes : Flushes S
   pub alone : Themselves S
   pub serves : Serves S V
+  pub read : Reads
   pub judged : (ups : List moves.Message) (envelope : Envelope) → IsEnvelope envelope → length envelope.body ≤ bytes_max → IsPacketSent ups envelope → IsPacketUp ups (as_heard envelope)
   pub order : (setting : Setting S V) (course : Course S V) (event : ServerEvent) → AreOrdered course.server.sessions course.server.jobs
       → AreOrdered (after_event (at_server setting) setting.serve setting.fresh course event).server.sessions (after_event (at_server setting) setting.serve setting.fresh course event).server.jobs
 
 module _ {S V : Type 0} (laws : Laws S V) (lock : Lock) (ring : List RingKey) (setting : Setting S V) (seals : OpensWhatItSealed lock) (so : IsSealed lock ring setting)
-    (w : Moved) (world : World S V) (h : WorldStands w world) (sealed : AreSealed lock ring setting world) where
+    (w : Moved) (world : World S V) (h : WorldStands w world) (sealed : AreLawfulPackets lock ring setting world) where
+  abbrev Says : World S V → Type 0
+  Says behind = SaysSmall w world behind × AreLawfulPackets lock ring setting behind
+
   -- ---- a packet comes
 
   -- of a packet of the world the server judges what was sent in it
@@ -64,45 +68,45 @@ module _ {S V : Type 0} (laws : Laws S V) (lock : Lock) (ring : List RingKey) (s
       let there : IsThere w world.seats Up envelope = in_bag laws.moving laws.still laws.servers laws.acts lock ring setting seals so w world h sealed packet Up envelope among way same in
       (laws.judged w.ups envelope short.lawful (let below = short.body in omega (arith, below)) there.0, there.1)
 
-  given_up : (packet : Packet) → Contains world.bag packet → packet.dir ≡ Up → Fresh (comes_up setting (bytes_of setting packet) world) → SaysPlainly w world (comes_up setting (bytes_of setting packet) world) → HasMoves (comes_up setting (bytes_of setting packet) world)
+  given_up : (packet : Packet) → Contains world.bag packet → packet.dir ≡ Up → Fresh (comes_up setting (bytes_of setting packet) world) → Says (comes_up setting (bytes_of setting packet) world) → HasMoves (comes_up setting (bytes_of setting packet) world)
   given_up packet among way fresh plain =
-      came_up laws.moving laws.still laws.alone laws.serves laws.order setting w world h (bytes_of setting packet)
+      came_up laws.moving laws.still laws.alone laws.serves laws.order laws.read lock ring seals setting w world h (bytes_of setting packet)
       (λ envelope is.
-      let same = given_made lock ring setting seals so (server_now world) packet envelope (each_of (IsSealedPacket lock ring setting) world.bag sealed packet among)
+      let same = given_made lock ring setting seals so (server_now world) packet envelope (each_of (IsLawfulPacket lock ring setting) world.bag sealed packet among).sealed
       (ap (λ (d : Dir). setting.opens (server_now world) d (bytes_of setting packet)) way ∙ is) in
       judged_up (server_now world) (bytes_of setting packet) packet envelope is among way same) fresh plain
 
-  went : (packet : Packet) (dir : Dir) → Contains world.bag packet → packet.dir ≡ dir → Fresh (goes setting packet dir world) → SaysPlainly w world (goes setting packet dir world) → HasMoves (goes setting packet dir world)
+  went : (packet : Packet) (dir : Dir) → Contains world.bag packet → packet.dir ≡ dir → Fresh (goes setting packet dir world) → Says (goes setting packet dir world) → HasMoves (goes setting packet dir world)
   went packet Up among way fresh plain = given_up packet among way fresh plain
   went packet Down among way fresh plain = given_down laws.moving laws.still laws.servers laws.acts lock ring setting seals so w world h sealed packet among way
 
-  arrived : (found : Option Packet) → ((packet : Packet) → found ≡ Some packet → Contains world.bag packet) → Fresh (arrives setting found world) → SaysPlainly w world (arrives setting found world) → HasMoves (arrives setting found world)
+  arrived : (found : Option Packet) → ((packet : Packet) → found ≡ Some packet → Contains world.bag packet) → Fresh (arrives setting found world) → Says (arrives setting found world) → HasMoves (arrives setting found world)
   arrived None among fresh plain = (w, h)
   arrived (Some packet) among fresh plain = went packet packet.dir (among packet refl) refl fresh plain
 
-  foreign_up : (bytes : List ℕ) → OpensOnly setting world (server_now world) Up bytes → Fresh (comes_up setting bytes world) → SaysPlainly w world (comes_up setting bytes world) → HasMoves (comes_up setting bytes world)
+  foreign_up : (bytes : List ℕ) → OpensOnly setting world (server_now world) Up bytes → Fresh (comes_up setting bytes world) → Says (comes_up setting bytes world) → HasMoves (comes_up setting bytes world)
   foreign_up bytes only fresh plain =
-      came_up laws.moving laws.still laws.alone laws.serves laws.order setting w world h bytes
+      came_up laws.moving laws.still laws.alone laws.serves laws.order laws.read lock ring seals setting w world h bytes
       (λ envelope is.
       let of = foreign_made lock ring setting seals so world (server_now world) Up bytes envelope sealed only is in
       judged_up (server_now world) bytes of.packet envelope is of.made of.way of.same) fresh plain
 
   -- ---- the server does something
 
-  sat : (found : Option Seat) (act : Seat → World S V → World S V) → ((seat : Seat) → Fresh (act seat world) → SaysPlainly w world (act seat world) → HasMoves (act seat world)) → Fresh (seated found act world) → SaysPlainly w world (seated found act world) → HasMoves (seated found act world)
+  sat : (found : Option Seat) (act : Seat → World S V → World S V) → ((seat : Seat) → Fresh (act seat world) → Says (act seat world) → HasMoves (act seat world)) → Fresh (seated found act world) → Says (seated found act world) → HasMoves (seated found act world)
   sat None act each fresh plain = (w, h)
   sat (Some seat) act each fresh plain = each seat fresh plain
 
-  worked_at : (place : ℕ) → Fresh (works setting place world) → SaysPlainly w world (works setting place world) → HasMoves (works setting place world)
+  worked_at : (place : ℕ) → Fresh (works setting place world) → Says (works setting place world) → HasMoves (works setting place world)
   worked_at zero fresh plain = (w, h)
-  worked_at (suc place) fresh plain = worked laws.moving laws.still laws.alone laws.serves laws.order setting w world h place fresh plain
+  worked_at (suc place) fresh plain = worked laws.moving laws.still laws.alone laws.serves laws.order laws.read lock ring seals setting w world h place fresh plain
 
   -- ---- any event
 
   by_client : (event : Event) → IsOfClients event → Fresh (after setting world event) → HasMoves (after setting world event)
   by_client event of fresh = by_themselves laws.moving laws.still laws.servers laws.acts laws.flushes setting w world h event of (fresh.some, fresh.apart)
 
-  pub goes_on : (event : Event) → IsByNoChance setting world event → Fresh (after setting world event) → SaysPlainly w world (after setting world event) → HasMoves (after setting world event)
+  pub goes_on : (event : Event) → IsByNoChance setting world event → Fresh (after setting world event) → Says (after setting world event) → HasMoves (after setting world event)
   goes_on line.Client chance fresh plain = by_client line.Client tt fresh
   goes_on line.ClientTemp chance fresh plain = by_client line.ClientTemp tt fresh
   goes_on (line.ClockAll moment) chance fresh plain = by_client (line.ClockAll moment) tt fresh
@@ -114,11 +118,11 @@ module _ {S V : Type 0} (laws : Laws S V) (lock : Lock) (ring : List RingKey) (s
   goes_on (line.ForeignServer bytes) chance fresh plain = foreign_up bytes chance fresh plain
   goes_on (line.ForeignClient client bytes) chance fresh plain = foreign_down laws.moving laws.still laws.servers laws.acts lock ring setting seals so w world h sealed client bytes chance
   goes_on (line.Work job) chance fresh plain = worked_at job fresh plain
-  goes_on line.TickServer chance fresh plain = ticked laws.moving laws.still laws.alone laws.serves laws.order setting w world h fresh plain
+  goes_on line.TickServer chance fresh plain = ticked laws.moving laws.still laws.alone laws.serves laws.order laws.read lock ring seals setting w world h fresh plain
   goes_on (line.TickClient client) chance fresh plain = by_client (line.TickClient client) tt fresh
   goes_on (line.AttachServer client) chance fresh plain =
       sat (counted client world.seats) (λ seat. serves setting (Attach world.clock (present_name seat)))
-      (λ seat new says. attached laws.moving laws.still laws.alone laws.serves laws.order setting w world h (present_name seat) new says) fresh plain
+      (λ seat new says. attached laws.moving laws.still laws.alone laws.serves laws.order laws.read lock ring seals setting w world h (present_name seat) new says) fresh plain
   goes_on (line.AttachClient client) chance fresh plain = by_client (line.AttachClient client) tt fresh
   goes_on (line.Ping client) chance fresh plain = by_client (line.Ping client) tt fresh
   goes_on (line.Salts client count) chance fresh plain = by_client (line.Salts client count) tt fresh
@@ -127,5 +131,5 @@ module _ {S V : Type 0} (laws : Laws S V) (lock : Lock) (ring : List RingKey) (s
   goes_on (line.End client) chance fresh plain = by_client (line.End client) tt fresh
   goes_on (line.Lose client) chance fresh plain =
       sat (counted client world.seats) (λ seat. serves setting (Loss (present_name seat)))
-      (λ seat new says. lost laws.moving laws.still laws.alone laws.serves laws.order setting w world h (present_name seat) says) fresh plain
-  goes_on line.Restart chance fresh plain = restarted laws.moving laws.still laws.alone laws.serves laws.order setting w world h plain
+      (λ seat new says. lost laws.moving laws.still laws.alone laws.serves laws.order laws.read lock ring seals setting w world h (present_name seat) says) fresh plain
+  goes_on line.Restart chance fresh plain = restarted laws.moving laws.still laws.alone laws.serves laws.order laws.read lock ring seals setting w world h plain

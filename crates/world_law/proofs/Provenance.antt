@@ -9,7 +9,7 @@ use Rattle.envelope.specs.Packet.{Lock}
 use Rattle.world_rules.specs.Setting.{Setting}
 use Rattle.world_rules.specs.World.{Packet, World, bytes_of}
 use Rattle.world_rules.specs.Premises.{IsSealed, OpensOnly}
-use Rattle.world_law.specs.Made.{AreSealed, IsOfPacket, IsSealedPacket, IsShort}
+use Rattle.world_law.specs.Made.{AreLawfulPackets, IsLawfulPacket, IsOfPacket, IsSealedPacket, IsShort}
 use Rattle.world_law.proofs.Lists.{each_of}
 
 module _ {S V : Type 0} (lock : Lock) (ring : List RingKey) (setting : Setting S V) (seals : OpensWhatItSealed lock) (so : IsSealed lock ring setting) where
@@ -21,7 +21,7 @@ module _ {S V : Type 0} (lock : Lock) (ring : List RingKey) (setting : Setting S
   given_made now packet envelope sealed is =
       seals.no_other ring now packet.dir packet.envelope packet.padding (bytes_of setting packet) envelope sealed (opened now packet.dir (bytes_of setting packet) envelope is)
 
-  pub foreign_made : (world : World S V) (now : ℕ) (dir : Dir) (bytes : List ℕ) (envelope : Envelope) → AreSealed lock ring setting world → OpensOnly setting world now dir bytes
+  pub foreign_made : (world : World S V) (now : ℕ) (dir : Dir) (bytes : List ℕ) (envelope : Envelope) → AreLawfulPackets lock ring setting world → OpensOnly setting world now dir bytes
       → setting.opens now dir bytes ≡ Some envelope → IsOfPacket world dir envelope
   foreign_made world now dir bytes envelope lawful only is =
       let was = only envelope is in
@@ -30,7 +30,7 @@ module _ {S V : Type 0} (lock : Lock) (ring : List RingKey) (setting : Setting S
         packet = packet;
         made = was.made;
         way = was.way;
-        same = given_made now packet envelope (each_of (IsSealedPacket lock ring setting) world.bag lawful packet was.made)
+        same = given_made now packet envelope (each_of (IsLawfulPacket lock ring setting) world.bag lawful packet was.made).sealed
             (ap (λ (d : Dir). setting.opens now d (bytes_of setting packet)) was.way ∙ ap (λ (b : List ℕ). setting.opens now dir b) (sym was.same) ∙ is);
       }
 

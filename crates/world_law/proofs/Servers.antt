@@ -1,8 +1,15 @@
 -- An event of the server, in a world.
-use Rattle.std.proofs.Common.{◌≡◌, ℕ, suc, List, [], Option, Some, None, refl, sym, ap, subst, ◌∙◌, arith, ◌∷◌}
+use Rattle.std.proofs.Common.{◌≡◌, ℕ, suc, List, [], Option, Some, None, refl, sym, ap, subst, ◌∙◌, arith, ◌∷◌, length, ◌≤◌, true, ◌++◌}
 use Rattle.std.specs.Prelude.{option_map, slice_get}
 use Rattle.std.specs.List.{All, AllByRecursion, Contains}
 use Rattle.std.proofs.lemmas.List.Elements.{Contains-append_right}
+use Rattle.auth_keys.specs.declared.ring.RingKey.{RingKey}
+use Rattle.tl_codec.specs.Standard.{bytes_max}
+use Rattle.service_tl.specs.declared.lists.Message.{Message}
+use Rattle.containers.specs.Container.{IsContainer, begins_container}
+use Rattle.envelope.specs.Lawful.{OpensWhatItSealed}
+use Rattle.envelope.specs.Packet.{Lock}
+use Rattle.world_moves.specs.Packets.{packet_items}
 use Rattle.envelope.specs.declared.parts.Dir.{Dir}
 use Rattle.envelope.specs.declared.parts.Dir.TheVariants.{Up, Down}
 use Rattle.envelope.specs.declared.parts.Envelope.{Envelope}
@@ -16,15 +23,16 @@ use Rattle.session_moves.specs.Extends.{Extends}
 use Rattle.session_moves.specs.Reached.{AreLawful, Reached, after_all}
 use Rattle.world_moves.specs.Leading.{IsOfServers}
 use Rattle.world_rules.specs.Setting.{Setting, as_heard, at_server}
-use Rattle.world_rules.specs.World.{Packet, Seat, World, lives, server_now}
+use Rattle.world_rules.specs.World.{Packet, Seat, World, bytes_of, lives, server_now}
 use Rattle.world_rules.specs.Ends.{comes_up, course_in, serves}
 use Rattle.world_rules.specs.Premises.{Fresh}
 use Rattle.world_servers.specs.Leading.{Leads}
-use Rattle.world_servers.specs.Sending.{WentOut}
+use Rattle.world_servers.specs.Sending.{AreSmall, WentOut}
 use Rattle.world_servers.specs.Servers.{IsPacketUp}
 use Rattle.world_servers.specs.Worlds.{HasServed, StandsIn as AreServersIn}
-use Rattle.world_law.specs.Plain.{HasServedPlainly, SaysPlainly}
-use Rattle.world_law.specs.Standing.{IsDown, HasMoves, IsBagged, IsKeyOf, IsSeated, IsThere, WorldStands, key_at}
+use Rattle.world_law.specs.Small.{SaysSmall}
+use Rattle.world_law.specs.Made.{AreLawfulPackets, IsLawfulPacket, IsSealedPacket}
+use Rattle.world_law.specs.Standing.{HasMoves, IsBagged, IsKeyOf, IsSeated, IsThere, WorldStands, key_at}
 use Rattle.world_law.proofs.Lists.{all_append, each_of, map_all}
 use Rattle.world_law.proofs.Known.{Moving, Still}
 use Rattle.world_law.proofs.Nobody.{nobody_by_servers}
@@ -48,34 +56,56 @@ pub record Serves (S V : Type 0) : Type 0 where
       → ((other : Session) → Contains world.server.sessions other → other.number ≡ envelope.session → other.key ≡ envelope.key)
       → Leads w (λ later. HasServed later world (serves setting (Comes moment (Some envelope)) world))
 
+-- what went out is what a client reads
+abbrev pub Reads : Type 0
+Reads = (w : Moved) (sealed : Envelope) → length sealed.body ≤ bytes_max → (begins_container sealed.body ≡ true → (parts : List Message) × IsContainer sealed.number parts sealed.body)
+    → AreSmall w → (went : WentOut w (as_heard sealed)) → Contains w.downs (record { server = went.unique; items = packet_items sealed })
+
 module _ {S V : Type 0} (known : Moving) (still : Still) (alone : Themselves S) (serving : Serves S V)
     (keeps_order : (setting : Setting S V) (course : Course S V) (event : ServerEvent) → AreOrdered course.server.sessions course.server.jobs
     → AreOrdered (after_event (at_server setting) setting.serve setting.fresh course event).server.sessions (after_event (at_server setting) setting.serve setting.fresh course event).server.jobs)
-    (setting : Setting S V) (w : Moved) (world : World S V) (h : WorldStands w world) where
+    (read : Reads) (lock : Lock) (ring : List RingKey) (seals : OpensWhatItSealed lock) (setting : Setting S V) (w : Moved) (world : World S V) (h : WorldStands w world) where
   still_seated : (list : List Move) → AreLawful w list → All IsOfServers list → (i : ℕ) (found : Option Seat) → IsSeated w i found → IsSeated (after_all w list) i found
   still_seated list lawful own i None n = nobody_by_servers known w i list own n
   still_seated list lawful own i (Some seat) s = still.servers w i list seat.client h.reached lawful own s
 
-  down_bagged : (v : Moved) (packet : Packet) → packet.dir ≡ Down → IsDown v packet.envelope → IsBagged v world.seats packet
-  down_bagged v packet way down = subst (λ (d : Dir). IsThere v world.seats d packet.envelope) (sym way) down
+  abbrev pub Says : World S V → Type 0
+  Says behind = SaysSmall w world behind × AreLawfulPackets lock ring setting behind
 
-  all_bagged : (v : Moved) (packets : List Packet) → AllByRecursion (λ (packet : Packet). (packet.dir ≡ Down) × WentOut v (as_heard packet.envelope)) packets
-      → AllByRecursion (λ (packet : Packet). IsDown v packet.envelope) packets → AllByRecursion (IsBagged v world.seats) packets
-  all_bagged v [] went read = tt
-  all_bagged v (packet ∷ packets) went read = (down_bagged v packet went.0.0 read.0, all_bagged v packets went.1 read.1)
+  short_body : (packet : Packet) → IsSealedPacket lock ring setting packet → length packet.envelope.body ≤ bytes_max
+  short_body packet sealed =
+      omega (arith, seals.size ring packet.dir packet.envelope packet.padding (bytes_of setting packet) sealed, sealed.fits)
+
+  down_bagged : (v : Moved) (packet : Packet) → AreSmall v → IsLawfulPacket lock ring setting packet → packet.dir ≡ Down → WentOut v (as_heard packet.envelope) → IsBagged v world.seats packet
+  down_bagged v packet small lawful way went =
+      subst (λ (d : Dir). IsThere v world.seats d packet.envelope) (sym way) (record {
+        unique = went.unique;
+        made = went.made;
+        session = went.session;
+        there = read v packet.envelope (short_body packet lawful.sealed) (lawful.whole way) small went;
+      })
+
+  all_bagged : (v : Moved) (packets : List Packet) → AreSmall v → AllByRecursion (IsLawfulPacket lock ring setting) packets
+      → AllByRecursion (λ (packet : Packet). (packet.dir ≡ Down) × WentOut v (as_heard packet.envelope)) packets → AllByRecursion (IsBagged v world.seats) packets
+  all_bagged v [] small lawful went = tt
+  all_bagged v (packet ∷ packets) small lawful went = (down_bagged v packet small lawful.0 went.0.0 went.0.1, all_bagged v packets small lawful.1 went.1)
+
+  last_part : (bag packets : List Packet) → AllByRecursion (IsLawfulPacket lock ring setting) (bag ++ packets) → AllByRecursion (IsLawfulPacket lock ring setting) packets
+  last_part [] packets all = all
+  last_part (packet ∷ bag) packets all = last_part bag packets all.1
 
   module _ (event : ServerEvent) where
-    by_leads : (l : Leads w (λ later. HasServedPlainly later world (serves setting event world)))
+    by_leads : AreLawfulPackets lock ring setting (serves setting event world) → (l : Leads w (λ later. HasServed later world (serves setting event world) × AreSmall later))
         → ((P : ℕ → ℕ → Type 0) → AllByRecursion (λ (session : Session). P session.number session.key) (lives world)
         → ((n k : ℕ) → IsKeyOf w world.seats n k → P n k)
         → AllByRecursion (λ (session : Session). P session.number session.key) (lives (serves setting event world)))
         → WorldStands (after_all w l.moves) (serves setting event world)
-    by_leads l names =
+    by_leads lawful l names =
         let v : Moved = after_all w l.moves in
         let extends : Extends w v = known.extends w l.moves l.lawful in
         let key_on : (n k : ℕ) → IsKeyOf w world.seats n k → IsKeyOf v world.seats n k =
         λ n k. key_still w v world.seats world.seats extends (keys_same world.seats) h.seats (λ c s. known.owned w l.moves c s l.lawful) n k in
-        let served : HasServed v world (serves setting event world) = l.gives.served in
+        let served : HasServed v world (serves setting event world) = l.gives.0 in
         record {
           reached = known.reached w l.moves h.reached l.lawful;
           seats = λ i. still_seated l.moves l.lawful l.own i (slice_get world.seats i) (h.seats i);
@@ -87,58 +117,56 @@ module _ {S V : Type 0} (known : Moving) (still : Still) (alone : Themselves S) 
           bag = subst (λ (bag : List Packet). AllByRecursion (IsBagged v world.seats) bag) (sym served.bag)
               (all_append (IsBagged v world.seats) world.bag served.packets
               (bag_still w v world.seats world.seats extends (keys_same world.seats) h.seats (λ c s. known.owned w l.moves c s l.lawful) world.bag h.bag)
-              (all_bagged v served.packets served.down l.gives.read));
+              (all_bagged v served.packets l.gives.1 (last_part world.bag served.packets (subst (λ (bag : List Packet). AllByRecursion (IsLawfulPacket lock ring setting) bag) served.bag lawful)) served.down));
+          small = l.gives.1;
         }
 
-    leads : (l : Leads w (λ later. HasServedPlainly later world (serves setting event world)))
+    leads : AreLawfulPackets lock ring setting (serves setting event world) → (l : Leads w (λ later. HasServed later world (serves setting event world) × AreSmall later))
         → ((P : ℕ → ℕ → Type 0) → AllByRecursion (λ (session : Session). P session.number session.key) (lives world)
         → ((n k : ℕ) → IsKeyOf w world.seats n k → P n k)
         → AllByRecursion (λ (session : Session). P session.number session.key) (lives (serves setting event world))) → HasMoves (serves setting event world)
-    leads l names = (after_all w l.moves, by_leads l names)
+    leads lawful l names = (after_all w l.moves, by_leads lawful l names)
 
-  pub ticked : Fresh (serves setting (Tick world.clock) world) → SaysPlainly w world (serves setting (Tick world.clock) world) → HasMoves (serves setting (Tick world.clock) world)
+  pub ticked : Fresh (serves setting (Tick world.clock) world) → Says (serves setting (Tick world.clock) world) → HasMoves (serves setting (Tick world.clock) world)
   ticked fresh plain =
-      leads (Tick world.clock) (plain (serving.tick w setting world world.clock h.reached h.server h.ordered fresh)) (λ P all keys. tick_named P alone setting world all world.clock)
+      leads (Tick world.clock) plain.1 (plain.0 (serving.tick w setting world world.clock h.reached h.server h.ordered fresh)) (λ P all keys. tick_named P alone setting world all world.clock)
 
-  pub worked : (place : ℕ) → Fresh (serves setting (Work world.clock place) world) → SaysPlainly w world (serves setting (Work world.clock place) world) → HasMoves (serves setting (Work world.clock place) world)
+  pub worked : (place : ℕ) → Fresh (serves setting (Work world.clock place) world) → Says (serves setting (Work world.clock place) world) → HasMoves (serves setting (Work world.clock place) world)
   worked place fresh plain =
-      leads (Work world.clock place) (plain (serving.work w setting world world.clock place h.reached h.server h.ordered fresh))
+      leads (Work world.clock place) plain.1 (plain.0 (serving.work w setting world world.clock place h.reached h.server h.ordered fresh))
       (λ P all keys. work_named P alone setting world all world.clock place)
 
-  pub attached : (name : Name) → Fresh (serves setting (Attach world.clock name) world) → SaysPlainly w world (serves setting (Attach world.clock name) world) → HasMoves (serves setting (Attach world.clock name) world)
+  pub attached : (name : Name) → Fresh (serves setting (Attach world.clock name) world) → Says (serves setting (Attach world.clock name) world) → HasMoves (serves setting (Attach world.clock name) world)
   attached name fresh plain =
-      leads (Attach world.clock name) (plain (serving.attach w setting world world.clock name h.reached h.server h.ordered fresh))
+      leads (Attach world.clock name) plain.1 (plain.0 (serving.attach w setting world world.clock name h.reached h.server h.ordered fresh))
       (λ P all keys. attach_named P alone setting world all world.clock name)
 
-  pub lost : (name : Name) → SaysPlainly w world (serves setting (Loss name) world) → HasMoves (serves setting (Loss name) world)
-  lost name plain = leads (Loss name) (plain (serving.loss w setting world name h.server)) (λ P all keys. loss_named P alone setting world all name)
+  pub lost : (name : Name) → Says (serves setting (Loss name) world) → HasMoves (serves setting (Loss name) world)
+  lost name plain = leads (Loss name) plain.1 (plain.0 (serving.loss w setting world name h.server)) (λ P all keys. loss_named P alone setting world all name)
 
-  pub restarted : SaysPlainly w world (record (serves setting Restart world) { start = suc world.start }) → HasMoves (record (serves setting Restart world) { start = suc world.start })
+  pub restarted : Says (record (serves setting Restart world) { start = suc world.start }) → HasMoves (record (serves setting Restart world) { start = suc world.start })
   restarted plain =
       let first = serving.restart w setting world h.reached h.server in
-      let l = plain (record {
+      let l = plain.0 (record {
         moves = first.moves;
         lawful = first.lawful;
         own = first.own;
         gives = record { stands = first.gives.stands; packets = first.gives.packets; bag = first.gives.bag; down = first.gives.down };
       }) in
-      let again : Leads w (λ later. HasServedPlainly later world (serves setting Restart world)) = record {
+      let again : Leads w (λ later. HasServed later world (serves setting Restart world) × AreSmall later) = record {
         moves = l.moves;
         lawful = l.lawful;
         own = l.own;
-        gives = record {
-          served = record { stands = l.gives.served.stands; packets = l.gives.served.packets; bag = l.gives.served.bag; down = l.gives.served.down };
-          read = l.gives.read;
-        };
+        gives = (record { stands = l.gives.0.stands; packets = l.gives.0.packets; bag = l.gives.0.bag; down = l.gives.0.down }, l.gives.1);
       } in
-      let s = by_leads Restart again (λ P all keys. restart_named P alone setting world all) in
-      (after_all w l.moves, record { reached = s.reached; seats = s.seats; server = s.server; ordered = s.ordered; keys = s.keys; bag = s.bag })
+      let s = by_leads Restart plain.1 again (λ P all keys. restart_named P alone setting world all) in
+      (after_all w l.moves, record { reached = s.reached; seats = s.seats; server = s.server; ordered = s.ordered; keys = s.keys; bag = s.bag; small = s.small })
 
   -- ---- a packet
 
-  pub unopened : SaysPlainly w world (serves setting (Comes world.clock None) world) → HasMoves (serves setting (Comes world.clock None) world)
+  pub unopened : Says (serves setting (Comes world.clock None) world) → HasMoves (serves setting (Comes world.clock None) world)
   unopened plain =
-      leads (Comes world.clock None) (plain (record { moves = []; lawful = tt; own = λ j d below. absurd (omega arith); gives = serving.unopened w setting world world.clock h.server }))
+      leads (Comes world.clock None) plain.1 (plain.0 (record { moves = []; lawful = tt; own = λ j d below. absurd (omega arith); gives = serving.unopened w setting world world.clock h.server }))
       (λ P all keys. unopened_named P alone setting world all world.clock)
 
   one_key : (envelope : Envelope) → IsKeyOf w world.seats envelope.session envelope.key → (other : Session) → Contains (lives world) other → other.number ≡ envelope.session → other.key ≡ envelope.key
@@ -150,20 +178,20 @@ module _ {S V : Type 0} (known : Moving) (still : Still) (alone : Themselves S) 
       cc
 
   pub opened : (envelope : Envelope) → IsPacketUp w.ups (as_heard envelope) × IsKeyOf w world.seats envelope.session envelope.key
-      → Fresh (serves setting (Comes world.clock (Some (as_heard envelope))) world) → SaysPlainly w world (serves setting (Comes world.clock (Some (as_heard envelope))) world)
+      → Fresh (serves setting (Comes world.clock (Some (as_heard envelope))) world) → Says (serves setting (Comes world.clock (Some (as_heard envelope))) world)
       → HasMoves (serves setting (Comes world.clock (Some (as_heard envelope))) world)
   opened envelope its fresh plain =
-      leads (Comes world.clock (Some (as_heard envelope)))
-      (plain (serving.packet w setting world world.clock (as_heard envelope) h.reached h.server h.ordered fresh its.0
+      leads (Comes world.clock (Some (as_heard envelope))) plain.1
+      (plain.0 (serving.packet w setting world world.clock (as_heard envelope) h.reached h.server h.ordered fresh its.0
       (λ other among same. one_key envelope its.1 other (Contains-append_right world.lost world.server.sessions other among) same)))
       (λ P all keys. packet_named P alone setting world all world.clock (as_heard envelope) (keys envelope.session envelope.key its.1))
 
   by_opening : (found : Option Envelope) → ((envelope : Envelope) → found ≡ Some envelope → IsPacketUp w.ups (as_heard envelope) × IsKeyOf w world.seats envelope.session envelope.key)
-      → Fresh (serves setting (Comes world.clock (option_map as_heard found)) world) → SaysPlainly w world (serves setting (Comes world.clock (option_map as_heard found)) world)
+      → Fresh (serves setting (Comes world.clock (option_map as_heard found)) world) → Says (serves setting (Comes world.clock (option_map as_heard found)) world)
       → HasMoves (serves setting (Comes world.clock (option_map as_heard found)) world)
   by_opening None so fresh plain = unopened plain
   by_opening (Some envelope) so fresh plain = opened envelope (so envelope refl) fresh plain
 
   pub came_up : (bytes : List ℕ) → ((envelope : Envelope) → setting.opens (server_now world) Up bytes ≡ Some envelope → IsPacketUp w.ups (as_heard envelope) × IsKeyOf w world.seats envelope.session envelope.key)
-      → Fresh (comes_up setting bytes world) → SaysPlainly w world (comes_up setting bytes world) → HasMoves (comes_up setting bytes world)
+      → Fresh (comes_up setting bytes world) → Says (comes_up setting bytes world) → HasMoves (comes_up setting bytes world)
   came_up bytes so fresh plain = by_opening (setting.opens (server_now world) Up bytes) so fresh plain

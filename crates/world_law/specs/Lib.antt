@@ -1,3 +1,3 @@
 pub mod Standing
 pub mod Made
-pub mod Plain
+pub mod Small

@@ -14,6 +14,7 @@ use Rattle.world_moves.specs.Clients.{IsNobody, StandsAs}
 use Rattle.world_moves.specs.Packets.{packet_items}
 use Rattle.world_moves.specs.Sent.{IsPacketSent}
 use Rattle.world_rules.specs.World.{Packet, Seat, World, lives}
+use Rattle.world_servers.specs.Sending.{AreSmall}
 use Rattle.world_servers.specs.Worlds.{StandsIn as AreServersIn}
 
 -- ---- clients
@@ -72,6 +73,8 @@ pub record WorldStands {S V : Type 0} (w : moves.World) (world : World S V) : Ty
   pub keys : AllByRecursion (λ session. IsKeyOf w world.seats session.number session.key) (lives world)
   -- so is each packet that was ever made
   pub bag : AllByRecursion (IsBagged w world.seats) world.bag
+  -- the numbers of what went out there fit their places
+  pub small : AreSmall w
 
 -- some list of lawful moves leads to where the world stands
 abbrev pub HasMoves : {S V : Type 0} → World S V → Type 0

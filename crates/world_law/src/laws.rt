@@ -15,8 +15,8 @@ ghost use Rattle.world_rules.specs.World.{Packet, World, begins, bytes_of};
 ghost use Rattle.world_rules.specs.Premises.{Fresh, IsByNoChance, IsSealed, NoChance, OpensOnly};
 ghost use Rattle.world_rules.specs.Once.{Once, ran_in};
 ghost use Rattle.world_rules.specs.Run.{after, run_of, run_of_any, step, step_any};
-ghost use Rattle.world_law.specs.Made.{AreSealed, IsOfPacket, IsSealedPacket, IsShort};
-ghost use Rattle.world_law.specs.Plain.{AreSaidPlainly, SaysPlainly};
+ghost use Rattle.world_law.specs.Made.{AreLawfulPackets, IsOfPacket, IsSealedPacket, IsShort};
+ghost use Rattle.world_law.specs.Small.{AreSaidSmall, SaysSmall};
 ghost use Rattle.world_law.specs.Standing.{HasMoves, WorldStands};
 
 use draws::Draw;
@@ -29,8 +29,8 @@ use world_moves::laws::{
     others_stand_still, wishes_are_no_moves,
 };
 use world_servers::laws::{
-    events_of_worlds_are_moves, packets_of_worlds_are_moves, packets_sent_are_up,
-    servers_stand_still,
+    events_of_worlds_are_moves, packets_are_read_as_they_went_out, packets_of_worlds_are_moves,
+    packets_sent_are_up, servers_stand_still,
 };
 
 /// After every schedule, what ran in each start of the server has the replies that the service gives to these requests, one
@@ -51,19 +51,19 @@ pub fn what_opens_was_made<D: Draw, V>()
         → IsSealed lock ring setting → IsSealedPacket lock ring setting packet
         → setting.opens now packet.dir (bytes_of setting packet) ≡ Some envelope → packet.envelope ≡ envelope }
     ensures foreign { (lock : Lock) (ring : List RingKey) (setting : Setting D V) (world : World D V) (now : ℕ) (dir : Dir) (bytes : List ℕ) (envelope : Envelope)
-        → OpensWhatItSealed lock → IsSealed lock ring setting → AreSealed lock ring setting world → OpensOnly setting world now dir bytes
+        → OpensWhatItSealed lock → IsSealed lock ring setting → AreLawfulPackets lock ring setting world → OpensOnly setting world now dir bytes
         → setting.opens now dir bytes ≡ Some envelope → IsOfPacket world dir envelope }
     ensures short { (lock : Lock) (ring : List RingKey) (setting : Setting D V) (now : ℕ) (dir : Dir) (bytes : List ℕ) (envelope : Envelope)
         → OpensWhatItSealed lock → IsSealed lock ring setting → setting.opens now dir bytes ≡ Some envelope → IsShort envelope }
 {}
 
 /// No event takes away a word that was drawn for a session number, a unique number or a salt, nor a packet: where these words
-/// differ behind an event, and aren't 0, they did so before it, and where all packets are sealed behind it, they were.
+/// differ behind an event, and aren't 0, they did so before it, and where all packets are lawful behind it, they were.
 pub fn worlds_only_grow<D: Draw, V>()
     ensures words { (setting : Setting D V) (world : World D V) (event : Event) → AreOrdered world.server.sessions world.server.jobs
         → Fresh (after setting world event) → Fresh world }
     ensures packets { (lock : Lock) (ring : List RingKey) (setting : Setting D V) (world : World D V) (event : Event)
-        → AreSealed lock ring setting (after setting world event) → AreSealed lock ring setting world }
+        → AreLawfulPackets lock ring setting (after setting world event) → AreLawfulPackets lock ring setting world }
 {
     server_laws::laws::sessions_speak::<D>();
     server_laws::laws::sessions_speak_for_themselves::<D>();
@@ -71,20 +71,22 @@ pub fn worlds_only_grow<D: Draw, V>()
 
 /// Every event of a world is a list of lawful moves, and so some list of lawful moves leads to where the world of a schedule
 /// stands, with its clients, sessions, jobs, packets and entries. The premises: a seal that opens what it sealed, foreign
-/// bytes that open by no chance (a schedule refuses those that open), words that aren't 0 and differ. Two more aren't shown
-/// of the rules yet: that each packet is one that may be sealed, and that what a server says is read as it was said.
+/// bytes that open by no chance (a schedule refuses those that open), words that aren't 0 and differ; and two on sizes, which
+/// aren't shown of the rules: each packet is one that may be sealed, a server's container a lawful one, and the numbers of
+/// what a server says fit their places.
 pub fn worlds_are_moves<D: Draw, V>()
     ensures begins { (setting : Setting D V) (draw : D) → WorldStands empty (begins setting draw) }
     ensures event { (lock : Lock) (ring : List RingKey) (setting : Setting D V) (w : Moved) (world : World D V) (event : Event) → OpensWhatItSealed lock
-        → IsSealed lock ring setting → WorldStands w world → AreSealed lock ring setting world → IsByNoChance setting world event
-        → Fresh (after setting world event) → SaysPlainly w world (after setting world event) → HasMoves (after setting world event) }
+        → IsSealed lock ring setting → WorldStands w world → AreLawfulPackets lock ring setting world → IsByNoChance setting world event
+        → Fresh (after setting world event) → SaysSmall w world (after setting world event)
+        → AreLawfulPackets lock ring setting (after setting world event) → HasMoves (after setting world event) }
     ensures schedule { (lock : Lock) (ring : List RingKey) (setting : Setting D V) (draw : D) (events : List Event) → OpensWhatItSealed lock
-        → IsSealed lock ring setting → Fresh (run_of setting draw events) → AreSealed lock ring setting (run_of setting draw events)
-        → AreSaidPlainly (step setting) setting (begins setting draw) events → HasMoves (run_of setting draw events) }
+        → IsSealed lock ring setting → Fresh (run_of setting draw events) → AreLawfulPackets lock ring setting (run_of setting draw events)
+        → AreSaidSmall (step setting) setting (begins setting draw) events → HasMoves (run_of setting draw events) }
     ensures any { (lock : Lock) (ring : List RingKey) (setting : Setting D V) (draw : D) (events : List Event) → OpensWhatItSealed lock
         → IsSealed lock ring setting → NoChance setting (begins setting draw) events → Fresh (run_of_any setting draw events)
-        → AreSealed lock ring setting (run_of_any setting draw events)
-        → AreSaidPlainly (step_any setting) setting (begins setting draw) events → HasMoves (run_of_any setting draw events) }
+        → AreLawfulPackets lock ring setting (run_of_any setting draw events)
+        → AreSaidSmall (step_any setting) setting (begins setting draw) events → HasMoves (run_of_any setting draw events) }
 {
     moves_go_on();
     moves_leave();
@@ -102,6 +104,7 @@ pub fn worlds_are_moves<D: Draw, V>()
     events_of_worlds_are_moves::<D, V>();
     packets_of_worlds_are_moves::<D, V>();
     packets_sent_are_up();
+    packets_are_read_as_they_went_out();
     server_laws::laws::servers_stay_in_order::<D, V>();
     server_laws::laws::sessions_speak::<D>();
     server_laws::laws::sessions_speak_for_themselves::<D>();
@@ -111,12 +114,12 @@ pub fn worlds_are_moves<D: Draw, V>()
 /// premises of `worlds_are_moves`, and wherever a world stands in a world of the law.
 pub fn calls_execute_once<D: Draw, V>()
     ensures schedule { (lock : Lock) (ring : List RingKey) (setting : Setting D V) (draw : D) (events : List Event) → OpensWhatItSealed lock
-        → IsSealed lock ring setting → Fresh (run_of setting draw events) → AreSealed lock ring setting (run_of setting draw events)
-        → AreSaidPlainly (step setting) setting (begins setting draw) events → Once setting (run_of setting draw events) }
+        → IsSealed lock ring setting → Fresh (run_of setting draw events) → AreLawfulPackets lock ring setting (run_of setting draw events)
+        → AreSaidSmall (step setting) setting (begins setting draw) events → Once setting (run_of setting draw events) }
     ensures any { (lock : Lock) (ring : List RingKey) (setting : Setting D V) (draw : D) (events : List Event) → OpensWhatItSealed lock
         → IsSealed lock ring setting → NoChance setting (begins setting draw) events → Fresh (run_of_any setting draw events)
-        → AreSealed lock ring setting (run_of_any setting draw events)
-        → AreSaidPlainly (step_any setting) setting (begins setting draw) events → Once setting (run_of_any setting draw events) }
+        → AreLawfulPackets lock ring setting (run_of_any setting draw events)
+        → AreSaidSmall (step_any setting) setting (begins setting draw) events → Once setting (run_of_any setting draw events) }
     ensures standing { (setting : Setting D V) (w : Moved) (world : World D V) → WorldStands w world
         → ((start : ℕ) → Served setting.serve setting.fresh (ran_in start world.entries)) → Once setting world }
 {

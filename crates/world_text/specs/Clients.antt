@@ -1,15 +1,10 @@
 -- A client in one of its states, and the client that it stands for.
 use Rattle.std.specs.Prelude.{Option, Some, None}
 use Rattle.client_rules.specs.Client.{Client}
-use Rattle.client_core.specs.Kept.{Contents, Stands}
+use Rattle.client_core.specs.Holding.{kept_of}
+use Rattle.client_core.specs.Kept.{Stands}
 use Rattle.client_core.specs.declared.holder.Holder.{Holder}
-use Rattle.client_core.specs.declared.holder.Holder.TheVariants as holder
 use Rattle.world_rules.specs.World.{Seat}
-
-abbrev pub kept_of : Holder → Contents
-kept_of (holder.Opening kept) = kept
-kept_of (holder.Open kept) = kept
-kept_of (holder.Ended kept) = kept
 
 -- it stands for this client
 abbrev pub StandsFor : Holder → Client → Type 0

@@ -5,7 +5,8 @@ ghost use Rattle.call_table.specs.Kept.{shown};
 ghost use Rattle.call_table.specs.Table.{IsGiven, state_at};
 ghost use Rattle.client_rules.specs.Client.{Client, calls_of};
 ghost use Rattle.world_rules.specs.Report.{call_lines};
-ghost use Rattle.world_text.specs.Clients.{StandsFor, kept_of};
+ghost use Rattle.client_core.specs.Holding.{kept_of};
+ghost use Rattle.world_text.specs.Clients.{StandsFor};
 
 use crate::call::call_line;
 use call_table::{CallNo, CallState};

@@ -24,11 +24,11 @@ pub trait Clients {
     ghost stands: { Self → List Seat → Type 0 };
 
     /// How many there are.
-    fn client_count(&self) -> u32
+    fn client_count(&self) -> usize
         ensures { (seats : List Seat) → stands self.now seats → result ≡ length seats };
 
     /// The client at this place, from 0; none exactly where there is none.
-    fn holder_at(&self, place: u32) -> Option<&Holder>
+    fn holder_at(&self, place: usize) -> Option<&Holder>
         ensures { (seats : List Seat) → stands self.now seats → MatchOption result (slice_get seats place ≡ None) (λ holder. IsClientOf holder.now (slice_get seats place)) };
 }
 
@@ -70,8 +70,9 @@ fn push_client<C: Clients>(
     alloc: Global,
     text: &mut Octets,
     clients: &C,
-    place: u32,
+    place: usize,
 ) -> Result<(), Memory>
+    requires { place < 2 ^ 64 - 1 }
     ensures told { (seats : List Seat) (seat : Seat) → C.stands clients.now seats → slice_get seats place ≡ Some seat
         → OnOk result (text.new ≡ text.old ++ call_lines (place + 1) 1 (calls_of seat.client)) }
     ensures front { take (length text.old) text.new ≡ text.old }
@@ -95,8 +96,8 @@ impl Counts {
     }
 
     /// Counts the calls of the client at this place beside those before.
-    fn add_at<C: Clients>(&mut self, clients: &C, place: u32)
-        requires { self.old.calls < 2 ^ 64 - 2 ^ 32 }
+    fn add_at<C: Clients>(&mut self, clients: &C, place: usize)
+        requires { self.old.calls < 2 ^ 127 }
         ensures counted { (seats : List Seat) (seat : Seat) (before : List Call) → C.stands clients.now seats → slice_get seats place ≡ Some seat
             → self.old ≡ tally_of before → self.new ≡ tally_of (before ++ calls_of seat.client) }
         ensures few { self.new.calls < self.old.calls + 2 ^ 32 }

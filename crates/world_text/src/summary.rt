@@ -19,10 +19,10 @@ use std::marker::Model;
 /// How many calls there are, and what became of them.
 #[derive(Clone, Copy, Debug, PartialEq, Eq)]
 pub struct Counts {
-    calls: u64,
-    done: u64,
-    refused: u64,
-    unknown: u64,
+    calls: u128,
+    done: u128,
+    refused: u128,
+    unknown: u128,
 }
 
 impl Model for Counts {
@@ -53,7 +53,7 @@ impl Counts {
 
     /// Counts the calls of a client beside those before.
     pub fn add(&mut self, holder: &Holder)
-        requires { self.old.calls < 2 ^ 64 - 2 ^ 32 }
+        requires { self.old.calls < 2 ^ 127 }
         ensures counted { (whole : Client) (before : List Call) → StandsFor holder.now whole → self.old ≡ tally_of before → self.new ≡ tally_of (before ++ calls_of whole) }
         ensures few { self.new.calls < self.old.calls + 2 ^ 32 }
     {
@@ -66,7 +66,7 @@ impl Counts {
 
     /// Counts a call in this state.
     fn note(&mut self, state: &CallState<'_>)
-        requires { self.old.calls < 2 ^ 64 - 1 }
+        requires { self.old.calls < 2 ^ 128 - 1 }
         ensures { self.new ≡ counted (shown state.now) self.old }
     {
         match state {

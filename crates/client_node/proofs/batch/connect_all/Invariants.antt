@@ -1,4 +1,4 @@
-use Rattle.std.proofs.Common.{◌≡◌, ◌<◌, ◌≤◌, IsSome, length}
+use Rattle.std.proofs.Common.{◌≡◌, ◌≤◌, IsSome, length}
 use Rattle.client_node.specs.Course.{Course, Reading}
 use Rattle.client_node.specs.Runs.{LostSoFar}
 use Rattle.client_node.specs.Standing.{HasKeys, IsReading, StandsAs, count_of}

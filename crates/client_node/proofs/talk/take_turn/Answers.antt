@@ -1,4 +1,4 @@
-use Rattle.std.proofs.Common.{inl, inr, refl, take, ◌∙◌, arith}
+use Rattle.std.proofs.Common.{inl, inr, refl, take, ◌∙◌}
 use Rattle.client_node.specs.Writes.{seen}
 use Rattle.client_node.proofs.Reading.{either_counts, got_piece, missed_piece, no_piece}
 use Rattle.client_node.proofs.talk.take_turn.Goals as goal

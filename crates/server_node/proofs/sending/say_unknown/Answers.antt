@@ -1,5 +1,5 @@
 use Rattle.std.proofs.Common.{[], ◌∷◌}
-use Rattle.server_node.specs.Steps.{unknown_key}
+use Rattle.server_node.specs.Writes.{unknown_key}
 use Rattle.server_node.proofs.Going.{said_memory}
 use Rattle.server_node.proofs.sending.say_unknown.Goals as goal
 

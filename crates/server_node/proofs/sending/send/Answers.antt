@@ -1,5 +1,5 @@
-use Rattle.std.proofs.Common.{rules, ◌++◌, [], take, refl, ◌∙◌}
-use Rattle.server_node.proofs.Writing.{front_more, told_more, wrote_nothing}
+use Rattle.std.proofs.Common.{rules, ◌++◌, take, ◌∙◌}
+use Rattle.server_node.proofs.Writing.{front_more, told_more}
 use Rattle.server_node.proofs.sending.send.Goals as goal
 
 pub loop-rest-preserved : goal.loop-rest-preserved

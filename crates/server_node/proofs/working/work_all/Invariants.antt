@@ -1,4 +1,4 @@
-use Rattle.std.proofs.Common.{◌≡◌, Option, Some, None}
+use Rattle.std.proofs.Common.{◌≡◌, None}
 use Rattle.server_node.specs.Doing.{Did}
 use Rattle.server_node.specs.Steps.{HearsAlike}
 use Rattle.server_node.specs.Trace.{work_acts}

@@ -11,10 +11,10 @@ pub returns-clause-begins : goal.returns-clause-begins
 returns-clause-begins g c = λ setting draw. begun setting draw c.servers_stay_in_order.ensures.fresh
 
 pub returns-clause-event : goal.returns-clause-event
-returns-clause-event g c = λ lock ring setting w world event seals so h sealed chance fresh plain.
+returns-clause-event g c = λ lock ring setting w world event seals so h sealed chance fresh plain behind.
     goes_on
     (record {
-      moving = record { reached = c.moves_go_on.ensures.reached; extends = c.moves_only_add.ensures; owned = c.clients_and_bodies_last.ensures.owned; one_owner = c.names_are_apart.ensures.one_owner; clients = c.moves_leave.ensures.clients; calls = c.moves_leave.ensures.calls; submitted = c.moves_leave.ensures.submitted; other_clients = c.moves_leave.ensures.other_clients; other_calls = c.moves_leave.ensures.other_calls };
+      moving = record { reached = c.moves_go_on.ensures.reached; extends = c.moves_only_add.ensures; owned = c.clients_and_bodies_last.ensures.owned; one_owner = c.names_are_apart.ensures.one_owner; clients = c.moves_leave.ensures.clients; calls = c.moves_leave.ensures.calls; packets = c.moves_leave.ensures.packets; submitted = c.moves_leave.ensures.submitted; other_clients = c.moves_leave.ensures.other_clients; other_calls = c.moves_leave.ensures.other_calls };
       still = record { clients = c.others_stand_still.ensures.clients; servers = c.others_stand_still.ensures.servers };
       servers = λ v mover list other lawful its s. c.servers_stand_still.ensures v mover list (past_in other) other.server.sessions other.server.jobs lawful its s;
       acts = record { joins = c.clients_join.ensures.stands; joins_so = c.clients_join.ensures.temporary; joins_lawfully = c.clients_join.ensures.lawful; submits_lawfully = c.clients_submit.ensures.lawful; submits = c.clients_submit.ensures.stands; attached = c.wishes_are_no_moves.ensures.attached; ticked = c.wishes_are_no_moves.ensures.ticked; pinged = c.wishes_are_no_moves.ensures.pinged; salts_asked = c.wishes_are_no_moves.ensures.salts_asked; dropped = c.wishes_are_no_moves.ensures.dropped; renews_lawfully = c.clients_renew_and_end.ensures.renews; renews = c.clients_renew_and_end.ensures.renewed; ends_lawfully = c.clients_renew_and_end.ensures.ends; ends = c.clients_renew_and_end.ensures.ended; hears = c.clients_hear.ensures.heard; passes_over = c.clients_hear.ensures.passed_over; unopened = c.clients_hear.ensures.unopened };
@@ -22,15 +22,16 @@ returns-clause-event g c = λ lock ring setting w world event seals so h sealed 
       alone = record { owes = c.sessions_speak_for_themselves.ensures.owes; gives_up = c.sessions_speak_for_themselves.ensures.gives_up; finishes = c.sessions_speak_for_themselves.ensures.finishes; attaches = c.sessions_speak_for_themselves.ensures.attaches };
       serves = record { tick = c.events_of_worlds_are_moves.ensures.tick; work = c.events_of_worlds_are_moves.ensures.work; attach = c.events_of_worlds_are_moves.ensures.attach; loss = c.events_of_worlds_are_moves.ensures.loss; restart = c.events_of_worlds_are_moves.ensures.restart; unopened = c.events_of_worlds_are_moves.ensures.unopened; packet = c.packets_of_worlds_are_moves.ensures };
       judged = c.packets_sent_are_up.ensures;
+      read = c.packets_are_read_as_they_went_out.ensures;
       order = λ setting course event. c.servers_stay_in_order.ensures.event (at_server setting) setting.serve setting.fresh course event;
     })
-    lock ring setting seals so w world h sealed event chance fresh plain
+    lock ring setting seals so w world h sealed event chance fresh (plain, behind)
 
 pub returns-clause-schedule : goal.returns-clause-schedule
 returns-clause-schedule g c = λ lock ring setting draw events seals so fresh sealed plain.
     run_all
     (record {
-      moving = record { reached = c.moves_go_on.ensures.reached; extends = c.moves_only_add.ensures; owned = c.clients_and_bodies_last.ensures.owned; one_owner = c.names_are_apart.ensures.one_owner; clients = c.moves_leave.ensures.clients; calls = c.moves_leave.ensures.calls; submitted = c.moves_leave.ensures.submitted; other_clients = c.moves_leave.ensures.other_clients; other_calls = c.moves_leave.ensures.other_calls };
+      moving = record { reached = c.moves_go_on.ensures.reached; extends = c.moves_only_add.ensures; owned = c.clients_and_bodies_last.ensures.owned; one_owner = c.names_are_apart.ensures.one_owner; clients = c.moves_leave.ensures.clients; calls = c.moves_leave.ensures.calls; packets = c.moves_leave.ensures.packets; submitted = c.moves_leave.ensures.submitted; other_clients = c.moves_leave.ensures.other_clients; other_calls = c.moves_leave.ensures.other_calls };
       still = record { clients = c.others_stand_still.ensures.clients; servers = c.others_stand_still.ensures.servers };
       servers = λ v mover list other lawful its s. c.servers_stand_still.ensures v mover list (past_in other) other.server.sessions other.server.jobs lawful its s;
       acts = record { joins = c.clients_join.ensures.stands; joins_so = c.clients_join.ensures.temporary; joins_lawfully = c.clients_join.ensures.lawful; submits_lawfully = c.clients_submit.ensures.lawful; submits = c.clients_submit.ensures.stands; attached = c.wishes_are_no_moves.ensures.attached; ticked = c.wishes_are_no_moves.ensures.ticked; pinged = c.wishes_are_no_moves.ensures.pinged; salts_asked = c.wishes_are_no_moves.ensures.salts_asked; dropped = c.wishes_are_no_moves.ensures.dropped; renews_lawfully = c.clients_renew_and_end.ensures.renews; renews = c.clients_renew_and_end.ensures.renewed; ends_lawfully = c.clients_renew_and_end.ensures.ends; ends = c.clients_renew_and_end.ensures.ended; hears = c.clients_hear.ensures.heard; passes_over = c.clients_hear.ensures.passed_over; unopened = c.clients_hear.ensures.unopened };
@@ -38,6 +39,7 @@ returns-clause-schedule g c = λ lock ring setting draw events seals so fresh se
       alone = record { owes = c.sessions_speak_for_themselves.ensures.owes; gives_up = c.sessions_speak_for_themselves.ensures.gives_up; finishes = c.sessions_speak_for_themselves.ensures.finishes; attaches = c.sessions_speak_for_themselves.ensures.attaches };
       serves = record { tick = c.events_of_worlds_are_moves.ensures.tick; work = c.events_of_worlds_are_moves.ensures.work; attach = c.events_of_worlds_are_moves.ensures.attach; loss = c.events_of_worlds_are_moves.ensures.loss; restart = c.events_of_worlds_are_moves.ensures.restart; unopened = c.events_of_worlds_are_moves.ensures.unopened; packet = c.packets_of_worlds_are_moves.ensures };
       judged = c.packets_sent_are_up.ensures;
+      read = c.packets_are_read_as_they_went_out.ensures;
       order = λ setting course event. c.servers_stay_in_order.ensures.event (at_server setting) setting.serve setting.fresh course event;
     })
     (record { own = c.sessions_speak.ensures.own; others = c.sessions_speak.ensures.others })
@@ -48,7 +50,7 @@ pub returns-clause-any : goal.returns-clause-any
 returns-clause-any g c = λ lock ring setting draw events seals so chance fresh sealed plain.
     run_any
     (record {
-      moving = record { reached = c.moves_go_on.ensures.reached; extends = c.moves_only_add.ensures; owned = c.clients_and_bodies_last.ensures.owned; one_owner = c.names_are_apart.ensures.one_owner; clients = c.moves_leave.ensures.clients; calls = c.moves_leave.ensures.calls; submitted = c.moves_leave.ensures.submitted; other_clients = c.moves_leave.ensures.other_clients; other_calls = c.moves_leave.ensures.other_calls };
+      moving = record { reached = c.moves_go_on.ensures.reached; extends = c.moves_only_add.ensures; owned = c.clients_and_bodies_last.ensures.owned; one_owner = c.names_are_apart.ensures.one_owner; clients = c.moves_leave.ensures.clients; calls = c.moves_leave.ensures.calls; packets = c.moves_leave.ensures.packets; submitted = c.moves_leave.ensures.submitted; other_clients = c.moves_leave.ensures.other_clients; other_calls = c.moves_leave.ensures.other_calls };
       still = record { clients = c.others_stand_still.ensures.clients; servers = c.others_stand_still.ensures.servers };
       servers = λ v mover list other lawful its s. c.servers_stand_still.ensures v mover list (past_in other) other.server.sessions other.server.jobs lawful its s;
       acts = record { joins = c.clients_join.ensures.stands; joins_so = c.clients_join.ensures.temporary; joins_lawfully = c.clients_join.ensures.lawful; submits_lawfully = c.clients_submit.ensures.lawful; submits = c.clients_submit.ensures.stands; attached = c.wishes_are_no_moves.ensures.attached; ticked = c.wishes_are_no_moves.ensures.ticked; pinged = c.wishes_are_no_moves.ensures.pinged; salts_asked = c.wishes_are_no_moves.ensures.salts_asked; dropped = c.wishes_are_no_moves.ensures.dropped; renews_lawfully = c.clients_renew_and_end.ensures.renews; renews = c.clients_renew_and_end.ensures.renewed; ends_lawfully = c.clients_renew_and_end.ensures.ends; ends = c.clients_renew_and_end.ensures.ended; hears = c.clients_hear.ensures.heard; passes_over = c.clients_hear.ensures.passed_over; unopened = c.clients_hear.ensures.unopened };
@@ -56,6 +58,7 @@ returns-clause-any g c = λ lock ring setting draw events seals so chance fresh 
       alone = record { owes = c.sessions_speak_for_themselves.ensures.owes; gives_up = c.sessions_speak_for_themselves.ensures.gives_up; finishes = c.sessions_speak_for_themselves.ensures.finishes; attaches = c.sessions_speak_for_themselves.ensures.attaches };
       serves = record { tick = c.events_of_worlds_are_moves.ensures.tick; work = c.events_of_worlds_are_moves.ensures.work; attach = c.events_of_worlds_are_moves.ensures.attach; loss = c.events_of_worlds_are_moves.ensures.loss; restart = c.events_of_worlds_are_moves.ensures.restart; unopened = c.events_of_worlds_are_moves.ensures.unopened; packet = c.packets_of_worlds_are_moves.ensures };
       judged = c.packets_sent_are_up.ensures;
+      read = c.packets_are_read_as_they_went_out.ensures;
       order = λ setting course event. c.servers_stay_in_order.ensures.event (at_server setting) setting.serve setting.fresh course event;
     })
     (record { own = c.sessions_speak.ensures.own; others = c.sessions_speak.ensures.others })

@@ -1,4 +1,4 @@
-use Rattle.std.proofs.Common.{◌≡◌, ◌∙◌, sym, ℕ, ◌<◌, ap, refl, arith, rules, length}
+use Rattle.std.proofs.Common.{◌≡◌, ◌∙◌, sym, ◌<◌, ap, refl, arith, length}
 use Rattle.std.proofs.lemmas.List.{length-map}
 use Rattle.hosts.specs.Bags.{Holds}
 use Rattle.hosts.specs.Made.{made_of_out}

@@ -1,4 +1,4 @@
-use Rattle.std.proofs.Common.{◌≡◌, ℕ, ◌<◌, ap, refl, arith, rules, length}
+use Rattle.std.proofs.Common.{◌≡◌, ◌<◌, ap, refl, arith}
 use Rattle.hosts.specs.Bags.{Holds}
 use Rattle.hosts.proofs.BagLemmas.{one-more}
 use Rattle.hosts.proofs.bag.Bag.goes_up.Goals as goal

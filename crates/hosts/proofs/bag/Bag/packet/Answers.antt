@@ -1,6 +1,6 @@
-use Rattle.std.proofs.Common.{◌≡◌, ◌∙◌, ℕ, ◌-◌, ◌<◌, ◌≤◌, List, ap, sym, subst, arith, rules, length, get_or}
-use Rattle.std.specs.List.{flat_map, slice_get}
-use Rattle.hosts.specs.Bags.{AreCounted, Holds}
+use Rattle.std.proofs.Common.{◌∙◌, ℕ, ◌-◌, ◌<◌, ◌≤◌, List, ap, subst, length, get_or}
+use Rattle.std.specs.List.{slice_get}
+use Rattle.hosts.specs.Bags.{Holds}
 use Rattle.world_rules.specs.World.{counted}
 use Rattle.hosts.specs.Made.{packets_in}
 use Rattle.hosts.specs.declared.bag.Batch.{Batch}

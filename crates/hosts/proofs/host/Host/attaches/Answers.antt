@@ -1,4 +1,4 @@
-use Rattle.std.proofs.Common.{◌≡◌, ◌∙◌, ℕ, max, refl, ap, sym, subst}
+use Rattle.std.proofs.Common.{◌∙◌, max, refl, ap, sym, subst}
 use Rattle.msg_ids.specs.Moments.{moment_of}
 use Rattle.server_core.specs.declared.effects.Effects.{Effects}
 use Rattle.server_rules.specs.Answer.{after_attach}

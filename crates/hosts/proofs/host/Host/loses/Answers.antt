@@ -1,4 +1,4 @@
-use Rattle.std.proofs.Common.{◌≡◌, ◌∙◌, ℕ, List, [], refl, ap, sym, subst}
+use Rattle.std.proofs.Common.{refl, sym, subst}
 use Rattle.server_rules.specs.Events.{Loss}
 use Rattle.server_rules.specs.Server.{Name}
 use Rattle.hosts.specs.Hosts.{Stands}

@@ -1,4 +1,4 @@
-use Rattle.std.proofs.Common.{◌≡◌, ◌∙◌, ℕ, List, [], refl, ap, sym, subst}
+use Rattle.std.proofs.Common.{refl, sym, subst}
 use Rattle.server_rules.specs.Events.{Restart}
 use Rattle.world_rules.specs.Ends.{serves}
 use Rattle.hosts.specs.Hosts.{Stands}

@@ -1,4 +1,4 @@
-use Rattle.std.proofs.Common.{◌≡◌, ◌∙◌, ℕ, max, refl, ap, sym, subst}
+use Rattle.std.proofs.Common.{◌∙◌, max, ap, sym, subst}
 use Rattle.std.specs.Prelude.{option_map}
 use Rattle.envelope.specs.declared.parts.Dir.TheVariants.{Up}
 use Rattle.msg_ids.specs.Moments.{moment_of}

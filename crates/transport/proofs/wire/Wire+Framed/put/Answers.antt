@@ -1,10 +1,11 @@
-use Rattle.std.proofs.Common.{◌≡◌, ◌∷◌, [], ◌++◌, List, ℕ, length, drop, refl, sym, ap, subst, ◌∙◌, Option}
+use Rattle.std.proofs.Common.{rules, ◌≡◌, ◌∷◌, [], ◌++◌, List, ℕ, length, drop, refl, sym, ap, subst, ◌∙◌, Option}
 use Rattle.std.proofs.lemmas.List.{drop_at}
 use Rattle.cipher_modes.specs.CounterMode.{CtrState}
 use Rattle.transport.specs.Forms.{frame_of, IsSent}
 use Rattle.transport.specs.Directions.{through, behind}
 use Rattle.transport.specs.Wires.{Line, Tells}
 use Rattle.transport.proofs.Telling.{TellLaws, told}
+use Rattle.transport.proofs.Wholes.{begins, enciphered, sends_on}
 use Rattle.transport.proofs.wire.Wire+Framed.put.Goals as goal
 
 pub returns-clause-tells : goal.returns-clause-tells
@@ -37,3 +38,23 @@ returns-clause-tells c =
     (told laws old new packet (subst (λ (o : Line). IsSent o.form packet) (sym c.self.view_is) c.requires)
     (ap (λ (l : Line). l.form) passed ∙ ap (λ (l : Line). l.form) counted)
     (ap (λ (l : Line). l.number) passed ∙ ap (λ (l : Line). l.number) counted) writing)
+
+pub returns-clause-sends_first : goal.returns-clause-sends_first
+returns-clause-sends_first c form obfuscate drawn plain begun sent =
+    let old : Line = c.self.inside.state in
+    let packet : List ℕ = c.args.packet.now in
+    let out : List ℕ = c.args.out.now in
+    let whole = subst (λ (o : Line). c.encipher.new.out ≡ out ++ through o.writing (frame_of o.form o.number packet)) c.self.view_is
+    (enciphered out (frame_of old.form old.number packet) c.as_slice-start.result.now c.frame.new.out c.encipher.new.out old.writing _
+    c.as_slice-start.ensures.value c.in_ok-frame.ensures.appended (ap (λ (l : Line). l.writing) c.in_ok-frame.ensures.counted) c.encipher.ensures.text) in
+    begins _ _ form obfuscate drawn packet _ _ plain begun sent c.requires (returns-clause-tells c) (search rules) whole
+
+pub returns-clause-sends : goal.returns-clause-sends
+returns-clause-sends c packets more sends is =
+    let old : Line = c.self.inside.state in
+    let packet : List ℕ = c.args.packet.now in
+    let out : List ℕ = c.args.out.now in
+    let whole = subst (λ (o : Line). c.encipher.new.out ≡ out ++ through o.writing (frame_of o.form o.number packet)) c.self.view_is
+    (enciphered out (frame_of old.form old.number packet) c.as_slice-start.result.now c.frame.new.out c.encipher.new.out old.writing _
+    c.as_slice-start.ensures.value c.in_ok-frame.ensures.appended (ap (λ (l : Line). l.writing) c.in_ok-frame.ensures.counted) c.encipher.ensures.text) in
+    sends_on _ _ packets more packet _ _ _ (returns-clause-tells c) (search rules) whole sends is

@@ -1,6 +1,10 @@
 use Rattle.std.proofs.Common.{◌++◌, List, ℕ}
 use Rattle.transport.proofs.Answering.{only_awaits, only_opens, only_refuses}
+use Rattle.transport.proofs.Wholes.{takes_first}
 use Rattle.transport.proofs.wire.Wire+Raw.feed.Goals as goal
+
+pub returns-clause-takes : goal.returns-clause-takes
+returns-clause-takes c = takes_first (c.args.self ++ c.args.piece.now) c.step.result c.step.ensures.opens
 
 pub returns-clause-only_awaits : goal.returns-clause-only_awaits
 returns-clause-only_awaits c =
