@@ -126,6 +126,7 @@ module _ {S V : Type 0} (known : Moving) (still : Still) (servers : ServersStill
         keys = keys_on;
         bag = bagged;
         small = subst (λ (downs : List moves.Packet). AllByRecursion (λ (packet : moves.Packet). AllByRecursion IsSmall packet.items) downs) (sym (downs_by_client known w place list own)) h.small;
+        kept = h.kept;
       }
 
   module _ (seat : Seat) (at : slice_get world.seats place ≡ Some seat) where

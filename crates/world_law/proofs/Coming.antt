@@ -17,7 +17,7 @@ use Rattle.world_rules.specs.World.{Packet, Seat, World, bytes_of, counted, owne
 use Rattle.world_rules.specs.Ends.{acts, comes_down, comes_to_owner, seated, with_seat}
 use Rattle.world_rules.specs.Premises.{IsSealed, OpensOnly}
 use Rattle.world_law.specs.Standing.{HasMoves, IsBagged, IsDown, IsThere, WorldStands}
-use Rattle.world_law.specs.Made.{AreLawfulPackets, IsLawfulPacket}
+use Rattle.world_law.specs.Made.{AreLawfulPackets, IsSealedPacket}
 use Rattle.world_law.proofs.Lists.{each_of}
 use Rattle.world_law.proofs.Known.{Moving, Still}
 use Rattle.world_law.proofs.Provenance.{foreign_made, given_made}
@@ -57,7 +57,7 @@ module _ {S V : Type 0} (known : Moving) (still : Still) (servers : ServersStill
   given_down packet among way =
       to_owner (bytes_of setting packet) (owner packet.envelope.session world.seats)
       (λ seat envelope is. in_bag packet Down envelope among way
-      (given_made lock ring setting seals so (seat_now seat) packet envelope (each_of (IsLawfulPacket lock ring setting) world.bag lawful packet among).sealed
+      (given_made lock ring setting seals so (seat_now seat) packet envelope (each_of (IsSealedPacket lock ring setting) world.bag lawful packet among)
       (ap (λ (d : Dir). setting.opens (seat_now seat) d (bytes_of setting packet)) way ∙ is)))
 
   -- foreign bytes

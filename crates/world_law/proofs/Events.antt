@@ -10,11 +10,12 @@ use Rattle.envelope.specs.Packet.{IsEnvelope, Lock}
 use Rattle.tl_codec.specs.Standard.{bytes_max}
 use Rattle.session_moves.specs.Table as moves
 use Rattle.world_moves.specs.Sent.{IsPacketSent}
-use Rattle.world_law.specs.Small.{SaysSmall}
+use Rattle.world_law.specs.Small.{Fits, SaysSmall}
 use Rattle.sched_text.specs.declared.event.Event.{Event}
 use Rattle.sched_text.specs.declared.event.Event.TheVariants as line
 use Rattle.server_rules.specs.Events.{Attach, Course, Event as ServerEvent, Loss, after_event}
 use Rattle.server_laws.specs.Order.{AreOrdered}
+use Rattle.server_sizes.specs.Small.{IsSmallEnvelope}
 use Rattle.session_moves.specs.World.{World as Moved}
 use Rattle.world_rules.specs.Setting.{Setting, as_heard, at_server}
 use Rattle.world_rules.specs.World.{Packet, Seat, World, bytes_of, counted, server_now}
@@ -23,7 +24,7 @@ use Rattle.world_rules.specs.Premises.{Fresh, IsByNoChance, IsSealed, OpensOnly}
 use Rattle.world_rules.specs.Run.{after, present_name, works}
 use Rattle.world_servers.specs.Servers.{IsPacketUp}
 use Rattle.world_law.specs.Standing.{HasMoves, IsKeyOf, IsThere, WorldStands}
-use Rattle.world_law.specs.Made.{AreLawfulPackets, IsLawfulPacket, IsShort}
+use Rattle.world_law.specs.Made.{AreLawfulPackets, IsSealedPacket, IsShort}
 use Rattle.world_law.proofs.Acting.{IsOfClients}
 use Rattle.world_law.proofs.Lists.{each_of}
 use Rattle.world_law.proofs.Places.{get_there}
@@ -56,23 +57,23 @@ pub record Laws (S V : Type 0) : Type 0 where
 module _ {S V : Type 0} (laws : Laws S V) (lock : Lock) (ring : List RingKey) (setting : Setting S V) (seals : OpensWhatItSealed lock) (so : IsSealed lock ring setting)
     (w : Moved) (world : World S V) (h : WorldStands w world) (sealed : AreLawfulPackets lock ring setting world) where
   abbrev Says : World S V → Type 0
-  Says behind = SaysSmall w world behind × AreLawfulPackets lock ring setting behind
+  Says behind = SaysSmall w world behind × (AreLawfulPackets lock ring setting behind × Fits setting)
 
   -- ---- a packet comes
 
   -- of a packet of the world the server judges what was sent in it
   judged_up : (now : ℕ) (bytes : List ℕ) (packet : Packet) (envelope : Envelope) → setting.opens now Up bytes ≡ Some envelope → Contains world.bag packet → packet.dir ≡ Up → packet.envelope ≡ envelope
-      → IsPacketUp w.ups (as_heard envelope) × IsKeyOf w world.seats envelope.session envelope.key
+      → (IsPacketUp w.ups (as_heard envelope) × IsKeyOf w world.seats envelope.session envelope.key) × IsSmallEnvelope (as_heard envelope)
   judged_up now bytes packet envelope is among way same =
       let short : IsShort envelope = opened_short lock ring setting seals so now Up bytes envelope is in
       let there : IsThere w world.seats Up envelope = in_bag laws.moving laws.still laws.servers laws.acts lock ring setting seals so w world h sealed packet Up envelope among way same in
-      (laws.judged w.ups envelope short.lawful (let below = short.body in omega (arith, below)) there.0, there.1)
+      ((laws.judged w.ups envelope short.lawful (let below = short.body in omega (arith, below)) there.0, there.1), (short.lawful.number, short.lawful.bytes))
 
   given_up : (packet : Packet) → Contains world.bag packet → packet.dir ≡ Up → Fresh (comes_up setting (bytes_of setting packet) world) → Says (comes_up setting (bytes_of setting packet) world) → HasMoves (comes_up setting (bytes_of setting packet) world)
   given_up packet among way fresh plain =
       came_up laws.moving laws.still laws.alone laws.serves laws.order laws.read lock ring seals setting w world h (bytes_of setting packet)
       (λ envelope is.
-      let same = given_made lock ring setting seals so (server_now world) packet envelope (each_of (IsLawfulPacket lock ring setting) world.bag sealed packet among).sealed
+      let same = given_made lock ring setting seals so (server_now world) packet envelope (each_of (IsSealedPacket lock ring setting) world.bag sealed packet among)
       (ap (λ (d : Dir). setting.opens (server_now world) d (bytes_of setting packet)) way ∙ is) in
       judged_up (server_now world) (bytes_of setting packet) packet envelope is among way same) fresh plain
 

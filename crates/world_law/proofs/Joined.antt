@@ -134,6 +134,7 @@ same_there known w world h moment clock later so =
           (λ session is its. key_still w w world.seats later itself keep h.seats (λ c s made owns. owns) session.number session.key its) h.keys;
       bag = bag_still w w world.seats later itself keep h.seats (λ c s made owns. owns) world.bag h.bag;
       small = h.small;
+      kept = h.kept;
     }
 
 none_set : (moment : ℕ) (seats : List Seat) → IsSet moment seats seats

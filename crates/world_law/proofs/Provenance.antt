@@ -9,7 +9,7 @@ use Rattle.envelope.specs.Packet.{Lock}
 use Rattle.world_rules.specs.Setting.{Setting}
 use Rattle.world_rules.specs.World.{Packet, World, bytes_of}
 use Rattle.world_rules.specs.Premises.{IsSealed, OpensOnly}
-use Rattle.world_law.specs.Made.{AreLawfulPackets, IsLawfulPacket, IsOfPacket, IsSealedPacket, IsShort}
+use Rattle.world_law.specs.Made.{AreLawfulPackets, IsOfPacket, IsSealedPacket, IsShort}
 use Rattle.world_law.proofs.Lists.{each_of}
 
 module _ {S V : Type 0} (lock : Lock) (ring : List RingKey) (setting : Setting S V) (seals : OpensWhatItSealed lock) (so : IsSealed lock ring setting) where
@@ -30,7 +30,7 @@ module _ {S V : Type 0} (lock : Lock) (ring : List RingKey) (setting : Setting S
         packet = packet;
         made = was.made;
         way = was.way;
-        same = given_made now packet envelope (each_of (IsLawfulPacket lock ring setting) world.bag lawful packet was.made).sealed
+        same = given_made now packet envelope (each_of (IsSealedPacket lock ring setting) world.bag lawful packet was.made)
             (ap (λ (d : Dir). setting.opens now d (bytes_of setting packet)) was.way ∙ ap (λ (b : List ℕ). setting.opens now dir b) (sym was.same) ∙ is);
       }
 

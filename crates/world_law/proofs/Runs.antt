@@ -17,9 +17,9 @@ use Rattle.world_rules.specs.Premises.{Fresh, IsByNoChance, IsSealed, NoChance, 
 use Rattle.world_rules.specs.Refusals.{ForeignOpens, NoClient, Refusal, by_client, opened, refusal, unless}
 use Rattle.world_rules.specs.Refusals as refusals
 use Rattle.world_rules.specs.Run.{after, is_in_the_way, step, step_any}
-use Rattle.world_law.specs.Small.{AreSaidSmall, SaysSmall}
+use Rattle.world_law.specs.Small.{AreSaidSmall, Fits, SaysSmall}
 use Rattle.world_law.specs.Standing.{HasMoves, WorldStands}
-use Rattle.world_law.specs.Made.{AreLawfulPackets, IsLawfulPacket}
+use Rattle.world_law.specs.Made.{AreLawfulPackets, IsSealedPacket}
 use Rattle.world_law.proofs.Counting.{fewer_fresh}
 use Rattle.world_law.proofs.Growing.{Speaks}
 use Rattle.world_law.proofs.Names.{names_stay}
@@ -45,6 +45,7 @@ begun setting draw ordered = record {
   keys = tt;
   bag = tt;
   small = tt;
+  kept = record { sessions = tt; jobs = tt };
 }
 
 -- ---- a schedule refuses foreign bytes that open
@@ -86,7 +87,7 @@ module _ {S V : Type 0} (setting : Setting S V) (world : World S V) where
 
 -- ---- runs
 
-module _ {S V : Type 0} (laws : Laws S V) (k : Speaks S) (lock : Lock) (ring : List RingKey) (setting : Setting S V) (seals : OpensWhatItSealed lock) (so : IsSealed lock ring setting) where
+module _ {S V : Type 0} (laws : Laws S V) (k : Speaks S) (lock : Lock) (ring : List RingKey) (setting : Setting S V) (seals : OpensWhatItSealed lock) (so : IsSealed lock ring setting) (fits : Fits setting) where
   abbrev Keeps : World S V → Type 0
   Keeps world = IsServed setting world
 
@@ -102,7 +103,7 @@ module _ {S V : Type 0} (laws : Laws S V) (k : Speaks S) (lock : Lock) (ring : L
       record { some = back.0; apart = back.1 }
 
   event_sealed : (world : World S V) (event : Event) → SealedIn (after setting world event) → SealedIn world
-  event_sealed world event h = packets_stay (IsLawfulPacket lock ring setting) setting world event h
+  event_sealed world event h = packets_stay (IsSealedPacket lock ring setting) setting world event h
 
   -- what a step keeps
   abbrev Steps : (World S V → Event → World S V) → Type 0
@@ -139,7 +140,7 @@ module _ {S V : Type 0} (laws : Laws S V) (k : Speaks S) (lock : Lock) (ring : L
     next_moves world event h sealed fresh behind chance plain =
         elim (steps world event) [
           | inl same ↦ subst HasMoves (sym same) h
-          | inr on ↦ subst HasMoves (sym on) (goes_on laws lock ring setting seals so h.0 world h.1 sealed event (chance on) (subst Fresh on fresh) (plain h.0 h.1, subst SealedIn on behind))
+          | inr on ↦ subst HasMoves (sym on) (goes_on laws lock ring setting seals so h.0 world h.1 sealed event (chance on) (subst Fresh on fresh) (plain h.0 h.1, (subst SealedIn on behind, fits)))
         ]
 
   any_steps : Steps (step_any setting)
@@ -174,7 +175,7 @@ module _ {S V : Type 0} (laws : Laws S V) (k : Speaks S) (lock : Lock) (ring : L
         | inl is ↦ rw is h
         | inr fine ↦
             rw fine (goes_on laws lock ring setting seals so h.0 world h.1 sealed event (no_chance setting world event fine)
-            (subst (λ (b : Bool). Fresh (if b then world else after setting world event)) fine fresh) (plain h.0 h.1, subst (λ (b : Bool). SealedIn (if b then world else after setting world event)) fine behind))
+            (subst (λ (b : Bool). Fresh (if b then world else after setting world event)) fine fresh) (plain h.0 h.1, (subst (λ (b : Bool). SealedIn (if b then world else after setting world event)) fine behind, fits)))
       ]
 
   pub run_all : (world : World S V) (events : List Event) → HasMoves world → Keeps world → Fresh (fold (step setting) world events) → SealedIn (fold (step setting) world events)

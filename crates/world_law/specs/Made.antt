@@ -1,11 +1,8 @@
 -- What bytes that open at an end are.
-use Rattle.std.specs.Prelude.{◌≡◌, ◌<◌, ◌^◌, List, length, true}
+use Rattle.std.specs.Prelude.{◌≡◌, ◌<◌, ◌^◌, List, length}
 use Rattle.std.specs.List.{AllByRecursion, Contains}
 use Rattle.auth_keys.specs.declared.ring.RingKey.{RingKey}
-use Rattle.service_tl.specs.declared.lists.Message.{Message}
-use Rattle.containers.specs.Container.{IsContainer, begins_container}
 use Rattle.envelope.specs.declared.parts.Dir.{Dir}
-use Rattle.envelope.specs.declared.parts.Dir.TheVariants.{Down}
 use Rattle.envelope.specs.declared.parts.Envelope.{Envelope}
 use Rattle.envelope.specs.Packet.{IsEnvelope, Lock, Sealed}
 use Rattle.world_rules.specs.Setting.{Setting}
@@ -15,18 +12,9 @@ use Rattle.world_rules.specs.World.{Packet, World, bytes_of}
 abbrev pub IsSealedPacket : {S V : Type 0} → Lock → List RingKey → Setting S V → Packet → Type 0
 IsSealedPacket lock ring setting packet = Sealed lock ring packet.dir packet.envelope packet.padding (bytes_of setting packet)
 
--- a body that begins as a container is a lawful one
-abbrev pub IsWhole : Envelope → Type 0
-IsWhole envelope = begins_container envelope.body ≡ true → (parts : List Message) × IsContainer envelope.number parts envelope.body
-
--- The packet is lawful: it is sealed as such, and where a server sent a container that is a lawful one.
-pub record IsLawfulPacket {S V : Type 0} (lock : Lock) (ring : List RingKey) (setting : Setting S V) (packet : Packet) : Type 0 where
-  pub sealed : IsSealedPacket lock ring setting packet
-  pub whole : packet.dir ≡ Down → IsWhole packet.envelope
-
 -- so is each packet of a world
 abbrev pub AreLawfulPackets : {S V : Type 0} → Lock → List RingKey → Setting S V → World S V → Type 0
-AreLawfulPackets lock ring setting world = AllByRecursion (IsLawfulPacket lock ring setting) world.bag
+AreLawfulPackets lock ring setting world = AllByRecursion (IsSealedPacket lock ring setting) world.bag
 
 -- the envelope of a packet of the world that goes this way
 pub record IsOfPacket {S V : Type 0} (world : World S V) (dir : Dir) (envelope : Envelope) : Type 0 where

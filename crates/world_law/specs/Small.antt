@@ -1,8 +1,10 @@
--- A premise: the numbers of what a server says fit their places.
+-- Premises: the numbers of what a server says fit their places, and so do the words that are drawn and the replies of the
+-- service.
 use Rattle.std.specs.Prelude.{List, [], ◌∷◌}
 use Rattle.sched_text.specs.declared.event.Event.{Event}
 use Rattle.session_moves.specs.World.{World as Moved}
-use Rattle.world_rules.specs.Setting.{Setting}
+use Rattle.server_sizes.specs.Small.{DrawsWords, RepliesInWords}
+use Rattle.world_rules.specs.Setting.{Setting, at_server}
 use Rattle.world_rules.specs.World.{World}
 use Rattle.world_rules.specs.Run.{after}
 use Rattle.world_servers.specs.Leading.{Leads}
@@ -21,3 +23,8 @@ abbrev pub AreSaidSmall : {S V : Type 0} → (World S V → Event → World S V)
 AreSaidSmall next setting world [] = Unit {0}
 AreSaidSmall next setting world (event ∷ events) =
     ((w : Moved) → WorldStands w world → SaysSmall w world (after setting world event)) × AreSaidSmall next setting (next world event) events
+
+-- words that are drawn have 64 bits, and replies of the service are whole words
+pub record Fits {S V : Type 0} (setting : Setting S V) : Type 0 where
+  pub words : DrawsWords (at_server setting)
+  pub replies : RepliesInWords setting.serve

@@ -6,6 +6,7 @@ use Rattle.envelope.specs.declared.parts.Dir.{Dir}
 use Rattle.envelope.specs.declared.parts.Dir.TheVariants.{Up, Down}
 use Rattle.envelope.specs.declared.parts.Envelope.{Envelope}
 use Rattle.server_laws.specs.Order.{AreOrdered}
+use Rattle.server_sizes.specs.Small.{AreSmall as AreKeptSmall}
 use Rattle.session_moves.specs.Table.Status.{Unmade}
 use Rattle.session_moves.specs.World as moves
 use Rattle.session_moves.specs.World.{Owns}
@@ -75,6 +76,8 @@ pub record WorldStands {S V : Type 0} (w : moves.World) (world : World S V) : Ty
   pub bag : AllByRecursion (IsBagged w world.seats) world.bag
   -- the numbers of what went out there fit their places
   pub small : AreSmall w
+  -- so do those of its sessions and jobs
+  pub kept : AreKeptSmall world.server.sessions world.server.jobs
 
 -- some list of lawful moves leads to where the world stands
 abbrev pub HasMoves : {S V : Type 0} → World S V → Type 0

@@ -18,7 +18,7 @@ ghost use Rattle.world_rules.specs.Premises.{Fresh, IsByNoChance, IsSealed, NoCh
 ghost use Rattle.world_rules.specs.Once.{Once, ran_in};
 ghost use Rattle.world_rules.specs.Run.{after, run_of, run_of_any, step, step_any};
 ghost use Rattle.world_law.specs.Made.{AreLawfulPackets, IsOfPacket, IsSealedPacket, IsShort};
-ghost use Rattle.world_law.specs.Small.{AreSaidSmall, SaysSmall};
+ghost use Rattle.world_law.specs.Small.{AreSaidSmall, Fits, SaysSmall};
 ghost use Rattle.world_law.specs.Standing.{HasMoves, WorldStands};
 ghost use Rattle.world_law.specs.Words.{AreDrawn, HavePlaces, given_step};
 
@@ -74,20 +74,20 @@ pub fn worlds_only_grow<D: Draw, V>()
 
 /// Every event of a world is a list of lawful moves, and so some list of lawful moves leads to where the world of a schedule
 /// stands, with its clients, sessions, jobs, packets and entries. The premises: a seal that opens what it sealed, foreign
-/// bytes that open by no chance (a schedule refuses those that open), words that aren't 0 and differ; and two on sizes, which
-/// aren't shown of the rules: each packet is one that may be sealed, a server's container a lawful one, and the numbers of
-/// what a server says fit their places.
+/// bytes that open by no chance (a schedule refuses those that open), words that aren't 0 and differ; words that are drawn
+/// have 64 bits and replies of the service are whole words; and two on sizes, which aren't shown of the rules: each packet is
+/// one that may be sealed, and the numbers of what a server says fit their places.
 pub fn worlds_are_moves<D: Draw, V>()
     ensures begins { (setting : Setting D V) (draw : D) → WorldStands empty (begins setting draw) }
     ensures event { (lock : Lock) (ring : List RingKey) (setting : Setting D V) (w : Moved) (world : World D V) (event : Event) → OpensWhatItSealed lock
-        → IsSealed lock ring setting → WorldStands w world → AreLawfulPackets lock ring setting world → IsByNoChance setting world event
+        → IsSealed lock ring setting → Fits setting → WorldStands w world → AreLawfulPackets lock ring setting world → IsByNoChance setting world event
         → Fresh (after setting world event) → SaysSmall w world (after setting world event)
         → AreLawfulPackets lock ring setting (after setting world event) → HasMoves (after setting world event) }
     ensures schedule { (lock : Lock) (ring : List RingKey) (setting : Setting D V) (draw : D) (events : List Event) → OpensWhatItSealed lock
-        → IsSealed lock ring setting → Fresh (run_of setting draw events) → AreLawfulPackets lock ring setting (run_of setting draw events)
+        → IsSealed lock ring setting → Fits setting → Fresh (run_of setting draw events) → AreLawfulPackets lock ring setting (run_of setting draw events)
         → AreSaidSmall (step setting) setting (begins setting draw) events → HasMoves (run_of setting draw events) }
     ensures any { (lock : Lock) (ring : List RingKey) (setting : Setting D V) (draw : D) (events : List Event) → OpensWhatItSealed lock
-        → IsSealed lock ring setting → NoChance setting (begins setting draw) events → Fresh (run_of_any setting draw events)
+        → IsSealed lock ring setting → Fits setting → NoChance setting (begins setting draw) events → Fresh (run_of_any setting draw events)
         → AreLawfulPackets lock ring setting (run_of_any setting draw events)
         → AreSaidSmall (step_any setting) setting (begins setting draw) events → HasMoves (run_of_any setting draw events) }
 {
@@ -108,6 +108,8 @@ pub fn worlds_are_moves<D: Draw, V>()
     packets_of_worlds_are_moves::<D, V>();
     packets_sent_are_up();
     packets_are_read_as_they_went_out();
+    server_sizes::laws::sizes_stay_small::<D, V>();
+    server_sizes::laws::packets_are_whole::<D, V>();
     server_laws::laws::servers_stay_in_order::<D, V>();
     server_laws::laws::sessions_speak::<D>();
     server_laws::laws::sessions_speak_for_themselves::<D>();
@@ -117,10 +119,10 @@ pub fn worlds_are_moves<D: Draw, V>()
 /// premises of `worlds_are_moves`, and wherever a world stands in a world of the law.
 pub fn calls_execute_once<D: Draw, V>()
     ensures schedule { (lock : Lock) (ring : List RingKey) (setting : Setting D V) (draw : D) (events : List Event) → OpensWhatItSealed lock
-        → IsSealed lock ring setting → Fresh (run_of setting draw events) → AreLawfulPackets lock ring setting (run_of setting draw events)
+        → IsSealed lock ring setting → Fits setting → Fresh (run_of setting draw events) → AreLawfulPackets lock ring setting (run_of setting draw events)
         → AreSaidSmall (step setting) setting (begins setting draw) events → Once setting (run_of setting draw events) }
     ensures any { (lock : Lock) (ring : List RingKey) (setting : Setting D V) (draw : D) (events : List Event) → OpensWhatItSealed lock
-        → IsSealed lock ring setting → NoChance setting (begins setting draw) events → Fresh (run_of_any setting draw events)
+        → IsSealed lock ring setting → Fits setting → NoChance setting (begins setting draw) events → Fresh (run_of_any setting draw events)
         → AreLawfulPackets lock ring setting (run_of_any setting draw events)
         → AreSaidSmall (step_any setting) setting (begins setting draw) events → Once setting (run_of_any setting draw events) }
     ensures standing { (setting : Setting D V) (w : Moved) (world : World D V) → WorldStands w world

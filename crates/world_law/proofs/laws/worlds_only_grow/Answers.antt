@@ -1,6 +1,6 @@
 use Rattle.world_rules.specs.Premises.{names_drawn}
 use Rattle.world_rules.specs.Run.{after}
-use Rattle.world_law.specs.Made.{IsLawfulPacket}
+use Rattle.world_law.specs.Made.{IsSealedPacket}
 use Rattle.world_law.proofs.Counting.{fewer_fresh}
 use Rattle.world_law.proofs.Names.{names_stay}
 use Rattle.world_law.proofs.Bags.{packets_stay}
@@ -15,4 +15,4 @@ returns-clause-words g c = λ setting world event ordered fresh.
     record { some = back.0; apart = back.1 }
 
 pub returns-clause-packets : goal.returns-clause-packets
-returns-clause-packets g c = λ lock ring setting world event h. packets_stay (IsLawfulPacket lock ring setting) setting world event h
+returns-clause-packets g c = λ lock ring setting world event h. packets_stay (IsSealedPacket lock ring setting) setting world event h
