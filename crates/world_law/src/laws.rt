@@ -172,11 +172,11 @@ pub fn step_words_keep_names_fresh<V>()
 /// `worlds_are_moves` but the one on words, in whose place it is that the draw's place stays below 2^64.
 pub fn calls_execute_once_by_steps<V>()
     ensures schedule { (lock : Lock) (ring : List RingKey) (setting : Setting ℕ V) (given : ℕ) (events : List Event) → setting.step ≡ given_step
-        → OpensWhatItSealed lock → IsSealed lock ring setting → AreLawfulPackets lock ring setting (run_of setting given events)
+        → OpensWhatItSealed lock → IsSealed lock ring setting → Fits setting → AreLawfulPackets lock ring setting (run_of setting given events)
         → AreSaidSmall (step setting) setting (begins setting given) events
         → (n : ℕ) × AreDrawn setting (begins setting given) n (run_of setting given events) × (given + n < 2 ^ 64 → Once setting (run_of setting given events)) }
     ensures any { (lock : Lock) (ring : List RingKey) (setting : Setting ℕ V) (given : ℕ) (events : List Event) → setting.step ≡ given_step
-        → OpensWhatItSealed lock → IsSealed lock ring setting → NoChance setting (begins setting given) events
+        → OpensWhatItSealed lock → IsSealed lock ring setting → Fits setting → NoChance setting (begins setting given) events
         → AreLawfulPackets lock ring setting (run_of_any setting given events) → AreSaidSmall (step_any setting) setting (begins setting given) events
         → (n : ℕ) × AreDrawn setting (begins setting given) n (run_of_any setting given events) × (given + n < 2 ^ 64 → Once setting (run_of_any setting given events)) }
 {
