@@ -169,7 +169,7 @@ pub fn step_words_keep_names_fresh<V>()
 }
 
 /// Each call executes at most once over every schedule whose words are drawn as a `StepDraw` gives them: under the premises of
-/// `worlds_are_moves` but the one on words, in whose place it is that the draw's place stays below 2^64.
+/// `worlds_are_moves` but that words aren't 0 and differ, in whose place it is that the draw's place stays below 2^64.
 pub fn calls_execute_once_by_steps<V>()
     ensures schedule { (lock : Lock) (ring : List RingKey) (setting : Setting ℕ V) (given : ℕ) (events : List Event) → setting.step ≡ given_step
         → OpensWhatItSealed lock → IsSealed lock ring setting → Fits setting → AreLawfulPackets lock ring setting (run_of setting given events)
