@@ -95,7 +95,7 @@ some_none xs h =
       | inr among ↦ absurd (h among.0 0 among.1 among.2)
     ]
 
-none_some : (xs : List ℕ) → count 0 xs ≡ 0 → All (λ x. x ≢ 0) xs
+pub none_some : (xs : List ℕ) → count 0 xs ≡ 0 → All (λ x. x ≢ 0) xs
 none_some xs none = at_each (λ (x : ℕ). x ≢ 0) xs (turned xs (none_differ 0 xs none)) where
   turned : (ys : List ℕ) → AllByRecursion (λ (y : ℕ). 0 ≢ y) ys → AllByRecursion (λ (y : ℕ). y ≢ 0) ys
   turned [] h = tt

@@ -26,5 +26,11 @@ pub mod Grown
 pub mod Growing
 pub mod Lives
 pub mod Names
+pub mod Later
+pub mod Drew
+pub mod Filled
+pub mod Words
+pub mod Chosen
+pub mod Drawing
 pub mod Bags
 pub mod Runs

@@ -159,7 +159,7 @@ module _ (x : ℕ) where
 
   -- ---- those that are lost by their names
 
-  has_member : (name : Name) (xs : List Session) (o : Session) → Contains xs o → is_named name o ≡ true → has_named name xs ≡ true
+  pub has_member : (name : Name) (xs : List Session) (o : Session) → Contains xs o → is_named name o ≡ true → has_named name xs ≡ true
   has_member name [] o among is = let below : among.0 < 0 = among.1 in absurd (omega (arith, below))
   has_member name (y ∷ xs) o among is =
       elim (first_or o y xs among) [
@@ -223,10 +223,13 @@ module _ (x : ℕ) where
               ]
         ]
 
-    pub left_drawn : all_drawn all ≤ all_drawn (missing all left) + all_drawn left
-    left_drawn =
+    pub left_all : all_drawn all ≡ all_drawn (missing all left) + all_drawn left
+    left_all =
         let same : missing all left ≡ filter out all = filter_alike (λ (o : Session). not (has_named (name_of o) left)) out all out_missing in
         omega (arith, both_drawn out all, ap all_drawn same)
+
+    left_drawn : all_drawn all ≤ all_drawn (missing all left) + all_drawn left
+    left_drawn = omega (arith, left_all)
 
   -- ---- those without numbers are lost in the end
 
@@ -257,12 +260,15 @@ module _ (x : ℕ) where
   all_out (session ∷ spent) state =
       all_out spent (lost (name_of session) state) ∙ out_twice (name_of session) (map name_of spent) state.sessions
 
-  spent_drawn : {S : Type 0} (state : State S) → all_drawn state.sessions ≤ all_drawn (missing state.sessions (without_spent state).sessions) + all_drawn (without_spent state).sessions
-  spent_drawn state =
+  pub spent_all : {S : Type 0} (state : State S) → all_drawn state.sessions ≡ all_drawn (missing state.sessions (without_spent state).sessions) + all_drawn (without_spent state).sessions
+  spent_all state =
       let names : List Name = map name_of (filter is_spent state.sessions) in
-      subst (λ (after : List Session). all_drawn state.sessions ≤ all_drawn (missing state.sessions after) + all_drawn after)
+      subst (λ (after : List Session). all_drawn state.sessions ≡ all_drawn (missing state.sessions after) + all_drawn after)
       (sym (all_out (filter is_spent state.sessions) state))
-      (left_drawn (is_out names) (λ one other same. ap (λ (n : Name). list_any (λ name. is_same name n) names) same) state.sessions)
+      (left_all (is_out names) (λ one other same. ap (λ (n : Name). list_any (λ name. is_same name n) names) same) state.sessions)
+
+  spent_drawn : {S : Type 0} (state : State S) → all_drawn state.sessions ≤ all_drawn (missing state.sessions (without_spent state).sessions) + all_drawn (without_spent state).sessions
+  spent_drawn state = omega (arith, spent_all state)
 
   -- ---- a world
 
@@ -294,7 +300,7 @@ module _ (x : ℕ) where
     itself_by b among None is = tt
     itself_by b among (Some o) is = let e = ap (λ (s : Session). drawn x s) (one_named before apart b o among is) in omega (arith, e)
 
-    itself : Holds x before before
+    pub itself : Holds x before before
     itself b among = itself_by b among (session_named (name_of b) before) refl
 
     by_state : (moment : ℕ) (done : State S) → Holds x before done.sessions
@@ -337,7 +343,7 @@ module _ (x : ℕ) where
         gathered before (without_session name before) same_said
         (left_drawn (is_named name) (λ one other same. ap (λ (n : Name). is_same name n) same) before)
 
-    all_missing : (xs : List Session) → missing xs [] ≡ xs
+    pub all_missing : (xs : List Session) → missing xs [] ≡ xs
     all_missing [] = refl
     all_missing (o ∷ xs) = ap (λ (l : List Session). o ∷ l) (all_missing xs)
 

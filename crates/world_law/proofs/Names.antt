@@ -40,15 +40,15 @@ one_within : (change : Seat → Seat) (seats : List Seat) (place : ℕ) (seat : 
     → sessions_drawn (change seat) ≡ sessions_drawn seat ++ more → IsWithin (flat_map sessions_drawn seats) (flat_map sessions_drawn (changed_from_0 place change seats))
 one_within change seats place seat more is so x = omega (arith, flat_changed sessions_drawn change seats place seat more is so x)
 
-same_sessions : (seat : Seat) (client : Client) → IsSame seat.client client → sessions_drawn (record seat { client = client }) ≡ sessions_drawn seat ++ []
+pub same_sessions : (seat : Seat) (client : Client) → IsSame seat.client client → sessions_drawn (record seat { client = client }) ≡ sessions_drawn seat ++ []
 same_sessions seat client same =
     ap (λ (former : List ℕ). former ++ client.session ∷ []) same.2 ∙ ap (λ (session : ℕ). seat.client.former ++ session ∷ []) same.1 ∙ no_more (sessions_drawn seat)
 
-clocks_within : (moment : ℕ) (seats : List Seat) → flat_map sessions_drawn (map (set moment) seats) ≡ flat_map sessions_drawn seats
+pub clocks_within : (moment : ℕ) (seats : List Seat) → flat_map sessions_drawn (map (set moment) seats) ≡ flat_map sessions_drawn seats
 clocks_within moment [] = refl
 clocks_within moment (seat ∷ seats) = ap (λ (l : List ℕ). sessions_drawn seat ++ l) (clocks_within moment seats)
 
-one_clock : (moment place : ℕ) (seats : List Seat) → flat_map sessions_drawn (changed_from_0 place (set moment) seats) ≡ flat_map sessions_drawn seats
+pub one_clock : (moment place : ℕ) (seats : List Seat) → flat_map sessions_drawn (changed_from_0 place (set moment) seats) ≡ flat_map sessions_drawn seats
 one_clock moment place [] = refl
 one_clock moment zero (seat ∷ seats) = refl
 one_clock moment (suc place) (seat ∷ seats) = ap (λ (l : List ℕ). sessions_drawn seat ++ l) (one_clock moment place seats)
@@ -81,7 +81,7 @@ module _ {S V : Type 0} (k : Speaks S) (alone : Themselves S) (setting : Setting
   sat None act so = itself
   sat (Some seat) act so = so seat refl
 
-  wish_same : (wish : wishes.Event) (seat : Seat) → (wish ≡ wishes.Renew → ⊥) → IsSame seat.client (wishes.step (at_client setting) (record { client = seat.client; draw = world.draw }) wish).client
+  pub wish_same : (wish : wishes.Event) (seat : Seat) → (wish ≡ wishes.Renew → ⊥) → IsSame seat.client (wishes.step (at_client setting) (record { client = seat.client; draw = world.draw }) wish).client
   wish_same (wishes.Submit body earlier) seat differs = submits_same body earlier seat.client
   wish_same wishes.Attach seat differs = (refl, refl, refl)
   wish_same wishes.Tick seat differs = (refl, refl, refl)

@@ -293,10 +293,10 @@ module _ {S V : Type 0} (setting : Setting S V) (keeps_order : (course : Course 
       sat world (counted client world.seats) (λ seat. serves setting (Loss (present_name seat))) (λ seat h. quiet world (Loss (present_name seat)) h refl refl) h
   goes_on world line.Restart h = again_started world h
 
-  stepped : (world : World S V) (event : Event) → Has world → Has (step setting world event)
+  pub stepped : (world : World S V) (event : Event) → Has world → Has (step setting world event)
   stepped world event h = cond_both (is_some (refusal setting world event)) world (after setting world event) Has (λ is. h) (λ is. goes_on world event h)
 
-  stepped_any : (world : World S V) (event : Event) → Has world → Has (step_any setting world event)
+  pub stepped_any : (world : World S V) (event : Event) → Has world → Has (step_any setting world event)
   stepped_any world event h = cond_both (is_in_the_way (refusal setting world event)) world (after setting world event) Has (λ is. h) (λ is. goes_on world event h)
 
   pub all_served : (world : World S V) (events : List Event) → Has world → Has (fold (step setting) world events)

@@ -1,6 +1,8 @@
 //! Laws of worlds over every schedule, each the contract of a function that does nothing.
 
-ghost use Rattle.std.specs.Prelude.{◌≡◌, ℕ, List, Some};
+ghost use Rattle.std.specs.Prelude.{◌≡◌, ◌≢◌, ◌+◌, ◌<◌, ◌^◌, ℕ, List, Some};
+ghost use Rattle.std.specs.List.{All, AllPairs};
+ghost use Rattle.draws.specs.Draws.{next_words};
 ghost use Rattle.auth_keys.specs.declared.ring.RingKey.{RingKey};
 ghost use Rattle.regs_service.specs.Served.{Served};
 ghost use Rattle.envelope.specs.declared.parts.Dir.{Dir};
@@ -12,14 +14,15 @@ ghost use Rattle.session_moves.specs.World.{World as Moved, start as empty};
 ghost use Rattle.sched_text.specs.declared.event.Event.{Event};
 ghost use Rattle.world_rules.specs.Setting.{Setting};
 ghost use Rattle.world_rules.specs.World.{Packet, World, begins, bytes_of};
-ghost use Rattle.world_rules.specs.Premises.{Fresh, IsByNoChance, IsSealed, NoChance, OpensOnly};
+ghost use Rattle.world_rules.specs.Premises.{Fresh, IsByNoChance, IsSealed, NoChance, OpensOnly, names_drawn};
 ghost use Rattle.world_rules.specs.Once.{Once, ran_in};
 ghost use Rattle.world_rules.specs.Run.{after, run_of, run_of_any, step, step_any};
 ghost use Rattle.world_law.specs.Made.{AreLawfulPackets, IsOfPacket, IsSealedPacket, IsShort};
 ghost use Rattle.world_law.specs.Small.{AreSaidSmall, Fits, SaysSmall};
 ghost use Rattle.world_law.specs.Standing.{HasMoves, WorldStands};
+ghost use Rattle.world_law.specs.Words.{AreDrawn, HavePlaces, given_step};
 
-use draws::Draw;
+use draws::{Draw, StepDraw};
 use session_moves::laws::{
     clients_and_bodies_last, moves_execute_once, moves_go_on, moves_leave, moves_only_add,
     names_are_apart, what_was_not_made_is_blank,
@@ -131,4 +134,52 @@ pub fn calls_execute_once<D: Draw, V>()
     what_was_not_made_is_blank();
     starts_are_served::<D, V>();
     worlds_are_moves::<D, V>();
+}
+
+/// From a world to the one behind its event, and over every schedule from its beginning, some number of words is drawn, and
+/// each word stands among the names further at most as often as among these: from its beginning on, a world's names are the
+/// words of places that are pairwise different. So they aren't 0 and differ wherever the words drawn aren't and do.
+pub fn names_are_words_drawn<D: Draw, V>()
+    ensures event { (setting : Setting D V) (world : World D V) (event : Event) → AreOrdered world.server.sessions world.server.jobs
+        → (n : ℕ) × AreDrawn setting world n (after setting world event) }
+    ensures schedule { (setting : Setting D V) (draw : D) (events : List Event) → (n : ℕ) × AreDrawn setting (begins setting draw) n (run_of setting draw events) }
+    ensures any { (setting : Setting D V) (draw : D) (events : List Event) → (n : ℕ) × AreDrawn setting (begins setting draw) n (run_of_any setting draw events) }
+    ensures places { (setting : Setting D V) (draw : D) (n : ℕ) (world : World D V) → AreDrawn setting (begins setting draw) n world
+        → HavePlaces setting.step draw n (names_drawn world) }
+    ensures fresh { (setting : Setting D V) (draw : D) (n : ℕ) (world : World D V) → AreDrawn setting (begins setting draw) n world
+        → All (λ word. word ≢ 0) (next_words setting.step n draw) → AllPairs (λ word other. word ≢ other) (next_words setting.step n draw) → Fresh world }
+{
+    server_laws::laws::servers_stay_in_order::<D, V>();
+    server_laws::laws::sessions_speak::<D>();
+    server_laws::laws::sessions_speak_for_themselves::<D>();
+}
+
+/// Where words are drawn as a `StepDraw` gives them, from its place `given` on, the names of a world that drew n words aren't
+/// 0 and differ, as long as the place stays below 2^64: so it is after every schedule.
+pub fn step_words_keep_names_fresh<V>()
+    ensures world { (setting : Setting ℕ V) (given n : ℕ) (world : World ℕ V) → setting.step ≡ given_step
+        → AreDrawn setting (begins setting given) n world → given + n < 2 ^ 64 → Fresh world }
+    ensures schedule { (setting : Setting ℕ V) (given : ℕ) (events : List Event) → setting.step ≡ given_step
+        → (n : ℕ) × AreDrawn setting (begins setting given) n (run_of setting given events) × (given + n < 2 ^ 64 → Fresh (run_of setting given events)) }
+    ensures any { (setting : Setting ℕ V) (given : ℕ) (events : List Event) → setting.step ≡ given_step
+        → (n : ℕ) × AreDrawn setting (begins setting given) n (run_of_any setting given events) × (given + n < 2 ^ 64 → Fresh (run_of_any setting given events)) }
+{
+    draws::laws::step_words_are_fresh();
+    names_are_words_drawn::<StepDraw, V>();
+}
+
+/// Each call executes at most once over every schedule whose words are drawn as a `StepDraw` gives them: under the premises of
+/// `worlds_are_moves` but the one on words, in whose place it is that the draw's place stays below 2^64.
+pub fn calls_execute_once_by_steps<V>()
+    ensures schedule { (lock : Lock) (ring : List RingKey) (setting : Setting ℕ V) (given : ℕ) (events : List Event) → setting.step ≡ given_step
+        → OpensWhatItSealed lock → IsSealed lock ring setting → Fits setting → AreLawfulPackets lock ring setting (run_of setting given events)
+        → AreSaidSmall (step setting) setting (begins setting given) events
+        → (n : ℕ) × AreDrawn setting (begins setting given) n (run_of setting given events) × (given + n < 2 ^ 64 → Once setting (run_of setting given events)) }
+    ensures any { (lock : Lock) (ring : List RingKey) (setting : Setting ℕ V) (given : ℕ) (events : List Event) → setting.step ≡ given_step
+        → OpensWhatItSealed lock → IsSealed lock ring setting → Fits setting → NoChance setting (begins setting given) events
+        → AreLawfulPackets lock ring setting (run_of_any setting given events) → AreSaidSmall (step_any setting) setting (begins setting given) events
+        → (n : ℕ) × AreDrawn setting (begins setting given) n (run_of_any setting given events) × (given + n < 2 ^ 64 → Once setting (run_of_any setting given events)) }
+{
+    step_words_keep_names_fresh::<V>();
+    calls_execute_once::<StepDraw, V>();
 }
