@@ -10,8 +10,8 @@ use Rattle.server_rules.specs.Server.{Name, Server, is_named, without_session}
 use Rattle.server_rules.specs.Event.{Envelope, Setting, State, speaks}
 use Rattle.server_rules.specs.Answer.{Answer, after_run, attaches, begun, ended, runs, takes, ticks}
 use Rattle.server_rules.specs.Events.{Attach, Course, Event, Loss, Packet, Restart, Tick, Work, after_event, setting_at}
-use Rattle.server_sizes.specs.Small.{AreSmall, DrawsWords, HasSmallEnvelope, IsSmallEnvelope, IsSmallJob, IsSmallSession, IsWholeSent, RepliesInWords}
-use Rattle.server_sizes.proofs.Judging.{AreLawful}
+use Rattle.server_sizes.specs.Small.{AreSmall, DrawsWords, HasSmallEnvelope, IsSmallEnvelope, IsSmallJob, IsSmallSession, IsWholeSent, GivesReplies}
+use Rattle.server_sizes.proofs.Judging.{AreLawful, AreRead}
 use Rattle.server_sizes.proofs.Lists.{all-append, all-filter}
 use Rattle.server_sizes.proofs.Packets.{ArePackets, AreSized, HaveAll}
 use Rattle.server_sizes.proofs.Rows.{IsSmallCall}
@@ -29,6 +29,7 @@ pub record Laws : Type 0 where
   pub have : HaveAll
   pub packets : ArePackets
   pub lawful : AreLawful
+  pub read : AreRead
 
 -- what an event gives
 pub record Gives {S : Type 0} (answer : Answer S) : Type 0 where
@@ -42,7 +43,7 @@ module _ {S : Type 0} (laws : Laws) (setting : Setting S) (draws : DrawsWords se
       record { kept = record { sessions = done.kept; jobs = done.jobs }; whole = done.sent }
 
   packet-gives : (envelope : Envelope) (server : Server) (draw : S) → IsSmallEnvelope envelope → AreSmall server.sessions server.jobs → Gives (ended setting (takes setting envelope (begun server draw)))
-  packet-gives envelope server draw small kept = gives (takes setting envelope (begun server draw)) (packet-good setting draws laws.lawful envelope server draw small kept)
+  packet-gives envelope server draw small kept = gives (takes setting envelope (begun server draw)) (packet-good setting draws laws.lawful laws.read envelope server draw small kept)
 
   tick-gives : (server : Server) (draw : S) → AreSmall server.sessions server.jobs → Gives (ended setting (ticks setting (begun server draw)))
   tick-gives server draw kept = gives (ticks setting (begun server draw)) (tick-good setting draws server draw kept)
@@ -50,7 +51,7 @@ module _ {S : Type 0} (laws : Laws) (setting : Setting S) (draws : DrawsWords se
   attach-gives : (name : Name) (server : Server) (draw : S) → AreSmall server.sessions server.jobs → Gives (ended setting (speaks name (attaches setting) (begun server draw)))
   attach-gives name server draw kept = gives (speaks name (attaches setting) (begun server draw)) (attach-good setting draws name server draw kept)
 
-  run-gives : {V : Type 0} (place : ℕ) (job : Option Job) (serve : Step V) (service : V) (server : Server) (draw : S) → RepliesInWords serve → IsSmallCall job → AreSmall server.sessions server.jobs
+  run-gives : {V : Type 0} (place : ℕ) (job : Option Job) (serve : Step V) (service : V) (server : Server) (draw : S) → GivesReplies serve → IsSmallCall job → AreSmall server.sessions server.jobs
       → Gives (after_run setting place job serve service server draw).0
   run-gives place None serve service server draw words small kept = gives (begun server draw) (begun-good setting draws server draw kept)
   run-gives place (Some job) serve service server draw words small kept =
@@ -63,7 +64,7 @@ pub record Stands {S V : Type 0} (course : Course S V) : Type 0 where
   pub kept : AreSmall course.server.sessions course.server.jobs
   pub whole : AllByRecursion IsWholeSent course.packets
 
-module _ {S V : Type 0} (laws : Laws) (setting : Setting S) (serve : Step V) (draws : DrawsWords setting) (words : RepliesInWords serve) where
+module _ {S V : Type 0} (laws : Laws) (setting : Setting S) (serve : Step V) (draws : DrawsWords setting) (words : GivesReplies serve) where
   loss-small : (name : Name) (server : Server) → AreSmall server.sessions server.jobs → AreSmall (without_session name server.sessions) (without_jobs_of name.key name.session server.jobs)
   loss-small name server kept =
       record {

@@ -1,20 +1,24 @@
 -- What is judged of an envelope whose numbers fit their places does so too.
-use Rattle.std.proofs.Common.{◌≡◌, ℕ, eqb, ltb, leb, ◌&&◌, ◌+◌, ◌%◌, ◌^◌, ◌<◌, true, cond, Option, Some, None, Result, Ok, Err, List, [], ◌∷◌, refl, arith, inl, inr}
+use Rattle.std.proofs.Common.{subst, ◌++◌, ◌≡◌, ℕ, eqb, ltb, leb, ◌&&◌, ◌+◌, ◌%◌, ◌^◌, ◌<◌, true, cond, Option, Some, None, Result, Ok, Err, List, [], ◌∷◌, refl, arith, inl, inr, suc, length, ◌≤◌, ap}
 use Rattle.std.specs.Prelude.{⊤}
-use Rattle.std.specs.List.{AllByRecursion, zip}
+use Rattle.std.specs.List.{AllByRecursion, zip, flat_map}
 use Rattle.std.specs.Option.{option_or}
 use Rattle.std.proofs.lemmas.Bool.{cases_Bool, cond_both}
 use Rattle.octets.specs.Bytes.{IsBytes}
 use Rattle.service_tl.specs.declared.item.Item.{Item}
 use Rattle.service_tl.specs.declared.lists.Message.{Message}
 use Rattle.containers.specs.declared.fault.ContainerFault.{ContainerFault}
-use Rattle.containers.specs.Container.{IsContainer, IsInner, begins_container}
+use Rattle.containers.specs.Container.{IsContainer, IsInner, begins_container, container_of, head_of, row}
 use Rattle.containers.specs.Parts.{parts_of}
 use Rattle.id_window.specs.declared.cross.Cross.{Cross}
 use Rattle.id_window.specs.declared.cross.Cross.TheVariants.{None as Apart, Low, High}
 use Rattle.id_window.specs.Crossing.{is_odd}
 use Rattle.id_window.specs.declared.mark.Mark.{Mark}
 use Rattle.id_window.specs.History.{History, Outcome, Refused, crosses, floor, found}
+use Rattle.service_tl.specs.declared.item.Item.TheVariants.{MsgContainer, MsgsStateReq, MsgResendReq}
+use Rattle.service_tl.specs.ItemOf.{item_of}
+use Rattle.service_tl.specs.Items.{IsOfSchema, ItemFits}
+use Rattle.byteorder.specs.Endian.{little_bytes}
 use Rattle.inbox.specs.declared.judged.Verdict.{Verdict}
 use Rattle.inbox.specs.declared.judged.Verdict.TheVariants.{Accepted, Again, Noticed}
 use Rattle.inbox.specs.declared.judged.Judgement.{Judgement}
@@ -22,8 +26,9 @@ use Rattle.inbox.specs.Kinds.{begins_acknowledgement, begins_call, constructor_o
 use Rattle.inbox.specs.Refusals.{Way, InContainer, InEnvelope, by_body, by_envelope, by_neighbours, by_number, by_parity, is_valid_salt, needs_even, needs_odd, refusal, second_of}
 use Rattle.inbox.specs.Judging.{Session as Remembered, inner_judgements, inner_session, is_container, is_recorded, is_uncontained, judge, judged_session, judgements, outcome_of, recorded, remembered, session_after, unfolded, verdict_by}
 use Rattle.server_sizes.specs.Small.{IsSmallJudgement, IsSmallOutcome}
-use Rattle.server_sizes.proofs.Lists.{all-push, weaker}
-use Rattle.server_sizes.proofs.Rows.{IsSmallVerdict}
+use Rattle.server_sizes.proofs.Items.{bytes-back, bytes-front}
+use Rattle.server_sizes.proofs.Lists.{all-push}
+use Rattle.server_sizes.proofs.Rows.{IsSmallVerdict, IsHeard}
 
 -- ---- codes
 
@@ -80,16 +85,31 @@ refusal-code way history message =
 
 -- ---- verdicts
 
-by-verdict : (found : Option Mark) (code : Option ℕ) (kind : _) (item : Item) → IsCode code → IsSmallVerdict (verdict_by found code kind item)
-by-verdict (Some mark) code kind item small =
+by-verdict : (found : Option Mark) (code : Option ℕ) (kind : _) (item : Item) → IsCode code → IsHeard item → IsSmallVerdict (verdict_by found code kind item)
+by-verdict (Some mark) code kind item small heard =
     cond_both (is_container kind && is_uncontained mark) (Noticed 19) (Again mark) IsSmallVerdict (λ is. omega arith) (λ is. tt)
-by-verdict None (Some code) kind item small = small
-by-verdict None None kind item small = tt
+by-verdict None (Some code) kind item small heard = small
+by-verdict None None kind item small heard = heard
 
-judge-small : (way : Way) (session : Remembered) (message : Message) → IsSmallVerdict (judge way session message)
-judge-small way session message =
+-- ---- an item that is read
+
+-- the law on items that are read of bytes
+abbrev pub AreRead : Type 0
+AreRead = (body : List ℕ) → IsBytes body → IsOfSchema (item_of body) → ItemFits (item_of body)
+
+fits-heard : (item : Item) → (IsOfSchema item → ItemFits item) → IsHeard item
+fits-heard (MsgsStateReq numbers) fits = let few = (fits tt).0.0 in few
+fits-heard (MsgResendReq numbers) fits = let few = (fits tt).0.0 in few
+fits-heard _ fits = tt
+
+told-heard : AreRead → (body : List ℕ) → IsBytes body → IsHeard (item_told body)
+told-heard read body bytes =
+    cond_both (begins_container body) (MsgContainer []) (item_of body) IsHeard (λ is. tt) (λ is. fits-heard (item_of body) (read body bytes))
+
+judge-small : AreRead → (way : Way) (session : Remembered) (message : Message) → IsBytes message.body → IsSmallVerdict (judge way session message)
+judge-small read way session message bytes =
     by-verdict (found message.number session.history session.marks) (refusal way session.history message) (kind_of message) (item_told message.body)
-    (refusal-code way session.history message)
+    (refusal-code way session.history message) (told-heard read message.body bytes)
 
 -- ---- what is recorded
 
@@ -120,65 +140,97 @@ remembered-small number seq None session fits small history = history
 remembered-small number seq (Some outcome) session fits small history =
     all-push IsSmallJudgement session.history (record { number = number; seq = seq; outcome = outcome }) history (fits, small)
 
-judged-small : (way : Way) (session : Remembered) (message : Message) → message.number < 2 ^ 64 → IsSmallHistory session.history
+abbrev IsSmallNumber : Message → Type 0
+IsSmallNumber message = (message.number < 2 ^ 64) × IsBytes message.body
+
+judged-small : AreRead → (way : Way) (session : Remembered) (message : Message) → IsSmallNumber message → IsSmallHistory session.history
     → IsSmallHistory (judged_session way session message).history
-judged-small way session message fits history =
-    remembered-small message.number message.seq (recorded (kind_of message) (judge way session message)) session fits
-    (recorded-small message (judge way session message) (judge-small way session message)) history
+judged-small read way session message fits history =
+    remembered-small message.number message.seq (recorded (kind_of message) (judge way session message)) session fits.0
+    (recorded-small message (judge way session message) (judge-small read way session message fits.1)) history
 
 -- ---- messages inside
-
-abbrev IsSmallNumber : Message → Type 0
-IsSmallNumber message = message.number < 2 ^ 64
 
 -- the law on the parts of a container
 abbrev pub AreLawful : Type 0
 AreLawful = (number : ℕ) (messages : List Message) (body : List ℕ) → IsBytes body → begins_container body ≡ true → parts_of number body ≡ Ok messages → IsContainer number messages body
 
-inner-small : (messages : List Message) (session : Remembered) → AllByRecursion IsSmallNumber messages → IsSmallHistory session.history
+inner-small : AreRead → (messages : List Message) (session : Remembered) → AllByRecursion IsSmallNumber messages → IsSmallHistory session.history
     → IsSmallHistory (inner_session session messages).history
-inner-small [] session small history = history
-inner-small (message ∷ messages) session small history =
-    inner-small messages (judged_session InContainer session message) small.1 (judged-small InContainer session message small.0 history)
+inner-small read [] session small history = history
+inner-small read (message ∷ messages) session small history =
+    inner-small read messages (judged_session InContainer session message) small.1 (judged-small read InContainer session message small.0 history)
 
 abbrev pub IsSmallJudged : Judgement → Type 0
 IsSmallJudged judgement = (judgement.number < 2 ^ 64) × IsSmallVerdict judgement.verdict
 
-inner-judged : (messages : List Message) (session : Remembered) → AllByRecursion IsSmallNumber messages → AllByRecursion IsSmallJudged (inner_judgements session messages)
-inner-judged [] session small = tt
-inner-judged (message ∷ messages) session small =
-    ((small.0, judge-small InContainer session message), inner-judged messages (judged_session InContainer session message) small.1)
+inner-judged : AreRead → (messages : List Message) (session : Remembered) → AllByRecursion IsSmallNumber messages → AllByRecursion IsSmallJudged (inner_judgements session messages)
+inner-judged read [] session small = tt
+inner-judged read (message ∷ messages) session small =
+    ((small.0.0, judge-small read InContainer session message small.0.1), inner-judged read messages (judged_session InContainer session message) small.1)
 
-parts-small : (number : ℕ) (body : List ℕ) (parts : Result (List Message) ContainerFault) → ((messages : List Message) → parts ≡ Ok messages → IsContainer number messages body)
-    → AllByRecursion IsSmallNumber (parts_among (Some parts))
-parts-small number body (Ok messages) lawful = weaker (IsInner number) IsSmallNumber messages (λ message inner. inner.fits.0) (lawful messages refl).inner
-parts-small number body (Err fault) lawful = tt
+-- the bodies of a container of bytes are bytes
+row-body : (message : Message) → IsBytes (row message) → IsBytes message.body
+unfolding row
+row-body message bytes =
+    let size = little_bytes 4 (length message.body) in
+    let seq = little_bytes 4 message.seq in
+    bytes-back size message.body (bytes-back seq (size ++ message.body) (bytes-back (little_bytes 8 message.number) (seq ++ (size ++ message.body)) bytes))
 
-module _ (lawful : AreLawful) where
-  messages-small : (message : Message) → IsBytes message.body → AllByRecursion IsSmallNumber (inner_messages message)
+rows-bodies : (number : ℕ) (messages : List Message) → AllByRecursion (IsInner number) messages → IsBytes (flat_map row messages) → AllByRecursion IsSmallNumber messages
+rows-bodies number [] inner bytes = tt
+rows-bodies number (message ∷ messages) inner bytes = (
+  (inner.0.fits.0, row-body message (bytes-front (row message) (flat_map row messages) bytes)),
+  rows-bodies number messages inner.1 (bytes-back (row message) (flat_map row messages) bytes),
+)
+
+container-bodies : (number : ℕ) (messages : List Message) → AllByRecursion (IsInner number) messages → IsBytes (container_of messages) → AllByRecursion IsSmallNumber messages
+unfolding container_of
+container-bodies number messages inner bytes = rows-bodies number messages inner (bytes-back (head_of (length messages)) (flat_map row messages) bytes)
+
+abbrev AreFew : List Message → Type 0
+AreFew messages = AllByRecursion IsSmallNumber messages × (length messages ≤ 1020)
+
+parts-small : (number : ℕ) (body : List ℕ) (parts : Result (List Message) ContainerFault) → IsBytes body → ((messages : List Message) → parts ≡ Ok messages → IsContainer number messages body)
+    → AreFew (parts_among (Some parts))
+parts-small number body (Ok messages) bytes lawful =
+    let container = lawful messages refl in
+    let spelt = container.spelt in
+    (container-bodies number messages container.inner (subst IsBytes spelt bytes), container.few)
+parts-small number body (Err fault) bytes lawful = (tt, omega arith)
+
+inner-count : (messages : List Message) (session : Remembered) → length (inner_judgements session messages) ≡ length messages
+inner-count [] session = refl
+inner-count (message ∷ messages) session = ap suc (inner-count messages (judged_session InContainer session message))
+
+module _ (lawful : AreLawful) (read : AreRead) where
+  messages-small : (message : Message) → IsBytes message.body → AreFew (inner_messages message)
   messages-small message bytes =
       cond_both (begins_container message.body) (Some (parts_of message.number message.body)) None
-      (λ (parts : Option (Result (List Message) ContainerFault)). AllByRecursion IsSmallNumber (parts_among parts))
-      (λ begins. parts-small message.number message.body (parts_of message.number message.body) (λ messages is. lawful message.number messages message.body bytes begins is))
-      (λ other. tt)
+      (λ (parts : Option (Result (List Message) ContainerFault)). AreFew (parts_among parts))
+      (λ begins. parts-small message.number message.body (parts_of message.number message.body) bytes (λ messages is. lawful message.number messages message.body bytes begins is))
+      (λ other. (tt, omega arith))
 
-  unfolded-small : (verdict : Verdict) (message : Message) → IsBytes message.body → AllByRecursion IsSmallNumber (unfolded verdict message)
+  unfolded-small : (verdict : Verdict) (message : Message) → IsBytes message.body → AreFew (unfolded verdict message)
   unfolded-small (Accepted item) message bytes = messages-small message bytes
-  unfolded-small (Again mark) message bytes = tt
-  unfolded-small (Noticed code) message bytes = tt
+  unfolded-small (Again mark) message bytes = (tt, omega arith)
+  unfolded-small (Noticed code) message bytes = (tt, omega arith)
 
   pub history-small : (way : Way) (session : Remembered) (message : Message) → message.number < 2 ^ 64 → IsBytes message.body → AllByRecursion IsSmallJudgement session.history
       → AllByRecursion IsSmallJudgement (session_after way session message).history
   history-small way session message fits bytes history =
-      inner-small (unfolded (judge way session message) message) (judged_session way session message) (unfolded-small (judge way session message) message bytes)
-      (judged-small way session message fits history)
+      inner-small read (unfolded (judge way session message) message) (judged_session way session message) (unfolded-small (judge way session message) message bytes).0
+      (judged-small read way session message (fits, bytes) history)
 
   pub judgements-small : (way : Way) (session : Remembered) (message : Message) → message.number < 2 ^ 64 → IsBytes message.body
-      → AllByRecursion IsSmallJudged (judgements way session message)
-  judgements-small way session message fits bytes = (
-    (fits, judge-small way session message),
-    inner-judged (unfolded (judge way session message) message) (judged_session way session message) (unfolded-small (judge way session message) message bytes),
-  )
+      → AllByRecursion IsSmallJudged (judgements way session message) × (length (judgements way session message) ≤ 8192)
+  judgements-small way session message fits bytes =
+      let inner = unfolded-small (judge way session message) message bytes in
+      let few = inner.1 in
+      let count = inner-count (unfolded (judge way session message) message) (judged_session way session message) in (
+        ((fits, judge-small read way session message bytes), inner-judged read (unfolded (judge way session message) message) (judged_session way session message) inner.0),
+        omega (arith, few, count),
+      )
 
 abbrev pub IsSmallBoth : Judgement × List ℕ → Type 0
 IsSmallBoth both = IsSmallJudged both.0

@@ -1,16 +1,18 @@
 -- The packets of messages that are such are whole.
-use Rattle.std.proofs.Common.{◌≡◌, ◌∙◌, ℕ, ◌+◌, ◌*◌, ◌%◌, ◌^◌, ◌<◌, ◌≤◌, Bool, true, false, List, [], ◌∷◌, length, ap, sym, subst, refl, arith}
+use Rattle.std.proofs.Common.{◌++◌, ◌≡◌, ◌∙◌, ℕ, ◌+◌, ◌*◌, ◌%◌, ◌^◌, ◌<◌, ◌≤◌, Bool, true, false, List, [], ◌∷◌, length, ap, sym, subst, refl, arith}
 use Rattle.std.specs.Prelude.{sum_by}
 use Rattle.std.specs.List.{AllByRecursion, flat_map}
 use Rattle.std.proofs.lemmas.Bool.{false≢true}
 use Rattle.std.proofs.lemmas.List.Sums.{sum_by-cons}
+use Rattle.byteorder.specs.Endian.{little_bytes}
 use Rattle.msg_ids.specs.Counters.{Counters, after_next}
 use Rattle.service_tl.specs.declared.lists.Message.{Message}
+use Rattle.octets.specs.Bytes.{IsBytes}
 use Rattle.service_tl.specs.Words.{IsWords}
-use Rattle.containers.specs.Container.{AreWithin, IsContainer, IsInner, begins_container, container_of, message_head, size_of}
+use Rattle.containers.specs.Container.{AreWithin, IsContainer, IsInner, begins_container, constructor, container_of, head_of, message_head, row, size_of}
 use Rattle.packing.specs.Packing.{IsPacket, after_outer, after_outers, groups, outer_of, outers_of, packed}
 use Rattle.server_sizes.specs.Small.{IsGivenBy, IsSmallMessage}
-use Rattle.server_sizes.proofs.Items.{item-words, item-unnested}
+use Rattle.server_sizes.proofs.Items.{bytes-append, bytes-nil, item-bytes, item-short, item-unnested, item-words, little-bytes}
 use Rattle.server_sizes.proofs.Lists.{all-split, both-all, weaker}
 
 -- ---- counters go on
@@ -51,6 +53,29 @@ message-words message small = subst IsWords (sym small.body) (item-words small.i
 message-unnested : (message : Message) → IsSmallMessage message → begins_container message.body ≡ false
 message-unnested message small = ap begins_container small.body ∙ item-unnested small.item small.small
 
+message-bytes : (message : Message) → IsSmallMessage message → IsBytes message.body
+message-bytes message small = subst IsBytes (sym small.body) (item-bytes small.item small.small)
+
+row-bytes : (message : Message) → IsBytes message.body → IsBytes (row message)
+unfolding row
+row-bytes message bytes =
+    let number = little_bytes 8 message.number in
+    let seq = little_bytes 4 message.seq in
+    let size = little_bytes 4 (length message.body) in
+    bytes-append number (seq ++ (size ++ message.body)) (little-bytes 8 message.number)
+    (bytes-append seq (size ++ message.body) (little-bytes 4 message.seq) (bytes-append size message.body (little-bytes 4 (length message.body)) bytes))
+
+rows-bytes : (messages : List Message) → AllByRecursion IsSmallMessage messages → IsBytes (flat_map row messages)
+rows-bytes [] small = bytes-nil
+rows-bytes (message ∷ messages) small = bytes-append (row message) (flat_map row messages) (row-bytes message (message-bytes message small.0)) (rows-bytes messages small.1)
+
+container-bytes : (messages : List Message) → AllByRecursion IsSmallMessage messages → IsBytes (container_of messages)
+unfolding container_of head_of
+container-bytes messages small =
+    let tag = little_bytes 4 constructor in
+    let count = little_bytes 4 (length messages) in
+    bytes-append (tag ++ count) (flat_map row messages) (bytes-append tag count (little-bytes 4 constructor) (little-bytes 4 (length messages))) (rows-bytes messages small)
+
 -- ---- a packet
 
 -- what a packet with this number, seq and body has
@@ -58,7 +83,9 @@ pub record IsWholeOuter (outer : Message) : Type 0 where
   pub group : List Message
   pub body : outer.body ≡ packed group
   pub messages : AllByRecursion IsSmallMessage group
+  pub bytes : IsBytes outer.body
   pub words : IsWords outer.body
+  pub short : length outer.body ≤ 1044480
   pub whole : outer.number < 2 ^ 64 → outer.seq < 2 ^ 32 → begins_container outer.body ≡ true → IsContainer outer.number group outer.body
 
 -- each body is no longer than the whole
@@ -110,7 +137,9 @@ container-whole sized now counters first second group within ready =
       group = all;
       body = refl;
       messages = smalls counters all ready;
+      bytes = container-bytes all (smalls counters all ready);
       words = container-words sized counters all ready;
+      short = omega (arith, short, sized all);
       whole = λ fits low begins. record {
         spelt = refl;
         few = within.few;
@@ -125,7 +154,9 @@ outer-whole sized now counters (message ∷ []) packet ready =
       group = message ∷ [];
       body = refl;
       messages = smalls counters (message ∷ []) ready;
+      bytes = message-bytes message ready.0.0;
       words = message-words message ready.0.0;
+      short = subst (λ (body : List ℕ). length body ≤ 1044480) (sym ready.0.0.body) (item-short ready.0.0.item ready.0.0.small);
       whole = λ fits low begins. absurd (false≢true (sym (message-unnested message ready.0.0) ∙ begins));
     }
 outer-whole sized now counters (first ∷ (second ∷ group)) packet ready = container-whole sized now counters first second group packet ready

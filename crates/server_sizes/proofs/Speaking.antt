@@ -10,7 +10,6 @@ use Rattle.salt_line.specs.Line.{Line, current_salt}
 use Rattle.service_tl.specs.declared.item.Item.{Item}
 use Rattle.service_tl.specs.declared.item.Item.TheVariants.{RpcResult}
 use Rattle.service_tl.specs.declared.lists.Message.{Message}
-use Rattle.service_tl.specs.Words.{IsWords}
 use Rattle.id_window.specs.History.{History}
 use Rattle.outbox.specs.Replies.{fits}
 use Rattle.packing.specs.Numbering.{numbered, after_item, is_content_related}
@@ -19,7 +18,7 @@ use Rattle.server_rules.specs.Server.{Name, Reply, Session, is_kept, kept_replie
 use Rattle.server_rules.specs.Event.{Owed, Sent, Setting, Speaker}
 use Rattle.server_rules.specs.Speaking.{answers, dropped, has_said, made_room, message_of, needs_salts, owes_message, says, says_again, with_reply}
 use Rattle.server_rules.specs.Rows.{acked_by}
-use Rattle.server_sizes.specs.Small.{DrawsWords, IsGivenBy, IsGivenTo, IsSmallItem, IsSmallJob, IsSmallJudgement, IsSmallMessage, IsSmallOwed, IsSmallReply, IsSmallRow, IsSmallSession, IsWholeSent}
+use Rattle.server_sizes.specs.Small.{IsContent, DrawsWords, IsGivenBy, IsGivenTo, IsSmallItem, IsSmallJob, IsSmallJudgement, IsSmallMessage, IsSmallOwed, IsSmallReply, IsSmallRow, IsSmallSession, IsWholeSent}
 use Rattle.server_sizes.proofs.Items.{addition-low}
 use Rattle.server_sizes.proofs.Lists.{all-map, all-push, weaker}
 use Rattle.server_sizes.proofs.Packets.{GoesOn, given-later, next-goes}
@@ -48,11 +47,11 @@ given-all name before after all goes given =
 pub replies-later : (before after : Counters) (replies : List Reply) → GoesOn before after → AllByRecursion (IsSmallReply before) replies → AllByRecursion (IsSmallReply after) replies
 replies-later before after replies goes small =
     weaker (IsSmallReply before) (IsSmallReply after) replies
-    (λ reply one. record { call = one.call; words = one.words; given = given-later before after reply.number reply.seq goes one.given }) small
+    (λ reply one. record { call = one.call; content = one.content; given = given-later before after reply.number reply.seq goes one.given }) small
 
 pub counted : (after : Counters) (session : Session) → GoesOn session.counters after → IsSmallSession session → IsSmallSession (record session { counters = after })
 counted after session goes small =
-    record { unique = small.unique; salts = small.salts; history = small.history; replies = replies-later session.counters after session.replies goes small.replies }
+    record { key = small.key; number = small.number; unique = small.unique; salts = small.salts; history = small.history; replies = replies-later session.counters after session.replies goes small.replies }
 
 -- an item's message has its number before the next one
 item-given : (now : ℕ) (item : Item) (counters : Counters) → IsGivenBy (after_item now counters item) (numbered now counters item).number (numbered now counters item).seq
@@ -67,7 +66,7 @@ item-given now item counters =
 -- a reply that is dropped is such
 pub drop-small : (counters : Counters) (reply : Reply) → IsSmallReply counters reply → IsSmallReply counters (dropped reply)
 drop-small counters reply one =
-    cond_both (is_kept reply) _ reply (IsSmallReply counters) (λ is. record { call = one.call; words = one.words; given = one.given }) (λ is. one)
+    cond_both (is_kept reply) _ reply (IsSmallReply counters) (λ is. record { call = one.call; content = one.content; given = one.given }) (λ is. one)
 
 -- ---- steps
 
@@ -129,6 +128,8 @@ module _ {S : Type 0} (setting : Setting S) (own : Name) (past : List Owed) wher
       record {
         named = p.named;
         small = record {
+          key = small.key;
+          number = small.number;
           unique = small.unique;
           salts = rows-needed draws count (period_at x.session.salts.start setting.now) (x.session.salts.rows, x.draw) small.salts;
           history = small.history;
@@ -149,7 +150,7 @@ module _ {S : Type 0} (setting : Setting S) (own : Name) (past : List Owed) wher
       let small = p.small in
       record {
         named = p.named;
-        small = record { unique = small.unique; salts = small.salts; history = small.history; replies = so };
+        small = record { key = small.key; number = small.number; unique = small.unique; salts = small.salts; history = small.history; replies = so };
         jobs = p.jobs;
         owed = p.owed;
         given = p.given;
@@ -157,7 +158,7 @@ module _ {S : Type 0} (setting : Setting S) (own : Name) (past : List Owed) wher
         sent = p.sent;
       }
 
-  pub answered : (call : ℕ) (content : List ℕ) (x : Speaker S) → call < 2 ^ 64 → IsWords content → Says own past x → Says own past (answers setting call content x)
+  pub answered : (call : ℕ) (content : List ℕ) (x : Speaker S) → call < 2 ^ 64 → IsContent content → Says own past x → Says own past (answers setting call content x)
   answered call content x fits_place words p =
       let item = RpcResult call content in
       let done = says setting item x in
@@ -166,7 +167,7 @@ module _ {S : Type 0} (setting : Setting S) (own : Name) (past : List Owed) wher
       replied (with_reply call content message done.session.replies) done.session done.jobs done.owed done.sent
       (all-push (IsSmallReply done.session.counters) (made_room (length message.body) done.session.replies) _
       (roomy (length message.body) done.session.counters done.session.replies is_done.small.replies)
-      (record { call = fits_place; words = words; given = item-given setting.now item x.session.counters }))
+      (record { call = fits_place; content = words; given = item-given setting.now item x.session.counters }))
       is_done
     where
       roomy : (bytes : ℕ) (counters : Counters) (replies : List Reply) → AllByRecursion (IsSmallReply counters) replies → AllByRecursion (IsSmallReply counters) (made_room bytes replies)
@@ -180,7 +181,7 @@ module _ {S : Type 0} (setting : Setting S) (own : Name) (past : List Owed) wher
   pub repeated : (reply : Reply) (x : Speaker S) → IsSmallReply x.session.counters reply → Says own past x → Says own past (says_again reply x)
   repeated reply x one p =
       cond_both (has_said reply.number x) x (owes_message (message_of reply) x) P (λ is. p)
-      (λ is. owed-more (message_of reply) x.session x.jobs x.owed x.sent (record { item = RpcResult reply.call reply.content; body = refl; small = (one.call, one.words) }) one.given p)
+      (λ is. owed-more (message_of reply) x.session x.jobs x.owed x.sent (record { item = RpcResult reply.call reply.content; body = refl; small = (one.call, one.content) }) one.given p)
 
   -- what becomes of replies leaves them as they are
   pub fated : (change : Reply → Reply) (x : Speaker S) → ((counters : Counters) (reply : Reply) → IsSmallReply counters reply → IsSmallReply counters (change reply))
@@ -200,7 +201,7 @@ module _ {S : Type 0} (setting : Setting S) (own : Name) (past : List Owed) wher
       let small = p.small in
       record {
         named = p.named;
-        small = record { unique = small.unique; salts = small.salts; history = so; replies = small.replies };
+        small = record { key = small.key; number = small.number; unique = small.unique; salts = small.salts; history = so; replies = small.replies };
         jobs = p.jobs;
         owed = p.owed;
         given = p.given;
@@ -211,7 +212,7 @@ module _ {S : Type 0} (setting : Setting S) (own : Name) (past : List Owed) wher
 pub ack-small : (numbers : List ℕ) (counters : Counters) (reply : Reply) → IsSmallReply counters reply → IsSmallReply counters (acked_by numbers reply)
 ack-small numbers counters reply one =
     cond_both (is_kept reply && list_any (λ number. number == reply.number) numbers) _ reply (IsSmallReply counters)
-    (λ is. record { call = one.call; words = one.words; given = one.given }) (λ is. one)
+    (λ is. record { call = one.call; content = one.content; given = one.given }) (λ is. one)
 
 -- ---- the current salt
 

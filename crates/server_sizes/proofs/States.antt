@@ -6,7 +6,6 @@ use Rattle.std.proofs.lemmas.Bool.{cond_both}
 use Rattle.draws.specs.Draws.{draw_after, next_bytes}
 use Rattle.service_tl.specs.declared.item.Item.TheVariants.{DestroySession, DestroySessionOk, DestroySessionNone}
 use Rattle.service_tl.specs.declared.lists.Message.{Message}
-use Rattle.service_tl.specs.Words.{IsWords}
 use Rattle.salt_line.specs.Line.{current_salt}
 use Rattle.packing.specs.Packing.{after_packets, groups, packets_of}
 use Rattle.inbox.specs.declared.judged.Judgement.{Judgement}
@@ -24,14 +23,14 @@ use Rattle.server_rules.specs.Waiting.{given_up, gives_up, first_given_up, all_g
 use Rattle.server_rules.specs.Rows.{settles, row, owes, destroys}
 use Rattle.server_rules.specs.Sending.{envelope_of, messages_by, names_in, padding_bytes, seals, sends, all_sent}
 use Rattle.server_rules.specs.Answer.{name_in, message_in, messages_judged, finishes, hears, hears_by, makes, session_for, without_first as without_first_session, opens, takes, takes_by, attaches, runs, ticks, is_spent, begun, without_spent}
-use Rattle.server_sizes.specs.Small.{AreGivenTo, AreSmall, DrawsWords, IsGivenTo, IsSmallEnvelope, IsSmallJob, IsSmallOwed, IsSmallReply, IsSmallSession, IsSmallState, IsWhole, IsWholeSent}
-use Rattle.server_sizes.proofs.Contents.{failed-words, timeout-words}
-use Rattle.server_sizes.proofs.Judging.{AreLawful, IsSmallBoth, history-small, judgements-small, zipped-small}
+use Rattle.server_sizes.specs.Small.{AreGivenTo, AreSmall, DrawsWords, IsGivenTo, IsSmallEnvelope, IsSmallJob, IsSmallOwed, IsSmallReply, IsSmallSession, IsSmallState, IsWhole, IsWholeSent, IsContent}
+use Rattle.server_sizes.proofs.Contents.{failed-content, timeout-content}
+use Rattle.server_sizes.proofs.Judging.{AreLawful, IsSmallBoth, history-small, judgements-small, zipped-small, AreRead}
 use Rattle.server_sizes.proofs.Lists.{all-filter, all-map, all-push, both-all, filter-tested, find-all, weaker}
 use Rattle.server_sizes.proofs.Names.{names-apart, same-names}
 use Rattle.server_sizes.proofs.Packets.{ArePackets, AreSized, HaveAll, IsReady, IsWholeOuter, outers-go, packets-whole}
 use Rattle.server_sizes.proofs.Rows.{IsSmallCall, IsSmallVerdict, first-small, finished, given, left-small, new-said, opened, owed-so, told-so}
-use Rattle.server_sizes.proofs.Speaking.{Says, counters-on, repeated, said, salted}
+use Rattle.server_sizes.proofs.Speaking.{Says, counters-on, repeated, said, salted, salt-small}
 
 -- the session of this place among the ready jobs
 pub ready-left : (place : ℕ) (jobs : Queue) → AllByRecursion IsSmallJob jobs → AllByRecursion IsSmallJob (without_ready place jobs)
@@ -53,6 +52,16 @@ pub record Good {S : Type 0} (state : State S) : Type 0 where
 
 pub small-state : {S : Type 0} (state : State S) → Good state → IsSmallState state
 small-state state good = record { kept = record { sessions = good.kept; jobs = good.jobs }; owed = good.owed; given = good.given }
+
+pub good-state : {S : Type 0} (state : State S) → IsSmallState state → state.sent ≡ [] → Good state
+good-state state small none =
+    record {
+      kept = small.kept.sessions;
+      jobs = small.kept.jobs;
+      owed = small.owed;
+      given = small.given;
+      sent = subst (λ (sent : List Sent). AllByRecursion IsWholeSent sent) (sym none) tt;
+    }
 
 module _ {S : Type 0} (setting : Setting S) (draws : DrawsWords setting) where
   -- ---- one session speaks
@@ -116,13 +125,13 @@ module _ {S : Type 0} (setting : Setting S) (draws : DrawsWords setting) where
 
   -- ---- jobs that are given up
 
-  given-good : (content : List ℕ) (job : Option Job) (state : State S) → IsWords content → IsSmallCall job → Good state → Good (given_up setting content job state)
+  given-good : (content : List ℕ) (job : Option Job) (state : State S) → IsContent content → IsSmallCall job → Good state → Good (given_up setting content job state)
   given-good content None state words small good = good
   given-good content (Some job) state words small good =
       speaks-good (record { key = job.key; session = job.session }) (gives_up setting content job) state
       (λ own x p. given setting draws own state.owed content job x small words p) good
 
-  all-good : (content : List ℕ) (test : Unfinished → Bool) (n : ℕ) (state : State S) → IsWords content → Good state
+  all-good : (content : List ℕ) (test : Unfinished → Bool) (n : ℕ) (state : State S) → IsContent content → Good state
       → Good (all_given_up setting content (λ queue. (first_job test queue, without_first test queue)) n state)
   all-good content test zero state words good = good
   all-good content test (suc n) state words good =
@@ -133,10 +142,10 @@ module _ {S : Type 0} (setting : Setting S) (draws : DrawsWords setting) where
       (jobs-good (without_first test state.jobs) state (left-small test state.jobs good.jobs) good))
 
   failures-good : (state : State S) → Good state → Good (after_failures setting state)
-  failures-good state good = all-good msg_wait_failed has_failed (length state.jobs) state failed-words good
+  failures-good state good = all-good msg_wait_failed has_failed (length state.jobs) state failed-content good
 
   timeouts-good : (state : State S) → Good state → Good (after_timeouts setting state)
-  timeouts-good state good = all-good msg_wait_timeout (is_overdue setting.now) (length state.jobs) state timeout-words good
+  timeouts-good state good = all-good msg_wait_timeout (is_overdue setting.now) (length state.jobs) state timeout-content good
 
   -- ---- a packet
 
@@ -168,7 +177,7 @@ module _ {S : Type 0} (setting : Setting S) (draws : DrawsWords setting) where
       (speaks-good name (tells_of judgement.number) done (λ own x p. told-so setting draws own done.owed judgement.number x p)
       (row-good name judgement.number judgement.seq judgement.verdict body state small.0.0 small.0.1 good)))
 
-  module _ (lawful : AreLawful) where
+  module _ (lawful : AreLawful) (read : AreRead) where
     takes-good : (envelope : Envelope) (found : Option Session) (state : State S) → IsSmallEnvelope envelope → session_named (name_in envelope) state.sessions ≡ found → Good state
         → Good (takes_by setting envelope found state)
     takes-good envelope None state small is good = good
@@ -179,38 +188,39 @@ module _ {S : Type 0} (setting : Setting S) (draws : DrawsWords setting) where
         let later = (session_after way (remembered session) message).history in
         let name = name_of session in
         let own = (find-all IsSmallSession (is_named (name_in envelope)) state.sessions session good.kept is).0 in
-        let history = history-small lawful way (remembered session) message small.0 small.1 own.history in
+        let history = history-small lawful read way (remembered session) message small.number small.bytes own.history in
+        let are = judgements-small lawful read way (remembered session) message small.number small.bytes in
         let bodies = map (λ (one : Message). one.body) (messages_judged way session message) in
         settle-good name (zip judged bodies) (speaks name (opens setting later judged) state)
-        (zipped-small judged bodies (judgements-small lawful way (remembered session) message small.0 small.1))
-        (speaks-good name (opens setting later judged) state (λ one x p. opened setting draws one state.owed later judged x history p) good)
+        (zipped-small judged bodies are.0)
+        (speaks-good name (opens setting later judged) state (λ one x p. opened setting draws one state.owed later judged x history are.1 p) good)
 
   -- the session that is made
-  made-small : (envelope : Envelope) (draw : S) → IsSmallSession (session_for setting envelope draw)
-  made-small envelope draw =
-      record { unique = draws draw; salts = (draws (draw_after setting.step 1 draw), tt); history = tt; replies = tt }
+  made-small : (envelope : Envelope) (draw : S) → IsSmallEnvelope envelope → IsSmallSession (session_for setting envelope draw)
+  made-small envelope draw small =
+      record { key = small.key; number = small.session; unique = draws draw; salts = (draws (draw_after setting.step 1 draw), tt); history = tt; replies = tt }
 
   none-given : (session : Session) (all : List Owed) → all ≡ [] → AreGivenTo all session
   none-given session all none = subst (λ (all : List Owed). AreGivenTo all session) (sym none) tt
 
-  made-good : (envelope : Envelope) (state : State S) → state.owed ≡ [] → Good state → Good (makes setting envelope state)
-  made-good envelope state none good =
+  made-good : (envelope : Envelope) (state : State S) → IsSmallEnvelope envelope → state.owed ≡ [] → Good state → Good (makes setting envelope state)
+  made-good envelope state small none good =
       let session = session_for setting envelope state.draw in
       record {
-        kept = all-push IsSmallSession state.sessions session good.kept (made-small envelope state.draw);
+        kept = all-push IsSmallSession state.sessions session good.kept (made-small envelope state.draw small);
         jobs = good.jobs;
         owed = good.owed;
         given = all-push (AreGivenTo state.owed) state.sessions session good.given (none-given session state.owed none);
         sent = good.sent;
       }
 
-  place-good : (envelope : Envelope) (sessions : List Session) (state : State S) → state.owed ≡ [] → Good state → Good (makes setting envelope (without_first_session sessions state))
-  place-good envelope [] state none good = made-good envelope state none good
-  place-good envelope (session ∷ sessions) state none good = made-good envelope (lost (name_of session) state) none (lost-good (name_of session) state good)
+  place-good : (envelope : Envelope) (sessions : List Session) (state : State S) → IsSmallEnvelope envelope → state.owed ≡ [] → Good state → Good (makes setting envelope (without_first_session sessions state))
+  place-good envelope [] state small none good = made-good envelope state small none good
+  place-good envelope (session ∷ sessions) state small none good = made-good envelope (lost (name_of session) state) small none (lost-good (name_of session) state good)
 
-  pub hears-good : (envelope : Envelope) (found : Option Session) (state : State S) → session_named (name_in envelope) state.sessions ≡ found → state.owed ≡ [] → Good state
+  pub hears-good : (envelope : Envelope) (found : Option Session) (state : State S) → session_named (name_in envelope) state.sessions ≡ found → IsSmallEnvelope envelope → state.owed ≡ [] → Good state
       → Good (hears_by setting envelope found state)
-  hears-good envelope (Some session) state is none good =
+  hears-good envelope (Some session) state is small none good =
       let own = (find-all IsSmallSession (is_named (name_in envelope)) state.sessions session good.kept is).0 in
       let test : Session → Bool = λ other. not (is_named (name_of session) other) in
       record {
@@ -222,9 +232,9 @@ module _ {S : Type 0} (setting : Setting S) (draws : DrawsWords setting) where
             (none-given session state.owed none);
         sent = good.sent;
       }
-  hears-good envelope None state is none good =
+  hears-good envelope None state is small none good =
       cond_both (ltb (length state.sessions) sessions_max) state (without_first_session state.sessions state) (λ (placed : State S). Good (makes setting envelope placed))
-      (λ room. made-good envelope state none good) (λ full. place-good envelope state.sessions state none good)
+      (λ room. made-good envelope state small none good) (λ full. place-good envelope state.sessions state small none good)
 
   pub begun-good : (server : Server) (draw : S) → AreSmall server.sessions server.jobs → Good (begun server draw)
   begun-good server draw small =
@@ -236,13 +246,13 @@ module _ {S : Type 0} (setting : Setting S) (draws : DrawsWords setting) where
         sent = tt;
       }
 
-  pub packet-good : AreLawful → (envelope : Envelope) (server : Server) (draw : S) → IsSmallEnvelope envelope → AreSmall server.sessions server.jobs
+  pub packet-good : AreLawful → AreRead → (envelope : Envelope) (server : Server) (draw : S) → IsSmallEnvelope envelope → AreSmall server.sessions server.jobs
       → Good (takes setting envelope (begun server draw))
-  packet-good lawful envelope server draw small kept =
+  packet-good lawful read envelope server draw small kept =
       let state = begun server draw in
       let heard = hears setting envelope state in
-      takes-good lawful envelope (session_named (name_in envelope) heard.sessions) heard small refl
-      (hears-good envelope (session_named (name_in envelope) state.sessions) state refl refl (begun-good server draw kept))
+      takes-good lawful read envelope (session_named (name_in envelope) heard.sessions) heard small refl
+      (hears-good envelope (session_named (name_in envelope) state.sessions) state refl small refl (begun-good server draw kept))
 
   -- ---- other events
 
@@ -251,7 +261,7 @@ module _ {S : Type 0} (setting : Setting S) (draws : DrawsWords setting) where
       let state = begun server draw in
       failures-good (after_timeouts setting state) (timeouts-good state (begun-good server draw kept))
 
-  pub run-good : (place : ℕ) (job : Job) (reply : List ℕ) (server : Server) (draw : S) → job.number < 2 ^ 64 → IsWords reply → AreSmall server.sessions server.jobs
+  pub run-good : (place : ℕ) (job : Job) (reply : List ℕ) (server : Server) (draw : S) → job.number < 2 ^ 64 → IsContent reply → AreSmall server.sessions server.jobs
       → Good (runs setting place job reply (begun server draw))
   run-good place job reply server draw fits words kept =
       let state = begun server draw in
@@ -288,16 +298,28 @@ module _ {S : Type 0} (setting : Setting S) (draws : DrawsWords setting) where
   -- ---- the end
 
   module _ (sized : AreSized) (have : HaveAll) (packets : ArePackets) where
-    whole-sent : (salt : ℕ) (outer : Message) (x : Speaker S) → IsWholeOuter outer → IsWhole (envelope_of salt x outer)
-    whole-sent salt outer x whole = record { group = whole.group; body = whole.body; messages = whole.messages; words = whole.words; whole = whole.whole }
+    whole-sent : (salt : ℕ) (outer : Message) (x : Speaker S) → salt < 2 ^ 64 → IsSmallSession x.session → IsWholeOuter outer → IsWhole (envelope_of salt x outer)
+    whole-sent salt outer x word small whole =
+        record {
+          group = whole.group;
+          body = whole.body;
+          messages = whole.messages;
+          key = small.key;
+          salt = word;
+          session = small.number;
+          bytes = whole.bytes;
+          words = whole.words;
+          short = whole.short;
+          whole = whole.whole;
+        }
 
-    sealed : (own : Name) (past : List Owed) (salt : ℕ) (outers : List Message) (x : Speaker S) → AllByRecursion IsWholeOuter outers → Says own past x
+    sealed : (own : Name) (past : List Owed) (salt : ℕ) (outers : List Message) (x : Speaker S) → salt < 2 ^ 64 → AllByRecursion IsWholeOuter outers → Says own past x
         → Says own past (fold (seals setting salt) x outers)
-    sealed own past salt [] x whole p = p
-    sealed own past salt (outer ∷ outers) x whole p =
+    sealed own past salt [] x word whole p = p
+    sealed own past salt (outer ∷ outers) x word whole p =
         let bytes = padding_bytes (length outer.body) in
         let one : Sent = record { envelope = envelope_of salt x outer; padding = next_bytes setting.step bytes x.draw } in
-        sealed own past salt outers (seals setting salt x outer) whole.1
+        sealed own past salt outers (seals setting salt x outer) word whole.1
         (record {
           named = p.named;
           small = p.small;
@@ -305,7 +327,7 @@ module _ {S : Type 0} (setting : Setting S) (draws : DrawsWords setting) where
           owed = p.owed;
           given = p.given;
           others = p.others;
-          sent = all-push IsWholeSent x.sent one p.sent (whole-sent salt outer x whole.0);
+          sent = all-push IsWholeSent x.sent one p.sent (whole-sent salt outer x word p.small whole.0);
         })
 
     sends-so : (own : Name) (past : List Owed) (messages : List Message) (x : Speaker S) → AllByRecursion (IsReady x.session.counters) messages → Says own past x
@@ -315,7 +337,7 @@ module _ {S : Type 0} (setting : Setting S) (draws : DrawsWords setting) where
         let is_ready = salted setting own past draws 1 x p in
         let counters = after_packets setting.now ready.session.counters messages in
         let done : Speaker S = record ready { session = record ready.session { counters = counters } } in
-        sealed own past (current_salt ready.session.salts setting.now) (packets_of setting.now ready.session.counters messages) done
+        sealed own past (current_salt ready.session.salts setting.now) (packets_of setting.now ready.session.counters messages) done (salt-small setting.now ready.session.salts is_ready.small.salts)
         (packets-whole sized have packets setting.now ready.session.counters messages all)
         (counters-on setting own past counters ready.session ready.jobs ready.owed ready.sent (outers-go setting.now ready.session.counters (groups messages)) is_ready)
 

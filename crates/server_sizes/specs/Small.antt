@@ -1,6 +1,6 @@
 -- The numbers that a server keeps and says fit their places, and its packets are whole
 -- (core.telegram.org/mtproto/description, "Encrypted Message"; core.telegram.org/mtproto/service_messages).
-use Rattle.std.specs.Prelude.{◌≡◌, ◌<◌, ◌≤◌, ◌+◌, ◌*◌, ◌^◌, ⊤, true, ℕ, Some, List}
+use Rattle.std.specs.Prelude.{length, ◌≡◌, ◌<◌, ◌≤◌, ◌+◌, ◌*◌, ◌^◌, ⊤, true, ℕ, Some, List}
 use Rattle.std.specs.List.{AllByRecursion}
 use Rattle.octets.specs.Bytes.{IsBytes}
 use Rattle.msg_ids.specs.Counters.{Counters}
@@ -13,7 +13,7 @@ use Rattle.service_tl.specs.Words.{IsWords}
 use Rattle.containers.specs.Container.{IsContainer, begins_container}
 use Rattle.packing.specs.Packing.{packed}
 use Rattle.id_window.specs.History.{FirstJudgement, Outcome, Refused}
-use Rattle.regs_service.specs.Served.{Step}
+use Rattle.regs_service.specs.Served.{IsReply, Step}
 use Rattle.waits.specs.declared.job.Unfinished.{Unfinished}
 use Rattle.waits.specs.Jobs.{Queue}
 use Rattle.server_rules.specs.Server.{Name, Reply, Session, name_of}
@@ -22,17 +22,21 @@ use Rattle.server_rules.specs.Events.{Event, Packet}
 
 -- ---- what a server says
 
--- An item that a server says: of those that matter to a client's calls, numbers have 64 bits and a notice's code 32, and
--- the content of a result is whole words of 4 bytes.
+-- the content of a result: whole words of 4 bytes, and short
+abbrev pub IsContent : List ℕ → Type 0
+IsContent content = IsReply content × IsBytes content
+
+-- An item that a server says: of those that matter to a client's calls, numbers have 64 bits and a notice's code 32; and its
+-- lists and texts are short.
 abbrev pub IsSmallItem : Item → Type 0
-IsSmallItem (RpcResult call content) = (call < 2 ^ 64) × IsWords content
+IsSmallItem (RpcResult call content) = (call < 2 ^ 64) × IsContent content
 IsSmallItem (NewSessionCreated first unique salt) = (unique < 2 ^ 64) × (salt < 2 ^ 64)
 IsSmallItem (BadMsgNotification number seq code) = (number < 2 ^ 64) × (code < 2 ^ 32)
 IsSmallItem (BadServerSalt number seq code salt) = (number < 2 ^ 64) × (salt < 2 ^ 64)
-IsSmallItem (MsgsAck numbers) = ⊤
+IsSmallItem (MsgsAck numbers) = length numbers ≤ 8192
 IsSmallItem (Pong number ping) = ⊤
-IsSmallItem (FutureSalts number now salts) = ⊤
-IsSmallItem (MsgsStateInfo number info) = ⊤
+IsSmallItem (FutureSalts number now salts) = length salts ≤ 64
+IsSmallItem (MsgsStateInfo number info) = (length info ≤ 8192) × IsBytes info
 IsSmallItem (DestroySessionOk number) = ⊤
 IsSmallItem (DestroySessionNone number) = ⊤
 IsSmallItem _ = ⊥
@@ -63,10 +67,12 @@ IsSmallJudgement judgement = (judgement.number < 2 ^ 64) × IsSmallOutcome judge
 -- a reply of a session with these counters
 pub record IsSmallReply (counters : Counters) (reply : Reply) : Type 0 where
   pub call : reply.call < 2 ^ 64
-  pub words : IsWords reply.content
+  pub content : IsContent reply.content
   pub given : IsGivenBy counters reply.number reply.seq
 
 pub record IsSmallSession (session : Session) : Type 0 where
+  pub key : session.key < 2 ^ 64
+  pub number : session.number < 2 ^ 64
   pub unique : session.unique < 2 ^ 64
   pub salts : AllByRecursion IsSmallRow session.salts.rows
   pub history : AllByRecursion IsSmallJudgement session.history
@@ -100,13 +106,19 @@ pub record IsSmallState {S : Type 0} (state : State S) : Type 0 where
 
 -- ---- packets
 
--- A packet with these messages. Where its number and seq fit their places, and its body begins as a container, it is a
--- lawful one of the packet's number.
+-- A packet with these messages: all but its number and seq are such as an envelope has, and its body isn't longer than one
+-- that is sealed. Where the number and the seq fit their places too, and the body begins as a container, it is a lawful one
+-- of the packet's number.
 pub record IsWhole (envelope : Envelope) : Type 0 where
   pub group : List Message
   pub body : envelope.body ≡ packed group
   pub messages : AllByRecursion IsSmallMessage group
+  pub key : envelope.key < 2 ^ 64
+  pub salt : envelope.salt < 2 ^ 64
+  pub session : envelope.session < 2 ^ 64
+  pub bytes : IsBytes envelope.body
   pub words : IsWords envelope.body
+  pub short : length envelope.body ≤ 1044480
   pub whole : envelope.number < 2 ^ 64 → envelope.seq < 2 ^ 32 → begins_container envelope.body ≡ true → IsContainer envelope.number group envelope.body
 
 abbrev pub IsWholeSent : Sent → Type 0
@@ -118,13 +130,16 @@ IsWholeSent sent = IsWhole sent.envelope
 abbrev pub DrawsWords : {S : Type 0} → Setting S → Type 0
 DrawsWords {S} setting = (draw : S) → (setting.step draw).0 < 2 ^ 64
 
--- replies of the service are whole words
-abbrev pub RepliesInWords : {V : Type 0} → Step V → Type 0
-RepliesInWords {V} serve = (service : V) (request : List ℕ) → IsWords (serve service request).0
+-- replies of the service are whole words, and short
+abbrev pub GivesReplies : {V : Type 0} → Step V → Type 0
+GivesReplies {V} serve = (service : V) (request : List ℕ) → IsContent (serve service request).0
 
--- an envelope that came has a number of 64 bits, and its body is bytes
-abbrev pub IsSmallEnvelope : Envelope → Type 0
-IsSmallEnvelope envelope = (envelope.number < 2 ^ 64) × IsBytes envelope.body
+-- an envelope that came has numbers of 64 bits, and its body is bytes
+pub record IsSmallEnvelope (envelope : Envelope) : Type 0 where
+  pub key : envelope.key < 2 ^ 64
+  pub session : envelope.session < 2 ^ 64
+  pub number : envelope.number < 2 ^ 64
+  pub bytes : IsBytes envelope.body
 
 abbrev pub HasSmallEnvelope : Event → Type 0
 HasSmallEnvelope (Packet moment (Some envelope)) = IsSmallEnvelope envelope

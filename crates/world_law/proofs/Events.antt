@@ -67,7 +67,7 @@ module _ {S V : Type 0} (laws : Laws S V) (lock : Lock) (ring : List RingKey) (s
   judged_up now bytes packet envelope is among way same =
       let short : IsShort envelope = opened_short lock ring setting seals so now Up bytes envelope is in
       let there : IsThere w world.seats Up envelope = in_bag laws.moving laws.still laws.servers laws.acts lock ring setting seals so w world h sealed packet Up envelope among way same in
-      ((laws.judged w.ups envelope short.lawful (let below = short.body in omega (arith, below)) there.0, there.1), (short.lawful.number, short.lawful.bytes))
+      ((laws.judged w.ups envelope short.lawful (let below = short.body in omega (arith, below)) there.0, there.1), record { key = short.lawful.key; session = short.lawful.session; number = short.lawful.number; bytes = short.lawful.bytes })
 
   given_up : (packet : Packet) → Contains world.bag packet → packet.dir ≡ Up → Fresh (comes_up setting (bytes_of setting packet) world) → Says (comes_up setting (bytes_of setting packet) world) → HasMoves (comes_up setting (bytes_of setting packet) world)
   given_up packet among way fresh plain =

@@ -103,8 +103,21 @@ module _ {S V : Type 0} (known : Moving) (still : Still) (alone : Themselves S) 
   whole_down : (sent : List Sent) → AllByRecursion IsWholeSent sent → AllByRecursion IsWholeDown (map sent_down sent)
   whole_down [] all = tt
   whole_down (one ∷ sent) all =
-      let its = all.0 in
-      (record { group = its.group; body = its.body; messages = its.messages; words = its.words; whole = its.whole }, whole_down sent all.1)
+      let its = all.0 in (
+        record {
+          group = its.group;
+          body = its.body;
+          messages = its.messages;
+          key = its.key;
+          salt = its.salt;
+          session = its.session;
+          bytes = its.bytes;
+          words = its.words;
+          short = its.short;
+          whole = its.whole;
+        },
+        whole_down sent all.1,
+      )
 
   -- what joined the bag is one list
   same_part : (packets others : List Packet) → world.bag ++ others ≡ world.bag ++ packets → others ≡ packets

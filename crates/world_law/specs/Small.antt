@@ -3,7 +3,7 @@
 use Rattle.std.specs.Prelude.{List, [], ◌∷◌}
 use Rattle.sched_text.specs.declared.event.Event.{Event}
 use Rattle.session_moves.specs.World.{World as Moved}
-use Rattle.server_sizes.specs.Small.{DrawsWords, RepliesInWords}
+use Rattle.server_sizes.specs.Small.{DrawsWords, GivesReplies}
 use Rattle.world_rules.specs.Setting.{Setting, at_server}
 use Rattle.world_rules.specs.World.{World}
 use Rattle.world_rules.specs.Run.{after}
@@ -24,7 +24,7 @@ AreSaidSmall next setting world [] = Unit {0}
 AreSaidSmall next setting world (event ∷ events) =
     ((w : Moved) → WorldStands w world → SaysSmall w world (after setting world event)) × AreSaidSmall next setting (next world event) events
 
--- words that are drawn have 64 bits, and replies of the service are whole words
+-- words that are drawn have 64 bits, and replies of the service are whole words and short
 pub record Fits {S V : Type 0} (setting : Setting S V) : Type 0 where
   pub words : DrawsWords (at_server setting)
-  pub replies : RepliesInWords setting.serve
+  pub replies : GivesReplies setting.serve

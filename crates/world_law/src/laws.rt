@@ -75,7 +75,7 @@ pub fn worlds_only_grow<D: Draw, V>()
 /// Every event of a world is a list of lawful moves, and so some list of lawful moves leads to where the world of a schedule
 /// stands, with its clients, sessions, jobs, packets and entries. The premises: a seal that opens what it sealed, foreign
 /// bytes that open by no chance (a schedule refuses those that open), words that aren't 0 and differ; words that are drawn
-/// have 64 bits and replies of the service are whole words; and two on sizes, which aren't shown of the rules: each packet is
+/// have 64 bits and replies of the service are whole words and short; and two on sizes, which aren't shown of the rules: each packet is
 /// one that may be sealed, and the numbers of what a server says fit their places.
 pub fn worlds_are_moves<D: Draw, V>()
     ensures begins { (setting : Setting D V) (draw : D) → WorldStands empty (begins setting draw) }

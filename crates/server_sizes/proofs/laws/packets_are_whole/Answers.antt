@@ -1,5 +1,7 @@
 use Rattle.server_rules.specs.Events.{begun_course}
 use Rattle.server_sizes.proofs.Courses.{Laws, event-stands, events-stand}
+use Rattle.server_rules.specs.Sending.{all_sent}
+use Rattle.server_sizes.proofs.States.{good-state, sent-good, small-state}
 use Rattle.server_sizes.proofs.laws.packets_are_whole.Goals as goal
 
 module _ (g : Rattle.server_sizes.proofs.laws.packets_are_whole.Given.Over) (c : goal.After-packets_have_all_messages g) where
@@ -9,7 +11,13 @@ module _ (g : Rattle.server_sizes.proofs.laws.packets_are_whole.Given.Over) (c :
     have = c.packets_have_all_messages.ensures.all;
     packets = c.packets_have_all_messages.ensures.packets;
     lawful = c.parts_are_exact.ensures.only_lawful;
+    read = c.items_fit.ensures.fits;
   }
+
+pub returns-clause-sent : goal.returns-clause-sent
+returns-clause-sent g c = λ setting state draws small none.
+    let done = sent-good setting draws (laws g c).sized (laws g c).have (laws g c).packets state (good-state state small none) in
+    (small-state (all_sent setting state) done, done.sent)
 
 pub returns-clause-event : goal.returns-clause-event
 returns-clause-event g c = λ setting serve service course event draws words small kept whole.

@@ -9,6 +9,7 @@ module _ (g : Rattle.server_sizes.proofs.laws.sizes_stay_small.Given.Over) (c : 
     have = c.packets_have_all_messages.ensures.all;
     packets = c.packets_have_all_messages.ensures.packets;
     lawful = c.parts_are_exact.ensures.only_lawful;
+    read = c.items_fit.ensures.fits;
   }
 
 pub returns-clause-event : goal.returns-clause-event

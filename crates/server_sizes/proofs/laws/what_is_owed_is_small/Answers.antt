@@ -8,7 +8,7 @@ use Rattle.server_sizes.proofs.laws.what_is_owed_is_small.Goals as goal
 
 pub returns-clause-packet : goal.returns-clause-packet
 returns-clause-packet g c = λ setting envelope server draw draws small kept.
-    small-state (takes setting envelope (begun server draw)) (packet-good setting draws c.parts_are_exact.ensures.only_lawful envelope server draw small kept)
+    small-state (takes setting envelope (begun server draw)) (packet-good setting draws c.parts_are_exact.ensures.only_lawful c.items_fit.ensures.fits envelope server draw small kept)
 
 pub returns-clause-work : goal.returns-clause-work
 returns-clause-work g c = λ setting place job reply server draw draws words is kept.
