@@ -85,7 +85,7 @@ pub struct Summary {
     /// The calls of all clients.
     pub counts: Counts,
     /// How many entries there are for which the service ran.
-    pub runs: u64,
+    pub runs: u128,
     /// How many packets there are.
     pub packets: u64,
     /// Their length together, in bytes.
