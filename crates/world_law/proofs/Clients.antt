@@ -33,14 +33,13 @@ use Rattle.world_rules.specs.Setting.{Setting, at_client}
 use Rattle.world_rules.specs.World.{Packet, Seat, World, changed_from_0, lives}
 use Rattle.world_rules.specs.Ends.{acts, flushes, seat_changed, sent_up}
 use Rattle.world_rules.specs.Premises.{drawn_for_session, names_drawn, sessions_drawn}
-use Rattle.world_servers.specs.Sending.{IsSmall}
 use Rattle.world_servers.specs.Worlds.{StandsIn as AreServersIn}
 use Rattle.world_law.specs.Standing.{AreSeated, HasMoves, IsBagged, IsDown, IsKeyOf, IsSeated, WorldStands, key_at}
 use Rattle.world_law.proofs.Lists.{all_append, map_all}
 use Rattle.world_law.proofs.Places.{changed_other, changed_there}
 use Rattle.world_law.proofs.Counting.{AreFresh, count, count_append}
 use Rattle.world_law.proofs.Known.{Moving, Still}
-use Rattle.world_law.proofs.Nobody.{downs_by_client, nobody_by_client}
+use Rattle.world_law.proofs.Nobody.{nobody_by_client}
 use Rattle.world_law.proofs.Lasting.{KeepKeys, bag_still, key_still}
 use Rattle.world_law.proofs.Drawn.{flat_changed, new_session}
 use Rattle.world_law.proofs.Same.{drops_same, flush_same, submits_same, takes_same}
@@ -125,7 +124,6 @@ module _ {S V : Type 0} (known : Moving) (still : Still) (servers : ServersStill
         ordered = h.ordered;
         keys = keys_on;
         bag = bagged;
-        small = subst (λ (downs : List moves.Packet). AllByRecursion (λ (packet : moves.Packet). AllByRecursion IsSmall packet.items) downs) (sym (downs_by_client known w place list own)) h.small;
         kept = h.kept;
       }
 

@@ -10,7 +10,7 @@ use Rattle.envelope.specs.Packet.{IsEnvelope, Lock}
 use Rattle.tl_codec.specs.Standard.{bytes_max}
 use Rattle.session_moves.specs.Table as moves
 use Rattle.world_moves.specs.Sent.{IsPacketSent}
-use Rattle.world_law.specs.Small.{Fits, SaysSmall}
+use Rattle.world_law.specs.Small.{Fits}
 use Rattle.sched_text.specs.declared.event.Event.{Event}
 use Rattle.sched_text.specs.declared.event.Event.TheVariants as line
 use Rattle.server_rules.specs.Events.{Attach, Course, Event as ServerEvent, Loss, after_event}
@@ -57,7 +57,7 @@ pub record Laws (S V : Type 0) : Type 0 where
 module _ {S V : Type 0} (laws : Laws S V) (lock : Lock) (ring : List RingKey) (setting : Setting S V) (seals : OpensWhatItSealed lock) (so : IsSealed lock ring setting)
     (w : Moved) (world : World S V) (h : WorldStands w world) (sealed : AreLawfulPackets lock ring setting world) where
   abbrev Says : World S V → Type 0
-  Says behind = SaysSmall w world behind × (AreLawfulPackets lock ring setting behind × Fits setting)
+  Says behind = AreLawfulPackets lock ring setting behind × Fits setting
 
   -- ---- a packet comes
 

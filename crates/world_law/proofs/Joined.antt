@@ -133,7 +133,6 @@ same_there known w world h moment clock later so =
       keys = map_all (λ (session : Session). IsKeyOf w world.seats session.number session.key) (λ (session : Session). IsKeyOf w later session.number session.key) (lives world)
           (λ session is its. key_still w w world.seats later itself keep h.seats (λ c s made owns. owns) session.number session.key its) h.keys;
       bag = bag_still w w world.seats later itself keep h.seats (λ c s made owns. owns) world.bag h.bag;
-      small = h.small;
       kept = h.kept;
     }
 

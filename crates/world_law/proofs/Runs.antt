@@ -17,7 +17,7 @@ use Rattle.world_rules.specs.Premises.{Fresh, IsByNoChance, IsSealed, NoChance, 
 use Rattle.world_rules.specs.Refusals.{ForeignOpens, NoClient, Refusal, by_client, opened, refusal, unless}
 use Rattle.world_rules.specs.Refusals as refusals
 use Rattle.world_rules.specs.Run.{after, is_in_the_way, step, step_any}
-use Rattle.world_law.specs.Small.{AreSaidSmall, Fits, SaysSmall}
+use Rattle.world_law.specs.Small.{Fits}
 use Rattle.world_law.specs.Standing.{HasMoves, WorldStands}
 use Rattle.world_law.specs.Made.{AreLawfulPackets, IsSealedPacket}
 use Rattle.world_law.proofs.Counting.{fewer_fresh}
@@ -44,7 +44,6 @@ begun setting draw ordered = record {
   ordered = ordered;
   keys = tt;
   bag = tt;
-  small = tt;
   kept = record { sessions = tt; jobs = tt };
 }
 
@@ -136,11 +135,11 @@ module _ {S V : Type 0} (laws : Laws S V) (k : Speaks S) (lock : Lock) (ring : L
         ]
 
     next_moves : (world : World S V) (event : Event) → HasMoves world → SealedIn world → Fresh (next world event) → SealedIn (next world event) → (next world event ≡ after setting world event → IsByNoChance setting world event)
-        → ((w : Moved) → WorldStands w world → SaysSmall w world (after setting world event)) → HasMoves (next world event)
-    next_moves world event h sealed fresh behind chance plain =
+        → HasMoves (next world event)
+    next_moves world event h sealed fresh behind chance =
         elim (steps world event) [
           | inl same ↦ subst HasMoves (sym same) h
-          | inr on ↦ subst HasMoves (sym on) (goes_on laws lock ring setting seals so h.0 world h.1 sealed event (chance on) (subst Fresh on fresh) (plain h.0 h.1, (subst SealedIn on behind, fits)))
+          | inr on ↦ subst HasMoves (sym on) (goes_on laws lock ring setting seals so h.0 world h.1 sealed event (chance on) (subst Fresh on fresh) (subst SealedIn on behind, fits))
         ]
 
   any_steps : Steps (step_any setting)
@@ -158,32 +157,32 @@ module _ {S V : Type 0} (laws : Laws S V) (k : Speaks S) (lock : Lock) (ring : L
       ]
 
   pub run_any : (world : World S V) (events : List Event) → HasMoves world → Keeps world → NoChance setting world events → Fresh (fold (step_any setting) world events)
-      → SealedIn (fold (step_any setting) world events) → AreSaidSmall (step_any setting) setting world events → HasMoves (fold (step_any setting) world events)
-  run_any world [] h kept chance fresh sealed plain = h
-  run_any world (event ∷ events) h kept chance fresh sealed plain =
+      → SealedIn (fold (step_any setting) world events) → HasMoves (fold (step_any setting) world events)
+  run_any world [] h kept chance fresh sealed = h
+  run_any world (event ∷ events) h kept chance fresh sealed =
       let behind : World S V = step_any setting world event in
       let kept_on : Keeps behind = next_served (step_any setting) any_steps world event kept in
       run_any behind events
       (next_moves (step_any setting) any_steps world event h (sealed_back (step_any setting) any_steps world (event ∷ events) sealed)
-      (fresh_back (step_any setting) any_steps behind events kept_on fresh) (sealed_back (step_any setting) any_steps behind events sealed) (λ on. chance.0) plain.0)
-      kept_on chance.1 fresh sealed plain.1
+      (fresh_back (step_any setting) any_steps behind events kept_on fresh) (sealed_back (step_any setting) any_steps behind events sealed) (λ on. chance.0))
+      kept_on chance.1 fresh sealed
 
   step_moves : (world : World S V) (event : Event) → HasMoves world → SealedIn world → Fresh (step setting world event) → SealedIn (step setting world event)
-      → ((w : Moved) → WorldStands w world → SaysSmall w world (after setting world event)) → HasMoves (step setting world event)
-  step_moves world event h sealed fresh behind plain =
+      → HasMoves (step setting world event)
+  step_moves world event h sealed fresh behind =
       elim (cases_Bool (is_some (refusal setting world event))) [
         | inl is ↦ rw is h
         | inr fine ↦
             rw fine (goes_on laws lock ring setting seals so h.0 world h.1 sealed event (no_chance setting world event fine)
-            (subst (λ (b : Bool). Fresh (if b then world else after setting world event)) fine fresh) (plain h.0 h.1, (subst (λ (b : Bool). SealedIn (if b then world else after setting world event)) fine behind, fits)))
+            (subst (λ (b : Bool). Fresh (if b then world else after setting world event)) fine fresh) (subst (λ (b : Bool). SealedIn (if b then world else after setting world event)) fine behind, fits))
       ]
 
   pub run_all : (world : World S V) (events : List Event) → HasMoves world → Keeps world → Fresh (fold (step setting) world events) → SealedIn (fold (step setting) world events)
-      → AreSaidSmall (step setting) setting world events → HasMoves (fold (step setting) world events)
-  run_all world [] h kept fresh sealed plain = h
-  run_all world (event ∷ events) h kept fresh sealed plain =
+      → HasMoves (fold (step setting) world events)
+  run_all world [] h kept fresh sealed = h
+  run_all world (event ∷ events) h kept fresh sealed =
       let behind : World S V = step setting world event in
       let kept_on : Keeps behind = next_served (step setting) its_steps world event kept in
       run_all behind events
-      (step_moves world event h (sealed_back (step setting) its_steps world (event ∷ events) sealed) (fresh_back (step setting) its_steps behind events kept_on fresh) (sealed_back (step setting) its_steps behind events sealed) plain.0)
-      kept_on fresh sealed plain.1
+      (step_moves world event h (sealed_back (step setting) its_steps world (event ∷ events) sealed) (fresh_back (step setting) its_steps behind events kept_on fresh) (sealed_back (step setting) its_steps behind events sealed))
+      kept_on fresh sealed

@@ -18,7 +18,7 @@ use Rattle.server_rules.specs.Server.{Name, Session}
 use Rattle.server_rules.specs.Event.{Envelope as Heard, Sent}
 use Rattle.server_rules.specs.Events.{Attach, Course, Event as ServerEvent, Loss, Packet as Comes, Restart, Tick, Work, after_event}
 use Rattle.server_laws.specs.Order.{AreOrdered}
-use Rattle.server_sizes.specs.Small.{AreSmall as AreKeptSmall, HasSmallEnvelope, IsSmallEnvelope, IsWhole, IsWholeSent}
+use Rattle.server_sizes.specs.Small.{AreSmall as AreKeptSmall, DrawsWords, GivesReplies, HasSmallEnvelope, IsSmallEnvelope, IsWhole, IsWholeSent}
 use Rattle.session_moves.specs.World.{Owns, World as Moved}
 use Rattle.session_moves.specs.Move.{Move}
 use Rattle.session_moves.specs.Extends.{Extends}
@@ -29,10 +29,10 @@ use Rattle.world_rules.specs.World.{Packet, Seat, World, bytes_of, lives, server
 use Rattle.world_rules.specs.Ends.{comes_up, course_in, sent_down, serves}
 use Rattle.world_rules.specs.Premises.{Fresh}
 use Rattle.world_servers.specs.Leading.{Leads}
-use Rattle.world_servers.specs.Sending.{AreSmall, WentOut}
+use Rattle.world_servers.specs.Sending.{WentOut}
 use Rattle.world_servers.specs.Servers.{IsPacketUp}
 use Rattle.world_servers.specs.Worlds.{HasServed, StandsIn as AreServersIn}
-use Rattle.world_law.specs.Small.{Fits, SaysSmall}
+use Rattle.world_law.specs.Small.{Fits}
 use Rattle.world_law.specs.Made.{AreLawfulPackets, IsSealedPacket}
 use Rattle.world_law.specs.Standing.{HasMoves, IsBagged, IsKeyOf, IsSeated, IsThere, WorldStands, key_at}
 use Rattle.world_law.proofs.Lists.{all_append, each_of, map_all}
@@ -44,17 +44,18 @@ use Rattle.world_law.proofs.Named.{Themselves, attach_named, loss_named, packet_
 -- what is known of each event of a server
 pub record Serves (S V : Type 0) : Type 0 where
   pub tick : (w : Moved) (setting : Setting S V) (world : World S V) (moment : ℕ) → Reached w → AreServersIn w world → AreOrdered world.server.sessions world.server.jobs
-      → Fresh (serves setting (Tick moment) world) → Leads w (λ later. HasServed later world (serves setting (Tick moment) world))
+      → DrawsWords (at_server setting) → AreKeptSmall world.server.sessions world.server.jobs → Fresh (serves setting (Tick moment) world) → Leads w (λ later. HasServed later world (serves setting (Tick moment) world))
   pub work : (w : Moved) (setting : Setting S V) (world : World S V) (moment place : ℕ) → Reached w → AreServersIn w world → AreOrdered world.server.sessions world.server.jobs
-      → Fresh (serves setting (Work moment place) world) → Leads w (λ later. HasServed later world (serves setting (Work moment place) world))
+      → DrawsWords (at_server setting) → GivesReplies setting.serve → AreKeptSmall world.server.sessions world.server.jobs → Fresh (serves setting (Work moment place) world) → Leads w (λ later. HasServed later world (serves setting (Work moment place) world))
   pub attach : (w : Moved) (setting : Setting S V) (world : World S V) (moment : ℕ) (name : Name) → Reached w → AreServersIn w world → AreOrdered world.server.sessions world.server.jobs
-      → Fresh (serves setting (Attach moment name) world) → Leads w (λ later. HasServed later world (serves setting (Attach moment name) world))
+      → DrawsWords (at_server setting) → AreKeptSmall world.server.sessions world.server.jobs → Fresh (serves setting (Attach moment name) world) → Leads w (λ later. HasServed later world (serves setting (Attach moment name) world))
   pub loss : (w : Moved) (setting : Setting S V) (world : World S V) (name : Name) → AreServersIn w world
       → Leads w (λ later. HasServed later world (serves setting (Loss name) world))
   pub restart : (w : Moved) (setting : Setting S V) (world : World S V) → Reached w → AreServersIn w world → Leads w (λ later. HasServed later world (serves setting Restart world))
   pub unopened : (w : Moved) (setting : Setting S V) (world : World S V) (moment : ℕ) → AreServersIn w world → HasServed w world (serves setting (Comes moment None) world)
   pub packet : (w : Moved) (setting : Setting S V) (world : World S V) (moment : ℕ) (envelope : Heard) → Reached w → AreServersIn w world
-      → AreOrdered world.server.sessions world.server.jobs → Fresh (serves setting (Comes moment (Some envelope)) world) → IsPacketUp w.ups envelope
+      → AreOrdered world.server.sessions world.server.jobs → DrawsWords (at_server setting) → IsSmallEnvelope envelope
+      → AreKeptSmall world.server.sessions world.server.jobs → Fresh (serves setting (Comes moment (Some envelope)) world) → IsPacketUp w.ups envelope
       → ((other : Session) → Contains world.server.sessions other → other.number ≡ envelope.session → other.key ≡ envelope.key)
       → Leads w (λ later. HasServed later world (serves setting (Comes moment (Some envelope)) world))
   pub kept : (setting : Setting S V) (course : Course S V) (event : ServerEvent) → Fits setting → HasSmallEnvelope event → AreKeptSmall course.server.sessions course.server.jobs
@@ -65,7 +66,7 @@ pub record Serves (S V : Type 0) : Type 0 where
 -- what went out is what a client reads
 abbrev pub Reads : Type 0
 Reads = (w : Moved) (sealed : Envelope) → length sealed.body ≤ bytes_max → (begins_container sealed.body ≡ true → (parts : List Message) × IsContainer sealed.number parts sealed.body)
-    → AreSmall w → (went : WentOut w (as_heard sealed)) → Contains w.downs (record { server = went.unique; items = packet_items sealed })
+    → (went : WentOut w (as_heard sealed)) → Contains w.downs (record { server = went.unique; items = packet_items sealed })
 
 -- a packet down is whole
 abbrev IsWholeDown : Packet → Type 0
@@ -80,25 +81,25 @@ module _ {S V : Type 0} (known : Moving) (still : Still) (alone : Themselves S) 
   still_seated list lawful own i (Some seat) s = still.servers w i list seat.client h.reached lawful own s
 
   abbrev pub Says : World S V → Type 0
-  Says behind = SaysSmall w world behind × (AreLawfulPackets lock ring setting behind × Fits setting)
+  Says behind = AreLawfulPackets lock ring setting behind × Fits setting
 
   short_body : (packet : Packet) → IsSealedPacket lock ring setting packet → length packet.envelope.body ≤ bytes_max
   short_body packet sealed =
       omega (arith, seals.size ring packet.dir packet.envelope packet.padding (bytes_of setting packet) sealed, sealed.fits)
 
-  down_bagged : (v : Moved) (packet : Packet) → AreSmall v → IsSealedPacket lock ring setting packet → IsWhole (as_heard packet.envelope) → packet.dir ≡ Down → WentOut v (as_heard packet.envelope) → IsBagged v world.seats packet
-  down_bagged v packet small sealed whole way went =
+  down_bagged : (v : Moved) (packet : Packet) → IsSealedPacket lock ring setting packet → IsWhole (as_heard packet.envelope) → packet.dir ≡ Down → WentOut v (as_heard packet.envelope) → IsBagged v world.seats packet
+  down_bagged v packet sealed whole way went =
       subst (λ (d : Dir). IsThere v world.seats d packet.envelope) (sym way) (record {
         unique = went.unique;
         made = went.made;
         session = went.session;
-        there = read v packet.envelope (short_body packet sealed) (λ begins. (whole.group, whole.whole sealed.lawful.number sealed.lawful.seq begins)) small went;
+        there = read v packet.envelope (short_body packet sealed) (λ begins. (whole.group, whole.whole sealed.lawful.number sealed.lawful.seq begins)) went;
       })
 
-  all_bagged : (v : Moved) (packets : List Packet) → AreSmall v → AllByRecursion (IsSealedPacket lock ring setting) packets → AllByRecursion IsWholeDown packets
+  all_bagged : (v : Moved) (packets : List Packet) → AllByRecursion (IsSealedPacket lock ring setting) packets → AllByRecursion IsWholeDown packets
       → AllByRecursion (λ (packet : Packet). (packet.dir ≡ Down) × WentOut v (as_heard packet.envelope)) packets → AllByRecursion (IsBagged v world.seats) packets
-  all_bagged v [] small sealed whole went = tt
-  all_bagged v (packet ∷ packets) small sealed whole went = (down_bagged v packet small sealed.0 whole.0 went.0.0 went.0.1, all_bagged v packets small sealed.1 whole.1 went.1)
+  all_bagged v [] sealed whole went = tt
+  all_bagged v (packet ∷ packets) sealed whole went = (down_bagged v packet sealed.0 whole.0 went.0.0 went.0.1, all_bagged v packets sealed.1 whole.1 went.1)
 
   whole_down : (sent : List Sent) → AllByRecursion IsWholeSent sent → AllByRecursion IsWholeDown (map sent_down sent)
   whole_down [] all = tt
@@ -129,7 +130,7 @@ module _ {S V : Type 0} (known : Moving) (still : Still) (alone : Themselves S) 
   last_part (packet ∷ bag) packets all = last_part bag packets all.1
 
   module _ (event : ServerEvent) where
-    by_leads : HasSmallEnvelope event → AreLawfulPackets lock ring setting (serves setting event world) × Fits setting → (l : Leads w (λ later. HasServed later world (serves setting event world) × AreSmall later))
+    by_leads : HasSmallEnvelope event → AreLawfulPackets lock ring setting (serves setting event world) × Fits setting → (l : Leads w (λ later. HasServed later world (serves setting event world)))
         → ((P : ℕ → ℕ → Type 0) → AllByRecursion (λ (session : Session). P session.number session.key) (lives world)
         → ((n k : ℕ) → IsKeyOf w world.seats n k → P n k)
         → AllByRecursion (λ (session : Session). P session.number session.key) (lives (serves setting event world)))
@@ -139,7 +140,7 @@ module _ {S V : Type 0} (known : Moving) (still : Still) (alone : Themselves S) 
         let extends : Extends w v = known.extends w l.moves l.lawful in
         let key_on : (n k : ℕ) → IsKeyOf w world.seats n k → IsKeyOf v world.seats n k =
         λ n k. key_still w v world.seats world.seats extends (keys_same world.seats) h.seats (λ c s. known.owned w l.moves c s l.lawful) n k in
-        let served : HasServed v world (serves setting event world) = l.gives.0 in
+        let served : HasServed v world (serves setting event world) = l.gives in
         let done : Course S V = after_event (at_server setting) setting.serve setting.fresh (course_in world) event in
         record {
           reached = known.reached w l.moves h.reached l.lawful;
@@ -152,15 +153,14 @@ module _ {S V : Type 0} (known : Moving) (still : Still) (alone : Themselves S) 
           bag = subst (λ (bag : List Packet). AllByRecursion (IsBagged v world.seats) bag) (sym served.bag)
               (all_append (IsBagged v world.seats) world.bag served.packets
               (bag_still w v world.seats world.seats extends (keys_same world.seats) h.seats (λ c s. known.owned w l.moves c s l.lawful) world.bag h.bag)
-              (all_bagged v served.packets l.gives.1
+              (all_bagged v served.packets
               (last_part world.bag served.packets (subst (λ (bag : List Packet). AllByRecursion (IsSealedPacket lock ring setting) bag) served.bag lawful.0))
               (subst (λ (packets : List Packet). AllByRecursion IsWholeDown packets) (same_part served.packets (map sent_down done.packets) served.bag)
               (whole_down done.packets (serving.whole setting (course_in world) event lawful.1 fit h.kept tt))) served.down));
-          small = l.gives.1;
           kept = serving.kept setting (course_in world) event lawful.1 fit h.kept;
         }
 
-    leads : HasSmallEnvelope event → AreLawfulPackets lock ring setting (serves setting event world) × Fits setting → (l : Leads w (λ later. HasServed later world (serves setting event world) × AreSmall later))
+    leads : HasSmallEnvelope event → AreLawfulPackets lock ring setting (serves setting event world) × Fits setting → (l : Leads w (λ later. HasServed later world (serves setting event world)))
         → ((P : ℕ → ℕ → Type 0) → AllByRecursion (λ (session : Session). P session.number session.key) (lives world)
         → ((n k : ℕ) → IsKeyOf w world.seats n k → P n k)
         → AllByRecursion (λ (session : Session). P session.number session.key) (lives (serves setting event world))) → HasMoves (serves setting event world)
@@ -168,44 +168,32 @@ module _ {S V : Type 0} (known : Moving) (still : Still) (alone : Themselves S) 
 
   pub ticked : Fresh (serves setting (Tick world.clock) world) → Says (serves setting (Tick world.clock) world) → HasMoves (serves setting (Tick world.clock) world)
   ticked fresh plain =
-      leads (Tick world.clock) tt plain.1 (plain.0 (serving.tick w setting world world.clock h.reached h.server h.ordered fresh)) (λ P all keys. tick_named P alone setting world all world.clock)
+      leads (Tick world.clock) tt plain (serving.tick w setting world world.clock h.reached h.server h.ordered plain.1.words h.kept fresh) (λ P all keys. tick_named P alone setting world all world.clock)
 
   pub worked : (place : ℕ) → Fresh (serves setting (Work world.clock place) world) → Says (serves setting (Work world.clock place) world) → HasMoves (serves setting (Work world.clock place) world)
   worked place fresh plain =
-      leads (Work world.clock place) tt plain.1 (plain.0 (serving.work w setting world world.clock place h.reached h.server h.ordered fresh))
+      leads (Work world.clock place) tt plain (serving.work w setting world world.clock place h.reached h.server h.ordered plain.1.words plain.1.replies h.kept fresh)
       (λ P all keys. work_named P alone setting world all world.clock place)
 
   pub attached : (name : Name) → Fresh (serves setting (Attach world.clock name) world) → Says (serves setting (Attach world.clock name) world) → HasMoves (serves setting (Attach world.clock name) world)
   attached name fresh plain =
-      leads (Attach world.clock name) tt plain.1 (plain.0 (serving.attach w setting world world.clock name h.reached h.server h.ordered fresh))
+      leads (Attach world.clock name) tt plain (serving.attach w setting world world.clock name h.reached h.server h.ordered plain.1.words h.kept fresh)
       (λ P all keys. attach_named P alone setting world all world.clock name)
 
   pub lost : (name : Name) → Says (serves setting (Loss name) world) → HasMoves (serves setting (Loss name) world)
-  lost name plain = leads (Loss name) tt plain.1 (plain.0 (serving.loss w setting world name h.server)) (λ P all keys. loss_named P alone setting world all name)
+  lost name plain = leads (Loss name) tt plain (serving.loss w setting world name h.server) (λ P all keys. loss_named P alone setting world all name)
 
   pub restarted : Says (record (serves setting Restart world) { start = suc world.start }) → HasMoves (record (serves setting Restart world) { start = suc world.start })
   restarted plain =
-      let first = serving.restart w setting world h.reached h.server in
-      let l = plain.0 (record {
-        moves = first.moves;
-        lawful = first.lawful;
-        own = first.own;
-        gives = record { stands = first.gives.stands; packets = first.gives.packets; bag = first.gives.bag; down = first.gives.down };
-      }) in
-      let again : Leads w (λ later. HasServed later world (serves setting Restart world) × AreSmall later) = record {
-        moves = l.moves;
-        lawful = l.lawful;
-        own = l.own;
-        gives = (record { stands = l.gives.0.stands; packets = l.gives.0.packets; bag = l.gives.0.bag; down = l.gives.0.down }, l.gives.1);
-      } in
-      let s = by_leads Restart tt plain.1 again (λ P all keys. restart_named P alone setting world all) in
-      (after_all w l.moves, record { reached = s.reached; seats = s.seats; server = s.server; ordered = s.ordered; keys = s.keys; bag = s.bag; small = s.small; kept = s.kept })
+      let l = serving.restart w setting world h.reached h.server in
+      let s = by_leads Restart tt plain l (λ P all keys. restart_named P alone setting world all) in
+      (after_all w l.moves, record { reached = s.reached; seats = s.seats; server = s.server; ordered = s.ordered; keys = s.keys; bag = s.bag; kept = s.kept })
 
   -- ---- a packet
 
   pub unopened : Says (serves setting (Comes world.clock None) world) → HasMoves (serves setting (Comes world.clock None) world)
   unopened plain =
-      leads (Comes world.clock None) tt plain.1 (plain.0 (record { moves = []; lawful = tt; own = λ j d below. absurd (omega arith); gives = serving.unopened w setting world world.clock h.server }))
+      leads (Comes world.clock None) tt plain (record { moves = []; lawful = tt; own = λ j d below. absurd (omega arith); gives = serving.unopened w setting world world.clock h.server })
       (λ P all keys. unopened_named P alone setting world all world.clock)
 
   one_key : (envelope : Envelope) → IsKeyOf w world.seats envelope.session envelope.key → (other : Session) → Contains (lives world) other → other.number ≡ envelope.session → other.key ≡ envelope.key
@@ -220,9 +208,9 @@ module _ {S V : Type 0} (known : Moving) (still : Still) (alone : Themselves S) 
       → Fresh (serves setting (Comes world.clock (Some (as_heard envelope))) world) → Says (serves setting (Comes world.clock (Some (as_heard envelope))) world)
       → HasMoves (serves setting (Comes world.clock (Some (as_heard envelope))) world)
   opened envelope its fresh plain =
-      leads (Comes world.clock (Some (as_heard envelope))) its.1 plain.1
-      (plain.0 (serving.packet w setting world world.clock (as_heard envelope) h.reached h.server h.ordered fresh its.0.0
-      (λ other among same. one_key envelope its.0.1 other (Contains-append_right world.lost world.server.sessions other among) same)))
+      leads (Comes world.clock (Some (as_heard envelope))) its.1 plain
+      (serving.packet w setting world world.clock (as_heard envelope) h.reached h.server h.ordered plain.1.words its.1 h.kept fresh its.0.0
+      (λ other among same. one_key envelope its.0.1 other (Contains-append_right world.lost world.server.sessions other among) same))
       (λ P all keys. packet_named P alone setting world all world.clock (as_heard envelope) (keys envelope.session envelope.key its.0.1))
 
   by_opening : (found : Option Envelope) → ((envelope : Envelope) → found ≡ Some envelope → (IsPacketUp w.ups (as_heard envelope) × IsKeyOf w world.seats envelope.session envelope.key) × IsSmallEnvelope (as_heard envelope))

@@ -15,7 +15,6 @@ use Rattle.world_moves.specs.Clients.{IsNobody, StandsAs}
 use Rattle.world_moves.specs.Packets.{packet_items}
 use Rattle.world_moves.specs.Sent.{IsPacketSent}
 use Rattle.world_rules.specs.World.{Packet, Seat, World, lives}
-use Rattle.world_servers.specs.Sending.{AreSmall}
 use Rattle.world_servers.specs.Worlds.{StandsIn as AreServersIn}
 
 -- ---- clients
@@ -74,9 +73,7 @@ pub record WorldStands {S V : Type 0} (w : moves.World) (world : World S V) : Ty
   pub keys : AllByRecursion (λ session. IsKeyOf w world.seats session.number session.key) (lives world)
   -- so is each packet that was ever made
   pub bag : AllByRecursion (IsBagged w world.seats) world.bag
-  -- the numbers of what went out there fit their places
-  pub small : AreSmall w
-  -- so do those of its sessions and jobs
+  -- the numbers of its sessions and jobs fit their places
   pub kept : AreKeptSmall world.server.sessions world.server.jobs
 
 -- some list of lawful moves leads to where the world stands

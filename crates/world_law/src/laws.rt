@@ -16,9 +16,9 @@ ghost use Rattle.world_rules.specs.Setting.{Setting};
 ghost use Rattle.world_rules.specs.World.{Packet, World, begins, bytes_of};
 ghost use Rattle.world_rules.specs.Premises.{Fresh, IsByNoChance, IsSealed, NoChance, OpensOnly, names_drawn};
 ghost use Rattle.world_rules.specs.Once.{Once, ran_in};
-ghost use Rattle.world_rules.specs.Run.{after, run_of, run_of_any, step, step_any};
+ghost use Rattle.world_rules.specs.Run.{after, run_of, run_of_any};
 ghost use Rattle.world_law.specs.Made.{AreLawfulPackets, IsOfPacket, IsSealedPacket, IsShort};
-ghost use Rattle.world_law.specs.Small.{AreSaidSmall, Fits, SaysSmall};
+ghost use Rattle.world_law.specs.Small.{Fits};
 ghost use Rattle.world_law.specs.Standing.{HasMoves, WorldStands};
 ghost use Rattle.world_law.specs.Words.{AreDrawn, HavePlaces, given_step};
 
@@ -75,21 +75,20 @@ pub fn worlds_only_grow<D: Draw, V>()
 /// Every event of a world is a list of lawful moves, and so some list of lawful moves leads to where the world of a schedule
 /// stands, with its clients, sessions, jobs, packets and entries. The premises: a seal that opens what it sealed, foreign
 /// bytes that open by no chance (a schedule refuses those that open), words that aren't 0 and differ; words that are drawn
-/// have 64 bits and replies of the service are whole words and short; and two on sizes, which aren't shown of the rules: each packet is
-/// one that may be sealed, and the numbers of what a server says fit their places.
+/// have 64 bits and replies of the service are whole words and short; and one on sizes, which isn't shown of the rules: each
+/// packet is one that may be sealed.
 pub fn worlds_are_moves<D: Draw, V>()
     ensures begins { (setting : Setting D V) (draw : D) → WorldStands empty (begins setting draw) }
     ensures event { (lock : Lock) (ring : List RingKey) (setting : Setting D V) (w : Moved) (world : World D V) (event : Event) → OpensWhatItSealed lock
         → IsSealed lock ring setting → Fits setting → WorldStands w world → AreLawfulPackets lock ring setting world → IsByNoChance setting world event
-        → Fresh (after setting world event) → SaysSmall w world (after setting world event)
-        → AreLawfulPackets lock ring setting (after setting world event) → HasMoves (after setting world event) }
+        → Fresh (after setting world event) → AreLawfulPackets lock ring setting (after setting world event) → HasMoves (after setting world event) }
     ensures schedule { (lock : Lock) (ring : List RingKey) (setting : Setting D V) (draw : D) (events : List Event) → OpensWhatItSealed lock
         → IsSealed lock ring setting → Fits setting → Fresh (run_of setting draw events) → AreLawfulPackets lock ring setting (run_of setting draw events)
-        → AreSaidSmall (step setting) setting (begins setting draw) events → HasMoves (run_of setting draw events) }
+        → HasMoves (run_of setting draw events) }
     ensures any { (lock : Lock) (ring : List RingKey) (setting : Setting D V) (draw : D) (events : List Event) → OpensWhatItSealed lock
         → IsSealed lock ring setting → Fits setting → NoChance setting (begins setting draw) events → Fresh (run_of_any setting draw events)
         → AreLawfulPackets lock ring setting (run_of_any setting draw events)
-        → AreSaidSmall (step_any setting) setting (begins setting draw) events → HasMoves (run_of_any setting draw events) }
+        → HasMoves (run_of_any setting draw events) }
 {
     moves_go_on();
     moves_leave();
@@ -120,11 +119,11 @@ pub fn worlds_are_moves<D: Draw, V>()
 pub fn calls_execute_once<D: Draw, V>()
     ensures schedule { (lock : Lock) (ring : List RingKey) (setting : Setting D V) (draw : D) (events : List Event) → OpensWhatItSealed lock
         → IsSealed lock ring setting → Fits setting → Fresh (run_of setting draw events) → AreLawfulPackets lock ring setting (run_of setting draw events)
-        → AreSaidSmall (step setting) setting (begins setting draw) events → Once setting (run_of setting draw events) }
+        → Once setting (run_of setting draw events) }
     ensures any { (lock : Lock) (ring : List RingKey) (setting : Setting D V) (draw : D) (events : List Event) → OpensWhatItSealed lock
         → IsSealed lock ring setting → Fits setting → NoChance setting (begins setting draw) events → Fresh (run_of_any setting draw events)
         → AreLawfulPackets lock ring setting (run_of_any setting draw events)
-        → AreSaidSmall (step_any setting) setting (begins setting draw) events → Once setting (run_of_any setting draw events) }
+        → Once setting (run_of_any setting draw events) }
     ensures standing { (setting : Setting D V) (w : Moved) (world : World D V) → WorldStands w world
         → ((start : ℕ) → Served setting.serve setting.fresh (ran_in start world.entries)) → Once setting world }
 {
@@ -173,11 +172,10 @@ pub fn step_words_keep_names_fresh<V>()
 pub fn calls_execute_once_by_steps<V>()
     ensures schedule { (lock : Lock) (ring : List RingKey) (setting : Setting ℕ V) (given : ℕ) (events : List Event) → setting.step ≡ given_step
         → OpensWhatItSealed lock → IsSealed lock ring setting → Fits setting → AreLawfulPackets lock ring setting (run_of setting given events)
-        → AreSaidSmall (step setting) setting (begins setting given) events
         → (n : ℕ) × AreDrawn setting (begins setting given) n (run_of setting given events) × (given + n < 2 ^ 64 → Once setting (run_of setting given events)) }
     ensures any { (lock : Lock) (ring : List RingKey) (setting : Setting ℕ V) (given : ℕ) (events : List Event) → setting.step ≡ given_step
         → OpensWhatItSealed lock → IsSealed lock ring setting → Fits setting → NoChance setting (begins setting given) events
-        → AreLawfulPackets lock ring setting (run_of_any setting given events) → AreSaidSmall (step_any setting) setting (begins setting given) events
+        → AreLawfulPackets lock ring setting (run_of_any setting given events)
         → (n : ℕ) × AreDrawn setting (begins setting given) n (run_of_any setting given events) × (given + n < 2 ^ 64 → Once setting (run_of_any setting given events)) }
 {
     step_words_keep_names_fresh::<V>();

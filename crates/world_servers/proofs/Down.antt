@@ -26,7 +26,7 @@ use Rattle.session_moves.specs.World.{World}
 use Rattle.world_moves.specs.Packets.{item_there, items_there, packet_items}
 use Rattle.world_rules.specs.Setting.{as_heard}
 use Rattle.world_servers.specs.Speaking.{IsPlain}
-use Rattle.world_servers.specs.Sending.{AreSmall, AreSpelt, IsSmall, WentOut}
+use Rattle.world_servers.specs.Sending.{AreSpelt, IsSmall, WentOut}
 use Rattle.world_servers.proofs.Asked.{AreRead, Reading, int_again, long_again, no_container}
 use Rattle.world_servers.proofs.Lists.{each_of}
 use Rattle.world_servers.proofs.Up.{Unfolds, container_rows, row_behind, row_length, row_long, row_size}
@@ -293,9 +293,8 @@ pub packet_down : Reading → ((form : Form) (value : Of form) (text rest : List
     → ((messages : List Message) → container_of messages ≡ spelling_of (MsgContainer messages))
     → ((number : ℕ) (messages : List Message) (body : List ℕ) → IsContainer number messages body → parts_of number body ≡ Ok messages)
     → (w : World) (sealed : Envelope) → length sealed.body ≤ bytes_max → (begins_container sealed.body ≡ true → (parts : List Message) × IsContainer sealed.number parts sealed.body)
-    → AreSmall w → (went : WentOut w (as_heard sealed)) → Contains w.downs (record { server = went.unique; items = packet_items sealed })
-packet_down r read u spelt_so parsed w sealed few lawful small went =
+    → (went : WentOut w (as_heard sealed)) → Contains w.downs (record { server = went.unique; items = packet_items sealed })
+packet_down r read u spelt_so parsed w sealed few lawful went =
     let items = went.spoken.items in
-    let its = each_of (λ (packet : moves.Packet). AllByRecursion IsSmall packet.items) w.downs small (record { server = went.unique; items = flat_map item_there items }) went.spoken.there in
-    let same = group_down r read u spelt_so parsed sealed.number sealed.seq went.group sealed.body items went.body few lawful went.spoken.spelt its in
+    let same = group_down r read u spelt_so parsed sealed.number sealed.seq went.group sealed.body items went.body few lawful went.spoken.spelt went.spoken.small in
     subst (λ (l : List moves.Item). Contains w.downs (record { server = went.unique; items = l })) (sym same) went.spoken.there

@@ -20,7 +20,7 @@ use Rattle.world_servers.specs.Leading.{Leads}
 use Rattle.world_servers.specs.Servers.{AreApart, IsStanding, Past, with_lost}
 use Rattle.world_servers.specs.Speaking.{IsOwedThere, IsSaid, SpeaksThere, with_line}
 use Rattle.world_servers.specs.Events.{EventStands, lined, with_lines}
-use Rattle.world_servers.specs.Sending.{EventEnds, IsSpoken, MayAllGo, MayGo, WentOut}
+use Rattle.world_servers.specs.Sending.{EventEnds, IsFit, IsSpoken, MayAllGo, MayGo, WentOut}
 use Rattle.world_servers.proofs.Lists.{all_append, all_of, each_of, from_filter, map_all}
 use Rattle.world_servers.proofs.Leading.{GoOn, goes_on, leads_so, stays}
 use Rattle.world_servers.proofs.Losing.{and_right, append_nothing, eq_true}
@@ -110,6 +110,9 @@ all_go_counted : (counters : Counters) (owed : List Owed) (session : Session) �
 all_go_counted counters owed session h =
     map_all (MayGo session) (MayGo (counted counters session)) (groups (messages_by (name_of session) owed)) (λ group is may. go_counted counters session group may) h
 
+fit_counted : (counters : Counters) (session : Session) → IsFit session → IsFit (counted counters session)
+fit_counted counters session h = record { unique = h.unique; salts = h.salts; history = h.history; replies = h.replies }
+
 module _ {S : Type 0} (adds : Adds) (extends : (w : World) (list : List Move) → AreLawful w list → Extends w (after_all w list)) (on : GoOn) (any : AnySaid)
     (whole : (messages : List Message) → flat_map (λ group. group) (groups messages) ≡ messages) (setting : Setting S) (gone : Past) (lines : Name → Line) (owed : List Owed) where
   abbrev OutIn : World → Sent → Type 0
@@ -120,6 +123,7 @@ module _ {S : Type 0} (adds : Adds) (extends : (w : World) (list : List Move) �
     pub stands : EventStands w gone lines state
     pub same : state.owed ≡ owed
     pub go : AllByRecursion (MayAllGo owed) (with_lines lines state.sessions)
+    pub fit : AllByRecursion IsFit (with_lines lines state.sessions)
     pub out : AllByRecursion (OutIn w) state.sent
 
   pub went_still : (w : World) (list : List Move) → AreLawful w list → (sent : Sent) → OutIn w sent → OutIn (after_all w list) sent
@@ -129,7 +133,7 @@ module _ {S : Type 0} (adds : Adds) (extends : (w : World) (list : List Move) �
         unique = h.unique;
         group = h.group;
         body = h.body;
-        spoken = record { items = h.spoken.items; spelt = h.spoken.spelt; there = more.packets _ h.spoken.there };
+        spoken = record { items = h.spoken.items; spelt = h.spoken.spelt; there = more.packets _ h.spoken.there; small = h.spoken.small };
         made = more.servers.made h.unique h.made;
         session = more.servers.session h.unique h.made ∙ h.session;
       }
@@ -166,6 +170,9 @@ module _ {S : Type 0} (adds : Adds) (extends : (w : World) (list : List Move) �
 
     go_its : MayAllGo owed its
     go_its = each_of (MayAllGo owed) xs h.go its its_there
+
+    fit_its : IsFit its
+    fit_its = each_of IsFit xs h.fit its its_there
 
     may : AllByRecursion (MayGo its) (groups messages)
     may = subst (λ (n : Name). AllByRecursion (MayGo its) (groups (messages_by n owed))) (sym its_name) go_its
@@ -206,7 +213,7 @@ module _ {S : Type 0} (adds : Adds) (extends : (w : World) (list : List Move) �
 
     goes : SpeaksThere w gone xs (lines name) first → Leads w (λ later. SpeaksThere later gone xs (lines name) b × Out later)
     goes k =
-        let l = sends_on setting gone xs (lines name) adds on any whole w messages first reached k said may in
+        let l = sends_on setting gone xs (lines name) adds on any whole w messages first reached k said may fit_its in
         let later : World = after_all w l.moves in
         let stands = each_of (IsStanding later) (with_session (with_line (lines name) b.session) xs) l.gives.0.stands.standing (with_line (lines name) b.session) l.gives.0.among in
         let unmade : (later.servers b.session.unique).status ≢ Unmade = λ is. (let e : Unmade ≡ Standing = sym is ∙ stands.stands in absurd (cc)) in
@@ -241,6 +248,16 @@ module _ {S : Type 0} (adds : Adds) (extends : (w : World) (list : List Move) �
           | inr not_so ↦ rw not_so (each_of (MayAllGo owed) xs h.go o there)
         ]
 
+    fit_now : IsFit now
+    fit_now = subst (λ (s : Session). IsFit (with_line (lines name) s)) (sym session_b) (fit_counted counters its fit_its)
+
+    fit_put : (o : Session) → Contains xs o → IsFit (put now o)
+    fit_put o there =
+        elim (cases_Bool (is_named (name_of now) o)) [
+          | inl is ↦ rw is fit_now
+          | inr not_so ↦ rw not_so (each_of IsFit xs h.fit o there)
+        ]
+
     sends_it : Leads w (λ later. Sends later (spoken state b))
     sends_it =
         leads_so w (λ later. EventStands later gone lines (spoken state b) × Out later) (λ later. Sends later (spoken state b))
@@ -248,6 +265,7 @@ module _ {S : Type 0} (adds : Adds) (extends : (w : World) (list : List Move) �
           stands = k.0;
           same = owed_b ∙ h.same;
           go = subst (λ (l : List Session). AllByRecursion (MayAllGo owed) l) (sym (lines_put lines name b.session state.sessions named_b)) (all_mapped (MayAllGo owed) (put now) xs go_put);
+          fit = subst (λ (l : List Session). AllByRecursion IsFit l) (sym (lines_put lines name b.session state.sessions named_b)) (all_mapped IsFit (put now) xs fit_put);
           out = k.1;
         })
         (speaks_with adds w gone lines state h.stands name x found (sends setting messages) Out own goes)
@@ -306,14 +324,15 @@ module _ {S : Type 0} (adds : Adds) (extends : (w : World) (list : List Move) �
 
 pub ends_on : {S : Type 0} (adds : Adds) (extends : (w : World) (list : List Move) → AreLawful w list → Extends w (after_all w list)) (on : GoOn) (any : AnySaid)
     (whole : (messages : List Message) → flat_map (λ group. group) (groups messages) ≡ messages) (setting : Setting S) (gone : Past) (lines : Name → Line) (w : World) (state : State S)
-    → Reached w → EventStands w gone lines state → AllByRecursion (MayAllGo state.owed) (with_lines lines state.sessions) → AllByRecursion (λ (sent : Sent). WentOut w sent.envelope) state.sent
+    → Reached w → EventStands w gone lines state → AllByRecursion (MayAllGo state.owed) (with_lines lines state.sessions) → AllByRecursion IsFit (with_lines lines state.sessions)
+    → AllByRecursion (λ (sent : Sent). WentOut w sent.envelope) state.sent
     → Leads w (λ later. EventEnds later gone lines (all_sent setting state).sessions (without_spent (all_sent setting state)))
-ends_on adds extends on any whole setting gone lines w state reached h go out =
+ends_on adds extends on any whole setting gone lines w state reached h go fit out =
     let owed : List Owed = state.owed in
     let end : State _ = all_sent setting state in
     let Ends : World → Type 0 = λ later. EventEnds later gone lines end.sessions (without_spent end) in
     goes_on on w (λ later. Sends adds extends on any whole setting gone lines owed later end) Ends reached
-    (sends_names adds extends on any whole setting gone lines owed (names_in owed) w state reached (record { stands = h; same = refl; go = go; out = out }))
+    (sends_names adds extends on any whole setting gone lines owed (names_in owed) w state reached (record { stands = h; same = refl; go = go; fit = fit; out = out }))
     (λ later reached k.
     let apart : AreApart end.sessions = apart_lines lines end.sessions k.stands.stands.apart in
     loses_all adds extends on any whole setting gone lines owed end.sessions apart (filter is_spent end.sessions) later end reached

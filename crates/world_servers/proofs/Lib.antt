@@ -21,6 +21,7 @@ pub mod Events
 pub mod Jobs
 pub mod Ordered
 pub mod Beginning
+pub mod Fits
 pub mod Sending
 pub mod Ending
 pub mod HeardOwe
@@ -38,6 +39,7 @@ pub mod Chosen
 pub mod Drawn
 pub mod Whole
 pub mod Served
+pub mod Fitting
 pub mod Heard
 pub mod Comes
 pub mod Asked

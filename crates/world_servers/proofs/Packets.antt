@@ -338,7 +338,7 @@ module _ (low : (history : History) → All (λ (j : FirstJudgement). is_kept j.
 
     up_more : (w : World) (list : List Move) → AreLawful w list → (message : Message) → IsUp w.ups x.number salt message → IsUp (after_all w list).ups x.number salt message
     up_more w list lawful message h =
-        record { up = h.up; there = lasts.messages w list lawful h.up h.there; under = h.under; salted = h.salted; numbered = h.numbered; is = h.is }
+        (h.0, record { up = h.1.up; there = lasts.messages w list lawful h.1.up h.1.there; under = h.1.under; salted = h.1.salted; numbered = h.1.numbered; is = h.1.is })
 
     recorded_accepted : (message : Message) (verdict : Verdict) (item : Item) → verdict ≡ Accepted item → (rec : Option Outcome) → recorded (kind_of message) verdict ≡ rec
         → rec ≡ Some (outcome_of (kind_of message))
@@ -357,9 +357,9 @@ module _ (low : (history : History) → All (λ (j : FirstJudgement). is_kept j.
         let now : Session = with_history r.history x in
         let its : Contains (with_session now sessions) now = with_among sessions x now refl refl among in
         let stands : IsStanding w now = each_of (IsStanding w) (with_session now sessions) s.standing now its in
-        let decision = decides (w.servers x.unique) up.up message (judge way r message) outcome is
-        (λ item accepted. subst (λ (n : ℕ). Contains (w.servers x.unique).salts n) (sym up.salted) (salt_of w now stands salt (salted item accepted))) in
-        let l = judges w past (with_session now sessions) jobs s now its rises message.number message.seq outcome up.up decision.decided up.there up.under up.numbered
+        let decision = decides (w.servers x.unique) up.1.up message (judge way r message) outcome is
+        (λ item accepted. subst (λ (n : ℕ). Contains (w.servers x.unique).salts n) (sym up.1.salted) (salt_of w now stands salt (salted item accepted))) in
+        let l = judges w past (with_session now sessions) jobs s now its rises message.number message.seq outcome up.1.up decision.decided up.1.there up.1.under up.1.numbered
         (unjudged way r message outcome marks is) decision.such decision.may in
         record {
           moves = l.moves;
@@ -377,9 +377,9 @@ module _ (low : (history : History) → All (λ (j : FirstJudgement). is_kept j.
                 (ap (λ (o : Option Outcome). or_outcome o outcome) (sym (recorded_accepted message (judge way r message) item accepted (Some outcome) is)))
                 (accepted_among (container_in message.number message.body) message.body) in
                 subst (λ (i : Item). AsksThere (after_all w l.moves) x message.number (request_of i message.body)) same
-                (asks_now (after_all w l.moves) x salt message.number (request_of (item_told message.body) message.body) (up_more w l.moves l.lawful message up)
+                (asks_now (after_all w l.moves) x salt message.number (request_of (item_told message.body) message.body) (up_more w l.moves l.lawful message up).1
                 (λ body asked. subst (λ (o : moves.Outcome). Contains ((after_all w l.moves).servers x.unique).judged (record { number = message.number; outcome = o }))
-                (decision.called body was (up.is ∙ asked)) l.gives.1))),
+                (decision.called body was (up.1.is ∙ asked)) l.gives.1))),
           );
         }
 

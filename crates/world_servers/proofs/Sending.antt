@@ -17,10 +17,11 @@ use Rattle.session_moves.specs.World.{World}
 use Rattle.session_moves.specs.Reached.{Reached, after_all}
 use Rattle.world_moves.specs.Packets.{item_there}
 use Rattle.world_servers.specs.Leading.{Leads}
-use Rattle.world_servers.specs.Servers.{CanSay, Past, with_entries}
+use Rattle.world_servers.specs.Servers.{CanSay, IsMade, IsStanding, Past, with_entries}
 use Rattle.world_servers.specs.Speaking.{IsSaid, SpeaksThere, StandsSpeaking, with_line}
-use Rattle.world_servers.specs.Sending.{AreSpelt, IsSpoken, MayGo}
-use Rattle.world_servers.proofs.Lists.{all_append, map_all}
+use Rattle.world_servers.specs.Sending.{AreSpelt, IsFit, IsSmall, IsSpoken, MayGo}
+use Rattle.world_servers.proofs.Lists.{all_append, each_of, map_all}
+use Rattle.world_servers.proofs.Fits.{can_small}
 use Rattle.world_servers.proofs.Leading.{GoOn, goes_on, leads_so, stays}
 use Rattle.world_servers.proofs.Kept.{same_jobs}
 use Rattle.world_servers.proofs.Speaking.{AnySaid, speaks}
@@ -75,9 +76,12 @@ new_items w y (message ∷ messages) h (inr first) =
 
 -- ---- the packets
 
-module _ (adds : Adds) (on : GoOn) (any : AnySaid) (gone : Past) (sessions : List Session) (y : Session) (jobs : Queue) (owed : List Owed) where
+module _ (adds : Adds) (on : GoOn) (any : AnySaid) (gone : Past) (sessions : List Session) (y : Session) (jobs : Queue) (owed : List Owed) (fit : IsFit y) where
   abbrev At : World → Type 0
   At w = StandsSpeaking w gone sessions y jobs owed
+
+  stands_made : (w : World) → At w → IsMade w y
+  stands_made w h = (each_of (IsStanding w) (with_session y sessions) h.stands.standing y h.among).made
 
   speaks_one : (w : World) → Reached w → At w → (group : List Message) → AllByRecursion (IsSaid w y) group → MayGo y group → Leads w (λ later. At later × IsSpoken later y.unique group)
   speaks_one w reached h group said may =
@@ -94,7 +98,12 @@ module _ (adds : Adds) (on : GoOn) (any : AnySaid) (gone : Past) (sessions : Lis
             among = h.among;
             owed = owed_still w v y y.counters y.replies (λ reply same. same) (λ n has. adds.forgotten w l.moves l.lawful y.unique n has) (λ m has. adds.messages w l.moves l.lawful m has) owed h.owed;
           },
-          record { items = new.all.items; spelt = new.all.spelt; there = l.gives.1 },
+          record {
+            items = new.all.items;
+            spelt = new.all.spelt;
+            there = l.gives.1;
+            small = map_all (CanSay w y) IsSmall (flat_map item_there new.all.items) (λ item is can. can_small w y fit (stands_made w h) item can) new.all.can;
+          },
         );
       }
 
@@ -124,7 +133,7 @@ module _ (adds : Adds) (on : GoOn) (any : AnySaid) (gone : Past) (sessions : Lis
         own = rest.own;
         gives = (
           rest.gives.0,
-          (record { items = k.0.1.items; spelt = k.0.1.spelt; there = adds.packets later rest.moves rest.lawful (record { server = y.unique; items = flat_map item_there k.0.1.items }) k.0.1.there }, rest.gives.1),
+          (record { items = k.0.1.items; spelt = k.0.1.spelt; there = adds.packets later rest.moves rest.lawful (record { server = y.unique; items = flat_map item_there k.0.1.items }) k.0.1.there; small = k.0.1.small }, rest.gives.1),
         );
       })
 
@@ -139,9 +148,9 @@ module _ {S : Type 0} (setting : Setting S) (gone : Past) (sessions : List Sessi
   pub sends_on : Adds → GoOn → AnySaid → ((messages : List Message) → flat_map (λ group. group) (groups messages) ≡ messages)
       → (w : World) (messages : List Message) (speaker : Speaker S) → Reached w → SpeaksThere w gone sessions line speaker
       → AllByRecursion (IsSaid w (with_line line speaker.session)) messages
-      → AllByRecursion (MayGo (with_line line speaker.session)) (groups messages)
+      → AllByRecursion (MayGo (with_line line speaker.session)) (groups messages) → IsFit (with_line line speaker.session)
       → Leads w (λ later. SpeaksThere later gone sessions line (sends setting messages speaker) × AllByRecursion (IsSpoken later speaker.session.unique) (groups messages))
-  sends_on adds on any whole w messages speaker reached h said may =
+  sends_on adds on any whole w messages speaker reached h said may fit =
       let y : Session = with_line line speaker.session in
       let ready : Speaker S = needs_salts setting 1 speaker in
       let counters = after_packets setting.now ready.session.counters messages in
@@ -153,5 +162,5 @@ module _ {S : Type 0} (setting : Setting S) (gone : Past) (sessions : List Sessi
             (quietly later (with_entries speaker.entries gone) sessions y speaker.jobs speaker.owed k.0 counters y.replies speaker.jobs (go_same y.replies) (same_jobs speaker.jobs)),
         k.1,
       ))
-      (speaks_all adds on any (with_entries speaker.entries gone) sessions y speaker.jobs speaker.owed w reached h (groups messages)
+      (speaks_all adds on any (with_entries speaker.entries gone) sessions y speaker.jobs speaker.owed fit w reached h (groups messages)
       (all_groups (IsSaid w y) (groups messages) (subst (λ (l : List Message). AllByRecursion (IsSaid w y) l) (sym (whole messages)) said)) may)

@@ -31,7 +31,7 @@ use Rattle.session_moves.specs.Reached.{AreLawful, Reached, after_all}
 use Rattle.world_servers.specs.Leading.{Leads}
 use Rattle.world_moves.specs.Packets.{item_there}
 use Rattle.packing.specs.Numbering.{after_item}
-use Rattle.world_servers.specs.Servers.{AsksThere, CanSay, Past, with_lost}
+use Rattle.world_servers.specs.Servers.{AsksThere, CanSay, IsNoCall, Past, with_lost}
 use Rattle.world_servers.specs.Speaking.{IsPlain, IsDue, IsOpen, IsWithin, SpeaksThere, with_line}
 use Rattle.world_servers.specs.Events.{AreLost, AreOpenJobs, EventStands, lined, with_lines}
 use Rattle.world_servers.proofs.Lists.{all_of, each_of, kept_in}
@@ -93,7 +93,7 @@ module _ {S : Type 0} (adds : Adds) (on : MovesGoOn) (alone : GivesUpAlone S) (o
   IsJudged w number (Noticed code) body =
       ((judgement : FirstJudgement) × Contains (past name) judgement × (judgement.number ≡ number) × (judgement.outcome ≡ Refused code))
       ⊎ ((code ≡ 20) × WasGiven w.ups name.session number × (number ≤ floor (past name)))
-      ⊎ ((code ≡ 19) × WasNoCall w.ups name.session number)
+      ⊎ ((code ≡ 19) × IsNoCall w.ups name.session number)
   IsJudged w number (Again mark) body = WasGiven w.ups name.session number
   IsJudged w number (Accepted item) body = Asks w number (request_of item body)
 
@@ -116,7 +116,7 @@ module _ {S : Type 0} (adds : Adds) (on : MovesGoOn) (alone : GivesUpAlone S) (o
     judged_still : (number : ℕ) (verdict : Verdict) (body : List ℕ) → IsJudged w number verdict body → IsJudged later number verdict body
     judged_still number (Noticed code) body (inl h) = inl h
     judged_still number (Noticed code) body (inr (inl h)) = inr (inl (h.0, given_still number h.1, h.2))
-    judged_still number (Noticed code) body (inr (inr h)) = inr (inr (h.0, asks_still number None h.1))
+    judged_still number (Noticed code) body (inr (inr h)) = inr (inr (h.0, record { fits = h.1.fits; given = asks_still number None h.1.given }))
     judged_still number (Again mark) body h = given_still number h
     judged_still number (Accepted item) body h = asks_still number (request_of item body) h
 
@@ -177,7 +177,7 @@ module _ {S : Type 0} (adds : Adds) (on : MovesGoOn) (alone : GivesUpAlone S) (o
         inl (j.0, subst (λ (history : History). Contains history j.0) (sym (midway w opened state h).0) j.1, j.2, j.3)
     due_of w opened number (Noticed code) body state h (inr (inl j)) =
         inr (inl (j.0, given_there w opened state h number j.1, inl (subst (λ (history : History). number ≤ floor history) (sym (midway w opened state h).0) j.2)))
-    due_of w opened number (Noticed code) body state h (inr (inr j)) = inr (inr (j.0, asks_there w opened state h number None j.1))
+    due_of w opened number (Noticed code) body state h (inr (inr j)) = inr (inr (j.0, record { fits = j.1.fits; given = asks_there w opened state h number None j.1.given }))
     due_of w opened number (Again mark) body state h j = given_there w opened state h number j
     due_of w opened number (Accepted item) body state h j =
         let all : List ℕ = number ∷ opened in

@@ -104,7 +104,8 @@ module _ (any : AnySaid) (w : World) (past : Past) (sessions : List Session) (jo
   may_say (Notice number code) (inl h) = inl (notice_there number code h)
   may_say (Notice number code) (inr (inl h)) = inr (inl h)
   may_say (Notice number code) (inr (inr h)) =
-      subst (λ (n : ℕ). MaySay w x.unique (Notice n code)) h.3 (any.notice w x.unique h.0 code reached h.1 (h.2 ∙ sym its.made.number) h.4)
+      let given = h.1.given in
+      subst (λ (n : ℕ). MaySay w x.unique (Notice n code)) given.3 (any.notice w x.unique given.0 code reached given.1 (given.2 ∙ sym its.made.number) given.4)
   may_say (WrongSalt number salt) h = (notice_there number 48 h.0, salt_there salt h.1)
 
   begins : (items : List moves.Item) → (has_accepted x ≡ true) ⊎ BeginsNew items → HasAccepted (w.servers x.unique) ⊎ BeginsNew items

@@ -73,7 +73,7 @@ module _ (w v : World) (y : Session) (counters : Counters) (replies : List Reply
   can_still (Result call content) h = same (record { call = call; number = 0; seq = 0; content = content; fate = IsKept }) h
   can_still (Notice number code) (inl h) = inl h
   can_still (Notice number code) (inr (inl h)) = inr (inl (h.0, forgotten number h.1))
-  can_still (Notice number code) (inr (inr h)) = inr (inr (h.0, ups h.0 h.1, h.2, h.3, h.4))
+  can_still (Notice number code) (inr (inr h)) = inr (inr (h.0, record { fits = h.1.fits; given = (h.1.given.0, ups h.1.given.0 h.1.given.1, h.1.given.2, h.1.given.3, h.1.given.4) }))
   can_still (WrongSalt number salt) h = h
 
   pub said_still : (message : Message) → IsSaid w y message → IsSaid v z message

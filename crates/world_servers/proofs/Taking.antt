@@ -1,5 +1,5 @@
 -- A packet is taken by the session that heard it.
-use Rattle.std.proofs.Common.{◌≡◌, ℕ, zero, suc, ◌≤◌, true, false, Option, None, Some, List, [], ◌∷◌, ◌++◌, map, inl, inr, refl, sym, ap, subst, ◌∙◌, arith, append_assoc}
+use Rattle.std.proofs.Common.{◌≡◌, ℕ, zero, suc, ◌≤◌, ◌<◌, ◌^◌, true, false, Option, None, Some, List, [], ◌∷◌, ◌++◌, map, inl, inr, refl, sym, ap, subst, ◌∙◌, arith, append_assoc}
 use Rattle.std.specs.Prelude.{⊤}
 use Rattle.std.specs.List.{All, AllByRecursion, Contains, cons_option, filter_map, zip}
 use Rattle.std.proofs.lemmas.Bool.{cases_Bool, cond_both}
@@ -39,7 +39,7 @@ use Rattle.server_lives.specs.Lives.{acceptance_by, acceptance_of, history_by, r
 use Rattle.session_moves.specs.World.{World, WasGiven}
 use Rattle.session_moves.specs.Reached.{Reached, after_all}
 use Rattle.world_servers.specs.Leading.{Leads}
-use Rattle.world_servers.specs.Servers.{AsksThere, HasSalt, IsAcceptedThere, IsUp, Past, ServerStands, with_entries, with_history}
+use Rattle.world_servers.specs.Servers.{AsksThere, HasSalt, IsAcceptedThere, IsNoCall, IsUp, Past, ServerStands, with_entries, with_history}
 use Rattle.world_servers.specs.Speaking.{IsOwedThere, IsWithin, SpeaksThere, with_line}
 use Rattle.world_servers.specs.Events.{EventStands, lined, with_lines}
 use Rattle.world_servers.proofs.Lists.{all_of, each_of, map_all}
@@ -129,13 +129,13 @@ module _ {S : Type 0} (adds : Adds) (on : MovesGoOn) (alone : GivesUpAlone S) (o
   Judged w number verdict body = IsJudged adds on alone owing said orders setting lines (name_of x) x.unique past w number verdict body
 
   given_of : (w : World) (number : ℕ) (message : Message) → number ≡ message.number → IsUp w.ups x.number salt message → WasGiven w.ups x.number number
-  given_of w number message same up = (up.up, up.there, up.under, let is = up.numbered in omega (arith, same, is))
+  given_of w number message same up = (up.1.up, up.1.there, up.1.under, let is = up.1.numbered in omega (arith, same, is))
 
   -- a container is no call
-  no_call_of : (w : World) (number : ℕ) (message : Message) → number ≡ message.number → begins_container message.body ≡ true → IsUp w.ups x.number salt message → WasNoCall w.ups x.number number
+  no_call_of : (w : World) (number : ℕ) (message : Message) → number ≡ message.number → begins_container message.body ≡ true → IsUp w.ups x.number salt message → IsNoCall w.ups x.number number
   no_call_of w number message same begins up =
       let told : request_of (item_told message.body) message.body ≡ None = rw begins refl in
-      (up.up, up.there, up.under, up.numbered ∙ sym same, up.is ∙ told)
+      record { fits = subst (λ (n : ℕ). n < 2 ^ 64) (sym same) up.0; given = (up.1.up, up.1.there, up.1.under, up.1.numbered ∙ sym same, up.1.is ∙ told) }
 
   its_asks : (w : World) (number : ℕ) (request : Option (List ℕ)) → AsksThere w its number request → AsksThere w x number request
   its_asks w number (Some query) asks = subst (λ (u : ℕ). Contains (w.servers u).judged (record { number = number; outcome = AcceptedCall query })) same_unique asks
@@ -357,7 +357,7 @@ module _ {S : Type 0} (adds : Adds) (on : MovesGoOn) (alone : GivesUpAlone S) (o
       let l = judged_packet judges.low judges.rises on judges.lasts (with_entries heard.entries gone) xs heard.jobs its its_there envelope.salt setting.now x.salts line_within message (marked judges.marks its orderly.judged) w reached h.stands ups in
       let v : World = after_all w l.moves in
       let ups_still = map_all (IsUp w.ups x.number envelope.salt) (IsUp v.ups x.number envelope.salt) messages
-      (λ m there up. record { up = up.up; there = adds.messages w l.moves l.lawful up.up up.there; under = up.under; salted = up.salted; numbered = up.numbered; is = up.is }) ups in
+      (λ m there up. (up.0, record { up = up.1.up; there = adds.messages w l.moves l.lawful up.1.up up.1.there; under = up.1.under; salted = up.1.salted; numbered = up.1.numbered; is = up.1.is })) ups in
       let noticed = subst (λ (history : History). AreNoticed history judged messages) (sym (opening.own_past name later_history (past_in heard.sessions))) (packet_noticed judges.rises way (remembered x) message) in
       let are = all_judged adds on alone owing said orders setting lines x past envelope.salt its refl refl v judged messages noticed ups_still l.gives.1 in
       let told = subst (λ (history : History). All (λ (judgement : Judgement). IsTold judgement.number judgement.verdict history) judged) (sym (opening.own_past name later_history (past_in heard.sessions)))

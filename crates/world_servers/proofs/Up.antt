@@ -119,19 +119,19 @@ module _ (r : Reading) (u : Unfolds) (ups : List moves.Message) (session salt : 
   abbrev Was : ℕ → List ℕ → Type 0
   Was number body = (call : Option (List ℕ)) × Asks body call × WasSent ups session salt number call
 
-  up_of : (message : Message) → IsBytes message.body → length message.body ≤ bytes_max → Was message.number message.body → IsUp ups session salt message
-  up_of message bytes few (call, asks, sent) =
-      subst (λ (c : Option (List ℕ)). WasSent ups session salt message.number c) (sym (asked r message.body call bytes few asks).asks) sent
+  up_of : (message : Message) → IsBytes message.body → length message.body ≤ bytes_max → Was message.number message.body → message.number < 2 ^ 64 → IsUp ups session salt message
+  up_of message bytes few (call, asks, sent) fits =
+      (fits, subst (λ (c : Option (List ℕ)). WasSent ups session salt message.number c) (sym (asked r message.body call bytes few asks).asks) sent)
 
-  parts_up : (parts : List Message) → AllByRecursion (IsPart Was) parts → AllByRecursion (IsUp ups session salt) parts
-  parts_up [] each = tt
-  parts_up (part ∷ parts) each = (up_of part each.0.1 each.0.2 each.0.0, parts_up parts each.1)
+  parts_up : (parts : List Message) → AllByRecursion (IsPart Was) parts → AllByRecursion (λ (message : Message). message.number < 2 ^ 64) parts → AllByRecursion (IsUp ups session salt) parts
+  parts_up [] each small = tt
+  parts_up (part ∷ parts) each small = (up_of part each.0.1 each.0.2 each.0.0 small.0, parts_up parts each.1 small.1)
 
-  alone_up : (message : Message) → IsBytes message.body → length message.body ≤ bytes_max → Was message.number message.body
+  alone_up : (message : Message) → message.number < 2 ^ 64 → IsBytes message.body → length message.body ≤ bytes_max → Was message.number message.body
       → (verdict : Verdict) → AllByRecursion (IsUp ups session salt) (message ∷ unfolded verdict message)
-  alone_up message bytes few was verdict =
+  alone_up message small bytes few was verdict =
       let alone : begins_container message.body ≡ false = (asked r message.body was.0 bytes few was.1).unnested in
-      (up_of message bytes few was, unfolds_so (IsUp ups session salt) verdict message (rw alone tt))
+      (up_of message bytes few was small, unfolds_so (IsUp ups session salt) verdict message (rw alone tt))
 
   among_up : (messages : List Message) (number : ℕ) (body : List ℕ) → number < 2 ^ 64 → IsBytes body → length body ≤ bytes_max → body ≡ container_of messages
       → begins_container body ≡ true
@@ -147,13 +147,14 @@ module _ (r : Reading) (u : Unfolds) (ups : List moves.Message) (session salt : 
       parts_up parts
       (parts_were u.front u.back u.drop Was messages parts was (smaller number small messages below) (inner_small number parts lawful.inner) same
       (subst IsBytes rows (u.drop 8 body bytes)) (omega (arith, dropped, length-drop 8 body, few)))
+      (inner_small number parts lawful.inner)
 
   container_up : (messages : List Message) (message : Message) → message.number < 2 ^ 64 → IsBytes message.body → length message.body ≤ bytes_max → message.body ≡ container_of messages
       → AllByRecursion (λ inner. Was inner.number inner.body) messages → AllByRecursion (λ inner. inner.number < message.number) messages
       → WasSent ups session salt message.number None → (verdict : Verdict) → AllByRecursion (IsUp ups session salt) (message ∷ unfolded verdict message)
   container_up messages message small bytes few is was below outer verdict =
       let begins : begins_container message.body ≡ true = begins_true (begins_container message.body) (subst (λ (b : List ℕ). IsTrue (begins_container b)) (sym is) (u.begins messages)) in (
-        rw begins outer,
+        rw begins (small, outer),
         unfolds_so (IsUp ups session salt) verdict message
             (rw begins (among_up messages message.number message.body small bytes few is begins was below (parts_of message.number message.body) refl)),
       )
@@ -161,7 +162,7 @@ module _ (r : Reading) (u : Unfolds) (ups : List moves.Message) (session salt : 
 pub packet_up : (r : Reading) (u : Unfolds) (ups : List moves.Message) (sealed : Envelope) → IsEnvelope sealed → length sealed.body ≤ bytes_max → IsPacketSent ups sealed
     → IsPacketUp ups (as_heard sealed)
 packet_up r u ups sealed lawful few (inl sent) =
-    λ way session. alone_up r u ups sealed.session sealed.salt (message_in (as_heard sealed)) lawful.bytes few sent (judge way (remembered session) (message_in (as_heard sealed)))
+    λ way session. alone_up r u ups sealed.session sealed.salt (message_in (as_heard sealed)) lawful.number lawful.bytes few sent (judge way (remembered session) (message_in (as_heard sealed)))
 packet_up r u ups sealed lawful few (inr sent) =
     λ way session. container_up r u ups sealed.session sealed.salt sent.messages (message_in (as_heard sealed)) lawful.number lawful.bytes few sent.body sent.inner sent.below sent.outer
     (judge way (remembered session) (message_in (as_heard sealed)))

@@ -33,12 +33,11 @@ use Rattle.server_rules.specs.Rows.{acked_by, accepts, acknowledges, acks_of, an
 use Rattle.server_rules.specs.Answer.{attaches, finishes, opens}
 use Rattle.server_lives.specs.Lives.{request_of}
 use Rattle.session_moves.specs.Table.Item.{Notice}
-use Rattle.session_moves.specs.Lawful.{WasNoCall}
 use Rattle.session_moves.specs.World.{World, WasGiven}
 use Rattle.session_moves.specs.Reached.{after_all}
 use Rattle.world_moves.specs.Packets.{item_there}
 use Rattle.world_servers.specs.Leading.{Leads}
-use Rattle.world_servers.specs.Servers.{AsksThere, CanSay, GoOn, HasForgotten, HasNoticed, HasSalt, HasSame, IsJobThere, IsJobOf, Past, has_dropped, with_entries, with_replies}
+use Rattle.world_servers.specs.Servers.{AsksThere, CanSay, GoOn, HasForgotten, HasNoticed, HasSalt, HasSame, IsJobThere, IsJobOf, IsNoCall, Past, has_dropped, with_entries, with_replies}
 use Rattle.world_servers.specs.Speaking.{AreOthersOpen, IsDue, IsOpen, IsPlain, IsSaid, IsWithin, SpeaksThere, StandsSpeaking, with_line}
 use Rattle.world_servers.proofs.Lists.{all_of, each_of, first_or, from_filter, here}
 use Rattle.world_servers.proofs.Leading.{leads_so, stays}
@@ -78,7 +77,7 @@ open_more replies reply number is_open differs was =
 
 abbrev CanNotice : World → Session → ℕ → ℕ → Type 0
 CanNotice w session number code =
-    HasNoticed session number code ⊎ ((code ≡ 20) × Contains (w.servers session.unique).forgotten number) ⊎ ((code ≡ 19) × WasNoCall w.ups session.number number)
+    HasNoticed session number code ⊎ ((code ≡ 20) × Contains (w.servers session.unique).forgotten number) ⊎ ((code ≡ 19) × IsNoCall w.ups session.number number)
 
 noticed_48 : (w : World) (session : Session) (number code : ℕ) → code ≡ 48 → CanNotice w session number code → HasNoticed session number 48
 noticed_48 w session number code is (inl h) = subst (λ (c : ℕ). HasNoticed session number c) is h
@@ -88,7 +87,7 @@ noticed_48 w session number code is (inr (inr h)) = let nineteen : code ≡ 19 =
 can_notice : (w : World) (x : Session) (number code : ℕ) → CanNotice w x number code → CanSay w x (Notice number code)
 can_notice w x number code (inl h) = inl h
 can_notice w x number code (inr (inl h)) = inr (inl h)
-can_notice w x number code (inr (inr h)) = inr (inr h.1)
+can_notice w x number code (inr (inr h)) = inr (inr h)
 
 module _ {S : Type 0} (adds : Adds) (setting : Setting S) (past : Past) (sessions : List Session) (line : Line) where
   abbrev At : World → Speaker S → Type 0
@@ -413,7 +412,7 @@ module _ {S : Type 0} (adds : Adds) (setting : Setting S) (past : Past) (session
 
   due_it : (w : World) (number seq code : ℕ) (speaker : Speaker S) → At w speaker
       → HasNoticed speaker.session number code ⊎ ((code ≡ 20) × WasGiven w.ups speaker.session.number number × HasForgotten number speaker.session)
-      ⊎ ((code ≡ 19) × WasNoCall w.ups speaker.session.number number)
+      ⊎ ((code ≡ 19) × IsNoCall w.ups speaker.session.number number)
       → IsWithin line (notices setting number seq code speaker).session → LeadsTo w (notices setting number seq code speaker)
   due_it w number seq code speaker h (inl noticed) within =
       stays_so w (notices setting number seq code speaker) (notices_it w number seq code speaker h (inl noticed) (within_48 number seq code speaker within))

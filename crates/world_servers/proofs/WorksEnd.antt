@@ -25,7 +25,7 @@ use Rattle.world_servers.specs.Leading.{Leads}
 use Rattle.world_servers.specs.Servers.{Past, ServerStands}
 use Rattle.world_servers.specs.Speaking.{IsWithin, SpeaksThere, with_line}
 use Rattle.world_servers.specs.Events.{AreLines, EventStands, with_lines}
-use Rattle.world_servers.specs.Sending.{EventEnds, MayAllGo, WentOut}
+use Rattle.world_servers.specs.Sending.{EventEnds, IsFit, MayAllGo, WentOut}
 use Rattle.world_servers.proofs.Lists.{all_of}
 use Rattle.world_servers.proofs.Leading.{GoOn, goes_on, stays}
 use Rattle.world_servers.proofs.Losing.{named_itself}
@@ -65,35 +65,38 @@ module _ {S : Type 0} (adds : Adds) (extends : (w : World) (list : List Move) �
   abbrev Begun : World → Type 0
   Begun later = EventStands later gone lines start
 
-  ends_so : (state : State S) → AllByRecursion (MayAllGo state.owed) (with_lines lines state.sessions) → state.sent ≡ [] → (later : World) → Reached later → EventStands later gone lines state
+  abbrev Fits : State S → Type 0
+  Fits state = state.sent ≡ [] → AllByRecursion IsFit (with_lines lines state.sessions)
+
+  ends_so : (state : State S) → AllByRecursion (MayAllGo state.owed) (with_lines lines state.sessions) → state.sent ≡ [] → Fits state → (later : World) → Reached later → EventStands later gone lines state
       → Leads later (Ends state)
-  ends_so state go none later reached k = ends_on adds extends on any whole setting gone lines later state reached k go (none_out later state.sent none)
+  ends_so state go none fits later reached k = ends_on adds extends on any whole setting gone lines later state reached k go (fits none) (none_out later state.sent none)
 
   -- an event that does nothing
-  pub idle_ends : Leads w (Ends start)
-  idle_ends =
+  pub idle_ends : Fits start → Leads w (Ends start)
+  idle_ends fits =
       goes_on on w Begun (Ends start) reached (begins_on on w gone lines more server draw reached s h)
-      (λ later reached k. ends_so start (all_of (MayAllGo []) (with_lines lines server.sessions) (λ o there. tt)) refl later reached k)
+      (λ later reached k. ends_so start (all_of (MayAllGo []) (with_lines lines server.sessions) (λ o there. tt)) refl fits later reached k)
 
-  pub run_ends : GivesUpAlone S → FinishesAlone S → (place : ℕ) (job : Job) (reply : List ℕ) → ready_job place server.jobs ≡ Some job → Leads w (Ends (runs setting place job reply start))
-  run_ends alone finishing place job reply is =
+  pub run_ends : GivesUpAlone S → FinishesAlone S → (place : ℕ) (job : Job) (reply : List ℕ) → ready_job place server.jobs ≡ Some job → Fits (runs setting place job reply start) → Leads w (Ends (runs setting place job reply start))
+  run_ends alone finishing place job reply is fits =
       let state : State S = runs setting place job reply start in
       let heard = runs_heard setting alone finishing start place job reply (ordered_heard server.sessions server.jobs s.apart order, refl) is in
       goes_on on w Begun (Ends state) reached (begins_on on w gone lines more server draw reached s h)
       (λ later reached k.
       goes_on on later (λ last. IsGoing last gone lines state) (Ends state) reached
       (runs_on adds setting gone lines alone finishing on later start place job reply reached (k, ordered_open server.sessions server.jobs s.apart order.each) is)
-      (λ last reached m. ends_so state (lines_heard lines state.owed state.sessions heard.0.owe) heard.1 last reached m.0))
+      (λ last reached m. ends_so state (lines_heard lines state.owed state.sessions heard.0.owe) heard.1 fits last reached m.0))
 
-  pub tick_ends : GivesUpAlone S → Leads w (Ends (ticks setting start))
-  tick_ends alone =
+  pub tick_ends : GivesUpAlone S → Fits (ticks setting start) → Leads w (Ends (ticks setting start))
+  tick_ends alone fits =
       let state : State S = ticks setting start in
       let heard = ticks_heard setting alone start (ordered_heard server.sessions server.jobs s.apart order, refl) in
       goes_on on w Begun (Ends state) reached (begins_on on w gone lines more server draw reached s h)
       (λ later reached k.
       goes_on on later (λ last. IsGoing last gone lines state) (Ends state) reached
       (ticks_on adds setting gone lines alone on later start reached (k, ordered_open server.sessions server.jobs s.apart order.each))
-      (λ last reached m. ends_so state (lines_heard lines state.owed state.sessions heard.0.owe) heard.1 last reached m.0))
+      (λ last reached m. ends_so state (lines_heard lines state.owed state.sessions heard.0.owe) heard.1 fits last reached m.0))
 
   -- ---- a connection is opened
 
@@ -176,8 +179,8 @@ module _ {S : Type 0} (adds : Adds) (extends : (w : World) (list : List Move) �
     sent_found None = refl
     sent_found (Some x) = (alone setting (speaker_in start x)).sent
 
-    pub attach_ends : Leads w (Ends (speaks name (attaches setting) start))
-    attach_ends =
+    pub attach_ends : Fits (speaks name (attaches setting) start) → Leads w (Ends (speaks name (attaches setting) start))
+    attach_ends fits =
         let state : State S = speaks name (attaches setting) start in
         goes_on on w Begun (Ends state) reached (begins_on on w gone lines more server draw reached s h)
         (λ later reached k.
@@ -188,4 +191,4 @@ module _ {S : Type 0} (adds : Adds) (extends : (w : World) (list : List Move) �
           λ k. stays later (λ last. SpeaksThere last gone (with_lines lines server.sessions) (lines name) (attaches setting (speaker_in start x)))
               (attaches_it adds setting gone (with_lines lines server.sessions) (lines name) later (speaker_in start x) k (within x found)),
         )))
-        (λ last reached m. ends_so state (go_found (session_named name server.sessions) refl) (sent_found (session_named name server.sessions)) last reached m))
+        (λ last reached m. ends_so state (go_found (session_named name server.sessions) refl) (sent_found (session_named name server.sessions)) fits last reached m))

@@ -5,7 +5,8 @@ use Rattle.service_tl.specs.declared.item.Item.{Item}
 use Rattle.service_tl.specs.declared.item.Item.TheVariants.{NewSessionCreated}
 use Rattle.service_tl.specs.declared.lists.Message.{Message}
 use Rattle.service_tl.specs.Items.{spelling_of}
-use Rattle.server_rules.specs.Server.{Name, Session, has_accepted, name_of}
+use Rattle.server_sizes.specs.Small.{IsSmallJudgement, IsSmallRow}
+use Rattle.server_rules.specs.Server.{Name, Reply, Session, has_accepted, name_of}
 use Rattle.session_moves.specs.Table as moves
 use Rattle.session_moves.specs.World.{World}
 use Rattle.world_moves.specs.Packets.{item_there}
@@ -25,9 +26,12 @@ IsSmall (moves.Item.Result call content) = call < 2 ^ 64
 IsSmall (moves.Item.Notice number code) = (number < 2 ^ 64) × (code < 2 ^ 32)
 IsSmall (moves.Item.WrongSalt number salt) = (number < 2 ^ 64) × (salt < 2 ^ 64)
 
--- so do those of each item that went out
-abbrev pub AreSmall : World → Type 0
-AreSmall w = AllByRecursion (λ (packet : moves.Packet). AllByRecursion IsSmall packet.items) w.downs
+-- so do those that a session may say: its unique number, its salts, and those of what it judged and answered
+pub record IsFit (session : Session) : Type 0 where
+  pub unique : session.unique < 2 ^ 64
+  pub salts : AllByRecursion IsSmallRow session.salts.rows
+  pub history : AllByRecursion IsSmallJudgement session.history
+  pub replies : AllByRecursion (λ (reply : Reply). reply.call < 2 ^ 64) session.replies
 
 -- each message spells its item, which is no container
 abbrev pub AreSpelt : List Message → List Item → Type 0
@@ -36,11 +40,13 @@ AreSpelt [] (item ∷ items) = ⊥
 AreSpelt (message ∷ messages) [] = ⊥
 AreSpelt (message ∷ messages) (item ∷ items) = (message.body ≡ spelling_of item) × IsPlain item × AreSpelt messages items
 
--- the messages went out there together: a packet of that server session has what matters of the items that they spell
+-- the messages went out there together: a packet of that server session has what matters of the items that they spell,
+-- and the numbers of these fit their places
 pub record IsSpoken (w : World) (unique : ℕ) (group : List Message) : Type 0 where
   pub items : List Item
   pub spelt : AreSpelt group items
   pub there : Contains w.downs (record { server = unique; items = flat_map item_there items })
+  pub small : AllByRecursion IsSmall (flat_map item_there items)
 
 -- the first of them is the session's `new_session_created`, with one of its salts
 abbrev pub IsFirstNew : Session → List Message → Type 0

@@ -1,6 +1,6 @@
 -- How a server of the definitions stands in a world of the law on moves. A server session is told there by its unique
 -- number.
-use Rattle.std.specs.Prelude.{◌≡◌, ◌≢◌, ◌≤◌, ◌⊎◌, ⊤, ℕ, ◌==◌, ◌&&◌, Bool, true, false, Option, Some, None, List, [], ◌∷◌, ◌++◌, map, reverse}
+use Rattle.std.specs.Prelude.{◌≡◌, ◌≢◌, ◌≤◌, ◌<◌, ◌^◌, ◌⊎◌, ⊤, ℕ, ◌==◌, ◌&&◌, Bool, true, false, Option, Some, None, List, [], ◌∷◌, ◌++◌, map, reverse}
 use Rattle.std.specs.List.{AllByRecursion, Contains, list_any}
 use Rattle.salt_line.specs.Rows.{Row}
 use Rattle.service_tl.specs.declared.lists.Message.{Message}
@@ -209,22 +209,28 @@ abbrev pub HasNoticed : Session → ℕ → ℕ → Type 0
 HasNoticed session number code =
     (judgement : FirstJudgement) × Contains session.history judgement × (judgement.number ≡ number) × (judgement.outcome ≡ Refused code)
 
+-- the number, which fits its place, was given to a message that is no call
+pub record IsNoCall (ups : List moves.Message) (session number : ℕ) : Type 0 where
+  pub fits : number < 2 ^ 64
+  pub given : WasNoCall ups session number
+
 -- By what it has itself: its unique number and salts, its replies, what it noticed, for notice 20 a number that it has
--- forgotten there, and of a message that is no call any notice.
+-- forgotten there, and notice 19 of a message that is no call.
 abbrev pub CanSay : World → Session → moves.Item → Type 0
 CanSay w session (moves.Item.NewSession unique salt) = (unique ≡ session.unique) × HasSalt session salt
 CanSay w session (moves.Item.Result call content) = HasSame session.replies (record { call = call; number = 0; seq = 0; content = content; fate = IsKept })
 CanSay w session (moves.Item.Notice number code) =
     HasNoticed session number code
     ⊎ ((code ≡ 20) × Contains (w.servers session.unique).forgotten number)
-    ⊎ WasNoCall w.ups session.number number
+    ⊎ ((code ≡ 19) × IsNoCall w.ups session.number number)
 CanSay w session (moves.Item.WrongSalt number salt) = HasNoticed session number 48 × HasSalt session salt
 
 -- ---- what comes up
 
--- a message that a server may judge was sent: under this session number and salt, as the call that its body asks for, or none
+-- a message that a server may judge was sent: under this session number and salt, as the call that its body asks for, or none;
+-- and its number fits its place
 abbrev pub IsUp : List moves.Message → ℕ → ℕ → Message → Type 0
-IsUp ups session salt message = WasSent ups session salt message.number (request_of (item_told message.body) message.body)
+IsUp ups session salt message = (message.number < 2 ^ 64) × WasSent ups session salt message.number (request_of (item_told message.body) message.body)
 
 -- whatever a server judges of a packet was sent so
 abbrev pub IsPacketUp : List moves.Message → Envelope → Type 0

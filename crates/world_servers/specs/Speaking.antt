@@ -13,10 +13,9 @@ use Rattle.waits.specs.Jobs.{Queue, is_of}
 use Rattle.server_rules.specs.Server.{Reply, Session, name_of, with_session}
 use Rattle.server_rules.specs.Event.{Owed, Speaker}
 use Rattle.server_lives.specs.Lives.{request_of}
-use Rattle.session_moves.specs.Lawful.{WasNoCall}
 use Rattle.session_moves.specs.World.{World, WasGiven}
 use Rattle.world_moves.specs.Packets.{item_there}
-use Rattle.world_servers.specs.Servers.{AsksThere, CanSay, HasForgotten, HasNoticed, Past, ServerStands, WasAnswered, with_entries}
+use Rattle.world_servers.specs.Servers.{AsksThere, CanSay, HasForgotten, HasNoticed, IsNoCall, Past, ServerStands, WasAnswered, with_entries}
 
 -- ---- what is said
 
@@ -74,7 +73,7 @@ abbrev pub IsDue : World → Session → Queue → ℕ → Verdict → List ℕ 
 IsDue w session jobs number (Noticed code) body =
     HasNoticed session number code
     ⊎ ((code ≡ 20) × WasGiven w.ups session.number number × HasForgotten number session)
-    ⊎ ((code ≡ 19) × WasNoCall w.ups session.number number)
+    ⊎ ((code ≡ 19) × IsNoCall w.ups session.number number)
 IsDue w session jobs number (Again mark) body = WasGiven w.ups session.number number
 IsDue w session jobs number (Accepted item) body =
     AsksThere w session number (request_of item body) × IsOpen number session.replies × AreOthersOpen number session jobs

@@ -35,7 +35,8 @@ ghost use Rattle.inbox.specs.declared.judged.Judgement.{Judgement};
 ghost use Rattle.inbox.specs.declared.judged.Verdict.{Verdict};
 ghost use Rattle.packing.specs.Packing.{groups};
 ghost use Rattle.server_rules.specs.Sending.{all_sent, sends};
-ghost use Rattle.world_servers.specs.Sending.{AreSmall, EventEnds, IsSpoken, MayAllGo, MayGo, WentOut};
+ghost use Rattle.server_sizes.specs.Small.{AreSmall, DrawsWords, GivesReplies, IsSmallEnvelope};
+ghost use Rattle.world_servers.specs.Sending.{EventEnds, IsFit, IsSpoken, MayAllGo, MayGo, WentOut};
 ghost use Rattle.world_servers.specs.Events.{AreLines, AreLost, AreOpenJobs, EventStands, lined, with_lines};
 ghost use Rattle.server_laws.specs.Order.{AreOrdered, IsGoingOn};
 ghost use Rattle.world_servers.specs.Speaking.{IsDue, IsOpen, IsSaid, IsWithin, SpeaksThere, with_line};
@@ -43,6 +44,7 @@ ghost use Rattle.world_servers.specs.Servers.{AreNewSalts, AsksThere, CanSay, Go
 ghost use Rattle.server_rules.specs.Events.{Attach, Loss, Packet as Comes, Restart, Tick, Work};
 ghost use Rattle.world_rules.specs.World as rules;
 ghost use Rattle.world_rules.specs.Setting as settings;
+ghost use Rattle.world_rules.specs.Setting.{at_server};
 ghost use Rattle.world_rules.specs.Setting.{as_heard};
 ghost use Rattle.world_rules.specs.Ends.{serves};
 ghost use Rattle.world_rules.specs.Premises.{Fresh};
@@ -282,12 +284,12 @@ pub fn events_begin_by_moves<D: Draw>()
 }
 
 /// A session sends its messages by lawful moves, one for each packet: the items that the packet's messages spell go out
-/// there together. While the session has accepted nothing each packet begins with its `new_session_created`.
+/// there together. The numbers that the session keeps fit their places. While the session has accepted nothing each packet begins with its `new_session_created`.
 pub fn messages_go_out_by_moves<D: Draw>()
     ensures { (w : World) (past : Past) (sessions : List Session) (line : Line) (setting : Setting D) (messages : List Said) (speaker : Speaker D) → Reached w
         → SpeaksThere w past sessions line speaker
         → AllByRecursion (IsSaid w (with_line line speaker.session)) messages
-        → AllByRecursion (MayGo (with_line line speaker.session)) (groups messages)
+        → AllByRecursion (MayGo (with_line line speaker.session)) (groups messages) → IsFit (with_line line speaker.session)
         → Leads w (λ later. SpeaksThere later past sessions line (sends setting messages speaker)
         × AllByRecursion (IsSpoken later speaker.session.unique) (groups messages)) }
 {
@@ -299,11 +301,11 @@ pub fn messages_go_out_by_moves<D: Draw>()
 
 /// An event ends by lawful moves: each session sends what it owes, and then those without room for a further event are lost.
 /// Each packet went out there, where each session has accepted a message or begins each of its packets by saying that it is
-/// new.
+/// new, and its numbers fit their places.
 pub fn events_end_by_moves<D: Draw>()
     ensures { (w : World) (past : Past) (lines : Name → Line) (setting : Setting D) (state : State D) → Reached w
         → EventStands w past lines state → AllByRecursion (MayAllGo state.owed) (with_lines lines state.sessions)
-        → AllByRecursion (λ sent. WentOut w sent.envelope) state.sent
+        → AllByRecursion IsFit (with_lines lines state.sessions) → AllByRecursion (λ sent. WentOut w sent.envelope) state.sent
         → Leads w (λ later. EventEnds later past lines (all_sent setting state).sessions (without_spent (all_sent setting state))) }
 {
     moves_only_add();
@@ -316,15 +318,17 @@ pub fn events_end_by_moves<D: Draw>()
 pub fn works_end_by_moves<D: Draw>()
     ensures run { (w : World) (past : Past) (lines : Name → Line) (more : Name → List Row) (setting : Setting D) (server : Server) (draw : D) (place : ℕ) (job : Job) (reply : List ℕ)
         → Reached w → ServerStands w past server.sessions server.jobs → AreOrdered server.sessions server.jobs → AreLines w lines more server.sessions
-        → ready_job place server.jobs ≡ Some job
+        → ready_job place server.jobs ≡ Some job → AllByRecursion IsFit (with_lines lines (runs setting place job reply (begun server draw)).sessions)
         → Leads w (λ later. EventEnds later past lines (all_sent setting (runs setting place job reply (begun server draw))).sessions
         (without_spent (all_sent setting (runs setting place job reply (begun server draw))))) }
     ensures tick { (w : World) (past : Past) (lines : Name → Line) (more : Name → List Row) (setting : Setting D) (server : Server) (draw : D)
         → Reached w → ServerStands w past server.sessions server.jobs → AreOrdered server.sessions server.jobs → AreLines w lines more server.sessions
+        → AllByRecursion IsFit (with_lines lines (ticks setting (begun server draw)).sessions)
         → Leads w (λ later. EventEnds later past lines (all_sent setting (ticks setting (begun server draw))).sessions (without_spent (all_sent setting (ticks setting (begun server draw))))) }
     ensures attach { (w : World) (past : Past) (lines : Name → Line) (more : Name → List Row) (setting : Setting D) (server : Server) (draw : D) (name : Name)
         → Reached w → ServerStands w past server.sessions server.jobs → AreOrdered server.sessions server.jobs → AreLines w lines more server.sessions
         → ((session : Session) → session_named name server.sessions ≡ Some session → IsWithin (lines name) (attaches setting (speaker_in (begun server draw) session)).session)
+        → AllByRecursion IsFit (with_lines lines (speaks name (attaches setting) (begun server draw)).sessions)
         → Leads w (λ later. EventEnds later past lines (all_sent setting (speaks name (attaches setting) (begun server draw))).sessions
         (without_spent (all_sent setting (speaks name (attaches setting) (begun server draw))))) }
 {
@@ -374,6 +378,7 @@ pub fn packets_are_taken_by_moves<D: Draw>()
         → session_named (name_of session) heard.sessions ≡ Some session → IsWithin (lines (name_of session)) session
         → AllByRecursion (IsUp w.ups session.number envelope.salt) (messages_judged (InEnvelope setting.now session.salts envelope.salt) session (message_in envelope))
         → ((later : Session) → session_named (name_of session) (takes_by setting envelope (Some session) heard).sessions ≡ Some later → IsWithin (lines (name_of session)) later)
+        → AllByRecursion IsFit (with_lines lines (takes_by setting envelope (Some session) heard).sessions)
         → Leads w (λ later. (more : List Session) × AreLost (lined lines) heard.sessions (takes_by setting envelope (Some session) heard).sessions more
         × EventEnds later (with_lost more past) lines (all_sent setting (takes_by setting envelope (Some session) heard)).sessions
         (without_spent (all_sent setting (takes_by setting envelope (Some session) heard)))) }
@@ -397,16 +402,20 @@ pub fn packets_are_taken_by_moves<D: Draw>()
 /// What the server of a world does in an event is a list of lawful moves, after which the server behind the event stands
 /// there, with all that was lost and entered by then, and each packet that it made went out there: a run, a tick, a
 /// connection that is opened, a loss, a restart, and a packet that doesn't open, which is no move. The server is in order, and
-/// the words drawn for session numbers, unique numbers and salts differ.
+/// the words drawn for session numbers, unique numbers and salts differ. The numbers of its sessions and jobs fit their places,
+/// and so do words that are drawn and replies of the service.
 pub fn events_of_worlds_are_moves<D: Draw, V>()
     ensures work { (w : World) (setting : settings.Setting D V) (world : rules.World D V) (moment place : ℕ) → Reached w → StandsIn w world
-        → AreOrdered world.server.sessions world.server.jobs → Fresh (serves setting (Work moment place) world)
+        → AreOrdered world.server.sessions world.server.jobs → DrawsWords (at_server setting) → GivesReplies setting.serve
+        → AreSmall world.server.sessions world.server.jobs → Fresh (serves setting (Work moment place) world)
         → Leads w (λ later. HasServed later world (serves setting (Work moment place) world)) }
     ensures tick { (w : World) (setting : settings.Setting D V) (world : rules.World D V) (moment : ℕ) → Reached w → StandsIn w world
-        → AreOrdered world.server.sessions world.server.jobs → Fresh (serves setting (Tick moment) world)
+        → AreOrdered world.server.sessions world.server.jobs → DrawsWords (at_server setting)
+        → AreSmall world.server.sessions world.server.jobs → Fresh (serves setting (Tick moment) world)
         → Leads w (λ later. HasServed later world (serves setting (Tick moment) world)) }
     ensures attach { (w : World) (setting : settings.Setting D V) (world : rules.World D V) (moment : ℕ) (name : Name) → Reached w → StandsIn w world
-        → AreOrdered world.server.sessions world.server.jobs → Fresh (serves setting (Attach moment name) world)
+        → AreOrdered world.server.sessions world.server.jobs → DrawsWords (at_server setting)
+        → AreSmall world.server.sessions world.server.jobs → Fresh (serves setting (Attach moment name) world)
         → Leads w (λ later. HasServed later world (serves setting (Attach moment name) world)) }
     ensures loss { (w : World) (setting : settings.Setting D V) (world : rules.World D V) (name : Name) → StandsIn w world
         → Leads w (λ later. HasServed later world (serves setting (Loss name) world)) }
@@ -420,15 +429,18 @@ pub fn events_of_worlds_are_moves<D: Draw, V>()
     numbers_are_given_once();
     what_was_not_made_is_blank();
     packing::laws::packets_have_all_messages();
+    server_sizes::laws::what_is_owed_is_small::<D>();
+    server_sizes::laws::packets_are_whole::<D, V>();
     server_laws::laws::sessions_speak_for_themselves::<D>();
     server_laws::laws::new_sessions_say_so::<D>();
 }
 
 /// So is a packet that opens, where what a server may judge of it was sent there, and each session under its session number
-/// has its key.
+/// has its key; the packet's numbers fit their places too.
 pub fn packets_of_worlds_are_moves<D: Draw, V>()
     ensures { (w : World) (setting : settings.Setting D V) (world : rules.World D V) (moment : ℕ) (envelope : Envelope) → Reached w → StandsIn w world
-        → AreOrdered world.server.sessions world.server.jobs → Fresh (serves setting (Comes moment (Some envelope)) world) → IsPacketUp w.ups envelope
+        → AreOrdered world.server.sessions world.server.jobs → DrawsWords (at_server setting) → IsSmallEnvelope envelope
+        → AreSmall world.server.sessions world.server.jobs → Fresh (serves setting (Comes moment (Some envelope)) world) → IsPacketUp w.ups envelope
         → ((other : Session) → Contains world.server.sessions other → other.number ≡ envelope.session → other.key ≡ envelope.key)
         → Leads w (λ later. HasServed later world (serves setting (Comes moment (Some envelope)) world)) }
 {
@@ -446,6 +458,8 @@ pub fn packets_of_worlds_are_moves<D: Draw, V>()
     names_are_apart();
     what_was_not_made_is_blank();
     packing::laws::packets_have_all_messages();
+    server_sizes::laws::what_is_owed_is_small::<D>();
+    server_sizes::laws::packets_are_whole::<D, V>();
     server_laws::laws::new_sessions_say_so::<D>();
     server_lives::laws::new_sessions_owe_little::<D>();
 }
@@ -465,12 +479,11 @@ pub fn packets_sent_are_up()
 }
 
 /// A packet that went out is one of the law's with the items that a client reads in it. Its body isn't longer than the
-/// longest string, and where it begins as a container it is a lawful one; the numbers of the items that went out fit their
-/// places.
+/// longest string, and where it begins as a container it is a lawful one.
 pub fn packets_are_read_as_they_went_out()
     ensures { (w : World) (sealed : Sealed) → length sealed.body ≤ bytes_max
         → (begins_container sealed.body ≡ true → (parts : List Said) × IsContainer sealed.number parts sealed.body)
-        → AreSmall w → (went : WentOut w (as_heard sealed)) → Contains w.downs (record { server = went.unique; items = packet_items sealed }) }
+        → (went : WentOut w (as_heard sealed)) → Contains w.downs (record { server = went.unique; items = packet_items sealed }) }
 {
     octets::laws::bytes_stay_bytes();
     octets::laws::parts_are_bytes();

@@ -11,7 +11,7 @@ pub returns-clause-begins : goal.returns-clause-begins
 returns-clause-begins g c = λ setting draw. begun setting draw c.servers_stay_in_order.ensures.fresh
 
 pub returns-clause-event : goal.returns-clause-event
-returns-clause-event g c = λ lock ring setting w world event seals so fits h sealed chance fresh plain behind.
+returns-clause-event g c = λ lock ring setting w world event seals so fits h sealed chance fresh behind.
     goes_on
     (record {
       moving = record { reached = c.moves_go_on.ensures.reached; extends = c.moves_only_add.ensures; owned = c.clients_and_bodies_last.ensures.owned; one_owner = c.names_are_apart.ensures.one_owner; clients = c.moves_leave.ensures.clients; calls = c.moves_leave.ensures.calls; packets = c.moves_leave.ensures.packets; submitted = c.moves_leave.ensures.submitted; other_clients = c.moves_leave.ensures.other_clients; other_calls = c.moves_leave.ensures.other_calls };
@@ -25,10 +25,10 @@ returns-clause-event g c = λ lock ring setting w world event seals so fits h se
       read = c.packets_are_read_as_they_went_out.ensures;
       order = λ setting course event. c.servers_stay_in_order.ensures.event (at_server setting) setting.serve setting.fresh course event;
     })
-    lock ring setting seals so w world h sealed event chance fresh (plain, (behind, fits))
+    lock ring setting seals so w world h sealed event chance fresh (behind, fits)
 
 pub returns-clause-schedule : goal.returns-clause-schedule
-returns-clause-schedule g c = λ lock ring setting draw events seals so fits fresh sealed plain.
+returns-clause-schedule g c = λ lock ring setting draw events seals so fits fresh sealed.
     run_all
     (record {
       moving = record { reached = c.moves_go_on.ensures.reached; extends = c.moves_only_add.ensures; owned = c.clients_and_bodies_last.ensures.owned; one_owner = c.names_are_apart.ensures.one_owner; clients = c.moves_leave.ensures.clients; calls = c.moves_leave.ensures.calls; packets = c.moves_leave.ensures.packets; submitted = c.moves_leave.ensures.submitted; other_clients = c.moves_leave.ensures.other_clients; other_calls = c.moves_leave.ensures.other_calls };
@@ -44,10 +44,10 @@ returns-clause-schedule g c = λ lock ring setting draw events seals so fits fre
     })
     (record { own = c.sessions_speak.ensures.own; others = c.sessions_speak.ensures.others })
     lock ring setting seals so fits (begins setting draw) events (start, begun setting draw c.servers_stay_in_order.ensures.fresh)
-    (begins_served setting (λ course event. c.servers_stay_in_order.ensures.event (at_server setting) setting.serve setting.fresh course event) c.servers_stay_in_order.ensures.fresh draw) fresh sealed plain
+    (begins_served setting (λ course event. c.servers_stay_in_order.ensures.event (at_server setting) setting.serve setting.fresh course event) c.servers_stay_in_order.ensures.fresh draw) fresh sealed
 
 pub returns-clause-any : goal.returns-clause-any
-returns-clause-any g c = λ lock ring setting draw events seals so fits chance fresh sealed plain.
+returns-clause-any g c = λ lock ring setting draw events seals so fits chance fresh sealed.
     run_any
     (record {
       moving = record { reached = c.moves_go_on.ensures.reached; extends = c.moves_only_add.ensures; owned = c.clients_and_bodies_last.ensures.owned; one_owner = c.names_are_apart.ensures.one_owner; clients = c.moves_leave.ensures.clients; calls = c.moves_leave.ensures.calls; packets = c.moves_leave.ensures.packets; submitted = c.moves_leave.ensures.submitted; other_clients = c.moves_leave.ensures.other_clients; other_calls = c.moves_leave.ensures.other_calls };
@@ -63,4 +63,4 @@ returns-clause-any g c = λ lock ring setting draw events seals so fits chance f
     })
     (record { own = c.sessions_speak.ensures.own; others = c.sessions_speak.ensures.others })
     lock ring setting seals so fits (begins setting draw) events (start, begun setting draw c.servers_stay_in_order.ensures.fresh)
-    (begins_served setting (λ course event. c.servers_stay_in_order.ensures.event (at_server setting) setting.serve setting.fresh course event) c.servers_stay_in_order.ensures.fresh draw) chance fresh sealed plain
+    (begins_served setting (λ course event. c.servers_stay_in_order.ensures.event (at_server setting) setting.serve setting.fresh course event) c.servers_stay_in_order.ensures.fresh draw) chance fresh sealed

@@ -1,5 +1,5 @@
 use Rattle.std.proofs.Common.{◌≡◌, ◌≢◌, ℕ, Option, None, Some, true, List, [], ◌++◌, filter, map, refl, sym, ap, subst, ◌∙◌}
-use Rattle.std.specs.List.{All, flat_map}
+use Rattle.std.specs.List.{All, AllByRecursion, flat_map}
 use Rattle.service_tl.specs.declared.lists.Message.{Message}
 use Rattle.packing.specs.Packing.{groups}
 use Rattle.waits.specs.declared.job.Job.{Job}
@@ -36,6 +36,12 @@ use Rattle.world_servers.proofs.Gone.{has_run, has_spoken, has_ticked, none_are_
 use Rattle.world_servers.proofs.Whole.{loss_of, lost_quietly, restart_of}
 use Rattle.world_servers.proofs.Growth.{AllFrom, all_itself, all_sent_from, attaches_grows, runs_from, speaks_from, ticks_from}
 use Rattle.world_servers.proofs.Fresh.{AreDistinct, IsBlank, distinct_back, distinct_of, drawn_for, some_back}
+use Rattle.server_sizes.specs.Small.{AreGivenTo, AreSmall, DrawsWords, GivesReplies, IsSmallState}
+use Rattle.world_servers.specs.Events.{with_lines}
+use Rattle.world_servers.specs.Sending.{IsFit}
+use Rattle.world_servers.proofs.Lists.{all_of}
+use Rattle.world_servers.proofs.Fitting.{fits_last}
+use Rattle.world_servers.proofs.Chosen.{line_by}
 use Rattle.world_servers.proofs.Served.{Stands, apart, leads_on, lines, lines_are, more, named_said}
 use Rattle.world_servers.proofs.laws.events_of_worlds_are_moves.Goals as goal
 
@@ -84,7 +90,8 @@ module _ (g : Rattle.world_servers.proofs.laws.events_of_worlds_are_moves.Given.
   abbrev V : Type 0
   V = g.row.V.Denot
 
-  module _ (w : World) (setting : settings.Setting D V) (world : rules.World D V) (moment : ℕ) (reached : Reached w) (s : StandsIn w world) (order : AreOrdered world.server.sessions world.server.jobs) where
+  module _ (w : World) (setting : settings.Setting D V) (world : rules.World D V) (moment : ℕ) (reached : Reached w) (s : StandsIn w world) (order : AreOrdered world.server.sessions world.server.jobs)
+      (draws : DrawsWords (at_server setting)) (kept : AreSmall world.server.sessions world.server.jobs) where
     abbrev now : Setting D
     now = setting_at (at_server setting) moment world.server
 
@@ -93,6 +100,10 @@ module _ (g : Rattle.world_servers.proofs.laws.events_of_worlds_are_moves.Given.
 
     abbrev from : List Session
     from = world.server.sessions
+
+    fit_last : (done : State D) → IsSmallState done → done.sent ≡ []
+        → AllByRecursion IsFit (with_lines (λ name. line_by (session_named name (all_sent now done).sessions) (session_named name from)) done.sessions)
+    fit_last done small none = fits_last now done (λ name. session_named name from) small (c.packets_are_whole.ensures.sent now done draws small none).0
 
     tick_so : Fresh (serves setting (Tick moment) world) → Leads w (λ later. HasServed later world (serves setting (Tick moment) world))
     tick_so fresh =
@@ -103,7 +114,8 @@ module _ (g : Rattle.world_servers.proofs.laws.events_of_worlds_are_moves.Given.
         let distinct = apart_of (serves setting (Tick moment) world) fresh in
         let l = leads_on (blank g c) now w world done reached s comes names some distinct
         (tick_ends (adds g c) c.moves_only_add.ensures (on g c) (any g c) (whole g c) now w (past_in world) (lines (blank g c) now w world done reached s comes names) (more (blank g c) now w world done reached s comes names)
-        world.server world.draw reached s order (lines_are (blank g c) now w world done reached s comes names some distinct) (alone g c)) in
+        world.server world.draw reached s order (lines_are (blank g c) now w world done reached s comes names some distinct) (alone g c)
+        (fit_last done (c.what_is_owed_is_small.ensures.tick now world.server world.draw draws kept))) in
         leads_so w (Stands (blank g c) now w world done reached s comes names some distinct) (λ later. HasServed later world (serves setting (Tick moment) world))
         (λ later k. record { stands = k.0; packets = _; bag = refl; down = k.1 }) l
 
@@ -120,18 +132,19 @@ module _ (g : Rattle.world_servers.proofs.laws.events_of_worlds_are_moves.Given.
           bag = world.bag ++ map sent_down done.packets;
         }
 
-    work_by : (place : ℕ) (found : Option Job) → ready_job place world.server.jobs ≡ found → Fresh (served_by place found) → Leads w (λ later. HasServed later world (served_by place found))
-    work_by place None is fresh =
+    work_by : GivesReplies setting.serve → (place : ℕ) (found : Option Job) → ready_job place world.server.jobs ≡ found → Fresh (served_by place found) → Leads w (λ later. HasServed later world (served_by place found))
+    work_by gives place None is fresh =
         let comes : AllFrom from (all_sent now first).sessions = all_sent_from now from first (all_itself from) in
         let names : (n : Name) → has_named n first.sessions ≡ has_named n from = λ n. refl in
         let some = some_of (served_by place None) fresh in
         let distinct = apart_of (served_by place None) fresh in
         let l = leads_on (blank g c) now w world first reached s comes names some distinct
         (idle_ends (adds g c) c.moves_only_add.ensures (on g c) (any g c) (whole g c) now w (past_in world) (lines (blank g c) now w world first reached s comes names) (more (blank g c) now w world first reached s comes names)
-        world.server world.draw reached s order (lines_are (blank g c) now w world first reached s comes names some distinct)) in
+        world.server world.draw reached s order (lines_are (blank g c) now w world first reached s comes names some distinct)
+        (fit_last first (record { kept = kept; owed = tt; given = all_of (AreGivenTo []) from (λ o there. tt) }))) in
         leads_so w (Stands (blank g c) now w world first reached s comes names some distinct) (λ later. HasServed later world (served_by place None))
         (λ later k. record { stands = k.0; packets = _; bag = refl; down = k.1 }) l
-    work_by place (Some job) is fresh =
+    work_by gives place (Some job) is fresh =
         let reply : List ℕ = (setting.serve world.service job.request).0 in
         let done : State D = runs now place job reply first in
         let comes : AllFrom from (all_sent now done).sessions = all_sent_from now from done (runs_from now from (alone g c) (finishing g c) place job reply first (all_itself from)) in
@@ -140,7 +153,8 @@ module _ (g : Rattle.world_servers.proofs.laws.events_of_worlds_are_moves.Given.
         let distinct = apart_of (served_by place (Some job)) fresh in
         let l = leads_on (blank g c) now w world done reached s comes names some distinct
         (run_ends (adds g c) c.moves_only_add.ensures (on g c) (any g c) (whole g c) now w (past_in world) (lines (blank g c) now w world done reached s comes names) (more (blank g c) now w world done reached s comes names)
-        world.server world.draw reached s order (lines_are (blank g c) now w world done reached s comes names some distinct) (alone g c) (finishing g c) place job reply is) in
+        world.server world.draw reached s order (lines_are (blank g c) now w world done reached s comes names some distinct) (alone g c) (finishing g c) place job reply is
+        (fit_last done (c.what_is_owed_is_small.ensures.work now place job reply world.server world.draw draws (gives world.service job.request) is kept))) in
         leads_so w (Stands (blank g c) now w world done reached s comes names some distinct) (λ later. HasServed later world (served_by place (Some job)))
         (λ later k. record { stands = k.0; packets = _; bag = refl; down = k.1 }) l
 
@@ -181,18 +195,19 @@ module _ (g : Rattle.world_servers.proofs.laws.events_of_worlds_are_moves.Given.
           let l = leads_on (blank g c) now w world done reached s comes names some distinct
           (attach_ends (adds g c) c.moves_only_add.ensures (on g c) (any g c) (whole g c) now w (past_in world) line (more (blank g c) now w world done reached s comes names)
           world.server world.draw reached s order (lines_are (blank g c) now w world done reached s comes names some distinct) name (says_new g c)
-          (λ setting speaker. c.sessions_speak_for_themselves.ensures.attaches setting speaker) within) in
+          (λ setting speaker. c.sessions_speak_for_themselves.ensures.attaches setting speaker) within
+          (fit_last done (c.what_is_owed_is_small.ensures.attach now name world.server world.draw draws kept))) in
           leads_so w (Stands (blank g c) now w world done reached s comes names some distinct) (λ later. HasServed later world (serves setting (Attach moment name) world))
           (λ later k. record { stands = k.0; packets = _; bag = refl; down = k.1 }) l
 
 pub returns-clause-work : goal.returns-clause-work
-returns-clause-work g c = λ w setting world moment place reached s order fresh. work_by g c w setting world moment reached s order place (ready_job place world.server.jobs) refl fresh
+returns-clause-work g c = λ w setting world moment place reached s order draws gives kept fresh. work_by g c w setting world moment reached s order draws kept gives place (ready_job place world.server.jobs) refl fresh
 
 pub returns-clause-tick : goal.returns-clause-tick
-returns-clause-tick g c = λ w setting world moment reached s order fresh. tick_so g c w setting world moment reached s order fresh
+returns-clause-tick g c = λ w setting world moment reached s order draws kept fresh. tick_so g c w setting world moment reached s order draws kept fresh
 
 pub returns-clause-attach : goal.returns-clause-attach
-returns-clause-attach g c = λ w setting world moment name reached s order fresh. attach_so g c w setting world moment reached s order name fresh
+returns-clause-attach g c = λ w setting world moment name reached s order draws kept fresh. attach_so g c w setting world moment reached s order draws kept name fresh
 
 pub returns-clause-loss : goal.returns-clause-loss
 returns-clause-loss g c = λ w setting world name s.

@@ -67,7 +67,7 @@ returns-clause-taken g c = λ w gone lines setting envelope heard session reache
     record { moves = l.moves; lawful = l.lawful; own = l.own; gives = (l.gives.1.more, l.gives.1.stands, l.gives.1.lost) }
 
 pub returns-clause-ended : goal.returns-clause-ended
-returns-clause-ended g c = λ w gone lines setting envelope heard session reached h unfailed none_owed none_sent order found line_within ups within.
+returns-clause-ended g c = λ w gone lines setting envelope heard session reached h unfailed none_owed none_sent order found line_within ups within fit.
     let end = done (adds g c) (on g c) (alone g c) (owing g c) (said g c) (orders g c) (judges g c) (opening g c) (names g c) setting envelope heard gone lines session found unfailed none_owed none_sent order in
     goes_on (on g c) w _ _ reached
     (takes_on (adds g c) (on g c) (alone g c) (owing g c) (said g c) (orders g c) (judges g c) (opening g c) (names g c) setting envelope heard gone lines session found unfailed none_owed none_sent order
@@ -81,4 +81,5 @@ returns-clause-ended g c = λ w gone lines setting envelope heard session reache
     (λ setting history judged speaker unheard. c.new_sessions_say_so.ensures.packet setting history judged speaker unheard)
     (λ setting envelope state session sent owed order found unheard. c.new_sessions_owe_little.ensures setting envelope state session sent owed order found unheard)
     later k.0 k.1 within)
+    fit
     (none_out later end.sent k.1.there.sent)))

@@ -57,6 +57,9 @@ use Rattle.world_servers.proofs.Chosen.{itself_found, line_at, more_at, said_lin
 use Rattle.world_servers.proofs.Fresh.{AreDistinct, IsBlank, distinct_back, distinct_of, drawn_for, some_back}
 use Rattle.world_servers.proofs.Whole.{all_down, stands_after}
 use Rattle.world_servers.proofs.Served.{has_sent, spent_or}
+use Rattle.server_sizes.specs.Small.{AreSmall, DrawsWords, IsSmallEnvelope, IsSmallState}
+use Rattle.world_servers.specs.Sending.{IsFit}
+use Rattle.world_servers.proofs.Fitting.{fits_last}
 use Rattle.world_servers.proofs.Heard.{AreUnfailed, IsHeard, before_there, is_heard, made_there, none_found, none_kept}
 use Rattle.world_servers.proofs.Comes.{found_lost, lines_are, new_salt, unique_some, unmade, was_lost}
 use Rattle.world_servers.proofs.laws.packets_of_worlds_are_moves.Goals as goal
@@ -125,7 +128,7 @@ module _ (g : Rattle.world_servers.proofs.laws.packets_of_worlds_are_moves.Given
   by_names = record { own = c.messages_are_owed_by_name.ensures.own; others = c.messages_are_owed_by_name.ensures.others }
 
   module _ (w : World) (setting : settings.Setting D V) (world : rules.World D V) (moment : ℕ) (e : Envelope) (reached : Reached w) (s : StandsIn w world) (order : AreOrdered world.server.sessions world.server.jobs)
-      (fresh : Fresh (serves setting (Comes moment (Some e)) world)) (ups : IsPacketUp w.ups e)
+      (draws : DrawsWords (at_server setting)) (fits : IsSmallEnvelope e) (kept : AreSmall world.server.sessions world.server.jobs) (fresh : Fresh (serves setting (Comes moment (Some e)) world)) (ups : IsPacketUp w.ups e)
       (keys : (other : Session) → Contains world.server.sessions other → other.number ≡ e.session → other.key ≡ e.key) where
     abbrev now : Setting D
     now = setting_at (at_server setting) moment world.server
@@ -246,6 +249,12 @@ module _ (g : Rattle.world_servers.proofs.laws.packets_of_worlds_are_moves.Given
     distinct : AreDistinct (drawn_for (lives (after_by done)))
     distinct = apart_of (after_by done) fresh_done
 
+    small_done : IsSmallState done
+    small_done = subst (λ (state : State D). IsSmallState state) is_done (c.what_is_owed_is_small.ensures.packet now e world.server world.draw draws fits kept)
+
+    fit_done : done.sent ≡ [] → AllByRecursion IsFit (with_lines lines done.sessions)
+    fit_done none = fits_last now done (λ name. session_named name heard.sessions) small_done (c.packets_are_whole.ensures.sent now done draws small_done none).0
+
     -- ---- it is heard
 
     abbrev HeardThere : World → Type 0
@@ -260,7 +269,7 @@ module _ (g : Rattle.world_servers.proofs.laws.packets_of_worlds_are_moves.Given
 
     owner : OwnsIt
     owner =
-        let up = (ups InContainer x).0 in
+        let up = (ups InContainer x).0.1 in
         let it = c.names_are_apart.ensures.of_message w up.up reached up.there in
         (it.0, subst (λ (n : ℕ). Owns (w.clients it.0) n) up.under it.1)
 
@@ -313,7 +322,7 @@ module _ (g : Rattle.world_servers.proofs.laws.packets_of_worlds_are_moves.Given
             l.gives,
             λ way session.
                 map_all (IsUp v.ups e.session e.salt) (IsUp (after_all v l.moves).ups e.session e.salt) (messages_judged way session (message_in e))
-                (λ m there up. record { up = up.up; there = adds.messages v l.moves l.lawful up.up up.there; under = up.under; salted = up.salted; numbered = up.numbered; is = up.is }) (sent way session),
+                (λ m there up. (up.0, record { up = up.1.up; there = adds.messages v l.moves l.lawful up.1.up up.1.there; under = up.1.under; salted = up.1.salted; numbered = up.1.numbered; is = up.1.is })) (sent way session),
           );
         }
 
@@ -371,6 +380,7 @@ module _ (g : Rattle.world_servers.proofs.laws.packets_of_worlds_are_moves.Given
           (λ setting history judged speaker unheard. c.new_sessions_say_so.ensures.packet setting history judged speaker unheard)
           (λ setting envelope state session sent owed order found unheard. c.new_sessions_owe_little.ensures setting envelope state session sent owed order found unheard)
           later m.0 m.1 within_done)
+          (fit_done m.1.there.sent)
           (none_out later done.sent m.1.there.sent)))
 
       begun_so : (v : World) → Reached v → ServerStands v past_heard heard.sessions heard.jobs → IsPacketUp v.ups e → Leads v Goal
@@ -395,4 +405,4 @@ module _ (g : Rattle.world_servers.proofs.laws.packets_of_worlds_are_moves.Given
         (λ later reached k. begun_so k.0.0 k.0.2 k.0.3 later reached k.0.1 k.1))
 
 pub returns : goal.returns
-returns g c = λ w setting world moment envelope reached s order fresh ups keys. packet_so g c w setting world moment envelope reached s order fresh ups keys
+returns g c = λ w setting world moment envelope reached s order draws fits kept fresh ups keys. packet_so g c w setting world moment envelope reached s order draws fits kept fresh ups keys
