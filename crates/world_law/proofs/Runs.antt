@@ -10,7 +10,7 @@ use Rattle.envelope.specs.Packet.{Lock}
 use Rattle.sched_text.specs.declared.event.Event.{Event}
 use Rattle.sched_text.specs.declared.event.Event.TheVariants as line
 use Rattle.server_laws.specs.Order.{AreOrdered}
-use Rattle.session_moves.specs.World.{World as Moved, start}
+use Rattle.session_moves.specs.World.{start}
 use Rattle.world_rules.specs.Setting.{Setting}
 use Rattle.world_rules.specs.World.{Seat, World, begins, counted, seat_now, server_now}
 use Rattle.world_rules.specs.Premises.{Fresh, IsByNoChance, IsSealed, NoChance, OpensOnly, names_drawn}

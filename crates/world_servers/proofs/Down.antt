@@ -28,7 +28,6 @@ use Rattle.world_rules.specs.Setting.{as_heard}
 use Rattle.world_servers.specs.Speaking.{IsPlain}
 use Rattle.world_servers.specs.Sending.{AreSpelt, IsSmall, WentOut}
 use Rattle.world_servers.proofs.Asked.{AreRead, Reading, int_again, long_again, no_container}
-use Rattle.world_servers.proofs.Lists.{each_of}
 use Rattle.world_servers.proofs.Up.{Unfolds, container_rows, row_behind, row_length, row_long, row_size}
 
 -- ---- rows of the schema

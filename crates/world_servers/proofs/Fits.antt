@@ -1,9 +1,8 @@
 -- What a session may say has numbers that fit their places.
-use Rattle.std.proofs.Common.{◌≡◌, ℕ, zero, suc, ◌==◌, ◌&&◌, ◌||◌, Bool, true, List, [], ◌∷◌, ◌≤◌, ◌<◌, ◌^◌, ◌-◌, fold, take, length, inl, inr, refl, sym, ap, subst, ◌∙◌, arith}
-use Rattle.std.specs.Prelude.{◌⊎◌, max, nat_lt}
-use Rattle.std.specs.List.{AllByRecursion, Contains}
+use Rattle.std.proofs.Common.{◌≡◌, ℕ, zero, suc, ◌==◌, ◌&&◌, ◌||◌, Bool, true, List, [], ◌∷◌, ◌<◌, ◌^◌, ◌-◌, fold, take, length, inl, inr, sym, subst, arith}
+use Rattle.std.specs.Prelude.{nat_lt}
+use Rattle.std.specs.List.{AllByRecursion}
 use Rattle.std.proofs.lemmas.Bool.{cases_Bool}
-use Rattle.salt_line.specs.Rows.{Row}
 use Rattle.id_window.specs.History.{FirstJudgement, History, Outcome, ascending, floor, forgotten, greatest_among, inserted}
 use Rattle.server_rules.specs.Server.{Reply, Session}
 use Rattle.server_sizes.specs.Small.{IsSmallJudgement, IsSmallOutcome, IsSmallRow}
@@ -76,5 +75,5 @@ can_small w y fit made (Notice number code) (inl h) = noticed_small y number cod
 can_small w y fit made (Notice number code) (inr (inl h)) =
     let code_is : code ≡ 20 = h.0 in
     (forgotten_small y number fit (each_of (λ (n : ℕ). HasForgotten n y) (w.servers y.unique).forgotten made.forgotten number h.1), omega (arith, code_is))
-can_small w y fit made (Notice number code) (inr (inr h)) = let code_is : code ≡ 19 = h.0 in (h.1.fits, omega (arith, code_is))
+can_small w y fit made (Notice number code) (inr (inr h)) = (h.1.fits, h.0)
 can_small w y fit made (WrongSalt number salt) h = ((noticed_small y number 48 fit h.0).0, salt_small y salt fit h.1)

@@ -1,5 +1,5 @@
 -- The sessions of a server whose numbers fit their places, with the lines that they have in the end.
-use Rattle.std.proofs.Common.{ℕ, ◌<◌, ◌^◌, Option, List, sym, subst, ◌∙◌}
+use Rattle.std.proofs.Common.{◌<◌, ◌^◌, Option, List, sym, subst, ◌∙◌}
 use Rattle.std.specs.List.{AllByRecursion}
 use Rattle.salt_line.specs.Line.{Line}
 use Rattle.server_rules.specs.Server.{Name, Reply, Session, name_of, session_named}

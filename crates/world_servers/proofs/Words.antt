@@ -87,7 +87,7 @@ noticed_48 w session number code is (inr (inr h)) = let nineteen : code ≡ 19 =
 can_notice : (w : World) (x : Session) (number code : ℕ) → CanNotice w x number code → CanSay w x (Notice number code)
 can_notice w x number code (inl h) = inl h
 can_notice w x number code (inr (inl h)) = inr (inl h)
-can_notice w x number code (inr (inr h)) = inr (inr h)
+can_notice w x number code (inr (inr h)) = let nineteen : code ≡ 19 = h.0 in inr (inr (omega (arith, nineteen), h.1))
 
 module _ {S : Type 0} (adds : Adds) (setting : Setting S) (past : Past) (sessions : List Session) (line : Line) where
   abbrev At : World → Speaker S → Type 0

@@ -215,14 +215,14 @@ pub record IsNoCall (ups : List moves.Message) (session number : ℕ) : Type 0 w
   pub given : WasNoCall ups session number
 
 -- By what it has itself: its unique number and salts, its replies, what it noticed, for notice 20 a number that it has
--- forgotten there, and notice 19 of a message that is no call.
+-- forgotten there, and of a message that is no call any notice whose code fits its place.
 abbrev pub CanSay : World → Session → moves.Item → Type 0
 CanSay w session (moves.Item.NewSession unique salt) = (unique ≡ session.unique) × HasSalt session salt
 CanSay w session (moves.Item.Result call content) = HasSame session.replies (record { call = call; number = 0; seq = 0; content = content; fate = IsKept })
 CanSay w session (moves.Item.Notice number code) =
     HasNoticed session number code
     ⊎ ((code ≡ 20) × Contains (w.servers session.unique).forgotten number)
-    ⊎ ((code ≡ 19) × IsNoCall w.ups session.number number)
+    ⊎ ((code < 2 ^ 32) × IsNoCall w.ups session.number number)
 CanSay w session (moves.Item.WrongSalt number salt) = HasNoticed session number 48 × HasSalt session salt
 
 -- ---- what comes up
