@@ -4,7 +4,7 @@ use Rattle.std.specs.List.{All}
 use Rattle.session_moves.specs.Table as moves
 use Rattle.session_moves.specs.World.{Owns, World}
 use Rattle.session_moves.specs.Move.{Move}
-use Rattle.session_moves.specs.Extends.{Extends, IsOfClient, LeavesCalls, LeavesClients, LeavesPackets, LeavesSubmitted}
+use Rattle.session_moves.specs.Extends.{Extends, IsOfClient, LeavesCalls, LeavesClients, LeavesSubmitted}
 use Rattle.session_moves.specs.Reached.{AreLawful, Reached, after_all}
 use Rattle.client_rules.specs.Client.{Client}
 use Rattle.world_moves.specs.Clients.{StandsAs}
@@ -20,7 +20,6 @@ pub record Moving : Type 0 where
   pub clients : (w : World) (moves : List Move) → All LeavesClients moves → (after_all w moves).clients ≡ w.clients
   pub calls : (w : World) (moves : List Move) → All LeavesCalls moves → (after_all w moves).calls ≡ w.calls
   pub submitted : (w : World) (moves : List Move) → All LeavesSubmitted moves → (after_all w moves).submitted ≡ w.submitted
-  pub packets : (w : World) (moves : List Move) → All LeavesPackets moves → (after_all w moves).downs ≡ w.downs
   pub other_clients : (w : World) (client other : ℕ) (moves : List Move) → All (IsOfClient client) moves → other ≢ client
       → (after_all w moves).clients other ≡ w.clients other
   pub other_calls : (w : World) (client : ℕ) (call : moves.CallId) (moves : List Move) → All (IsOfClient client) moves

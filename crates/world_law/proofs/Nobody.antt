@@ -8,7 +8,7 @@ use Rattle.session_moves.specs.Move.{Move}
 use Rattle.session_moves.specs.Move.OwnAct.{NewClient, Renew, Submit, GiveUp, End}
 use Rattle.session_moves.specs.Move.Move.{Own, Send, Make, Draw, Judge, Forget, Answer, Speak, Hear, Lose}
 use Rattle.session_moves.specs.After.{after}
-use Rattle.session_moves.specs.Extends.{IsOfClient, IsOfServer, LeavesCalls, LeavesClients, LeavesPackets, LeavesSubmitted}
+use Rattle.session_moves.specs.Extends.{IsOfClient, IsOfServer, LeavesCalls, LeavesClients, LeavesSubmitted}
 use Rattle.session_moves.specs.Reached.{after_all}
 use Rattle.world_moves.specs.Clients.{IsNobody}
 use Rattle.world_moves.specs.Leading.{IsOfServers}
@@ -52,22 +52,6 @@ module _ (known : Moving) where
     submitted = all_unsubmitted w mover number differs list its ∙ h.submitted;
     calls = λ place. known.other_calls w mover (moves.call_at number place) list its differs ∙ h.calls place;
   }
-
-  silent : (mover : ℕ) (move : Move) → IsOfClient mover move → LeavesPackets move
-  silent mover (Own act) its = tt
-  silent mover (Send other parts) its = tt
-  silent mover (Make unique session) its = absurd its
-  silent mover (Draw unique salt) its = absurd its
-  silent mover (Judge unique message outcome) its = absurd its
-  silent mover (Forget unique forgotten) its = absurd its
-  silent mover (Answer unique answered body reply) its = absurd its
-  silent mover (Speak unique items) its = absurd its
-  silent mover (Hear other packet takes) its = tt
-  silent mover (Lose unique) its = absurd its
-
-  -- a client makes no packet down
-  pub downs_by_client : (w : World) (mover : ℕ) (list : List Move) → All (IsOfClient mover) list → (after_all w list).downs ≡ w.downs
-  downs_by_client w mover list its = known.packets w list (λ j d below. silent mover _ (its j d below))
 
   -- ---- servers move
 

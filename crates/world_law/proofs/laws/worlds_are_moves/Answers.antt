@@ -14,7 +14,7 @@ pub returns-clause-event : goal.returns-clause-event
 returns-clause-event g c = λ lock ring setting w world event seals so fits h sealed chance fresh behind.
     goes_on
     (record {
-      moving = record { reached = c.moves_go_on.ensures.reached; extends = c.moves_only_add.ensures; owned = c.clients_and_bodies_last.ensures.owned; one_owner = c.names_are_apart.ensures.one_owner; clients = c.moves_leave.ensures.clients; calls = c.moves_leave.ensures.calls; packets = c.moves_leave.ensures.packets; submitted = c.moves_leave.ensures.submitted; other_clients = c.moves_leave.ensures.other_clients; other_calls = c.moves_leave.ensures.other_calls };
+      moving = record { reached = c.moves_go_on.ensures.reached; extends = c.moves_only_add.ensures; owned = c.clients_and_bodies_last.ensures.owned; one_owner = c.names_are_apart.ensures.one_owner; clients = c.moves_leave.ensures.clients; calls = c.moves_leave.ensures.calls; submitted = c.moves_leave.ensures.submitted; other_clients = c.moves_leave.ensures.other_clients; other_calls = c.moves_leave.ensures.other_calls };
       still = record { clients = c.others_stand_still.ensures.clients; servers = c.others_stand_still.ensures.servers };
       servers = λ v mover list other lawful its s. c.servers_stand_still.ensures v mover list (past_in other) other.server.sessions other.server.jobs lawful its s;
       acts = record { joins = c.clients_join.ensures.stands; joins_so = c.clients_join.ensures.temporary; joins_lawfully = c.clients_join.ensures.lawful; submits_lawfully = c.clients_submit.ensures.lawful; submits = c.clients_submit.ensures.stands; attached = c.wishes_are_no_moves.ensures.attached; ticked = c.wishes_are_no_moves.ensures.ticked; pinged = c.wishes_are_no_moves.ensures.pinged; salts_asked = c.wishes_are_no_moves.ensures.salts_asked; dropped = c.wishes_are_no_moves.ensures.dropped; renews_lawfully = c.clients_renew_and_end.ensures.renews; renews = c.clients_renew_and_end.ensures.renewed; ends_lawfully = c.clients_renew_and_end.ensures.ends; ends = c.clients_renew_and_end.ensures.ended; hears = c.clients_hear.ensures.heard; passes_over = c.clients_hear.ensures.passed_over; unopened = c.clients_hear.ensures.unopened };
@@ -31,7 +31,7 @@ pub returns-clause-schedule : goal.returns-clause-schedule
 returns-clause-schedule g c = λ lock ring setting draw events seals so fits fresh sealed.
     run_all
     (record {
-      moving = record { reached = c.moves_go_on.ensures.reached; extends = c.moves_only_add.ensures; owned = c.clients_and_bodies_last.ensures.owned; one_owner = c.names_are_apart.ensures.one_owner; clients = c.moves_leave.ensures.clients; calls = c.moves_leave.ensures.calls; packets = c.moves_leave.ensures.packets; submitted = c.moves_leave.ensures.submitted; other_clients = c.moves_leave.ensures.other_clients; other_calls = c.moves_leave.ensures.other_calls };
+      moving = record { reached = c.moves_go_on.ensures.reached; extends = c.moves_only_add.ensures; owned = c.clients_and_bodies_last.ensures.owned; one_owner = c.names_are_apart.ensures.one_owner; clients = c.moves_leave.ensures.clients; calls = c.moves_leave.ensures.calls; submitted = c.moves_leave.ensures.submitted; other_clients = c.moves_leave.ensures.other_clients; other_calls = c.moves_leave.ensures.other_calls };
       still = record { clients = c.others_stand_still.ensures.clients; servers = c.others_stand_still.ensures.servers };
       servers = λ v mover list other lawful its s. c.servers_stand_still.ensures v mover list (past_in other) other.server.sessions other.server.jobs lawful its s;
       acts = record { joins = c.clients_join.ensures.stands; joins_so = c.clients_join.ensures.temporary; joins_lawfully = c.clients_join.ensures.lawful; submits_lawfully = c.clients_submit.ensures.lawful; submits = c.clients_submit.ensures.stands; attached = c.wishes_are_no_moves.ensures.attached; ticked = c.wishes_are_no_moves.ensures.ticked; pinged = c.wishes_are_no_moves.ensures.pinged; salts_asked = c.wishes_are_no_moves.ensures.salts_asked; dropped = c.wishes_are_no_moves.ensures.dropped; renews_lawfully = c.clients_renew_and_end.ensures.renews; renews = c.clients_renew_and_end.ensures.renewed; ends_lawfully = c.clients_renew_and_end.ensures.ends; ends = c.clients_renew_and_end.ensures.ended; hears = c.clients_hear.ensures.heard; passes_over = c.clients_hear.ensures.passed_over; unopened = c.clients_hear.ensures.unopened };
@@ -50,7 +50,7 @@ pub returns-clause-any : goal.returns-clause-any
 returns-clause-any g c = λ lock ring setting draw events seals so fits chance fresh sealed.
     run_any
     (record {
-      moving = record { reached = c.moves_go_on.ensures.reached; extends = c.moves_only_add.ensures; owned = c.clients_and_bodies_last.ensures.owned; one_owner = c.names_are_apart.ensures.one_owner; clients = c.moves_leave.ensures.clients; calls = c.moves_leave.ensures.calls; packets = c.moves_leave.ensures.packets; submitted = c.moves_leave.ensures.submitted; other_clients = c.moves_leave.ensures.other_clients; other_calls = c.moves_leave.ensures.other_calls };
+      moving = record { reached = c.moves_go_on.ensures.reached; extends = c.moves_only_add.ensures; owned = c.clients_and_bodies_last.ensures.owned; one_owner = c.names_are_apart.ensures.one_owner; clients = c.moves_leave.ensures.clients; calls = c.moves_leave.ensures.calls; submitted = c.moves_leave.ensures.submitted; other_clients = c.moves_leave.ensures.other_clients; other_calls = c.moves_leave.ensures.other_calls };
       still = record { clients = c.others_stand_still.ensures.clients; servers = c.others_stand_still.ensures.servers };
       servers = λ v mover list other lawful its s. c.servers_stand_still.ensures v mover list (past_in other) other.server.sessions other.server.jobs lawful its s;
       acts = record { joins = c.clients_join.ensures.stands; joins_so = c.clients_join.ensures.temporary; joins_lawfully = c.clients_join.ensures.lawful; submits_lawfully = c.clients_submit.ensures.lawful; submits = c.clients_submit.ensures.stands; attached = c.wishes_are_no_moves.ensures.attached; ticked = c.wishes_are_no_moves.ensures.ticked; pinged = c.wishes_are_no_moves.ensures.pinged; salts_asked = c.wishes_are_no_moves.ensures.salts_asked; dropped = c.wishes_are_no_moves.ensures.dropped; renews_lawfully = c.clients_renew_and_end.ensures.renews; renews = c.clients_renew_and_end.ensures.renewed; ends_lawfully = c.clients_renew_and_end.ensures.ends; ends = c.clients_renew_and_end.ensures.ended; hears = c.clients_hear.ensures.heard; passes_over = c.clients_hear.ensures.passed_over; unopened = c.clients_hear.ensures.unopened };
