@@ -1,6 +1,6 @@
 //! The server's side of a world.
 
-ghost use Rattle.std.specs.Prelude.{◌≡◌, ℕ, ◌<◌, ◌++◌, ◌∷◌, List, [], Some, false, true, is_some, max, IfOk, OnOk, OnErr};
+ghost use Rattle.std.specs.Prelude.{◌≡◌, ℕ, ◌<◌, ◌≤◌, ◌+◌, ◌^◌, ◌++◌, ◌∷◌, List, [], Some, false, true, is_some, max, IfOk, OnOk, OnErr};
 ghost use Rattle.envelope.specs.declared.parts.Dir.TheVariants.{Up};
 ghost use Rattle.sched_text.specs.declared.event.Event.TheVariants as line;
 ghost use Rattle.server_rules.specs.Events.{Attach, Loss, Tick, Work};
@@ -97,7 +97,7 @@ impl<S: Seal, V: Service> Host<S, V> {
     ///
     /// # Errors
     ///
-    /// `Memory`, and then nothing has changed.
+    /// `Memory`, and then nothing has changed but the room.
     pub fn reserve(&mut self, alloc: Global) -> Result<(), Memory>
         ensures room { OnOk result (0 < self.new.room) }
         ensures same { Stays self.old self.new }
@@ -124,7 +124,7 @@ impl<S: Seal, V: Service> Host<S, V> {
     ///
     /// # Errors
     ///
-    /// `Memory`, and then nothing has changed but the draw.
+    /// `Memory`, and then nothing has changed but the draw and the room.
     pub fn ticks<D: Draw>(&mut self, alloc: Global, draw: &mut D) -> Result<(), Memory>
         ensures stands { (sealing : Sealing) (world : Rules D V) → let setting : Setting D V = setting_in D.step V.step V.fresh_state sealing in
             IsOf S.lock (S.keys self.old.server.seal) setting → Stands setting self.old draw.old world
@@ -145,7 +145,7 @@ impl<S: Seal, V: Service> Host<S, V> {
     ///
     /// # Errors
     ///
-    /// `Memory`, and then nothing has changed but the draw.
+    /// `Memory`, and then nothing has changed but the draw and the room.
     pub fn works<D: Draw>(
         &mut self,
         alloc: Global,
@@ -174,7 +174,7 @@ impl<S: Seal, V: Service> Host<S, V> {
     ///
     /// # Errors
     ///
-    /// `Memory`, and then nothing has changed but the draw.
+    /// `Memory`, and then nothing has changed but the draw and the room.
     pub fn attaches<D: Draw>(
         &mut self,
         alloc: Global,
@@ -217,6 +217,7 @@ impl<S: Seal, V: Service> Host<S, V> {
         ensures stands { (sealing : Sealing) (draw : D) (world : Rules D V) → let setting : Setting D V = setting_in D.step V.step V.fresh_state sealing in
             IsOf S.lock (S.keys self.old.server.seal) setting → Stands setting self.old draw world
             → OnOk result (Stands setting self.new draw (after setting world line.Restart)) }
+        ensures counted { OnErr result (2 ^ 64 ≤ self.old.start + 1) }
         ensures unchanged_on_memory { OnErr result (self.new ≡ self.old) }
         ensures same_seal { self.new.server.seal ≡ self.old.server.seal }
     {
@@ -250,7 +251,7 @@ impl<S: Seal, V: Service> Host<S, V> {
     ///
     /// # Errors
     ///
-    /// `Memory`, and then nothing has changed but the draw.
+    /// `Memory`, and then nothing has changed but the draw and the room.
     pub fn takes<D: Draw>(
         &mut self,
         alloc: Global,
@@ -276,7 +277,7 @@ impl<S: Seal, V: Service> Host<S, V> {
     ///
     /// # Errors
     ///
-    /// `Memory`, and then nothing has changed but the draw.
+    /// `Memory`, and then nothing has changed but the draw and the room.
     pub fn takes_again<D: Draw>(
         &mut self,
         alloc: Global,

@@ -1,6 +1,6 @@
 //! What a world made so far.
 
-ghost use Rattle.std.specs.Prelude.{◌≡◌, ◌<◌, ◌++◌, ◌∷◌, ◌+◌, [], map, OnOk, OnErr};
+ghost use Rattle.std.specs.Prelude.{◌≡◌, ◌<◌, ◌≤◌, ◌^◌, ◌++◌, ◌∷◌, ◌+◌, [], map, OnOk, OnErr};
 ghost use Rattle.hosts.specs.Made.{GoesUp, made_of_out};
 ghost use Rattle.hosts.specs.Registers.{entered};
 
@@ -102,6 +102,7 @@ impl Past {
     /// `Memory`, and then nothing has changed. It comes exactly where starts can't be counted any more.
     pub fn starts_again(&mut self) -> Result<(), Memory>
         ensures again { OnOk result (self.new ≡ record self.old { start = self.old.start + 1 }) }
+        ensures counted { OnErr result (2 ^ 64 ≤ self.old.start + 1) }
         ensures unchanged_on_memory { OnErr result (self.new ≡ self.old) }
     {
         match self.start.checked_add(1) {

@@ -2,7 +2,7 @@
 use Rattle.std.proofs.Common.{◌≡◌, ◌≢◌, ℕ, zero, suc, ◌+◌, ◌%◌, ◌^◌, ◌<◌, ◌≤◌, ◌==◌, List, [], ◌∷◌, fold, inl, inr, refl, sym, ap, subst, ◌∙◌, arith, ne_eqb}
 use Rattle.std.proofs.lemmas.Bool.{cases_Bool, cond_both, eqb-true}
 use Rattle.std.specs.Prelude.{is_some}
-use Rattle.draws.specs.Draws.{next_words}
+use Rattle.draws.specs.Draws.{draw_after, next_words}
 use Rattle.draws.specs.Steps.{step_word}
 use Rattle.sched_text.specs.declared.event.Event.{Event}
 use Rattle.server_laws.specs.Order.{AreOrdered}
@@ -101,30 +101,25 @@ pub record Steps : Type 0 where
   pub apart : (i j : ℕ) → i < 2 ^ 64 → j < 2 ^ 64 → i ≢ j → step_word i ≢ step_word j
 
 module _ (known : Steps) where
-  goes_on : (given : ℕ) → given + 1 < 2 ^ 64 → (given + 1) % 2 ^ 64 ≡ given + 1
-  goes_on given below = omega (arith, below)
-
   -- a word that none of these is
   none_of : (x n given : ℕ) → given + n < 2 ^ 64 → ((i : ℕ) → given < i → i ≤ given + n → step_word i ≢ x) → count x (next_words given_step n given) ≡ 0
   none_of x zero given below other = refl
   none_of x (suc n) given below other =
-      let next : (given + 1) % 2 ^ 64 ≡ given + 1 = goes_on given (omega (arith, below)) in
       let rest = none_of x n (given + 1) (omega (arith, below)) (λ i above within. other i (omega (arith, above)) (omega (arith, within))) in
       let here : step_word (given + 1) ≢ x = other (given + 1) (omega arith) (omega arith) in
-      rw (ne_eqb (step_word (given + 1)) x here, next) rest
+      rw (ne_eqb (step_word (given + 1)) x here) rest
 
   each_once : (x n given : ℕ) → given + n < 2 ^ 64 → count x (next_words given_step n given) ≤ 1
   each_once x zero given below = omega arith
   each_once x (suc n) given below =
-      let next : (given + 1) % 2 ^ 64 ≡ given + 1 = goes_on given (omega (arith, below)) in
       elim (cases_Bool (step_word (given + 1) == x)) [
         | inl is ↦
             let same : step_word (given + 1) ≡ x = eqb-true (step_word (given + 1)) x is in
             let none = none_of x n (given + 1) (omega (arith, below)) (λ i above within.
             let differ = known.apart in
             λ its. differ i (given + 1) (omega (arith, below, within)) (omega (arith, below)) (omega (arith, above)) (its ∙ sym same)) in
-            rw (is, next) (omega (arith, none))
-        | inr not_so ↦ let rest = each_once x n (given + 1) (omega (arith, below)) in rw (not_so, next) rest
+            rw is (omega (arith, none))
+        | inr not_so ↦ let rest = each_once x n (given + 1) (omega (arith, below)) in rw not_so rest
       ]
 
   pub step_words_fresh : (n given : ℕ) → given + n < 2 ^ 64 → AreFresh (next_words given_step n given)
@@ -136,3 +131,14 @@ module _ (known : Steps) where
   pub steps_fresh : {V : Type 0} (setting : Setting ℕ V) (given n : ℕ) (world : World ℕ V) → setting.step ≡ given_step → AreDrawn setting (begins setting given) n world → given + n < 2 ^ 64 → Fresh world
   steps_fresh setting given n world same h below =
       drawn_fresh setting given n world h (subst (λ (s : ℕ → ℕ × ℕ). AreFresh (next_words s n given)) (sym same) (step_words_fresh n given below))
+
+  after_steps : (n given : ℕ) → draw_after given_step n given ≡ given + n
+  after_steps zero given = omega arith
+  after_steps (suc n) given = let rest = after_steps n (given + 1) in omega (arith, rest)
+
+  -- by the place where the draw stands then
+  pub steps_fresh_at : {V : Type 0} (setting : Setting ℕ V) (given n : ℕ) (world : World ℕ V) → setting.step ≡ given_step
+      → AreDrawn setting (begins setting given) n world → world.draw < 2 ^ 64 → Fresh world
+  steps_fresh_at setting given n world same h below =
+      let at : world.draw ≡ given + n = h.draw ∙ (ap (λ (s : ℕ → ℕ × ℕ). draw_after s n given) same ∙ after_steps n given) in
+      steps_fresh setting given n world same h (subst (λ (place : ℕ). place < 2 ^ 64) at below)

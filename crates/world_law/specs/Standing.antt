@@ -71,9 +71,9 @@ pub record WorldStands {S V : Type 0} (w : moves.World) (world : World S V) : Ty
   pub ordered : AreOrdered world.server.sessions world.server.jobs
   -- each session that was ever made is under a session number of a client with its key
   pub keys : AllByRecursion (λ session. IsKeyOf w world.seats session.number session.key) (lives world)
-  -- so is each packet that was ever made
+  -- each packet that was ever made is there, one up under a session number of a client with its key
   pub bag : AllByRecursion (IsBagged w world.seats) world.bag
-  -- the numbers of its sessions and jobs fit their places
+  -- keys, session numbers, unique numbers, salts, judged numbers and codes, and numbers of replied calls and jobs fit
   pub kept : AreKeptSmall world.server.sessions world.server.jobs
 
 -- some list of lawful moves leads to where the world stands

@@ -1,5 +1,5 @@
 -- The words that a world drew for names: session numbers, unique numbers and salts.
-use Rattle.std.specs.Prelude.{◌≡◌, ◌≢◌, ℕ, suc, ◌+◌, ◌%◌, ◌^◌, ◌<◌, ◌≤◌, ◌==◌, if◌then◌else◌, List, [], ◌∷◌, map}
+use Rattle.std.specs.Prelude.{◌≡◌, ◌≢◌, ℕ, suc, ◌+◌, ◌<◌, ◌≤◌, ◌==◌, if◌then◌else◌, List, [], ◌∷◌, map}
 use Rattle.std.specs.List.{All, AllPairs}
 use Rattle.draws.specs.Draws.{draw_after, next_words, word_after}
 use Rattle.draws.specs.Steps.{step_word}
@@ -25,6 +25,6 @@ pub record HavePlaces {S : Type 0} (step : S → ℕ × S) (draw : S) (n : ℕ) 
   pub apart : AllPairs (λ place other. place ≢ other) places
   pub there : words ≡ map (λ place. word_after step place draw) places
 
--- the step of a `StepDraw` that gave so many words
+-- the step of a draw that gave so many words of a `StepDraw`, one after the other; it doesn't begin again behind the last one
 abbrev pub given_step : ℕ → ℕ × ℕ
-given_step given = (step_word (given + 1), (given + 1) % 2 ^ 64)
+given_step given = (step_word (given + 1), given + 1)

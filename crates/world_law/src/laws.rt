@@ -60,8 +60,8 @@ pub fn what_opens_was_made<D: Draw, V>()
         → OpensWhatItSealed lock → IsSealed lock ring setting → setting.opens now dir bytes ≡ Some envelope → IsShort envelope }
 {}
 
-/// No event takes away a word that was drawn for a session number, a unique number or a salt, nor a packet: where these words
-/// differ behind an event, and aren't 0, they did so before it, and where all packets are lawful behind it, they were.
+/// Where the words drawn for session numbers, unique numbers and salts differ behind an event of a world whose server is in
+/// order, and aren't 0, they did so before it; and where all packets are lawful behind an event, they were.
 pub fn worlds_only_grow<D: Draw, V>()
     ensures words { (setting : Setting D V) (world : World D V) (event : Event) → AreOrdered world.server.sessions world.server.jobs
         → Fresh (after setting world event) → Fresh world }
@@ -72,8 +72,8 @@ pub fn worlds_only_grow<D: Draw, V>()
     server_laws::laws::sessions_speak_for_themselves::<D>();
 }
 
-/// Every event of a world is a list of lawful moves, and so some list of lawful moves leads to where the world of a schedule
-/// stands, with its clients, sessions, jobs, packets and entries. The premises: a seal that opens what it sealed, foreign
+/// Where a world stands in some world that lawful moves lead to, so does the world behind each event, and so some list of
+/// lawful moves leads to where the world of a schedule stands, with its clients, sessions, jobs, packets and entries. The premises: a seal that opens what it sealed, foreign
 /// bytes that open by no chance (a schedule refuses those that open), words that aren't 0 and differ; words that are drawn
 /// have 64 bits and replies of the service are whole words and short; and one on sizes, which isn't shown of the rules: each
 /// packet is one that may be sealed.
@@ -153,30 +153,31 @@ pub fn names_are_words_drawn<D: Draw, V>()
     server_laws::laws::sessions_speak_for_themselves::<D>();
 }
 
-/// Where words are drawn as a `StepDraw` gives them, from its place `given` on, the names of a world that drew n words aren't
-/// 0 and differ, as long as the place stays below 2^64: so it is after every schedule.
+/// Where the words drawn are those of a `StepDraw`, one after the other from its place `given` on, the names of a world aren't 0
+/// and differ as long as the place where the draw stands then is below 2^64: so it is after every schedule.
 pub fn step_words_keep_names_fresh<V>()
     ensures world { (setting : Setting ℕ V) (given n : ℕ) (world : World ℕ V) → setting.step ≡ given_step
-        → AreDrawn setting (begins setting given) n world → given + n < 2 ^ 64 → Fresh world }
+        → AreDrawn setting (begins setting given) n world → world.draw < 2 ^ 64 → Fresh world }
     ensures schedule { (setting : Setting ℕ V) (given : ℕ) (events : List Event) → setting.step ≡ given_step
-        → (n : ℕ) × AreDrawn setting (begins setting given) n (run_of setting given events) × (given + n < 2 ^ 64 → Fresh (run_of setting given events)) }
+        → (run_of setting given events).draw < 2 ^ 64 → Fresh (run_of setting given events) }
     ensures any { (setting : Setting ℕ V) (given : ℕ) (events : List Event) → setting.step ≡ given_step
-        → (n : ℕ) × AreDrawn setting (begins setting given) n (run_of_any setting given events) × (given + n < 2 ^ 64 → Fresh (run_of_any setting given events)) }
+        → (run_of_any setting given events).draw < 2 ^ 64 → Fresh (run_of_any setting given events) }
 {
     draws::laws::step_words_are_fresh();
     names_are_words_drawn::<StepDraw, V>();
 }
 
-/// Each call executes at most once over every schedule whose words are drawn as a `StepDraw` gives them: under the premises of
-/// `worlds_are_moves` but that words aren't 0 and differ, in whose place it is that the draw's place stays below 2^64.
+/// Each call executes at most once over every schedule whose words are those of a `StepDraw`, one after the other: under the
+/// premises of `worlds_are_moves` but that words aren't 0 and differ, in whose place it is that the place where the draw
+/// stands in the end is below 2^64.
 pub fn calls_execute_once_by_steps<V>()
     ensures schedule { (lock : Lock) (ring : List RingKey) (setting : Setting ℕ V) (given : ℕ) (events : List Event) → setting.step ≡ given_step
         → OpensWhatItSealed lock → IsSealed lock ring setting → Fits setting → AreLawfulPackets lock ring setting (run_of setting given events)
-        → (n : ℕ) × AreDrawn setting (begins setting given) n (run_of setting given events) × (given + n < 2 ^ 64 → Once setting (run_of setting given events)) }
+        → (run_of setting given events).draw < 2 ^ 64 → Once setting (run_of setting given events) }
     ensures any { (lock : Lock) (ring : List RingKey) (setting : Setting ℕ V) (given : ℕ) (events : List Event) → setting.step ≡ given_step
         → OpensWhatItSealed lock → IsSealed lock ring setting → Fits setting → NoChance setting (begins setting given) events
         → AreLawfulPackets lock ring setting (run_of_any setting given events)
-        → (n : ℕ) × AreDrawn setting (begins setting given) n (run_of_any setting given events) × (given + n < 2 ^ 64 → Once setting (run_of_any setting given events)) }
+        → (run_of_any setting given events).draw < 2 ^ 64 → Once setting (run_of_any setting given events) }
 {
     step_words_keep_names_fresh::<V>();
     calls_execute_once::<StepDraw, V>();
