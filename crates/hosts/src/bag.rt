@@ -95,7 +95,7 @@ impl Model for Bag {
 
 impl Bag {
     /// No packet. Takes no memory.
-    pub fn new(alloc: Global) -> Bag
+    pub(crate) fn new(alloc: Global) -> Bag
         ensures { result ≡ record { made = []; room = 0 } }
     {
         Bag {
@@ -110,7 +110,7 @@ impl Bag {
     /// # Errors
     ///
     /// `Memory`, and then nothing has changed. It comes too where there are 2^63 packets.
-    pub fn reserve(&mut self, _alloc: Global) -> Result<(), Memory>
+    pub(crate) fn reserve(&mut self, _alloc: Global) -> Result<(), Memory>
         ensures room { OnOk result (0 < self.new.room) }
         ensures same { self.new.made ≡ self.old.made }
         ensures unchanged_on_memory { OnErr result (self.new ≡ self.old) }
@@ -147,7 +147,7 @@ impl Bag {
     }
 
     /// A packet goes up. Takes no memory.
-    pub fn goes_up(&mut self, bytes: Octets)
+    pub(crate) fn goes_up(&mut self, bytes: Octets)
         requires { 0 < self.old.room }
         ensures { self.new.made ≡ self.old.made ++ GoesUp bytes ∷ [] }
     {
@@ -161,7 +161,7 @@ impl Bag {
     }
 
     /// These go down. Takes no memory.
-    pub fn go_down(&mut self, outs: Vec<Out>)
+    pub(crate) fn go_down(&mut self, outs: Vec<Out>)
         requires { 0 < self.old.room }
         ensures { self.new.made ≡ self.old.made ++ map made_of_out outs.items }
     {

@@ -11,5 +11,4 @@ mod register;
 
 pub use bag::{Bag, Packet};
 pub use host::Host;
-pub use past::Past;
 pub use register::{Recorded, Register};

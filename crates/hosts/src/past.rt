@@ -15,7 +15,7 @@ use std::marker::Model;
 /// What a world made so far: the starts of its server, counted, the packets, and the entries. Contracts see these, and
 /// for how many more events there is room.
 #[derive(Debug, Drop)]
-pub struct Past {
+pub(crate) struct Past {
     start: u64,
     bag: Bag,
     register: Register,
@@ -37,7 +37,7 @@ impl Model for Past {
 
 impl Past {
     /// The first start, and nothing made. Takes no memory.
-    pub fn new(alloc: Global) -> Past
+    pub(crate) fn new(alloc: Global) -> Past
         ensures { result ≡ record { start = 1; bag = []; entries = []; room = 0 } }
     {
         Past {
@@ -52,7 +52,7 @@ impl Past {
     /// # Errors
     ///
     /// `Memory`.
-    pub fn reserve(&mut self, alloc: Global) -> Result<(), Memory>
+    pub(crate) fn reserve(&mut self, alloc: Global) -> Result<(), Memory>
         ensures room { OnOk result (0 < self.new.room) }
         ensures same { self.new ≡ record self.old { room = self.new.room } }
     {
@@ -61,21 +61,21 @@ impl Past {
     }
 
     /// The packets.
-    pub fn bag(&self) -> &Bag
+    pub(crate) fn bag(&self) -> &Bag
         ensures { result.now.made ≡ self.now.bag }
     {
         &self.bag
     }
 
     /// The entries.
-    pub fn register(&self) -> &Register
+    pub(crate) fn register(&self) -> &Register
         ensures { result.now.entries ≡ self.now.entries }
     {
         &self.register
     }
 
     /// An event of the server made these. Takes no memory.
-    pub fn takes(&mut self, out: Outs, entries: Entries)
+    pub(crate) fn takes(&mut self, out: Outs, entries: Entries)
         requires { 0 < self.old.room }
         ensures bag { self.new.bag ≡ self.old.bag ++ map made_of_out out.outs }
         ensures entries { self.new.entries ≡ self.old.entries ++ map (entered self.old.start) entries.entries }
@@ -86,7 +86,7 @@ impl Past {
     }
 
     /// A client sent this. Takes no memory.
-    pub fn goes_up(&mut self, bytes: Octets)
+    pub(crate) fn goes_up(&mut self, bytes: Octets)
         requires { 0 < self.old.room }
         ensures bag { self.new.bag ≡ self.old.bag ++ GoesUp bytes ∷ [] }
         ensures entries { self.new.entries ≡ self.old.entries }
@@ -100,7 +100,7 @@ impl Past {
     /// # Errors
     ///
     /// `Memory`, and then nothing has changed. It comes exactly where starts can't be counted any more.
-    pub fn starts_again(&mut self) -> Result<(), Memory>
+    pub(crate) fn starts_again(&mut self) -> Result<(), Memory>
         ensures again { OnOk result (self.new ≡ record self.old { start = self.old.start + 1 }) }
         ensures counted { OnErr result (2 ^ 64 ≤ self.old.start + 1) }
         ensures unchanged_on_memory { OnErr result (self.new ≡ self.old) }

@@ -40,7 +40,7 @@ impl Model for Register {
 
 impl Register {
     /// No entry. Takes no memory.
-    pub fn new(alloc: Global) -> Register
+    pub(crate) fn new(alloc: Global) -> Register
         ensures { result ≡ record { entries = []; room = 0 } }
     {
         Register {
@@ -54,7 +54,7 @@ impl Register {
     /// # Errors
     ///
     /// `Memory`, and then nothing has changed.
-    pub fn reserve(&mut self, _alloc: Global) -> Result<(), Memory>
+    pub(crate) fn reserve(&mut self, _alloc: Global) -> Result<(), Memory>
         ensures room { OnOk result (0 < self.new.room) }
         ensures same { self.new.entries ≡ self.old.entries }
         ensures unchanged_on_memory { OnErr result (self.new ≡ self.old) }
@@ -72,7 +72,7 @@ impl Register {
     }
 
     /// An event recorded these in this start. Takes no memory.
-    pub fn records(&mut self, start: u64, entries: Entries)
+    pub(crate) fn records(&mut self, start: u64, entries: Entries)
         requires { 0 < self.old.room }
         ensures { self.new.entries ≡ self.old.entries ++ map (entered start) entries.entries }
     {

@@ -139,7 +139,7 @@ work_acts now count = Tick now ∷ runs now count
 
 -- ---- the events of a connection
 
--- a piece that was read: the moment after the read, the packets that are whole with it, and how many jobs run then
+-- a turn: a moment, packets, and how many jobs run then; that these are of a piece that was read isn't said
 pub record Turn : Type 0 where
   pub now : ℕ
   pub packets : List (List ℕ)

@@ -176,8 +176,8 @@ fn take_turns<L: Link, K: Desk, V: Service, C: Clock>(
     ConnEnd::TurnsSpent
 }
 
-/// Serves one connection: hands its packets to a desk and writes what comes of them, until it ends. It gives the link back,
-/// neither closed nor told to its net. `left` counts the packets that are still to be answered, where they are counted; it
+/// Serves one connection: hands its packets to a desk and writes what comes of them, until it ends. It gives the link back;
+/// that it isn't closed no clause says, nor that the events are those of the bytes that came. `left` counts the packets that are still to be answered, where they are counted; it
 /// isn't 0 at the start.
 pub fn serve_one<L: Link, K: Desk, V: Service, C: Clock>(
     alloc: Global,
@@ -188,7 +188,8 @@ pub fn serve_one<L: Link, K: Desk, V: Service, C: Clock>(
     left: &mut Option<u64>,
 ) -> (L, ConnEnd)
     requires some { left.old ≢ Some 0 }
-    // Its events are those of turns, in order, and the desk, the draw and the service are then what the rules give by them.
+    // Its events are those of some turns, or a front of them; the desk, the draw and the service are then what the rules give
+    // by them, but the draw where memory ran out, and all of it after another fault of the desk.
     ensures served { Served K.D.step V.step K.S.lock (K.keys desk.old) result.1 (K.StandsFor desk.old) (K.drawn desk.old) service.old (K.StandsFor desk.new) (K.drawn desk.new) service.new }
     // What was read: pieces, each into 65,536 bytes of room, and the read that ended it, if one did.
     ensures record { IfSome (L.told result.0) (λ after. IsSomeAnd (L.told conn) (λ before. ReadTo result.1 before after)) }
