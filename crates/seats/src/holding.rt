@@ -1,6 +1,6 @@
 //! The events of a client, whatever state it is in.
 
-ghost use Rattle.std.specs.Prelude.{◌≡◌, ℕ, None, IfOk, OnErr, OnOk, List, Option, false, is_some, length, max};
+ghost use Rattle.std.specs.Prelude.{◌≡◌, ◌≢◌, ℕ, None, IfErr, IfOk, OnErr, OnOk, List, Option, false, is_some, length, max};
 ghost use Rattle.call_table.specs.Table.{call_no};
 ghost use Rattle.draws.specs.Draws.{draw_after, word_after};
 ghost use Rattle.envelope.specs.declared.parts.Dir.{Dir as Way};
@@ -17,6 +17,7 @@ ghost use Rattle.client_core.specs.Keys.{HasKeys, keys_in};
 ghost use Rattle.client_core.specs.Kept.{Stands};
 ghost use Rattle.world_rules.specs.Refusals.{goes_on, nothing_more, stands_open, undropped, unsent};
 ghost use Rattle.world_rules.specs.World.{Seat};
+ghost use Rattle.seats.specs.declared.fault.SeatFault.TheVariants as told;
 ghost use Rattle.seats.specs.Held.{TakenSo, taken_in, wished};
 ghost use Rattle.seats.specs.Standing.{IsReading};
 ghost use Rattle.seats.specs.Told.{TellsRefusal, TellsSent, TellsUnsent, not_taken};
@@ -88,6 +89,7 @@ pub(crate) fn submit(
 /// A connection of a client was opened.
 pub(crate) fn attach(holder: &mut Holder) -> Result<(), SeatFault>
     ensures refused { (seat : Seat) → Stands (kept_of holder.old) seat.client → TellsRefusal (goes_on seat nothing_more) result }
+    ensures takes_no_memory { IfErr result (λ fault. fault ≢ told.Memory) }
     ensures stands { OnOk result ((client : Client) → Stands (kept_of holder.old) client → Stands (kept_of holder.new) (attached client)) }
     ensures keys { keys_in (kept_of holder.new) ≡ keys_in (kept_of holder.old) }
     ensures unchanged { OnErr result (holder.new ≡ holder.old) }
@@ -111,6 +113,7 @@ pub(crate) fn attach(holder: &mut Holder) -> Result<(), SeatFault>
 /// An open client does as it is asked.
 pub(crate) fn wish(holder: &mut Holder, wish: Wish) -> Result<(), SeatFault>
     ensures refused { (seat : Seat) → Stands (kept_of holder.old) seat.client → TellsRefusal (stands_open seat nothing_more) result }
+    ensures takes_no_memory { IfErr result (λ fault. fault ≢ told.Memory) }
     ensures stands { OnOk result ((client : Client) → Stands (kept_of holder.old) client → Stands (kept_of holder.new) (wished wish client)) }
     ensures keys { keys_in (kept_of holder.new) ≡ keys_in (kept_of holder.old) }
     ensures unchanged { OnErr result (holder.new ≡ holder.old) }
@@ -141,6 +144,7 @@ fn grant(client: &mut OpenClient, wish: Wish)
 /// An open client is to have the answer to a call dropped.
 pub(crate) fn drop_answer(holder: &mut Holder, call: CallNo) -> Result<(), SeatFault>
     ensures refused { (seat : Seat) → Stands (kept_of holder.old) seat.client → TellsRefusal (stands_open seat (undropped call.n)) result }
+    ensures takes_no_memory { IfErr result (λ fault. fault ≢ told.Memory) }
     ensures stands { OnOk result ((client : Client) → Stands (kept_of holder.old) client → Stands (kept_of holder.new) (dropped call client)) }
     ensures keys { keys_in (kept_of holder.new) ≡ keys_in (kept_of holder.old) }
     ensures unchanged { OnErr result (holder.new ≡ holder.old) }
@@ -156,6 +160,7 @@ pub(crate) fn drop_answer(holder: &mut Holder, call: CallNo) -> Result<(), SeatF
 
 fn drops(client: &mut OpenClient, call: CallNo) -> Result<(), SeatFault>
     ensures refused { (seat : Seat) → Stands client.old seat.client → TellsRefusal (undropped call.n seat) result }
+    ensures takes_no_memory { IfErr result (λ fault. fault ≢ told.Memory) }
     ensures stands { OnOk result ((whole : Client) → Stands client.old whole → Stands client.new (dropped call whole)) }
     ensures keys { keys_in client.new ≡ keys_in client.old }
     ensures unchanged { OnErr result (client.new ≡ client.old) }
@@ -287,6 +292,7 @@ fn open_takes<S: Seal>(
 /// An open client goes on in another session, whose number is drawn.
 pub(crate) fn renew<D: Draw>(holder: Holder, draw: &mut D) -> (Holder, Result<(), SeatFault>)
     ensures refused { (seat : Seat) → Stands (kept_of holder) seat.client → TellsRefusal (stands_open seat nothing_more) result.1 }
+    ensures takes_no_memory { IfErr result.1 (λ fault. fault ≢ told.Memory) }
     ensures stands { OnOk result.1 ((client : Client) → Stands (kept_of holder) client → Stands (kept_of result.0) (renewed (word_after D.step 0 draw.old) client)) }
     ensures drawn { OnOk result.1 (draw.new ≡ draw_after D.step 1 draw.old) }
     ensures keys { keys_in (kept_of result.0) ≡ keys_in (kept_of holder) }
@@ -306,6 +312,7 @@ pub(crate) fn renew<D: Draw>(holder: Holder, draw: &mut D) -> (Holder, Result<()
 /// An open client ends.
 pub(crate) fn end(holder: Holder) -> (Holder, Result<(), SeatFault>)
     ensures refused { (seat : Seat) → Stands (kept_of holder) seat.client → TellsRefusal (stands_open seat nothing_more) result.1 }
+    ensures takes_no_memory { IfErr result.1 (λ fault. fault ≢ told.Memory) }
     ensures stands { OnOk result.1 ((client : Client) → Stands (kept_of holder) client → Stands (kept_of result.0) (ended client)) }
     ensures keys { keys_in (kept_of result.0) ≡ keys_in (kept_of holder) }
     ensures unchanged { OnErr result.1 (result.0 ≡ holder) }

@@ -1,6 +1,6 @@
 //! A client in its seat.
 
-ghost use Rattle.std.specs.Prelude.{◌≡◌, ℕ, None, IfOk, OnErr, OnOk, List, Option, is_some, length};
+ghost use Rattle.std.specs.Prelude.{◌≡◌, ◌≢◌, ℕ, None, IfErr, IfOk, OnErr, OnOk, List, Option, is_some, length};
 ghost use Rattle.call_table.specs.Table.{call_no};
 ghost use Rattle.msg_ids.specs.Moments.{moment_of};
 ghost use Rattle.draws.specs.Draws.{draw_after, word_after};
@@ -18,6 +18,7 @@ ghost use Rattle.client_core.specs.Kept.{Stands};
 ghost use Rattle.client_core.specs.declared.holder.Holder.TheVariants as held;
 ghost use Rattle.world_rules.specs.Refusals.{goes_on, nothing_more, stands_open, undropped, unsent};
 ghost use Rattle.world_rules.specs.World.{Seat as WorldSeat, seat_now};
+ghost use Rattle.seats.specs.declared.fault.SeatFault.TheVariants as told;
 ghost use Rattle.seats.specs.Held.{TakenSo, taken_in, wished};
 ghost use Rattle.seats.specs.Standing.{HasKeysOf, IsReading, StandsFor, clocked, keys_of};
 ghost use Rattle.seats.specs.Told.{TellsRefusal, TellsSent, TellsUnsent, not_taken};
@@ -125,6 +126,7 @@ impl Seat {
     /// A connection of the client was opened.
     pub(crate) fn attach(&mut self) -> Result<(), SeatFault>
         ensures refused { (seat : WorldSeat) → Stands (kept_of self.old.holder) seat.client → TellsRefusal (goes_on seat nothing_more) result }
+        ensures takes_no_memory { IfErr result (λ fault. fault ≢ told.Memory) }
         ensures stands { OnOk result ((client : Client) → Stands (kept_of self.old.holder) client → Stands (kept_of self.new.holder) (attached client)) }
         ensures keys { keys_of self.new ≡ keys_of self.old }
         ensures clock { self.new.clock ≡ self.old.clock }
@@ -139,6 +141,7 @@ impl Seat {
     /// The client does as it is asked.
     pub(crate) fn wish(&mut self, wish: Wish) -> Result<(), SeatFault>
         ensures refused { (seat : WorldSeat) → Stands (kept_of self.old.holder) seat.client → TellsRefusal (stands_open seat nothing_more) result }
+        ensures takes_no_memory { IfErr result (λ fault. fault ≢ told.Memory) }
         ensures stands { OnOk result ((client : Client) → Stands (kept_of self.old.holder) client → Stands (kept_of self.new.holder) (wished wish client)) }
         ensures keys { keys_of self.new ≡ keys_of self.old }
         ensures clock { self.new.clock ≡ self.old.clock }
@@ -153,6 +156,7 @@ impl Seat {
     /// The client is to have the answer to a call dropped.
     pub(crate) fn drop_answer(&mut self, call: CallNo) -> Result<(), SeatFault>
         ensures refused { (seat : WorldSeat) → Stands (kept_of self.old.holder) seat.client → TellsRefusal (stands_open seat (undropped call.n)) result }
+        ensures takes_no_memory { IfErr result (λ fault. fault ≢ told.Memory) }
         ensures stands { OnOk result ((client : Client) → Stands (kept_of self.old.holder) client → Stands (kept_of self.new.holder) (dropped call client)) }
         ensures keys { keys_of self.new ≡ keys_of self.old }
         ensures clock { self.new.clock ≡ self.old.clock }
@@ -219,6 +223,7 @@ impl Seat {
     /// The client goes on in another session, whose number is drawn.
     pub(crate) fn renew<D: Draw>(&mut self, draw: &mut D) -> Result<(), SeatFault>
         ensures refused { (seat : WorldSeat) → Stands (kept_of self.old.holder) seat.client → TellsRefusal (stands_open seat nothing_more) result }
+        ensures takes_no_memory { IfErr result (λ fault. fault ≢ told.Memory) }
         ensures stands { OnOk result ((client : Client) → Stands (kept_of self.old.holder) client → Stands (kept_of self.new.holder) (renewed (word_after D.step 0 draw.old) client)) }
         ensures drawn { OnOk result (draw.new ≡ draw_after D.step 1 draw.old) }
         ensures keys { keys_of self.new ≡ keys_of self.old }
@@ -239,6 +244,7 @@ impl Seat {
     /// The client ends.
     pub(crate) fn end(&mut self) -> Result<(), SeatFault>
         ensures refused { (seat : WorldSeat) → Stands (kept_of self.old.holder) seat.client → TellsRefusal (stands_open seat nothing_more) result }
+        ensures takes_no_memory { IfErr result (λ fault. fault ≢ told.Memory) }
         ensures stands { OnOk result ((client : Client) → Stands (kept_of self.old.holder) client → Stands (kept_of self.new.holder) (ended client)) }
         ensures keys { keys_of self.new ≡ keys_of self.old }
         ensures clock { self.new.clock ≡ self.old.clock }

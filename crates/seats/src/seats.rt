@@ -1,6 +1,6 @@
 //! The clients of a world.
 
-ghost use Rattle.std.specs.Prelude.{◌≡◌, ◌==◌, ◌<◌, ◌∷◌, ◌++◌, ℕ, suc, [], None, Some, IfNone, IfOk, IfSome, IsSome, MatchOption, OnErr, OnOk, List, Option, is_some, length, map, nat_lt, option_map, vec_capacity, vec_len};
+ghost use Rattle.std.specs.Prelude.{◌≡◌, ◌≢◌, ◌≤◌, ◌==◌, ◌<◌, ◌∷◌, ◌++◌, ℕ, suc, [], None, Some, IfNone, IfErr, IfOk, IfSome, IsSome, MatchOption, OnErr, OnOk, List, Option, is_some, length, map, nat_lt, option_map, vec_capacity, vec_len};
 ghost use Rattle.auth_keys.specs.declared.ring.RingKey.{RingKey};
 ghost use Rattle.auth_keys.specs.Rings.{entry_of};
 ghost use Rattle.call_table.specs.Table.{call_no};
@@ -16,6 +16,7 @@ ghost use Rattle.client_core.specs.Flushed.{setting_of};
 ghost use Rattle.world_rules.specs.Refusals.{NoClient, at_client, clients_max, goes_on, nothing_more, stands_open, undropped, unless, unsent};
 ghost use Rattle.world_rules.specs.Run.{set};
 ghost use Rattle.world_rules.specs.World.{Seat as WorldSeat, changed_at, counted, owner, seat_now};
+ghost use Rattle.seats.specs.declared.fault.SeatFault.TheVariants as told;
 ghost use Rattle.seats.specs.Held.{wished};
 ghost use Rattle.seats.specs.Standing.{Becomes, HaveKeys, IsReading, KeepKeys, Stand, flushed_by, taken_at};
 ghost use Rattle.seats.specs.Told.{IsClientOf, TellsRefusal, TellsSent, TellsUnsent, not_taken};
@@ -68,6 +69,7 @@ impl Seats {
     /// How many clients there are.
     pub fn len(&self) -> usize
         ensures kept { result ≡ length self.now }
+        ensures most { result ≤ clients_max }
         ensures count { (seats : List WorldSeat) → Stand self.now seats → result ≡ length seats }
     {
         self.seats.len()
@@ -199,6 +201,7 @@ impl Seats {
     #[tactic(auto, using(crate::proofs::PlaceLemmas::no_seat))]
     pub fn set_clock(&mut self, c: usize, at: u64) -> Result<(), SeatFault>
         ensures refused { (seats : List WorldSeat) → Stand self.old seats → TellsRefusal (at_client (counted c seats) nothing_more) result }
+        ensures takes_no_memory { IfErr result (λ fault. fault ≢ told.Memory) }
         ensures stands { (seats : List WorldSeat) → Stand self.old seats → OnOk result (Stand self.new (changed_at c (set at) seats)) }
         ensures keys { KeepKeys self.old self.new }
         ensures unchanged { OnErr result (self.new ≡ self.old) }
@@ -316,6 +319,7 @@ impl Seats {
     /// `NoClient`, and `WrongState` where the client isn't open. All is as it was.
     pub fn tick(&mut self, c: usize) -> Result<(), SeatFault>
         ensures refused { (seats : List WorldSeat) → Stand self.old seats → TellsRefusal (at_client (counted c seats) (λ seat. stands_open seat nothing_more)) result }
+        ensures takes_no_memory { IfErr result (λ fault. fault ≢ told.Memory) }
         ensures stands { OnOk result (Becomes c (λ seat. ticked seat.client) self.old self.new) }
         ensures keys { KeepKeys self.old self.new }
         ensures unchanged { OnErr result (self.new ≡ self.old) }
@@ -331,6 +335,7 @@ impl Seats {
     #[tactic(auto, using(crate::proofs::PlaceLemmas::no_seat))]
     pub fn attach(&mut self, c: usize) -> Result<(), SeatFault>
         ensures refused { (seats : List WorldSeat) → Stand self.old seats → TellsRefusal (at_client (counted c seats) (λ seat. goes_on seat nothing_more)) result }
+        ensures takes_no_memory { IfErr result (λ fault. fault ≢ told.Memory) }
         ensures stands { OnOk result (Becomes c (λ seat. attached seat.client) self.old self.new) }
         ensures keys { KeepKeys self.old self.new }
         ensures unchanged { OnErr result (self.new ≡ self.old) }
@@ -348,6 +353,7 @@ impl Seats {
     /// `NoClient`, and `WrongState` where the client isn't open. All is as it was.
     pub fn ping(&mut self, c: usize, id: u64) -> Result<(), SeatFault>
         ensures refused { (seats : List WorldSeat) → Stand self.old seats → TellsRefusal (at_client (counted c seats) (λ seat. stands_open seat nothing_more)) result }
+        ensures takes_no_memory { IfErr result (λ fault. fault ≢ told.Memory) }
         ensures stands { OnOk result (Becomes c (λ seat. pinged id seat.client) self.old self.new) }
         ensures keys { KeepKeys self.old self.new }
         ensures unchanged { OnErr result (self.new ≡ self.old) }
@@ -362,6 +368,7 @@ impl Seats {
     /// `NoClient`, and `WrongState` where the client isn't open. All is as it was.
     pub fn ask_salts(&mut self, c: usize, count: u32) -> Result<(), SeatFault>
         ensures refused { (seats : List WorldSeat) → Stand self.old seats → TellsRefusal (at_client (counted c seats) (λ seat. stands_open seat nothing_more)) result }
+        ensures takes_no_memory { IfErr result (λ fault. fault ≢ told.Memory) }
         ensures stands { OnOk result (Becomes c (λ seat. salts_asked count seat.client) self.old self.new) }
         ensures keys { KeepKeys self.old self.new }
         ensures unchanged { OnErr result (self.new ≡ self.old) }
@@ -378,6 +385,7 @@ impl Seats {
     #[tactic(auto, using(crate::proofs::PlaceLemmas::no_seat))]
     pub fn drop_answer(&mut self, c: usize, call: CallNo) -> Result<(), SeatFault>
         ensures refused { (seats : List WorldSeat) → Stand self.old seats → TellsRefusal (at_client (counted c seats) (λ seat. stands_open seat (undropped call.n))) result }
+        ensures takes_no_memory { IfErr result (λ fault. fault ≢ told.Memory) }
         ensures stands { OnOk result (Becomes c (λ seat. dropped call seat.client) self.old self.new) }
         ensures keys { KeepKeys self.old self.new }
         ensures unchanged { OnErr result (self.new ≡ self.old) }
@@ -396,6 +404,7 @@ impl Seats {
     #[tactic(auto, using(crate::proofs::PlaceLemmas::no_seat))]
     pub fn renew<D: Draw>(&mut self, c: usize, draw: &mut D) -> Result<(), SeatFault>
         ensures refused { (seats : List WorldSeat) → Stand self.old seats → TellsRefusal (at_client (counted c seats) (λ seat. stands_open seat nothing_more)) result }
+        ensures takes_no_memory { IfErr result (λ fault. fault ≢ told.Memory) }
         ensures stands { OnOk result (Becomes c (λ seat. renewed (word_after D.step 0 draw.old) seat.client) self.old self.new) }
         ensures drawn { OnOk result (draw.new ≡ draw_after D.step 1 draw.old) }
         ensures keys { KeepKeys self.old self.new }
@@ -416,6 +425,7 @@ impl Seats {
     #[tactic(auto, using(crate::proofs::PlaceLemmas::no_seat))]
     pub fn end(&mut self, c: usize) -> Result<(), SeatFault>
         ensures refused { (seats : List WorldSeat) → Stand self.old seats → TellsRefusal (at_client (counted c seats) (λ seat. stands_open seat nothing_more)) result }
+        ensures takes_no_memory { IfErr result (λ fault. fault ≢ told.Memory) }
         ensures stands { OnOk result (Becomes c (λ seat. ended seat.client) self.old self.new) }
         ensures keys { KeepKeys self.old self.new }
         ensures unchanged { OnErr result (self.new ≡ self.old) }
@@ -430,6 +440,7 @@ impl Seats {
     #[tactic(auto, using(crate::proofs::PlaceLemmas::no_seat))]
     fn wish(&mut self, c: usize, wish: Wish) -> Result<(), SeatFault>
         ensures refused { (seats : List WorldSeat) → Stand self.old seats → TellsRefusal (at_client (counted c seats) (λ seat. stands_open seat nothing_more)) result }
+        ensures takes_no_memory { IfErr result (λ fault. fault ≢ told.Memory) }
         ensures stands { OnOk result (Becomes c (λ seat. wished wish seat.client) self.old self.new) }
         ensures keys { KeepKeys self.old self.new }
         ensures unchanged { OnErr result (self.new ≡ self.old) }
