@@ -19,7 +19,7 @@ ghost use Rattle.world_rules.specs.Once.{Once, ran_in};
 ghost use Rattle.world_rules.specs.Run.{after, run_of, run_of_any};
 ghost use Rattle.world_law.specs.Made.{AreLawfulPackets, IsOfPacket, IsSealedPacket, IsShort};
 ghost use Rattle.world_law.specs.Small.{Fits};
-ghost use Rattle.world_law.specs.Standing.{HasMoves, WorldStands};
+ghost use Rattle.world_law.specs.Standing.{HasMoves, MovesOn, WorldStands};
 ghost use Rattle.world_law.specs.Words.{AreDrawn, HavePlaces, given_step};
 
 use draws::{Draw, StepDraw};
@@ -72,8 +72,8 @@ pub fn worlds_only_grow<D: Draw, V>()
     server_laws::laws::sessions_speak_for_themselves::<D>();
 }
 
-/// Where a world stands in some world that lawful moves lead to, so does the world behind each event, and so some list of
-/// lawful moves leads to where the world of a schedule stands, with its clients, sessions, jobs, packets and entries. The premises: a seal that opens what it sealed, foreign
+/// Where a world stands in some world that lawful moves lead to, each event is a list of lawful moves from there on, behind
+/// which the world behind the event stands; and so some list of lawful moves leads to where the world of a schedule stands, with its clients, sessions, jobs, packets and entries. The premises: a seal that opens what it sealed, foreign
 /// bytes that open by no chance (a schedule refuses those that open), words that aren't 0 and differ; words that are drawn
 /// have 64 bits and replies of the service are whole words and short; and one on sizes, which isn't shown of the rules: each
 /// packet is one that may be sealed.
@@ -81,7 +81,7 @@ pub fn worlds_are_moves<D: Draw, V>()
     ensures begins { (setting : Setting D V) (draw : D) → WorldStands empty (begins setting draw) }
     ensures event { (lock : Lock) (ring : List RingKey) (setting : Setting D V) (w : Moved) (world : World D V) (event : Event) → OpensWhatItSealed lock
         → IsSealed lock ring setting → Fits setting → WorldStands w world → AreLawfulPackets lock ring setting world → IsByNoChance setting world event
-        → Fresh (after setting world event) → AreLawfulPackets lock ring setting (after setting world event) → HasMoves (after setting world event) }
+        → Fresh (after setting world event) → AreLawfulPackets lock ring setting (after setting world event) → MovesOn w (after setting world event) }
     ensures schedule { (lock : Lock) (ring : List RingKey) (setting : Setting D V) (draw : D) (events : List Event) → OpensWhatItSealed lock
         → IsSealed lock ring setting → Fits setting → Fresh (run_of setting draw events) → AreLawfulPackets lock ring setting (run_of setting draw events)
         → HasMoves (run_of setting draw events) }
