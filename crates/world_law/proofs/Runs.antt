@@ -89,7 +89,7 @@ module _ {S V : Type 0} (setting : Setting S V) (world : World S V) where
 
 -- where moves lead on, they lead there
 led_on : {S V : Type 0} (w : Moved) (world : World S V) → MovesOn w world → HasMoves world
-led_on w world on = (after_all w on.0, on.1.1)
+led_on w world on = (after_all w on.0, on.2)
 
 module _ {S V : Type 0} (laws : Laws S V) (k : Speaks S) (lock : Lock) (ring : List RingKey) (setting : Setting S V) (seals : OpensWhatItSealed lock) (so : IsSealed lock ring setting) (fits : Fits setting) where
   abbrev Keeps : World S V → Type 0
@@ -145,8 +145,8 @@ module _ {S V : Type 0} (laws : Laws S V) (k : Speaks S) (lock : Lock) (ring : L
         elim (steps world event) [
           | inl same ↦ subst HasMoves (sym same) h
           | inr on ↦ subst HasMoves (sym on)
-            (led_on h.0 (after setting world event)
-            (goes_on laws lock ring setting seals so h.0 world h.1 sealed event (chance on) (subst Fresh on fresh) (subst SealedIn on behind, fits)))
+              (led_on h.0 (after setting world event)
+              (goes_on laws lock ring setting seals so h.0 world h.1 sealed event (chance on) (subst Fresh on fresh) (subst SealedIn on behind, fits)))
         ]
 
   any_steps : Steps (step_any setting)
