@@ -17,7 +17,7 @@ use Rattle.world_rules.specs.World.{Packet, Seat, World, bytes_of, counted, owne
 use Rattle.world_rules.specs.Ends.{acts, comes_down, comes_to_owner, seated, with_seat}
 use Rattle.world_rules.specs.Premises.{IsSealed, OpensOnly}
 use Rattle.world_law.specs.Standing.{MovesOn, IsBagged, IsDown, IsThere, WorldStands}
-use Rattle.world_law.specs.Made.{AreLawfulPackets, IsSealedPacket}
+use Rattle.world_packets.specs.Lawful.{AreLawfulPackets, IsSealedPacket}
 use Rattle.world_law.proofs.Lists.{each_of}
 use Rattle.world_law.proofs.Known.{Moving, Still}
 use Rattle.world_law.proofs.Provenance.{foreign_made, given_made}

@@ -24,7 +24,8 @@ use Rattle.world_rules.specs.Premises.{Fresh, IsByNoChance, IsSealed, OpensOnly}
 use Rattle.world_rules.specs.Run.{after, present_name, works}
 use Rattle.world_servers.specs.Servers.{IsPacketUp}
 use Rattle.world_law.specs.Standing.{MovesOn, IsKeyOf, IsThere, WorldStands}
-use Rattle.world_law.specs.Made.{AreLawfulPackets, IsSealedPacket, IsShort}
+use Rattle.world_packets.specs.Lawful.{AreLawfulPackets, IsSealedPacket}
+use Rattle.world_law.specs.Made.{IsShort}
 use Rattle.world_law.proofs.Acting.{IsOfClients}
 use Rattle.world_law.proofs.Lists.{each_of}
 use Rattle.world_law.proofs.Places.{get_there}

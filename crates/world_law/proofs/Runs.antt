@@ -20,7 +20,7 @@ use Rattle.world_rules.specs.Refusals as refusals
 use Rattle.world_rules.specs.Run.{after, is_in_the_way, step, step_any}
 use Rattle.world_law.specs.Small.{Fits}
 use Rattle.world_law.specs.Standing.{HasMoves, MovesOn, WorldStands}
-use Rattle.world_law.specs.Made.{AreLawfulPackets, IsSealedPacket}
+use Rattle.world_packets.specs.Lawful.{AreLawfulPackets, IsSealedPacket}
 use Rattle.world_law.proofs.Counting.{fewer_fresh}
 use Rattle.world_law.proofs.Growing.{Speaks}
 use Rattle.world_law.proofs.Names.{names_stay}

@@ -33,7 +33,7 @@ use Rattle.world_servers.specs.Sending.{WentOut}
 use Rattle.world_servers.specs.Servers.{IsPacketUp}
 use Rattle.world_servers.specs.Worlds.{HasServed, StandsIn as AreServersIn}
 use Rattle.world_law.specs.Small.{Fits}
-use Rattle.world_law.specs.Made.{AreLawfulPackets, IsSealedPacket}
+use Rattle.world_packets.specs.Lawful.{AreLawfulPackets, IsSealedPacket}
 use Rattle.world_law.specs.Standing.{MovesOn, IsBagged, IsKeyOf, IsSeated, IsThere, WorldStands, key_at}
 use Rattle.world_law.proofs.Lists.{all_append, each_of, map_all}
 use Rattle.world_law.proofs.Known.{Moving, Still}
