@@ -1,8 +1,7 @@
 -- What a client changes in its calls, its binding and what waits leaves it steady.
-use Rattle.std.proofs.Common.{◌≡◌, ℕ, ◌<◌, ◌^◌, zero, suc, Bool, true, false, cond, Option, Some, None, List, [], ◌∷◌, ◌++◌, refl, arith}
-use Rattle.std.specs.Prelude.{map, option_map, slice_get, ⊤}
+use Rattle.std.proofs.Common.{ℕ, ◌<◌, ◌^◌, zero, suc, Bool, Option, Some, None, List, [], ◌∷◌}
+use Rattle.std.specs.Prelude.{map, option_map}
 use Rattle.std.specs.List.{AllByRecursion}
-use Rattle.std.proofs.lemmas.Bool.{cond_both}
 use Rattle.call_table.specs.declared.call.CallNo.{CallNo}
 use Rattle.call_table.specs.declared.call.Fate.{Fate}
 use Rattle.call_table.specs.declared.call.Flags.{Flags}
@@ -10,7 +9,7 @@ use Rattle.call_table.specs.declared.call.Living.{Living}
 use Rattle.call_table.specs.Table.{Call, Name, changed_at, flagged, sent, sent_again, settled, with_salt}
 use Rattle.client_rules.specs.Client.{Binding, Client, Temporary, bound_so, calls_of, with_binding, with_call, with_calls, after_message}
 use Rattle.client_rules.specs.Learning.{each_becomes, settled_if}
-use Rattle.client_packets.specs.Steady.{IsAsking, IsCall, IsNamed, IsSteady, IsTemporary, IsTold}
+use Rattle.client_packets.specs.Steady.{IsAsking, IsCall, IsNamed, IsSteady, IsTemporary}
 use Rattle.client_packets.proofs.Lists.{rec-map}
 
 -- ---- one call

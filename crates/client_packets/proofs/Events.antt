@@ -1,21 +1,20 @@
 -- Each event leaves a client steady.
-use Rattle.std.proofs.Common.{◌≡◌, ℕ, ◌<◌, ◌≤◌, ◌^◌, ◌%◌, ◌==◌, ltb, leb, Bool, true, false, not, cond, Option, Some, None, List, [], ◌∷◌, ◌++◌, length, sym, refl, arith, inl, inr, ◌∙◌, ap}
-use Rattle.std.specs.Prelude.{is_none, map, option_map, ⊤}
-use Rattle.std.specs.List.{AllByRecursion}
-use Rattle.std.proofs.lemmas.Bool.{cases_Bool, cond_both, cond-true, cond-false, eqb-true, false≢true, ltb-false}
+use Rattle.std.proofs.Common.{◌≡◌, ℕ, ◌<◌, ◌≤◌, ◌^◌, ◌%◌, ◌==◌, ltb, Bool, true, false, not, cond, Option, Some, None, List, [], ◌∷◌, length, sym, refl, arith}
+use Rattle.std.specs.Prelude.{is_none, option_map}
+use Rattle.std.proofs.lemmas.Bool.{cond_both, eqb-true, false≢true, ltb-false}
 use Rattle.octets.specs.Bytes.{IsBytes}
 use Rattle.draws.specs.Draws.{word_after}
 use Rattle.envelope.specs.declared.parts.Envelope.{Envelope}
 use Rattle.call_table.specs.declared.call.CallNo.{CallNo}
 use Rattle.call_table.specs.declared.call.Fate.{Fate}
 use Rattle.call_table.specs.Table.{Call, is_sent, new_call}
-use Rattle.client_rules.specs.Client.{Client, Needed, Temporary, at_moment, calls_of, fresh_client, temporary_of, with_binding}
+use Rattle.client_rules.specs.Client.{Client, Needed, Temporary, calls_of, fresh_client}
 use Rattle.client_rules.specs.Sending.{Setting}
-use Rattle.client_rules.specs.Asking.{Fault, NotWords, TooLong, alone, alone_if_asked, alone_if_sent, attached, can_drop, drops, dropped, fault_at, is_asked, pinged, salts_asked, submit_fault, submitted, ticked}
+use Rattle.client_rules.specs.Asking.{NotWords, TooLong, alone, alone_if_asked, alone_if_sent, attached, can_drop, drops, dropped, fault_at, is_asked, submit_fault, submitted}
 use Rattle.client_rules.specs.Learning.{each_becomes}
 use Rattle.client_rules.specs.Events.{AskSalts, Attach, Drop, End, Event, Flush, Ping, Renew, Run, Submit, Take, Tick, fate_renewed, made, renewed, step, takes, unless_fault}
 use Rattle.client_packets.specs.Steady.{IsAsking, IsCall, IsFair, IsFit, IsSteady, IsTemporary}
-use Rattle.client_packets.proofs.Calls.{Keeps, each-becomes, flagged-keeps, with-binding, with-call, with-calls}
+use Rattle.client_packets.proofs.Calls.{Keeps, each-becomes, flagged-keeps, with-binding, with-call}
 use Rattle.client_packets.proofs.Filled.{Laws}
 use Rattle.client_packets.proofs.Flushed.{AreSized, IsPadded, flush-good}
 use Rattle.client_packets.proofs.Lists.{rec-append, rec-map}

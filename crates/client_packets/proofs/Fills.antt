@@ -1,10 +1,10 @@
 -- Each of what waits, as it goes into the packet.
-use Rattle.std.proofs.Common.{◌≡◌, ◌∙◌, ℕ, ◌+◌, ◌-◌, ◌<◌, ◌≤◌, ◌^◌, ◌%◌, zero, suc, ◌&&◌, Bool, true, false, cond, Option, Some, None, List, [], ◌∷◌, ◌++◌, fold, length, ap, sym, subst, refl, arith}
+use Rattle.std.proofs.Common.{◌≡◌, ℕ, ◌≤◌, ◌&&◌, Bool, true, false, Option, Some, None, List, [], ◌∷◌, ◌++◌, fold, subst, refl, arith}
 use Rattle.std.specs.Prelude.{slice_get}
 use Rattle.std.specs.Int.{bytes_low_first}
 use Rattle.std.specs.List.{AllByRecursion}
 use Rattle.std.proofs.lemmas.Bool.{cond_both}
-use Rattle.octets.specs.Bytes.{HasBytes, IsBytes}
+use Rattle.octets.specs.Bytes.{HasBytes}
 use Rattle.draws.specs.Draws.{draw_after, next_bytes}
 use Rattle.msg_ids.specs.Counters.{room}
 use Rattle.service_tl.specs.declared.lists.Message.{Message}
@@ -14,13 +14,13 @@ use Rattle.call_table.specs.declared.call.Living.{Living}
 use Rattle.call_table.specs.declared.call.Group.TheVariants as group
 use Rattle.call_table.specs.declared.call.Fate.TheVariants as fate
 use Rattle.call_table.specs.Table.{Call, at, group_of, sent, settled}
-use Rattle.client_rules.specs.Client.{Asked, Client, States, Temporary, after_message, calls_of, is_open, numbered, with_binding, with_call}
+use Rattle.client_rules.specs.Client.{Asked, Client, States, Temporary, after_message, calls_of, is_open, numbered, with_call}
 use Rattle.client_rules.specs.Sending.{Setting, binding_body, inner_of}
-use Rattle.client_rules.specs.Filling.{Filling, Goes, Never, Turn, Waits, asks_binding, asks_states, body_behind, changes, empty, fills, goes, is_needed, number_of, outstanding, says_acks, says_binding, says_call, says_call_at, says_destroyed, says_drop, says_drop_of, says_ping, says_resent, says_salts, says_states, says_told, sends_call, takes_turn, turn_of, undropped}
+use Rattle.client_rules.specs.Filling.{Filling, Goes, Never, Turn, Waits, asks_binding, asks_states, body_behind, empty, fills, goes, is_needed, number_of, outstanding, says_acks, says_binding, says_call, says_call_at, says_destroyed, says_drop, says_drop_of, says_ping, says_resent, says_salts, says_states, says_told, sends_call, takes_turn, turn_of, undropped}
 use Rattle.client_packets.specs.Steady.{IsCall, IsFit, IsSteady, IsTold}
 use Rattle.client_packets.proofs.Calls.{after-message, flagged-keeps, sent-keeps, settled-keeps, with-binding, with-call}
 use Rattle.client_packets.proofs.Counters.{numbers-fit, room-falls}
-use Rattle.client_packets.proofs.Filled.{Filled, Full, Laws, Leaves, changed-filled, goes-filled, says-filled}
+use Rattle.client_packets.proofs.Filled.{Filled, Laws, changed-filled, goes-filled, says-filled}
 use Rattle.client_packets.proofs.Lists.{If, rec-get}
 use Rattle.client_packets.proofs.Spelled as spelled
 use Rattle.client_packets.proofs.Spelled.{IsText, bytes-append, bytes-nil, little-bytes}

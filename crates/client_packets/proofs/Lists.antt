@@ -1,5 +1,5 @@
 -- Lists of which all members are such.
-use Rattle.std.proofs.Common.{◌≡◌, ◌∙◌, ℕ, zero, suc, Bool, true, false, Option, Some, None, List, [], ◌∷◌, ◌++◌, sym, subst, ap, cond}
+use Rattle.std.proofs.Common.{ℕ, zero, suc, Option, Some, None, List, [], ◌∷◌, ◌++◌}
 use Rattle.std.specs.Prelude.{map, slice_get, ⊤}
 use Rattle.std.specs.List.{AllByRecursion}
 

@@ -1,5 +1,5 @@
 -- The spellings of what a client says are bytes and whole words.
-use Rattle.std.proofs.Common.{inl, inr, zero, suc, ltb, ◌/◌, ◌≡◌, ℕ, ◌+◌, ◌%◌, ◌<◌, ◌≤◌, ◌^◌, true, false, Option, Some, None, List, [], ◌∷◌, ◌++◌, length, replicate, ap, refl, arith}
+use Rattle.std.proofs.Common.{inl, inr, zero, suc, ltb, ◌/◌, ◌≡◌, ℕ, ◌+◌, ◌%◌, ◌<◌, ◌^◌, true, false, List, [], ◌∷◌, ◌++◌, length, replicate, ap, refl, arith}
 use Rattle.std.specs.Int.{byte_at, bytes_low_first}
 use Rattle.std.specs.List.{AllByRecursion, flat_map}
 use Rattle.std.proofs.Math.Nat.{mod-lt}

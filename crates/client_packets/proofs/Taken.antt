@@ -1,6 +1,6 @@
 -- What a packet from the server changes leaves a client steady.
-use Rattle.std.proofs.Common.{◌≡◌, ℕ, ◌<◌, ◌^◌, eqb, ltb, leb, ◌&&◌, ◌||◌, Bool, true, false, not, cond, Option, Some, None, Result, Ok, Err, List, [], ◌∷◌, ◌++◌, fold, length, zero, suc, subst, refl, arith}
-use Rattle.std.specs.Prelude.{option_map, replicate, ⊤, ◌==◌}
+use Rattle.std.proofs.Common.{◌≡◌, ℕ, ◌<◌, ◌^◌, ltb, leb, ◌&&◌, ◌||◌, Bool, true, false, not, cond, Option, Some, None, Result, Ok, Err, List, [], ◌∷◌, ◌++◌, fold, length, subst, refl, arith}
+use Rattle.std.specs.Prelude.{option_map, ⊤, ◌==◌}
 use Rattle.std.specs.List.{AllByRecursion, list_any, zip}
 use Rattle.std.proofs.lemmas.Bool.{cond_both}
 use Rattle.octets.specs.Bytes.{IsBytes}
@@ -16,9 +16,8 @@ use Rattle.envelope.specs.declared.parts.Envelope.{Envelope}
 use Rattle.call_table.specs.declared.call.CallNo.{CallNo}
 use Rattle.call_table.specs.declared.call.Fate.{Fate}
 use Rattle.call_table.specs.declared.call.Fate.TheVariants as fate
-use Rattle.call_table.specs.declared.call.Cause.TheVariants as cause
 use Rattle.call_table.specs.Table.{Call, inner_of, living_name, owner, settled}
-use Rattle.client_rules.specs.Client.{Binding, Bound, Client, Held, Needed, Refused, StateRequest, Temporary, at_moment, calls_of, has_sent, is_open, with_binding, with_call}
+use Rattle.client_rules.specs.Client.{Bound, Client, Held, Needed, Refused, StateRequest, Temporary, at_moment, calls_of, is_open}
 use Rattle.client_rules.specs.Asking.{alone, begins}
 use Rattle.client_rules.specs.Learning.{each_becomes, ended, fate_at_end, fate_learning, learn, learns, with_clock}
 use Rattle.client_rules.specs.Taking.{Notice, acknowledges, alone_among, alone_call, alone_number, answered_by, asked_states, asks_answer, becomes, behind, binding_answered, binding_error, binding_noticed, fate_noticed, goes_again, has_asked, is_for, is_odd, message_in, messages_of, noticed, noticed_by, packet_noticed, row, take, takes_message, takes_over, told_of, told_state, told_states, with_notice_clock, with_notice_salt, without_idle_wish}

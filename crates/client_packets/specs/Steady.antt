@@ -6,7 +6,6 @@ use Rattle.octets.specs.Bytes.{HasBytes, IsBytes}
 use Rattle.service_tl.specs.declared.lists.Message.{Message}
 use Rattle.service_tl.specs.Words.{IsWords}
 use Rattle.temp_keys.specs.declared.binding.Inner.{Inner}
-use Rattle.envelope.specs.declared.parts.Envelope.{Envelope}
 use Rattle.envelope.specs.Packet.{IsEnvelope, IsPadding, body_max}
 use Rattle.call_table.specs.Table.{Call, Name}
 use Rattle.client_rules.specs.Client.{Asked, Binding, Client, States, Temporary}

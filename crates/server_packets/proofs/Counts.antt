@@ -1,15 +1,14 @@
 -- How many messages are owed to the session of a name, how many jobs it has, and how many numbers it gave.
-use Rattle.std.proofs.Common.{◌≡◌, ◌≢◌, ◌∙◌, ℕ, zero, suc, ◌+◌, ◌≤◌, ◌==◌, Bool, true, false, cond, Option, Some, None, List, [], ◌∷◌, ◌++◌, length, ap, sym, subst, refl, arith, inl, inr}
-use Rattle.std.specs.Prelude.{map, not, ◌&&◌}
-use Rattle.std.specs.List.{AllByRecursion, filter}
-use Rattle.std.proofs.lemmas.Bool.{cases_Bool, cond_both, cond-true, cond-false, and_parts, eqb-true, false≢true}
+use Rattle.std.proofs.Common.{◌≡◌, ◌≢◌, ◌∙◌, ℕ, zero, suc, ◌+◌, ◌≤◌, Bool, true, false, cond, Some, List, [], ◌∷◌, ◌++◌, length, ap, sym, refl, arith, inl, inr}
+use Rattle.std.specs.Prelude.{map}
+use Rattle.std.specs.List.{filter}
+use Rattle.std.proofs.lemmas.Bool.{cases_Bool, cond_both, cond-true, cond-false}
 use Rattle.msg_ids.specs.Moments.{latest_moment}
 use Rattle.msg_ids.specs.Counters.{Counters, after_next, room}
-use Rattle.service_tl.specs.declared.lists.Message.{Message}
 use Rattle.waits.specs.declared.job.Job.{Job}
 use Rattle.waits.specs.declared.job.Unfinished.{Unfinished}
-use Rattle.waits.specs.Jobs.{Queue, accepted as with_job, after_answer, first_job, is_of, is_ready, job_count, one_if, ready_job, told, waits_for, without_first, without_ready, without_session as without_jobs_of}
-use Rattle.server_rules.specs.Server.{Name, Session, is_same, name_of}
+use Rattle.waits.specs.Jobs.{Queue, after_answer, first_job, is_of, is_ready, job_count, one_if, told, waits_for, without_first, without_ready}
+use Rattle.server_rules.specs.Server.{Name, Session, is_same}
 use Rattle.server_rules.specs.Event.{Owed}
 use Rattle.server_rules.specs.Sending.{messages_by}
 use Rattle.server_rules.specs.Waiting.{Outlook, Over, InVain, GoesOn, told as told_so}

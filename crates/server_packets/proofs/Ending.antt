@@ -1,22 +1,18 @@
 -- Each event leaves a server steady, and its packets may be sealed.
-use Rattle.std.proofs.Common.{◌≡◌, ◌∙◌, ℕ, ◌+◌, ◌*◌, ◌<◌, ◌≤◌, ◌^◌, Bool, true, false, Option, Some, None, List, [], ◌∷◌, ◌++◌, length, ap, sym, subst, refl, arith, inl, inr}
-use Rattle.std.specs.Prelude.{fold, not, ⊤}
+use Rattle.std.proofs.Common.{◌≡◌, ◌∙◌, ℕ, ◌<◌, ◌≤◌, Bool, true, Option, Some, None, List, [], ◌∷◌, sym, subst, refl, arith, inl, inr}
+use Rattle.std.specs.Prelude.{fold, not}
 use Rattle.std.specs.List.{AllByRecursion, filter}
 use Rattle.std.proofs.lemmas.Bool.{cases_Bool, cond-true, cond-false}
-use Rattle.octets.specs.Bytes.{IsBytes}
 use Rattle.msg_ids.specs.Moments.{latest_moment}
 use Rattle.msg_ids.specs.Counters.{room}
-use Rattle.service_tl.specs.declared.lists.Message.{Message}
-use Rattle.waits.specs.declared.job.Job.{Job}
-use Rattle.waits.specs.Jobs.{Queue, is_of}
-use Rattle.server_rules.specs.Server.{Name, Server, Session, is_named, is_same, name_of, session_named}
+use Rattle.server_rules.specs.Server.{Name, Session, is_named, is_same, name_of, session_named}
 use Rattle.server_rules.specs.Event.{Owed, Sent, Setting, State, lost}
 use Rattle.server_rules.specs.Sending.{all_sent, messages_by}
-use Rattle.server_rules.specs.Answer.{Answer, ended, is_spent, without_spent}
-use Rattle.server_sizes.specs.Small.{AreGivenTo, IsGivenTo, IsSmallState}
+use Rattle.server_rules.specs.Answer.{Answer, ended, is_spent}
+use Rattle.server_sizes.specs.Small.{AreGivenTo, IsSmallState}
 use Rattle.server_packets.specs.Steady.{IsKnown}
 use Rattle.server_packets.proofs.Counts.{FallsByOne, count, messages-count}
-use Rattle.server_packets.proofs.Lists.{find-of, rec-filter, some-same}
+use Rattle.server_packets.proofs.Lists.{find-of, rec-filter}
 use Rattle.server_packets.proofs.Names.{found-named, names-same, same-names}
 use Rattle.server_packets.proofs.Owing.{G, HasLeft, Speak}
 use Rattle.server_packets.proofs.Sending.{ArePackets, ArePadded, CanSend, HasNumbers, HaveAll, IsFit, IsNumbered, all-sent}

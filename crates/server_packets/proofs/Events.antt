@@ -1,21 +1,21 @@
 -- Each event of a server, of which kind it may be, leaves it steady, and its packets may be sealed.
-use Rattle.std.proofs.Common.{◌≡◌, ◌∙◌, ℕ, ◌+◌, ◌≤◌, ◌%◌, Bool, true, Option, Some, None, List, [], ◌∷◌, ◌++◌, length, ap, sym, subst, refl, arith}
-use Rattle.std.specs.Prelude.{max, not, ⊤}
+use Rattle.std.proofs.Common.{◌≡◌, ℕ, ◌≤◌, Bool, Option, Some, None, List, [], ◌∷◌, ◌++◌, ap, sym, subst, refl, arith}
+use Rattle.std.specs.Prelude.{not}
 use Rattle.std.proofs.lemmas.List.{append-nil}
-use Rattle.std.specs.List.{All, AllByRecursion, filter}
+use Rattle.std.specs.List.{All, AllByRecursion}
 use Rattle.octets.specs.Bytes.{IsBytes}
-use Rattle.msg_ids.specs.Moments.{latest_moment, moment_of}
+use Rattle.msg_ids.specs.Moments.{latest_moment}
 use Rattle.msg_ids.specs.Counters.{room}
 use Rattle.outbox.specs.Replies.{IsWithin}
-use Rattle.regs_service.specs.Served.{IsReply, Step}
+use Rattle.regs_service.specs.Served.{Step}
 use Rattle.waits.specs.declared.job.Job.{Job}
-use Rattle.waits.specs.Jobs.{AreWithinLimits, is_of, ready_job}
+use Rattle.waits.specs.Jobs.{AreWithinLimits, ready_job}
 use Rattle.server_rules.specs.Server.{Name, Server, Session, is_named, kept_replies}
-use Rattle.server_rules.specs.Event.{Envelope, Sent, Setting, State, speaks}
-use Rattle.server_rules.specs.Answer.{Answer, after_run, attaches, begun, ended, runs, takes, ticks}
+use Rattle.server_rules.specs.Event.{Envelope, Sent, Setting, speaks}
+use Rattle.server_rules.specs.Answer.{after_run, attaches, begun, runs, takes, ticks}
 use Rattle.server_rules.specs.Events.{Attach, Course, Event, Loss, Packet, Restart, Tick, Work, after_event, setting_at, worked}
 use Rattle.server_bounds.specs.Runs.{IsShortRun}
-use Rattle.server_sizes.specs.Small.{AreGivenTo, AreSmall, DrawsWords, GivesReplies, HasSmallEnvelope, IsContent, IsSmallEnvelope, IsSmallJob, IsSmallState, IsWholeSent}
+use Rattle.server_sizes.specs.Small.{AreGivenTo, AreSmall, DrawsWords, GivesReplies, HasSmallEnvelope, IsContent, IsSmallEnvelope, IsSmallState, IsWholeSent}
 use Rattle.server_packets.specs.Steady.{IsFair, IsKnown, IsSealable, IsSteady}
 use Rattle.server_packets.proofs.Bodies.{AreLawful}
 use Rattle.server_packets.proofs.Ending.{Gives, Laws, gives}

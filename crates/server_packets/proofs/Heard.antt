@@ -1,25 +1,24 @@
 -- Each event, up to where all that it owes is known.
-use Rattle.std.proofs.Common.{◌≡◌, ◌≢◌, ◌∙◌, ℕ, zero, suc, ◌+◌, ◌*◌, ◌≤◌, ltb, Bool, true, false, cond, Option, Some, None, List, [], ◌∷◌, ◌++◌, length, ap, sym, subst, refl, arith, inl, inr}
-use Rattle.std.specs.Prelude.{map, not}
-use Rattle.std.specs.List.{All, AllByRecursion, zip}
+use Rattle.std.proofs.Common.{◌≡◌, ◌∙◌, ℕ, ◌+◌, ◌*◌, ◌≤◌, ltb, Bool, true, false, cond, Option, Some, None, List, [], ◌∷◌, ◌++◌, length, ap, sym, subst, refl, arith, inl, inr}
+use Rattle.std.specs.Prelude.{map}
+use Rattle.std.specs.List.{AllByRecursion, zip}
 use Rattle.std.proofs.lemmas.Bool.{cases_Bool, cond_both, cond-true, cond-false}
 use Rattle.octets.specs.Bytes.{IsBytes}
 use Rattle.msg_ids.specs.Moments.{latest_moment}
 use Rattle.msg_ids.specs.Counters.{none_given, room}
-use Rattle.service_tl.specs.declared.lists.Message.{Message}
 use Rattle.inbox.specs.Refusals.{InEnvelope}
 use Rattle.inbox.specs.Judging.{judgements, session_after}
 use Rattle.outbox.specs.Replies.{IsWithin}
 use Rattle.waits.specs.declared.job.Job.{Job}
-use Rattle.waits.specs.Jobs.{AreWithinLimits, without_ready}
+use Rattle.waits.specs.Jobs.{without_ready}
 use Rattle.server_rules.specs.Server.{Name, Server, Session, is_named, kept_replies, name_of, remembered, session_named, sessions_max, without_session}
 use Rattle.server_rules.specs.Event.{Envelope, Setting, State, speaks, lost}
 use Rattle.server_rules.specs.Waiting.{after_timeouts}
-use Rattle.server_rules.specs.Answer.{attaches, begun, finishes, hears, hears_by, makes, message_in, messages_judged, name_in, opens, runs, session_for, takes, takes_by, ticks, with_place, without_first as without_first_session}
+use Rattle.server_rules.specs.Answer.{attaches, begun, finishes, hears, hears_by, makes, message_in, messages_judged, name_in, opens, runs, session_for, takes, takes_by, ticks, without_first as without_first_session}
 use Rattle.server_packets.specs.Steady.{IsKnown, IsSteady}
 use Rattle.server_packets.proofs.Counts.{FallsByOne, count, off-name, ready-fewer}
 use Rattle.server_packets.proofs.Lists.{find-all, find-of, none-some}
-use Rattle.server_packets.proofs.Names.{cases_name, found-named, lost-named, lost-none, names-same, same-names}
+use Rattle.server_packets.proofs.Names.{cases_name, found-named, lost-named, lost-none, names-same}
 use Rattle.server_packets.proofs.Unsaid.{unsaid-kept}
 use Rattle.server_packets.proofs.Owing.{G, HasLeft, Speak, UnsaidAt, attached-g, failures, finished-g, lost-g, more-g, opened-g, settled, timeouts}
 use Rattle.server_packets.proofs.Bodies.{AreLawful, judged-few}

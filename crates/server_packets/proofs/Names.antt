@@ -1,9 +1,9 @@
 -- Sessions by their names.
-use Rattle.std.proofs.Common.{◌≡◌, ◌≢◌, ◌∙◌, ℕ, true, false, cond, Option, Some, None, List, [], ◌∷◌, ap, sym, subst, refl, inl, inr}
+use Rattle.std.proofs.Common.{◌≡◌, ◌≢◌, ◌∙◌, ℕ, true, false, cond, Option, Some, None, List, [], ◌∷◌, ap, sym, refl, inl, inr}
 use Rattle.std.specs.Prelude.{◌⊎◌}
 use Rattle.std.proofs.lemmas.Bool.{cases_Bool, and_parts, and_from, eqb-true, eq-eqb, false≢true}
 use Rattle.server_rules.specs.Server.{Name, Session, is_same, is_named, name_of, session_named, without_session}
-use Rattle.server_packets.proofs.Lists.{find-holds, none-some}
+use Rattle.server_packets.proofs.Lists.{find-holds}
 
 abbrev pub named : ℕ → ℕ → Name
 named key session = record { key = key; session = session }

@@ -1,8 +1,7 @@
 -- What one event owes to the session of a name, and what numbers it gives to it.
-use Rattle.std.proofs.Common.{◌≡◌, ◌≢◌, ◌∙◌, ℕ, zero, suc, ◌+◌, ◌*◌, ◌≤◌, Bool, true, false, cond, Option, Some, None, List, [], ◌∷◌, ◌++◌, length, ap, sym, subst, refl, arith, inl, inr}
+use Rattle.std.proofs.Common.{◌≡◌, ◌≢◌, ℕ, zero, suc, ◌+◌, ◌*◌, ◌≤◌, Bool, true, Option, Some, None, List, [], ◌∷◌, length, ap, sym, subst, refl, arith, inl, inr}
 use Rattle.std.specs.Prelude.{fold, not, is_some, ◌&&◌, ◌==◌, ⊤}
-use Rattle.std.specs.List.{AllByRecursion, filter}
-use Rattle.std.proofs.lemmas.Bool.{cond_both, and_parts, eq-eqb, false≢true}
+use Rattle.std.proofs.lemmas.Bool.{cond_both}
 use Rattle.msg_ids.specs.Moments.{latest_moment}
 use Rattle.msg_ids.specs.Counters.{room}
 use Rattle.service_tl.specs.declared.item.Item.TheVariants.{DestroySession, DestroySessionOk, DestroySessionNone}
@@ -13,7 +12,7 @@ use Rattle.inbox.specs.declared.judged.Verdict.TheVariants.{Accepted, Again, Not
 use Rattle.waits.specs.declared.job.Job.{Job}
 use Rattle.waits.specs.declared.job.Unfinished.{Unfinished}
 use Rattle.waits.specs.Jobs.{Queue, first_job, has_failed, is_of, is_overdue, without_first}
-use Rattle.server_rules.specs.Server.{Name, Session, is_named, name_of, session_named, without_session}
+use Rattle.server_rules.specs.Server.{Name, Session, name_of, session_named, without_session}
 use Rattle.server_rules.specs.Event.{Setting, State, Speaker, Owed, speaker_in, spoken_by, speaks, lost}
 use Rattle.server_rules.specs.Speaking.{says, msg_wait_failed, msg_wait_timeout}
 use Rattle.server_rules.specs.Waiting.{gives_up, given_up, first_given_up, all_given_up, after_failures, after_timeouts, tells_of}
@@ -21,7 +20,7 @@ use Rattle.server_rules.specs.Rows.{settles, row, owes, destroys}
 use Rattle.server_rules.specs.Answer.{attaches, finishes, opens}
 use Rattle.server_packets.proofs.Counts.{FallsByOne, count, filter-fewer, first-fewer, first-out, jobs_by, name_for}
 use Rattle.server_packets.proofs.Names.{cases_name, found-named, lost-named, lost-none}
-use Rattle.server_packets.proofs.Unsaid.{not-true, unsaid}
+use Rattle.server_packets.proofs.Unsaid.{unsaid}
 use Rattle.server_packets.proofs.Steps.{Steps, attached, finished, given, opened, owed}
 use Rattle.server_packets.proofs.Saying.{P, Q, own-steps, other-steps}
 

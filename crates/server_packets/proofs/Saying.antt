@@ -1,5 +1,5 @@
 -- What each thing that a session does costs the session of a name: numbers, messages that are owed, and jobs.
-use Rattle.std.proofs.Common.{◌≡◌, ◌≢◌, ◌∙◌, ℕ, zero, suc, ◌+◌, ◌≤◌, Bool, true, false, cond, List, [], ◌∷◌, ◌++◌, length, ap, sym, subst, refl, arith}
+use Rattle.std.proofs.Common.{◌≡◌, ◌≢◌, ◌∙◌, ℕ, suc, ◌+◌, ◌≤◌, Bool, true, false, List, [], ◌∷◌, length, ap, sym, refl, arith}
 use Rattle.std.specs.Prelude.{map}
 use Rattle.std.specs.List.{Contains}
 use Rattle.std.proofs.lemmas.Bool.{cond_both}
@@ -8,13 +8,13 @@ use Rattle.msg_ids.specs.Counters.{room}
 use Rattle.service_tl.specs.declared.item.Item.{Item}
 use Rattle.service_tl.specs.declared.item.Item.TheVariants.{RpcResult}
 use Rattle.service_tl.specs.declared.lists.Message.{Message}
-use Rattle.packing.specs.Numbering.{after_item, is_content_related, numbered}
+use Rattle.packing.specs.Numbering.{is_content_related, numbered}
 use Rattle.waits.specs.declared.job.Job.{Job}
 use Rattle.waits.specs.declared.job.Unfinished.{Unfinished}
-use Rattle.waits.specs.Jobs.{Queue, accepted as with_job, is_of, without_first}
-use Rattle.server_rules.specs.Server.{Name, Reply, Session, IsKept, is_kept, name_of}
-use Rattle.server_rules.specs.Event.{Owed, Sent, Setting, Speaker}
-use Rattle.server_rules.specs.Speaking.{answers, has_said, message_of, needs_salts, owes_message, records, says, says_again}
+use Rattle.waits.specs.Jobs.{accepted as with_job, is_of, without_first}
+use Rattle.server_rules.specs.Server.{Name, Reply, IsKept, is_kept, name_of}
+use Rattle.server_rules.specs.Event.{Owed, Setting, Speaker}
+use Rattle.server_rules.specs.Speaking.{answers, has_said, message_of, owes_message, says, says_again}
 use Rattle.server_rules.specs.Waiting.{outlook, tells_of}
 use Rattle.server_packets.proofs.Counts.{FallsByOne, count, count-other, count-own, first-fewer, jobs-push, jobs_by, name_for, of-other, one-low, told-same}
 use Rattle.server_packets.proofs.Kept.{OnlyDrops}

@@ -1,5 +1,5 @@
 -- What holds after each thing that a session does for a judgement holds after the whole row.
-use Rattle.std.proofs.Common.{◌≡◌, ◌∙◌, ℕ, zero, suc, eqb, ◌==◌, ◌&&◌, Bool, true, false, cond, Option, Some, None, List, [], ◌∷◌, length, ap, sym, subst, refl}
+use Rattle.std.proofs.Common.{◌≡◌, ℕ, suc, eqb, ◌==◌, ◌&&◌, Bool, true, false, cond, Option, Some, None, List, [], ◌∷◌, length, refl}
 use Rattle.std.specs.Prelude.{map, fold, min, is_some}
 use Rattle.std.specs.List.{All, Contains, find, list_all, filter}
 use Rattle.std.proofs.lemmas.Bool.{cond_both, and_parts}
@@ -14,7 +14,6 @@ use Rattle.salt_line.specs.Future.{salt_rows}
 use Rattle.id_window.specs.History.{History}
 use Rattle.id_window.specs.declared.mark.Mark.{Mark}
 use Rattle.id_window.specs.declared.mark.Mark.TheVariants.{Noticed as MarkNoticed, Replied, Dropped}
-use Rattle.inbox.specs.Kinds.{constructor_of}
 use Rattle.inbox.specs.States.{state_byte}
 use Rattle.inbox.specs.declared.judged.Verdict.{Verdict}
 use Rattle.inbox.specs.declared.judged.Verdict.TheVariants.{Accepted, Again, Noticed}
@@ -26,7 +25,7 @@ use Rattle.server_rules.specs.Server.{Reply, Binding, is_kept, kept_of, mark_in,
 use Rattle.server_rules.specs.Event.{Setting, Speaker, BindingCall}
 use Rattle.server_rules.specs.Speaking.{has_said, message_of, owes_message, says, says_again, says_with_salt, says_it_is_new, needs_salts, answers, records, answers_in_place, dropped, packed_body_refused, bad_body, encrypted_message_invalid}
 use Rattle.server_rules.specs.Waiting.{tells_of, gives_up}
-use Rattle.server_rules.specs.Calls.{accepts_call, becomes_job, binds, binds_by, bool_true_content, drops_answer, drops_by, drops_kept, drops_running, dropped_running, job_of, refusal, with_binding}
+use Rattle.server_rules.specs.Calls.{accepts_call, becomes_job, binds, binds_by, bool_true_content, drops_by, drops_kept, drops_running, dropped_running, job_of, refusal, with_binding}
 use Rattle.server_rules.specs.Rows.{accepts, acked_by, acknowledges, answers_broken, came_again, future_salt_of, kept_numbered, notices, owes, says_reply, sends_again, takes_acks, tells_salts, tells_states, acks_of}
 use Rattle.server_rules.specs.Answer.{attaches, finishes, opens}
 use Rattle.server_packets.proofs.Lists.{filter-there, find-holds}

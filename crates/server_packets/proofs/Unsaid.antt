@@ -6,11 +6,10 @@ use Rattle.std.proofs.lemmas.Bool.{cases_Bool, cond-true, cond-false, cond_both,
 use Rattle.std.proofs.lemmas.List.Folds.{list_any-append}
 use Rattle.outbox.specs.Replies.{fits}
 use Rattle.waits.specs.Jobs.{one_if}
-use Rattle.server_rules.specs.Server.{Name, Reply, is_kept, kept_of, kept_replies, is_same}
+use Rattle.server_rules.specs.Server.{Name, Reply, is_kept, kept_replies, is_same}
 use Rattle.server_rules.specs.Event.{Owed}
-use Rattle.server_rules.specs.Speaking.{dropped, made_room, message_of}
+use Rattle.server_rules.specs.Speaking.{dropped, made_room}
 use Rattle.server_packets.proofs.Kept.{OnlyDrops, kept-first, kept-other}
-use Rattle.server_packets.proofs.Names.{names-same}
 
 -- the session of this name has said the message of this number
 abbrev pub has : Name → List Owed → ℕ → Bool

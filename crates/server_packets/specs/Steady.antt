@@ -1,6 +1,6 @@
 -- What a server keeps between events, by which each packet that it makes may be sealed
 -- (core.telegram.org/mtproto/description, "Encrypted Message").
-use Rattle.std.specs.Prelude.{◌≡◌, ◌<◌, ◌≤◌, ◌^◌, ⊤, ℕ, Bool, true, Some, List, length}
+use Rattle.std.specs.Prelude.{◌≡◌, ◌<◌, ◌≤◌, ◌^◌, ⊤, ℕ, Bool, true, Some, length}
 use Rattle.std.specs.List.{All, AllByRecursion}
 use Rattle.msg_ids.specs.Counters.{room}
 use Rattle.msg_ids.specs.Moments.{latest_moment}

@@ -1,5 +1,5 @@
 -- The laws of the crates below, and the premises.
-use Rattle.std.proofs.Common.{◌≡◌, ◌≢◌, ℕ, ◌<◌, ◌≤◌, ◌^◌, Bool, true, false, Option, Some, None, List, [], ◌∷◌, ◌++◌, length, subst, sym, refl}
+use Rattle.std.proofs.Common.{◌≡◌, ℕ, ◌<◌, ◌≤◌, ◌^◌, Bool, true, Option, Some, None, List, length, subst, sym, refl}
 use Rattle.std.specs.Prelude.{is_some}
 use Rattle.std.specs.List.{AllByRecursion, Contains}
 use Rattle.auth_keys.specs.Keys.{identifier}
@@ -20,7 +20,7 @@ use Rattle.client_rules.specs.Sending as sending
 use Rattle.client_packets.specs.Steady as own
 use Rattle.server_packets.specs.Steady as kept
 use Rattle.world_rules.specs.Premises.{IsSealed, IsSound}
-use Rattle.world_rules.specs.Setting.{Setting, at_client, at_server}
+use Rattle.world_rules.specs.Setting.{Setting, at_client}
 use Rattle.world_packets.specs.Lawful.{is_held}
 
 -- what the laws say

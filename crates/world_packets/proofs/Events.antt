@@ -1,18 +1,17 @@
 -- Each event of a schedule leaves a world steady, and so do all.
-use Rattle.std.proofs.Common.{◌≡◌, ℕ, ◌≤◌, zero, suc, Bool, true, false, cond, Option, Some, None, List, [], ◌∷◌, fold, length, refl, arith}
+use Rattle.std.proofs.Common.{ℕ, ◌≤◌, zero, suc, Bool, Some, None, List, [], ◌∷◌, fold, arith}
 use Rattle.std.specs.Prelude.{is_some, option_map}
-use Rattle.std.specs.List.{All, AllByRecursion}
+use Rattle.std.specs.List.{All}
 use Rattle.std.proofs.lemmas.Bool.{cond_both}
 use Rattle.std.proofs.lemmas.List.Elements.{All-head, All-nil, All-tail}
 use Rattle.auth_keys.specs.declared.ring.RingKey.{RingKey}
 use Rattle.envelope.specs.Packet.{Lock}
 use Rattle.msg_ids.specs.Counters.{room}
 use Rattle.outbox.specs.Replies.{IsWithin}
-use Rattle.waits.specs.Jobs.{AreWithinLimits}
 use Rattle.sched_text.specs.declared.event.Event.{Event}
 use Rattle.sched_text.specs.declared.event.Event.TheVariants as line
 use Rattle.server_rules.specs.Server.{fresh_server, kept_replies}
-use Rattle.server_rules.specs.Events.{Attach, Loss, Restart, Tick, Work}
+use Rattle.server_rules.specs.Events.{Attach, Loss, Restart, Tick}
 use Rattle.client_rules.specs.Client.{temporary_of}
 use Rattle.client_rules.specs.Events as wishes
 use Rattle.client_packets.specs.Steady as own

@@ -1,5 +1,5 @@
 -- The replies of the registers are whole words of bytes, and short.
-use Rattle.std.proofs.Common.{◌≡◌, ℕ, zero, suc, ◌+◌, ◌%◌, ◌/◌, ◌^◌, ◌<◌, ◌≤◌, ltb, ◌&&◌, Bool, true, false, cond, Option, Some, None, List, [], ◌∷◌, ◌++◌, length, refl, arith}
+use Rattle.std.proofs.Common.{◌≡◌, ℕ, zero, suc, ◌+◌, ◌/◌, ◌^◌, ◌<◌, ltb, ◌&&◌, Bool, true, cond, Option, Some, None, List, [], ◌∷◌, ◌++◌, refl, arith}
 use Rattle.std.specs.Prelude.{codes}
 use Rattle.std.specs.Int.{byte_at, bytes_low_first}
 use Rattle.std.proofs.Math.Nat.{mod-lt}
@@ -7,7 +7,7 @@ use Rattle.std.proofs.lemmas.Bool.{and_parts, cond_both, ltb-true}
 use Rattle.std.proofs.lemmas.List.{length-append}
 use Rattle.byteorder.specs.Numbers.{length-bytes_low_first}
 use Rattle.octets.specs.Bytes.{IsBytes}
-use Rattle.tl_codec.specs.Spelling.{Long, Tag, spelling}
+use Rattle.tl_codec.specs.Spelling.{spelling}
 use Rattle.regs_service.specs.Registers.{Sums, added, answered, has_place, step, sum_of, with_sum}
 use Rattle.regs_service.specs.Replies.{error_reply, value_number, value_reply}
 use Rattle.regs_service.specs.Requests.{Add, Asked, Get, request_of}

@@ -1,13 +1,12 @@
 -- An event of the server leaves a world steady.
-use Rattle.std.proofs.Common.{◌≡◌, ℕ, ◌≤◌, Bool, true, Option, Some, None, List, [], ◌∷◌, ◌++◌, length, subst, sym, refl, arith}
+use Rattle.std.proofs.Common.{◌≡◌, ℕ, Option, Some, None, List, refl}
 use Rattle.std.specs.Prelude.{option_map, map}
-use Rattle.std.specs.List.{AllByRecursion}
 use Rattle.auth_keys.specs.declared.ring.RingKey.{RingKey}
 use Rattle.envelope.specs.declared.parts.Dir.TheVariants.{Down, Up}
 use Rattle.envelope.specs.declared.parts.Envelope.{Envelope}
 use Rattle.envelope.specs.Packet.{Lock}
 use Rattle.server_rules.specs.Event.{Sent}
-use Rattle.server_rules.specs.Events.{Attach, Event, Loss, Packet as Comes, Restart, Tick, Work, after_event}
+use Rattle.server_rules.specs.Events.{Event, Packet as Comes, Work, after_event}
 use Rattle.server_packets.specs.Steady as kept
 use Rattle.world_rules.specs.Ends.{comes_up, course_in, sent_down, serves}
 use Rattle.world_rules.specs.Setting.{Setting, as_heard, as_sealed, at_server}

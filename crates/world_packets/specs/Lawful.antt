@@ -7,7 +7,7 @@ use Rattle.envelope.specs.Packet.{Lock, Sealed}
 use Rattle.client_packets.specs.Steady as client
 use Rattle.server_packets.specs.Steady as server
 use Rattle.world_rules.specs.Setting.{Setting}
-use Rattle.world_rules.specs.World.{Packet, Seat, World, bytes_of}
+use Rattle.world_rules.specs.World.{Packet, World, bytes_of}
 
 -- the packet is its envelope, lawful and sealed with its padding in its direction under a key of the ring
 abbrev pub IsSealedPacket : {S V : Type 0} → Lock → List RingKey → Setting S V → Packet → Type 0
