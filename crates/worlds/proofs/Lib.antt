@@ -1,5 +1,6 @@
 pub mod Steps
 pub mod Owners
+pub mod Counted
 pub mod Keeping
 pub mod Step
 pub mod Send

@@ -39,7 +39,7 @@ impl<S: Seal, V: Service, D: Draw> World<S, V, D> {
         self.does(alloc, event)
     }
 
-    // The same, said at once.
+    // The same, said at once. Events that set the scene.
     fn does(&mut self, alloc: Global, event: &Event) -> Result<(), StepFault>
         ensures steps { StepsFrom S.lock D.step V.step V.fresh_state (S.keys self.old.host.server.seal) self.old event.now result self.new }
         ensures same_seal { self.new.host.server.seal ≡ self.old.host.server.seal }
@@ -50,6 +50,32 @@ impl<S: Seal, V: Service, D: Draw> World<S, V, D> {
             Event::ClockAll { at } => self.clock_all(*at),
             Event::ClockServer { at } => self.clock_server(*at),
             Event::ClockClient { client, at } => self.clock_client(*client, *at),
+            _ => self.serves(alloc, event),
+        }
+    }
+
+    // Events of the server.
+    fn serves(&mut self, alloc: Global, event: &Event) -> Result<(), StepFault>
+        ensures steps { StepsFrom S.lock D.step V.step V.fresh_state (S.keys self.old.host.server.seal) self.old event.now result self.new }
+        ensures same_seal { self.new.host.server.seal ≡ self.old.host.server.seal }
+    {
+        match event {
+            Event::ForeignServer { bytes } => self.foreign_server(alloc, bytes.as_slice()),
+            Event::Work { job } => self.work(alloc, *job),
+            Event::TickServer => self.tick_server(alloc),
+            Event::AttachServer { client } => self.attach_server(alloc, *client),
+            Event::Lose { client } => self.lose(*client),
+            Event::Restart => self.restart(alloc),
+            _ => self.carries(alloc, event),
+        }
+    }
+
+    // Events that bring bytes, and calls.
+    fn carries(&mut self, alloc: Global, event: &Event) -> Result<(), StepFault>
+        ensures steps { StepsFrom S.lock D.step V.step V.fresh_state (S.keys self.old.host.server.seal) self.old event.now result self.new }
+        ensures same_seal { self.new.host.server.seal ≡ self.old.host.server.seal }
+    {
+        match event {
             Event::Call {
                 client,
                 body,
@@ -57,22 +83,27 @@ impl<S: Seal, V: Service, D: Draw> World<S, V, D> {
             } => self.call(alloc, *client, body.as_slice(), *after),
             Event::Flush { client } => self.flush(alloc, *client),
             Event::Give { packet } => self.give(alloc, *packet),
-            Event::ForeignServer { bytes } => self.foreign_server(alloc, bytes.as_slice()),
             Event::ForeignClient { client, bytes } => {
                 self.foreign_client(alloc, *client, bytes.as_slice())
             }
-            Event::Work { job } => self.work(alloc, *job),
-            Event::TickServer => self.tick_server(alloc),
+            _ => self.wishes(event),
+        }
+    }
+
+    // What else a client is asked to do. No other event comes here.
+    fn wishes(&mut self, event: &Event) -> Result<(), StepFault>
+        ensures steps { StepsFrom S.lock D.step V.step V.fresh_state (S.keys self.old.host.server.seal) self.old event.now result self.new }
+        ensures same_seal { self.new.host.server.seal ≡ self.old.host.server.seal }
+    {
+        match event {
             Event::TickClient { client } => self.tick_client(*client),
-            Event::AttachServer { client } => self.attach_server(alloc, *client),
             Event::AttachClient { client } => self.attach_client(*client),
             Event::Ping { client } => self.ping(*client),
             Event::Salts { client, count } => self.salts(*client, *count),
             Event::DropAnswer { client, call } => self.drop_answer(*client, *call),
             Event::Renew { client } => self.renew(*client),
             Event::End { client } => self.end(*client),
-            Event::Lose { client } => self.lose(*client),
-            Event::Restart => self.restart(alloc),
+            _ => Err(StepFault::Memory),
         }
     }
 }

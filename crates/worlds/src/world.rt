@@ -45,15 +45,32 @@ impl<S: Seal, V: Service> World<S, V> {
         ensures stands { (sealing : Sealing) → let setting : Setting ℕ V = world_setting steps_of_words V.step V.fresh_state (S.keys seal) sealing in
             Stands setting result (begins setting 0) }
     {
-        World {
-            host: Host::new::<StepDraw>(alloc, seal),
-            seats: Seats::new(alloc),
-            draw: StepDraw::new(),
-        }
+        World::<S, V, StepDraw>::with_draw(alloc, seal, StepDraw::new())
     }
 }
 
 impl<S: Seal, V: Service, D: Draw> World<S, V, D> {
+    /// The same with a draw of its own.
+    pub fn with_draw(alloc: Global, seal: S, draw: D) -> World<S, V, D>
+        requires keys { HasWorldKeys (S.keys seal) }
+        ensures seal { result.host.server.seal ≡ seal }
+        ensures stands { (sealing : Sealing) → let setting : Setting D V = world_setting D.step V.step V.fresh_state (S.keys seal) sealing in
+            Stands setting result (begins setting draw) }
+    {
+        World {
+            host: Host::new::<D>(alloc, seal),
+            seats: Seats::new(alloc),
+            draw,
+        }
+    }
+
+    /// What words are drawn from.
+    pub fn draw(&self) -> &D
+        ensures { result.now ≡ self.now.draw }
+    {
+        &self.draw
+    }
+
     /// The server of the present start.
     pub fn server(&self) -> &Server<S>
         ensures { result.now ≡ self.now.host.server }
@@ -69,6 +86,7 @@ impl<S: Seal, V: Service, D: Draw> World<S, V, D> {
     }
 
     /// The client of this number, in its state. Clients count from 1 to `clients()`.
+    #[tactic(auto, using(crate::proofs::Counted::counted_there))]
     pub fn client(&self, c: u32) -> &Holder
         requires from_1 { 0 < c }
         requires there { c ≤ length self.now.seats }

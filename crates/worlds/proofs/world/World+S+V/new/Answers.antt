@@ -1,21 +1,11 @@
-use Rattle.std.proofs.Common.{◌≡◌, ℕ, [], subst, sym}
-use Rattle.auth_keys.specs.Rings.{entry_of, key_in}
-use Rattle.client_core.specs.Flushed.{binding_under}
-use Rattle.hosts.specs.Hosts.{Stands as HostStands}
-use Rattle.hosts.specs.Settings.{Sealing}
-use Rattle.seats.specs.Standing.{Stand}
+use Rattle.std.proofs.Common.{◌≡◌, ℕ, subst}
+use Rattle.world_rules.specs.Setting.{Setting}
 use Rattle.world_rules.specs.World.{begins}
 use Rattle.worlds.specs.Drawn.{steps_of_words}
-use Rattle.worlds.specs.Keys.{world_keys}
 use Rattle.worlds.specs.Worlds.{Stands, world_setting}
 use Rattle.worlds.proofs.world.World+S+V.new.Goals as goal
 
 pub returns-clause-stands : goal.returns-clause-stands
 returns-clause-stands g c = λ sealing.
-    let ring = g.S.Seal.keys c.args.seal in
-    let own : Sealing = record sealing { binding_message = λ perm. binding_under (key_in (entry_of perm ring)); keys = world_keys } in
-    let setting = world_setting steps_of_words g.V.Service.step g.V.Service.fresh_state ring sealing in
-    record {
-      host = subst (λ (draw : ℕ). HostStands setting c.new.result draw (begins setting 0)) (sym c.new-3.ensures) (c.new.ensures.stands own 0);
-      seats = subst (λ kept. Stand kept []) (sym c.new-2.ensures) tt;
-    }
+    let setting = world_setting steps_of_words g.V.Service.step g.V.Service.fresh_state (g.S.Seal.keys c.args.seal) sealing in
+    subst (λ (draw : ℕ). Stands setting c.with_draw.result (begins setting draw)) c.new.ensures (c.with_draw.ensures.stands sealing)

@@ -46,7 +46,7 @@ returns-in_ok-_goes_up-in-Some-Up-clause-steps g c = λ sealing world is stands.
     let bytes = c.in-Some-Up._bytes.now in
     let there = ap (λ (one : Packet). Some (packet_told one)) (sym c.in-Some-Up.field-0-is) ∙ c.in-Some-Up.ensures ∙ ap (λ (made : List Made). counted packet made) c.bag.ensures in
     gives-up setting inside.host c.takes_again.new.self inside.draw c.takes_again.new.draw inside.seats packet bytes world stood there
-    (c.in_ok-_goes_up.ensures.stands own world bytes of stood.host (sym there))
+    (c.in_ok-_goes_up-in-Some-Up.ensures.stands own world bytes of stood.host (sym there))
 
 pub returns-in-None-owner-clause-steps : goal.returns-in-None-owner-clause-steps
 returns-in-None-owner-clause-steps g c = λ sealing world is stands.
