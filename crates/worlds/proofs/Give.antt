@@ -1,5 +1,5 @@
 -- Bytes come to an end: what is given, and to whom.
-use Rattle.std.proofs.Common.{◌≡◌, ◌∙◌, ℕ, zero, suc, Bool, true, false, List, [], ◌∷◌, Option, Some, None, Result, Ok, Err, ap, sym, subst, refl}
+use Rattle.std.proofs.Common.{◌≡◌, ◌∙◌, ℕ, zero, suc, Bool, true, false, List, [], ◌∷◌, Option, Some, None, Err, ap, sym, subst, refl}
 use Rattle.std.specs.Prelude.{if◌then◌else◌, is_some, map, not, option_map, slice_get}
 use Rattle.envelope.specs.declared.parts.Dir.{Dir}
 use Rattle.envelope.specs.declared.parts.Dir.TheVariants.{Up, Down}
@@ -16,12 +16,11 @@ use Rattle.seats.specs.declared.fault.SeatFault.TheVariants as seat
 use Rattle.world_rules.specs.Ends.{arrives, comes_down, comes_to_owner, comes_up, seat_changed, seated, with_seat}
 use Rattle.world_rules.specs.Refusals.{ForeignOpens, NoClient, NoPacket, NotSent, NumbersSpent, Refusal, Submit, WrongState, at_client, nothing_more, opened, refusal, unless}
 use Rattle.world_rules.specs.Setting.{Setting}
-use Rattle.world_rules.specs.World.{Packet, Seat, World as Rules, bytes_of, counted, owner, seat_now}
+use Rattle.world_rules.specs.World.{Packet, Seat, World as Rules, counted, owner, seat_now}
 use Rattle.hosts.specs.Hosts.{Host, Stands as HostStands, kept_of}
 use Rattle.hosts.specs.Made.{GoesDown, GoesUp, Made}
 use Rattle.worlds.specs.Told.{Tells, step_fault}
 use Rattle.worlds.specs.Worlds.{Stands, World}
-use Rattle.worlds.proofs.Owners.{owner-seated}
 use Rattle.worlds.proofs.Steps.{reseated, tells-as}
 
 -- ---- packets

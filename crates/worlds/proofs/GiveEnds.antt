@@ -1,5 +1,5 @@
 -- A packet comes to its end: the whole event.
-use Rattle.std.proofs.Common.{◌≡◌, ◌∙◌, ℕ, true, false, List, Option, Some, None, Result, Ok, Err, ap, sym, subst, refl}
+use Rattle.std.proofs.Common.{◌≡◌, ◌∙◌, ℕ, true, false, List, Option, Some, None, Result, Ok, Err, ap, sym, subst}
 use Rattle.std.specs.Prelude.{IsErr, IsErrAnd}
 use Rattle.sched_text.specs.declared.event.Event.{Event}
 use Rattle.sched_text.specs.declared.event.Event.TheVariants as line
@@ -11,7 +11,7 @@ use Rattle.world_rules.specs.Refusals.{Refusal, at_client, nothing_more, opened}
 use Rattle.world_rules.specs.Setting.{Setting}
 use Rattle.world_rules.specs.World.{Seat, World as Rules, counted, owner}
 use Rattle.hosts.specs.Hosts.{Host, Stands as HostStands}
-use Rattle.hosts.specs.Made.{GoesDown, GoesUp, Made}
+use Rattle.hosts.specs.Made.{GoesDown, GoesUp}
 use Rattle.worlds.specs.Told.{Steps, Tells, step_fault}
 use Rattle.worlds.specs.Worlds.{Stands, World}
 use Rattle.worlds.specs.declared.fault.StepFault.{StepFault}
@@ -37,7 +37,7 @@ pub gives-nobody : {S V D : Type 0} (setting : Setting D V) (kept : World S V D)
 gives-nobody setting kept number session bytes world stands there nobody =
     let told = sym (kept-packet setting kept.host kept.draw world number stands.host) ∙ sym there in
     let goes = came-down setting world session bytes (counted number world.bag) told
-        ∙ ap (λ (found : Option ℕ). comes_to_owner setting bytes found world) (sym nobody) in
+    ∙ ap (λ (found : Option ℕ). comes_to_owner setting bytes found world) (sym nobody) in
     does setting world (line.Give number) (tt {0}) kept (packet-free setting kept.host kept.draw world number (GoesDown session bytes) stands.host there)
     (subst (λ w. Stands setting kept w) (sym goes) stands)
 
@@ -51,11 +51,11 @@ gives-down {S} {V} {D} setting host draw before after number session client byte
     let kept : World S V D = record { host = host; seats = after; draw = draw } in
     let told = sym (kept-packet setting host draw world number stands.host) ∙ sym there in
     let goes = came-down setting world session bytes (counted number world.bag) told
-        ∙ ap (λ (found : Option ℕ). comes_to_owner setting bytes found world) (sym owned) in
+    ∙ ap (λ (found : Option ℕ). comes_to_owner setting bytes found world) (sym owned) in
     let found = owner-seated session client world.seats (sym owned) in
     does setting world (line.Give number) (tt {0}) kept (packet-free setting host draw world number (GoesDown session bytes) stands.host there)
     (subst (λ w. Stands setting kept w) (sym goes)
-      (taken setting host draw client bytes found.0 after world found.1 stands.host (takes found.0 found.1)))
+    (taken setting host draw client bytes found.0 after world found.1 stands.host (takes found.0 found.1)))
 
 -- memory runs out there
 pub gives-memory : {S V D : Type 0} (X Y : Type 0) (setting : Setting D V) (host : Host S V) (draw : D) (before after : List Kept) (number session client : ℕ) (bytes : List ℕ)

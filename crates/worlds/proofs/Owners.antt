@@ -1,5 +1,5 @@
 -- The client that has or had a session number is there.
-use Rattle.std.proofs.Common.{◌≡◌, ◌∙◌, ℕ, zero, suc, ◌+◌, Bool, true, false, cond, List, [], ◌∷◌, Option, Some, None, ap, refl, sym, subst, arith}
+use Rattle.std.proofs.Common.{◌≡◌, ◌∙◌, ℕ, suc, ◌+◌, Bool, true, false, List, [], ◌∷◌, Some, None, ap, refl, arith}
 use Rattle.std.specs.List.{slice_get}
 use Rattle.std.specs.Prelude.{if◌then◌else◌}
 use Rattle.world_rules.specs.World.{Seat, counted, owner, owner_from, owns}

@@ -19,7 +19,7 @@ use Rattle.world_rules.specs.Setting as ends
 use Rattle.world_rules.specs.Setting.{Setting}
 use Rattle.world_rules.specs.World.{Seat, World as Rules, counted}
 use Rattle.worlds.specs.Told.{Steps}
-use Rattle.worlds.specs.Worlds.{Stands, World}
+use Rattle.worlds.specs.Worlds.{Stands}
 use Rattle.worlds.proofs.Steps.{does, stays-stands}
 
 -- what joins the bag
@@ -63,7 +63,7 @@ bagged {S} {V} {D} setting host after old draw seats world answer made stands is
 -- why it isn't sent, by what is drawn from
 pub due-as : {V D : Type 0} (setting : Setting D V) (number : ℕ) (old : D) (world : Rules D V) → old ≡ world.draw
     → at_client (counted number world.seats) (λ seat. goes_on seat (λ seat. unsent (flushed_by (ends.at_client setting) old seat).answer))
-        ≡ refusal setting world (line.Flush number)
+    ≡ refusal setting world (line.Flush number)
 due-as {V} {D} setting number old world drawn =
     ap (λ (d : D). at_client (counted number world.seats) (λ seat. goes_on seat (λ seat. unsent (flushed_by (ends.at_client setting) d seat).answer))) drawn
 
@@ -71,17 +71,17 @@ sent-at : {S V D : Type 0} (setting : Setting D V) (lock : Lock) (ring : List Ri
     (world : Rules D V) (sent : Option Sent) (rest : Seat → Option Refusal) (there : Option Seat) → counted number world.seats ≡ there
     → at_client there rest ≡ None → IsSealed lock ring setting → Stands setting (record { host = host; seats = before; draw = old }) world
     → ((seats : List Seat) (seat : Seat) → Stand before seats → counted number seats ≡ Some seat
-      → TellsSent lock ring (flushed_by (ends.at_client setting) old seat).answer sent)
+    → TellsSent lock ring (flushed_by (ends.at_client setting) old seat).answer sent)
     → Becomes number (λ seat. (flushed_by (ends.at_client setting) old seat).client) before left
     → ((seats : List Seat) (seat : Seat) → Stand before seats → counted number seats ≡ Some seat
-      → draw ≡ (flushed_by (ends.at_client setting) old seat).draw)
+    → draw ≡ (flushed_by (ends.at_client setting) old seat).draw)
     → after ≡ record host { bag = host.bag ++ made-of sent; room = after.room }
     → Stands setting (record { host = after; seats = left; draw = draw }) (seated there (flushes setting number) world)
 sent-at setting lock ring number host after old draw before left world sent rest None at free sealed stands tells becomes draws is =
     absurd (let no : Some NoClient ≡ None = free in cc)
 sent-at {S} {V} {D} setting lock ring number host after old draw before left world sent rest (Some one) at free sealed stands tells becomes draws is =
     let with : D → Rules D V = λ (d : D). let done = flushed_by (ends.at_client setting) d one in
-        record world { seats = seat_changed number done.client world.seats; draw = done.draw; bag = world.bag ++ sent_up done.answer } in
+    record world { seats = seat_changed number done.client world.seats; draw = done.draw; bag = world.bag ++ sent_up done.answer } in
     let done = flushed_by (ends.at_client setting) old one in
     let seats = seat_changed number done.client world.seats in
     let same = sent-bag setting lock ring done.answer sent sealed (tells world.seats one stands.seats at) in
@@ -90,7 +90,7 @@ sent-at {S} {V} {D} setting lock ring number host after old draw before left wor
       seats = becomes world.seats one stands.seats at;
     } in
     let there : Stands setting (record { host = after; seats = left; draw = draw }) (with old) =
-        subst (λ (d : D). Stands setting (record { host = after; seats = left; draw = d }) (with old)) (sym (draws world.seats one stands.seats at)) here in
+    subst (λ (d : D). Stands setting (record { host = after; seats = left; draw = d }) (with old)) (sym (draws world.seats one stands.seats at)) here in
     subst (λ (d : D). Stands setting (record { host = after; seats = left; draw = draw }) (with d)) stands.host.drawn there
 
 -- where nothing refuses it, the packet is in the bag
@@ -98,10 +98,10 @@ pub sends : {S V D : Type 0} (setting : Setting D V) (lock : Lock) (ring : List 
     (world : Rules D V) (sent : Option Sent) → refusal setting world (line.Flush number) ≡ None
     → IsSealed lock ring setting → Stands setting (record { host = host; seats = before; draw = old }) world
     → ((seats : List Seat) (seat : Seat) → Stand before seats → counted number seats ≡ Some seat
-      → TellsSent lock ring (flushed_by (ends.at_client setting) old seat).answer sent)
+    → TellsSent lock ring (flushed_by (ends.at_client setting) old seat).answer sent)
     → Becomes number (λ seat. (flushed_by (ends.at_client setting) old seat).client) before left
     → ((seats : List Seat) (seat : Seat) → Stand before seats → counted number seats ≡ Some seat
-      → draw ≡ (flushed_by (ends.at_client setting) old seat).draw)
+    → draw ≡ (flushed_by (ends.at_client setting) old seat).draw)
     → after ≡ record host { bag = host.bag ++ made-of sent; room = after.room }
     → Stands setting (record { host = after; seats = left; draw = draw }) (with_seat number (flushes setting number) world)
 sends setting lock ring number host after old draw before left world sent free sealed stands tells becomes draws is =
@@ -119,30 +119,30 @@ pub flush-does : {S V D : Type 0} (setting : Setting D V) (lock : Lock) (ring ke
     → keys ≡ ring → acting ≡ ends.at_client setting → IsSealed lock ring setting
     → Stands setting (record { host = first; seats = before; draw = old }) world → Stays first host
     → ((seats : List Seat) → Stand before seats
-      → TellsUnsent (at_client (counted number seats) (λ seat. goes_on seat nothing_more))
-        (at_client (counted number seats) (λ seat. goes_on seat (λ seat. unsent (flushed_by acting old seat).answer))) (Ok sent))
+    → TellsUnsent (at_client (counted number seats) (λ seat. goes_on seat nothing_more))
+    (at_client (counted number seats) (λ seat. goes_on seat (λ seat. unsent (flushed_by acting old seat).answer))) (Ok sent))
     → ((seats : List Seat) (seat : Seat) → Stand before seats → counted number seats ≡ Some seat
-      → TellsSent lock keys (flushed_by acting old seat).answer sent)
+    → TellsSent lock keys (flushed_by acting old seat).answer sent)
     → Becomes number (λ seat. (flushed_by acting old seat).client) before left
     → ((seats : List Seat) (seat : Seat) → Stand before seats → counted number seats ≡ Some seat
-      → draw ≡ (flushed_by acting old seat).draw)
+    → draw ≡ (flushed_by acting old seat).draw)
     → after ≡ record host { bag = host.bag ++ made-of sent; room = after.room }
     → Steps setting world (line.Flush number) (Ok (tt {0})) (record { host = after; seats = left; draw = draw })
 flush-does {S} {V} {D} setting lock ring keys acting number first host after old draw before left world sent same acting_is sealed stands stays free tells becomes draws is =
     let stood : Stands setting (record { host = host; seats = before; draw = old }) world =
-        record { host = stays-stands setting first host old world stays stands.host; seats = stands.seats } in
+    record { host = stays-stands setting first host old world stays stands.host; seats = stands.seats } in
     let told : at_client (counted number world.seats) (λ seat. goes_on seat (λ seat. unsent (flushed_by acting old seat).answer)) ≡ None =
-        free world.seats stands.seats in
+    free world.seats stands.seats in
     let due = subst (λ (s : client.Setting D). at_client (counted number world.seats) (λ seat. goes_on seat (λ seat. unsent (flushed_by s old seat).answer)) ≡ None)
-        acting_is told in
+    acting_is told in
     let none : refusal setting world (line.Flush number) ≡ None = sym (due-as setting number old world stands.host.drawn) ∙ due in
     does setting world (line.Flush number) tt (record { host = after; seats = left; draw = draw }) none
     (sends setting lock ring number host after old draw before left world sent none sealed stood
-      (subst (λ (s : client.Setting D). (seats : List Seat) (seat : Seat) → Stand before seats → counted number seats ≡ Some seat
-        → TellsSent lock ring (flushed_by s old seat).answer sent) acting_is
-        (subst (λ (k : List RingKey). (seats : List Seat) (seat : Seat) → Stand before seats → counted number seats ≡ Some seat
-          → TellsSent lock k (flushed_by acting old seat).answer sent) same tells))
-      (subst (λ (s : client.Setting D). Becomes number (λ seat. (flushed_by s old seat).client) before left) acting_is becomes)
-      (subst (λ (s : client.Setting D). (seats : List Seat) (seat : Seat) → Stand before seats → counted number seats ≡ Some seat
-        → draw ≡ (flushed_by s old seat).draw) acting_is draws)
-      is)
+    (subst (λ (s : client.Setting D). (seats : List Seat) (seat : Seat) → Stand before seats → counted number seats ≡ Some seat
+    → TellsSent lock ring (flushed_by s old seat).answer sent) acting_is
+    (subst (λ (k : List RingKey). (seats : List Seat) (seat : Seat) → Stand before seats → counted number seats ≡ Some seat
+    → TellsSent lock k (flushed_by acting old seat).answer sent) same tells))
+    (subst (λ (s : client.Setting D). Becomes number (λ seat. (flushed_by s old seat).client) before left) acting_is becomes)
+    (subst (λ (s : client.Setting D). (seats : List Seat) (seat : Seat) → Stand before seats → counted number seats ≡ Some seat
+    → draw ≡ (flushed_by s old seat).draw) acting_is draws)
+    is)

@@ -1,9 +1,8 @@
 -- Jobs that are ready, counted.
-use Rattle.std.proofs.Common.{◌≡◌, ◌∙◌, ℕ, zero, suc, ◌<◌, ◌≤◌, Bool, true, false, Option, Some, None, List, [], ◌∷◌, ap, sym, refl, arith, inl, inr}
+use Rattle.std.proofs.Common.{◌≡◌, ◌∙◌, ℕ, zero, suc, ◌<◌, ◌≤◌, Option, Some, None, [], ◌∷◌, ap, refl, arith, inl, inr}
 use Rattle.std.specs.Prelude.{is_some}
 use Rattle.std.proofs.lemmas.Bool.{cases_Bool, cond-true, cond-false}
 use Rattle.sched_text.specs.declared.event.Event.TheVariants as line
-use Rattle.server_core.specs.Server.{Kept, Stands as ServerStands}
 use Rattle.waits.specs.declared.job.Job.{Job}
 use Rattle.waits.specs.Jobs.{Queue, is_ready, one_if, ready_count, ready_job}
 use Rattle.world_rules.specs.Refusals.{NoJob, refusal, unless}

@@ -1,7 +1,7 @@
 -- The present session of a client at the server, and foreign bytes.
 use Rattle.std.proofs.Common.{◌≡◌, ◌∙◌, ℕ, Bool, true, false, List, Option, Some, None, ap, sym, subst, refl}
 use Rattle.std.specs.Prelude.{is_some, not}
-use Rattle.envelope.specs.declared.parts.Dir.TheVariants.{Up, Down}
+use Rattle.envelope.specs.declared.parts.Dir.TheVariants.{Up}
 use Rattle.sched_text.specs.declared.event.Event.TheVariants as line
 use Rattle.client_rules.specs.Client.{Client}
 use Rattle.client_core.specs.Holding.{kept_of}

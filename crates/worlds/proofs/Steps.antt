@@ -1,5 +1,5 @@
 -- What an event leaves, by its parts.
-use Rattle.std.proofs.Common.{◌≡◌, ◌∙◌, ℕ, List, Option, Some, None, Result, Ok, Err, ap, refl, sym, subst}
+use Rattle.std.proofs.Common.{◌≡◌, ℕ, List, Option, Some, None, Ok, Err, refl, sym, subst}
 use Rattle.client_core.specs.declared.fault.SubmitFault.TheVariants as submit
 use Rattle.client_rules.specs.Client.{Client}
 use Rattle.sched_text.specs.declared.event.Event.{Event}

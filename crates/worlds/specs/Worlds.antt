@@ -1,5 +1,5 @@
 -- A world, as it is kept.
-use Rattle.std.specs.Prelude.{◌≡◌, ℕ, List}
+use Rattle.std.specs.Prelude.{ℕ, List}
 use Rattle.auth_keys.specs.declared.ring.RingKey.{RingKey}
 use Rattle.auth_keys.specs.Rings.{entry_of, key_in}
 use Rattle.client_core.specs.Flushed.{binding_under}

@@ -36,7 +36,12 @@ impl<S: Seal, V: Service, D: Draw> World<S, V, D> {
     }
 
     /// Bytes that nobody sent come to a client.
-    pub(crate) fn foreign_client(&mut self, alloc: Global, client: u64, bytes: &[u8]) -> Result<(), StepFault>
+    pub(crate) fn foreign_client(
+        &mut self,
+        alloc: Global,
+        client: u64,
+        bytes: &[u8],
+    ) -> Result<(), StepFault>
         ensures steps { StepsFrom S.lock D.step V.step V.fresh_state (S.keys self.old.host.server.seal) self.old (line.ForeignClient client bytes.now) result self.new }
         ensures same_seal { self.new.host.server.seal ≡ self.old.host.server.seal }
     {

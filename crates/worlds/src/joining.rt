@@ -4,6 +4,7 @@ ghost use Rattle.std.specs.Prelude.{◌≡◌};
 ghost use Rattle.sched_text.specs.declared.event.Event.TheVariants as line;
 ghost use Rattle.worlds.specs.Told.{StepsFrom};
 ghost use Rattle.worlds.specs.Keys.{world_keys};
+
 use crate::fault::StepFault;
 use crate::world::World;
 use draws::Draw;
@@ -36,8 +37,9 @@ impl<S: Seal, V: Service, D: Draw> World<S, V, D> {
         ensures same_seal { self.new.host.server.seal ≡ self.old.host.server.seal }
     {
         let expires = Moment::new(EXPIRES);
-        Ok(self
-            .seats
-            .join_temp(alloc, TEMPORARY, PERMANENT, expires, &mut self.draw)?)
+        Ok(
+            self.seats
+                .join_temp(alloc, TEMPORARY, PERMANENT, expires, &mut self.draw)?,
+        )
     }
 }

@@ -4,9 +4,10 @@ ghost use Rattle.std.specs.Prelude.{◌≡◌, option_map};
 ghost use Rattle.sched_text.specs.declared.event.Event.TheVariants as line;
 ghost use Rattle.worlds.specs.Told.{StepsFrom};
 ghost use Rattle.world_rules.specs.Refusals.{call_numbered};
-use call_table::CallNo;
+
 use crate::fault::StepFault;
 use crate::world::World;
+use call_table::CallNo;
 use draws::Draw;
 use envelope::Seal;
 use regs_service::Service;
@@ -15,7 +16,13 @@ use std::alloc::Global;
 #[tactic(auto, using(crate::proofs::Keeping::keeps_all))]
 impl<S: Seal, V: Service, D: Draw> World<S, V, D> {
     /// A client submits a call.
-    pub(crate) fn call(&mut self, alloc: Global, client: u64, body: &[u8], after: Option<u64>) -> Result<(), StepFault>
+    pub(crate) fn call(
+        &mut self,
+        alloc: Global,
+        client: u64,
+        body: &[u8],
+        after: Option<u64>,
+    ) -> Result<(), StepFault>
         ensures steps { StepsFrom S.lock D.step V.step V.fresh_state (S.keys self.old.host.server.seal) self.old (line.Call client body.now after) result self.new }
         ensures same_seal { self.new.host.server.seal ≡ self.old.host.server.seal }
     {

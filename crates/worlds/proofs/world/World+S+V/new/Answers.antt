@@ -1,5 +1,4 @@
-use Rattle.std.proofs.Common.{◌≡◌, ℕ, subst}
-use Rattle.world_rules.specs.Setting.{Setting}
+use Rattle.std.proofs.Common.{ℕ, subst}
 use Rattle.world_rules.specs.World.{begins}
 use Rattle.worlds.specs.Drawn.{steps_of_words}
 use Rattle.worlds.specs.Worlds.{Stands, world_setting}

@@ -1,6 +1,5 @@
-use Rattle.std.proofs.Common.{◌≡◌, ◌∙◌, Err, List, ℕ, ap, subst, sym}
+use Rattle.std.proofs.Common.{subst, sym}
 use Rattle.sched_text.specs.declared.event.Event.{Event}
-use Rattle.sched_text.specs.declared.event.Event.TheVariants as line
 use Rattle.worlds.specs.Told.{StepsFrom}
 use Rattle.worlds.proofs.world.World.does.Goals as goal
 

@@ -1,4 +1,4 @@
-use Rattle.std.proofs.Common.{◌≡◌, ◌∙◌, refl, sym, subst}
+use Rattle.std.proofs.Common.{◌∙◌, sym, subst}
 use Rattle.sched_text.specs.declared.event.Event.TheVariants as line
 use Rattle.seats.specs.Standing.{IsReading}
 use Rattle.world_rules.specs.World.{counted}

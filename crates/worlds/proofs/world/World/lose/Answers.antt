@@ -1,4 +1,4 @@
-use Rattle.std.proofs.Common.{◌≡◌, refl, sym, subst}
+use Rattle.std.proofs.Common.{sym, subst}
 use Rattle.auth_keys.specs.Rings.{entry_of, key_in}
 use Rattle.client_core.specs.Flushed.{binding_under}
 use Rattle.sched_text.specs.declared.event.Event.TheVariants as line

@@ -1,8 +1,7 @@
-use Rattle.std.proofs.Common.{◌≡◌, ◌∙◌, Err, List, ℕ, ap, subst, sym}
+use Rattle.std.proofs.Common.{subst, sym}
 use Rattle.sched_text.specs.declared.event.Event.{Event}
-use Rattle.sched_text.specs.declared.event.Event.TheVariants as line
 use Rattle.worlds.specs.Told.{StepsFrom}
-use Rattle.worlds.specs.Worlds.{Stands, world_setting}
+use Rattle.worlds.specs.Worlds.{world_setting}
 use Rattle.worlds.specs.declared.fault.StepFault.TheVariants as told
 use Rattle.worlds.proofs.Steps.{redrawn, refuses}
 use Rattle.worlds.proofs.world.World.wishes.Goals as goal

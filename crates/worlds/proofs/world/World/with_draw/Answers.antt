@@ -1,10 +1,10 @@
-use Rattle.std.proofs.Common.{◌≡◌, [], subst, sym}
+use Rattle.std.proofs.Common.{[], subst, sym}
 use Rattle.auth_keys.specs.Rings.{entry_of, key_in}
 use Rattle.client_core.specs.Flushed.{binding_under}
 use Rattle.hosts.specs.Settings.{Sealing}
 use Rattle.seats.specs.Standing.{Stand}
 use Rattle.worlds.specs.Keys.{world_keys}
-use Rattle.worlds.specs.Worlds.{Stands, world_setting}
+use Rattle.worlds.specs.Worlds.{world_setting}
 use Rattle.worlds.proofs.world.World.with_draw.Goals as goal
 
 pub returns-clause-stands : goal.returns-clause-stands
