@@ -1,0 +1,4 @@
+mod Numbers
+mod Ids
+mod Takings
+mod Sayings

@@ -1,0 +1,4 @@
+pub mod Simple
+pub mod Values
+pub mod Says
+pub mod Inner
