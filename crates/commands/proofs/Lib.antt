@@ -2,3 +2,4 @@ mod Numbers
 mod Ids
 mod Takings
 mod Sayings
+mod Written

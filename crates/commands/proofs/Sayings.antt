@@ -12,8 +12,8 @@ use Rattle.std.proofs.lemmas.Slice.Eq.{bytes_eq-Decides}
 use Rattle.hex.specs.Hex.{decode_sized}
 use Rattle.clap.specs.Words.{Row}
 use Rattle.clap.proofs.WalkLemmas.{list_any-map}
-use Rattle.commands.specs.declared.form.Form.{Form}
-use Rattle.commands.specs.declared.form.Form.TheVariants.{Abridged, Intermediate, Padded, Full}
+use Rattle.transport.specs.declared.form.Form.{Form}
+use Rattle.transport.specs.declared.form.Form.TheVariants.{Abridged, Intermediate, Padded, Full}
 use Rattle.commands.specs.Simple.{sim, load, serve, call, rows}
 use Rattle.commands.specs.Values.{HasText, HasFlag, HasNumber, MayHaveNumber, HasId, MayHaveId, HasForm, form_text, id_text, text_of}
 use Rattle.commands.specs.Says.{Says, SaysServe, SaysCall, asks_help, page_word}

@@ -3,7 +3,7 @@ use Rattle.std.specs.Prelude.{◌≡◌, ℕ, Bool, true, false, List, [], ◌�
 use Rattle.std.specs.Str.{bytes_eq}
 use Rattle.std.specs.List.{list_any}
 use Rattle.clap.specs.Words.{App, Row}
-use Rattle.commands.specs.declared.form.Form.TheVariants.{Full}
+use Rattle.transport.specs.declared.form.Form.TheVariants.{Full}
 use Rattle.commands.specs.Simple.{sim, load, serve, call, faults, rows}
 use Rattle.commands.specs.Values.{HasText, HasFlag, HasNumber, MayHaveNumber, HasId, MayHaveId, HasForm}
 use Rattle.commands.specs.declared.command.Command.{Command}

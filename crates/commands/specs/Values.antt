@@ -3,8 +3,8 @@ use Rattle.std.specs.Prelude.{◌≡◌, ◌≤◌, ◌<◌, ◌^◌, ◌↔◌,
 use Rattle.std.specs.Int.{w64, to_le_bytes}
 use Rattle.hex.specs.Hex.{encode_lower}
 use Rattle.clap.specs.Words.{Row, first_of}
-use Rattle.commands.specs.declared.form.Form.{Form}
-use Rattle.commands.specs.declared.form.Form.TheVariants.{Abridged, Intermediate, Padded, Full}
+use Rattle.transport.specs.declared.form.Form.{Form}
+use Rattle.transport.specs.declared.form.Form.TheVariants.{Abridged, Intermediate, Padded, Full}
 
 -- the text of an argument, where it is there or has a default
 unfoldable pub text_of : List ℕ → List Row → Option (List ℕ)

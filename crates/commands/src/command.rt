@@ -6,7 +6,7 @@ use crate::page::Page;
 use octets::Memory;
 use std::marker::Model;
 use thiserror::Error;
-use crate::form::Form;
+use transport::Form;
 
 /// The name of a file. Contracts see its bytes.
 #[derive(Debug, Drop)]
@@ -43,7 +43,7 @@ impl<'a> FileName<'a> {
 pub enum Command<'a> {
     /// `sim`: play a schedule.
     Sim {
-        /// `--wire`: write what went over the wires too.
+        /// `--wire`: add the line on all packets.
         wire: bool,
     },
     /// `load`: play the schedule of so many calls.

@@ -4,7 +4,6 @@
 #![tactic(auto)]
 
 mod command;
-mod form;
 mod values;
 mod page;
 mod reading;
@@ -12,9 +11,9 @@ mod simple;
 pub mod laws;
 
 pub use command::{CallOptions, Command, FileName, ServeOptions, WordsFault};
-pub use page::{Page, VERSION};
+pub use page::{Page, version};
 pub use reading::read;
-pub use form::Form;
+pub use transport::Form;
 
 #[cfg(test)]
 mod tests;

@@ -1,5 +1,8 @@
 //! The pages of help, and the version.
 
+ghost use Rattle.std.specs.Prelude.{◌≡◌};
+ghost use Rattle.commands.specs.Pages.{page_text, version_text};
+
 /// A page of help.
 #[derive(Clone, Copy, Debug, PartialEq, Eq)]
 pub enum Page {
@@ -15,8 +18,7 @@ pub enum Page {
     Call,
 }
 
-/// The text for `--version`.
-pub const VERSION: &str = "mtp 1\n";
+const VERSION: &str = "mtp 0.1.0\n";
 
 const PROGRAM: &str = "\
 mtp: MTProto 2.0 sessions for cloud chats, both ends
@@ -36,7 +38,8 @@ mtp sim [--wire]
 Reads a schedule from standard input, plays it in one world of servers and
 clients, and writes the report of that world.
 
---wire    writes what went over the wires too
+--wire    adds a line on all packets: how many, their bytes, and the SHA-256
+          of all of them
 ";
 
 const LOAD: &str = "\
@@ -78,7 +81,10 @@ server on this machine, and writes a line for each call.
 
 impl Page {
     /// The text of the page.
-    pub fn text(self) -> &'static str {
+    #[tactic(auto, unfolding(crate::specs::Pages::page_text))]
+    pub fn text(self) -> &'static str
+        ensures { result.now ≡ page_text self }
+    {
         match self {
             Page::Program => PROGRAM,
             Page::Sim => SIM,
@@ -87,4 +93,12 @@ impl Page {
             Page::Call => CALL,
         }
     }
+}
+
+/// The text for `--version`.
+#[tactic(auto, unfolding(crate::specs::Pages::version_text))]
+pub fn version() -> &'static str
+    ensures { result.now ≡ version_text }
+{
+    VERSION
 }

@@ -13,7 +13,7 @@ ghost use Rattle.commands.specs.declared.command.CallOptions.{CallOptions};
 ghost use Rattle.commands.specs.declared.page.Page.{Page};
 
 use crate::command::{CallOptions, Command, FileName, ServeOptions, WordsFault};
-use crate::form::Form;
+use transport::Form;
 use crate::page::Page;
 use crate::simple::{Taken, call_command, load_command, serve_command, sim_command, take};
 use std::alloc::Global;

@@ -3,7 +3,7 @@
 ghost use Rattle.std.specs.Prelude.{◌≡◌, ◌⊎◌, IfOk, map, string_bytes};
 ghost use Rattle.commands.specs.Says.{Says};
 
-use crate::{Command, Page, VERSION, WordsFault, read};
+use crate::{Command, Page, WordsFault, read, version};
 use std::alloc::{AllocError, Global};
 use std::test::Fail;
 
@@ -162,7 +162,7 @@ fn pages(rt: HostRuntime) -> Result<(), Fail> {
         assert!(rt; text.starts_with(front) && text.ends_with("\n"));
         assert!(rt; text.lines().all(|line| line.len() <= 80));
     }
-    assert_eq!(rt; VERSION, "mtp 1\n");
+    assert_eq!(rt; version(), "mtp 0.1.0\n");
     let words = words_of(rt.alloc(), "load 3")?;
     assert_eq!(rt; calls_wanted(rt.alloc(), words.as_slice())?, 3);
     Ok(())

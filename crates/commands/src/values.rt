@@ -2,12 +2,12 @@
 
 ghost use Rattle.std.specs.Prelude.{◌≡◌, ◌≢◌, ◌<◌, ◌≤◌, ◌^◌, ◌↔◌, ℕ, None, Some, IsTrue, IfOk, IfErr, IfSome, IfNone, decimal, option_map};
 ghost use Rattle.commands.specs.Values.{HasText, HasFlag, HasNumber, MayHaveNumber, HasId, MayHaveId, HasForm, form_text, id_text, text_of};
-ghost use Rattle.commands.specs.declared.form.Form.{Form};
+ghost use Rattle.transport.specs.declared.form.Form.{Form};
 
 use crate::command::WordsFault;
 use crate::simple::Taken;
 use itoa::Buffer;
-use crate::form::Form;
+use transport::Form;
 
 impl<'a> Taken<'a> {
     /// The text of an argument that has to be there.
