@@ -1,6 +1,5 @@
 -- Identifiers as hexadecimal digits.
-use Rattle.std.proofs.Common.{◌≡◌, ◌∙◌, ℕ, zero, suc, ◌<◌, ◌^◌, List, Option, Some, None, Result, Ok, Err, MatchResult, ap, sym, refl, subst, arith, slice_index}
-use Rattle.std.specs.Result.{result_ok}
+use Rattle.std.proofs.Common.{◌≡◌, ◌∙◌, ℕ, zero, suc, ◌<◌, ◌^◌, List, Result, Ok, Err, MatchResult, ap, refl, subst, arith}
 use Rattle.std.specs.Int.{w64, byte_at, bytes_low_first, to_le_bytes, from_le_bytes}
 use Rattle.std.proofs.lemmas.Nat.{from_le_bytes-to_le_bytes_8}
 use Rattle.hex.specs.Hex.{IsBytes, decode_sized, encode_lower}

@@ -1,5 +1,5 @@
 -- Numbers in decimal.
-use Rattle.std.proofs.Common.{◌≡◌, ◌≢◌, ◌∙◌, ℕ, ◌<◌, ◌^◌, List, Bool, true, false, Option, Some, None, Result, Ok, Err, IfNone, IfSome, IfErr, IsErrAnd, OnOk, ap, sym, refl, subst}
+use Rattle.std.proofs.Common.{◌≡◌, ◌∙◌, ℕ, ◌<◌, ◌^◌, List, Bool, true, false, Option, Some, Result, Ok, Err, IfNone, IfSome, IfErr, IsErrAnd, OnOk, ap, sym, refl, subst}
 use Rattle.std.specs.Result.{result_ok}
 use Rattle.std.specs.Bool.{then_some}
 use Rattle.std.specs.Fmt.{decimal}

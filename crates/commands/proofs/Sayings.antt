@@ -1,6 +1,6 @@
 -- What words say: by their first word, and once.
-use Rattle.std.proofs.Common.{◌≡◌, ◌≢◌, ◌∙◌, ℕ, ◌<◌, ◌≤◌, ◌^◌, List, [], ◌∷◌, Bool, true, false, Option, Some, None, Ok, ap, sym, refl, arith, codes, cond, map, option_map}
-use Rattle.std.specs.Prelude.{slice_get, IsTrue}
+use Rattle.std.proofs.Common.{◌≡◌, ◌≢◌, ◌∙◌, ℕ, ◌<◌, ◌^◌, List, [], ◌∷◌, Bool, true, false, Option, Some, None, ap, sym, refl, arith, codes, cond, map, option_map}
+use Rattle.std.specs.Prelude.{slice_get}
 use Rattle.std.specs.List.{list_any}
 use Rattle.std.specs.Fmt.{decimal}
 use Rattle.std.specs.Int.{w64, to_le_bytes, from_le_bytes}
@@ -9,13 +9,12 @@ use Rattle.std.proofs.lemmas.Fmt.{decimal_injective}
 use Rattle.std.proofs.lemmas.Nat.{from_le_bytes-to_le_bytes_8}
 use Rattle.std.proofs.lemmas.Option.{slice_get-map}
 use Rattle.std.proofs.lemmas.Slice.Eq.{bytes_eq-Decides}
-use Rattle.hex.specs.Hex.{decode_sized}
 use Rattle.clap.specs.Words.{Row}
 use Rattle.clap.proofs.WalkLemmas.{list_any-map}
 use Rattle.transport.specs.declared.form.Form.{Form}
 use Rattle.transport.specs.declared.form.Form.TheVariants.{Abridged, Intermediate, Padded, Full}
 use Rattle.commands.specs.Simple.{sim, load, serve, call, rows}
-use Rattle.commands.specs.Values.{HasText, HasFlag, HasNumber, MayHaveNumber, HasId, MayHaveId, HasForm, form_text, id_text, text_of}
+use Rattle.commands.specs.Values.{HasText, HasFlag, HasNumber, MayHaveNumber, HasId, MayHaveId, HasForm, form_text, id_text}
 use Rattle.commands.specs.Says.{Says, SaysServe, SaysCall, asks_help, page_word}
 use Rattle.commands.specs.Inner.{IsTold}
 use Rattle.commands.specs.declared.command.Command.{Command}

@@ -2,7 +2,7 @@
 use Rattle.std.proofs.Common.{◌≡◌, [], ◌∷◌, Some, true, false, refl, codes}
 use Rattle.clap.proofs.OnLiterals.{clap_on_literals}
 use Rattle.commands.specs.Simple.{sim, faults, rows}
-use Rattle.commands.specs.Values.{HasFlag, text_of}
+use Rattle.commands.specs.Values.{text_of}
 use Rattle.commands.specs.Says.{Says}
 use Rattle.commands.specs.declared.command.Command.TheVariants.{Sim, Version}
 

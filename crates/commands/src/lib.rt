@@ -4,11 +4,11 @@
 #![tactic(auto)]
 
 mod command;
-mod values;
+pub mod laws;
 mod page;
 mod reading;
 mod simple;
-pub mod laws;
+mod values;
 
 pub use command::{CallOptions, Command, FileName, ServeOptions, WordsFault};
 pub use page::{Page, version};

@@ -13,10 +13,10 @@ ghost use Rattle.commands.specs.declared.command.CallOptions.{CallOptions};
 ghost use Rattle.commands.specs.declared.page.Page.{Page};
 
 use crate::command::{CallOptions, Command, FileName, ServeOptions, WordsFault};
-use transport::Form;
 use crate::page::Page;
 use crate::simple::{Taken, call_command, load_command, serve_command, sim_command, take};
 use std::alloc::Global;
+use transport::Form;
 
 /// The command that the words say: the words of the command line without the program's own name.
 ///

@@ -142,7 +142,10 @@ fn words_that_are_refused(rt: HostRuntime) -> Result<(), Fail> {
     ];
     for line in rows {
         let words = words_of(alloc, line)?;
-        assert!(rt; matches!(&read(alloc, words.as_slice()), Err(WordsFault::Refused)), "of {line}");
+        assert!(rt;
+            matches!(&read(alloc, words.as_slice()), Err(WordsFault::Refused)),
+            "of {line}"
+        );
     }
     assert!(rt; matches!(&read(alloc, &[]), Err(WordsFault::Refused)));
     Ok(())

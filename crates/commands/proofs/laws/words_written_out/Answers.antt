@@ -1,4 +1,3 @@
-use Rattle.std.proofs.Common.{refl}
 use Rattle.commands.proofs.Written.{sim_alone, sim_wire, version_alone}
 use Rattle.commands.proofs.laws.words_written_out.Goals as goal
 

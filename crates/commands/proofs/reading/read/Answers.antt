@@ -1,4 +1,4 @@
-use Rattle.std.proofs.Common.{◌≡◌, ◌∙◌, ap, sym, rules, codes, string_bytes, true, false, Some}
+use Rattle.std.proofs.Common.{◌≡◌, ◌∙◌, ap, sym, rules, codes, string_bytes, Some}
 use Rattle.commands.proofs.Numbers.{passed_on}
 use Rattle.commands.proofs.Sayings.{begins, asked, refused-sim, refused-load, refused-serve, refused-call, refused-help}
 use Rattle.commands.proofs.reading.read.Goals as goal
@@ -29,10 +29,13 @@ returns-in_ok-told_sim-in-sim-clause-said c =
     let told = c.in_ok-told_sim-in-sim.ensures.found in
     record {
       first = begins string_bytes c.args.words.now c.in-Some.first.now c.in-Some.ensures.value ∙ ap Some (sym c.as_str-2.ensures.value ∙ word);
-      means = (record {
-        plain = sym (asked string_bytes c.args.words.now _ c.asks_help.ensures) ∙ c.if-asks_help.false;
-        taken = told.taken;
-      }, told.tells);
+      means = (
+        record {
+          plain = sym (asked string_bytes c.args.words.now _ c.asks_help.ensures) ∙ c.if-asks_help.false;
+          taken = told.taken;
+        },
+        told.tells,
+      );
     }
 
 pub returns-in_err-told_load-in-load-clause-refused : goal.returns-in_err-told_load-in-load-clause-refused
@@ -49,10 +52,13 @@ returns-in_ok-told_load-in-load-clause-said c =
     let told = c.in_ok-told_load-in-load.ensures.found in
     record {
       first = begins string_bytes c.args.words.now c.in-Some.first.now c.in-Some.ensures.value ∙ ap Some (sym c.as_str-2.ensures.value ∙ word);
-      means = (record {
-        plain = sym (asked string_bytes c.args.words.now _ c.asks_help.ensures) ∙ c.if-asks_help.false;
-        taken = told.taken;
-      }, told.tells);
+      means = (
+        record {
+          plain = sym (asked string_bytes c.args.words.now _ c.asks_help.ensures) ∙ c.if-asks_help.false;
+          taken = told.taken;
+        },
+        told.tells,
+      );
     }
 
 pub returns-in_err-told_serve-in-serve-clause-refused : goal.returns-in_err-told_serve-in-serve-clause-refused
@@ -69,10 +75,13 @@ returns-in_ok-told_serve-in-serve-clause-said c =
     let told = c.in_ok-told_serve-in-serve.ensures.found in
     record {
       first = begins string_bytes c.args.words.now c.in-Some.first.now c.in-Some.ensures.value ∙ ap Some (sym c.as_str-2.ensures.value ∙ word);
-      means = (record {
-        plain = sym (asked string_bytes c.args.words.now _ c.asks_help.ensures) ∙ c.if-asks_help.false;
-        taken = told.taken;
-      }, told.tells);
+      means = (
+        record {
+          plain = sym (asked string_bytes c.args.words.now _ c.asks_help.ensures) ∙ c.if-asks_help.false;
+          taken = told.taken;
+        },
+        told.tells,
+      );
     }
 
 pub returns-in_err-told_call-in-call-clause-refused : goal.returns-in_err-told_call-in-call-clause-refused
@@ -89,8 +98,11 @@ returns-in_ok-told_call-in-call-clause-said c =
     let told = c.in_ok-told_call-in-call.ensures.found in
     record {
       first = begins string_bytes c.args.words.now c.in-Some.first.now c.in-Some.ensures.value ∙ ap Some (sym c.as_str-2.ensures.value ∙ word);
-      means = (record {
-        plain = sym (asked string_bytes c.args.words.now _ c.asks_help.ensures) ∙ c.if-asks_help.false;
-        taken = told.taken;
-      }, told.tells);
+      means = (
+        record {
+          plain = sym (asked string_bytes c.args.words.now _ c.asks_help.ensures) ∙ c.if-asks_help.false;
+          taken = told.taken;
+        },
+        told.tells,
+      );
     }

@@ -1,4 +1,4 @@
-use Rattle.std.proofs.Common.{◌∙◌, ◌≡◌, ◌<◌, ◌^◌, ap, sym, refl, arith}
+use Rattle.std.proofs.Common.{◌∙◌, ◌<◌, ◌^◌, ap, sym, refl, arith}
 use Rattle.std.specs.Result.{result_ok}
 use Rattle.commands.specs.Values.{id_text}
 use Rattle.commands.proofs.Numbers.{if_other, if_same, alike, differs, on_ok}
