@@ -86,11 +86,14 @@ fn run(alloc: Global, text: &[u8]) -> Result<(u32, u64, Option<u8>), Fail> {
 #[test]
 fn schedules(rt: HostRuntime) -> Result<(), Fail> {
     let alloc = rt.alloc();
-    let first = b"client\ncall 1 add x 5\nflush 1\ngive 1\ngive 2\nflush 1\ngive 3\nwork 1\ngive 4\ngive 5\n";
+    let first =
+        b"client\ncall 1 add x 5\nflush 1\ngive 1\ngive 2\nflush 1\ngive 3\nwork 1\ngive 4\ngive 5\n";
     assert_eq!(rt; run(alloc, first)?, (0, 5, Some(5)));
-    let lost = b"client\ncall 1 add x 5\nflush 1\ngive 1\ngive 2\nflush 1\ngive 3\nwork 1\nrestart\ngive 3\ngive 6\ngive 5\n";
+    let lost =
+        b"client\ncall 1 add x 5\nflush 1\ngive 1\ngive 2\nflush 1\ngive 3\nwork 1\nrestart\ngive 3\ngive 6\ngive 5\n";
     assert_eq!(rt; run(alloc, lost)?, (0, 6, None));
-    let refused = b"client\ncall 1 add x 5\nflush 2\ngive 1\nwork 1\nrenew 1\ncall 1 pad 4 after 7\nlose 2\n";
+    let refused =
+        b"client\ncall 1 add x 5\nflush 2\ngive 1\nwork 1\nrenew 1\ncall 1 pad 4 after 7\nlose 2\n";
     assert_eq!(rt; run(alloc, refused)?, (6, 0, None));
     Ok(())
 }
