@@ -10,7 +10,7 @@ use Rattle.transport.specs.Directions.{through}
 use Rattle.transport.specs.Forms.{framing_of}
 use Rattle.transport.specs.Wires.{Hears, Line}
 use Rattle.server_node.specs.Coming.{AllCut, IsNext, Sides, TookAll, TookBy, TookLast, TookOne, TookSome, packets_max}
-use Rattle.server_node.specs.Doing.{Did, Due, IsPacketEnd, Side, then_due}
+use Rattle.server_node.specs.Doing.{Did, IsPacketEnd, Side, then_due}
 use Rattle.server_node.specs.Record.{counted, counted_down}
 use Rattle.server_node.specs.Trace.{packet_acts, packets_acts}
 use Rattle.server_node.specs.declared.conn.ConnEnd.{ConnEnd}

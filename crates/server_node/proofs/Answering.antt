@@ -15,7 +15,6 @@ use Rattle.server_core.specs.declared.desk.Reply.{Reply}
 use Rattle.server_core.specs.declared.desk.DeskFault.{DeskFault}
 use Rattle.server_core.specs.declared.desk.DeskFault.TheVariants as faults
 use Rattle.server_rules.specs.Server.{Server}
-use Rattle.tl_codec.specs.declared.fault.FrameFault.{FrameFault}
 use Rattle.transport.specs.Wires.{Hears, Line}
 use Rattle.server_node.specs.Coming.{CameBy, FailsNext, HasNext, HeardLast, IsNext, IsSameDesk, NextBy, NoneCame, SameOut, SaysBy, SaysJudged, SaysNothing, SaysUnknown, Sides, TellsNext, came_by}
 use Rattle.server_node.specs.Doing.{Did, Due, end_by, Serves, Side, StandsBy}

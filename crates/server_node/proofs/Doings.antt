@@ -84,24 +84,6 @@ did_both {S} {V} step serve lock ring side middle later first second end before 
   written = written_both end before.bytes next.bytes side.told middle.told later.told before.written next.written;
 }
 
--- the events of the first part, which ended the connection
-pub did_first : {S V : Type 0} (step : S → ℕ × S) (serve : Step V) (lock : Lock) (ring : List RingKey) (side later : Side S V) (first second : Due S V) (end : ConnEnd)
-    → Did step serve lock ring side first (Some end) later → Did step serve lock ring side (then_due first second) (Some end) later
-did_first {S} {V} step serve lock ring side later first second end before = record {
-  acts = before.acts;
-  bytes = before.bytes;
-  follows = λ outside talk is stands.
-      let rules : Rules S V = rules_of step serve outside in
-      let one = before.follows outside talk is stands in
-      let more : List Act = second rules (after_acts rules talk (first rules talk)) in
-      record {
-        part = (one.part.0 ++ more, ap (λ (some : List Act). some ++ more) one.part.1 ∙ append_assoc before.acts one.part.0 more);
-        stands = one.stands;
-        sends = one.sends;
-      };
-  written = before.written;
-}
-
 -- the events of a part that went on, and then those of another
 pub did_then : {S V : Type 0} (step : S → ℕ × S) (serve : Step V) (lock : Lock) (ring : List RingKey) (side middle later : Side S V) (first second : Due S V) (end : Option ConnEnd)
     → Did step serve lock ring side first None middle → Did step serve lock ring middle second end later → DidThen step serve lock ring side first second end later

@@ -1,5 +1,5 @@
 -- All that a piece brings.
-use Rattle.std.proofs.Common.{◌≡◌, ◌≤◌, ◌<◌, ◌+◌, ℕ, List, [], ◌∷◌, ◌++◌, length, Option, Some, None, inl, inr, refl, sym, ap, subst, ◌∙◌, append-nil, append_assoc, length-append, arith}
+use Rattle.std.proofs.Common.{◌≡◌, ◌≤◌, ◌+◌, ℕ, List, [], ◌∷◌, ◌++◌, length, Option, Some, None, inl, refl, sym, ap, subst, ◌∙◌, append-nil, append_assoc, length-append, arith}
 use Rattle.auth_keys.specs.declared.ring.RingKey.{RingKey}
 use Rattle.cipher_modes.specs.CounterMode.{CtrState}
 use Rattle.envelope.specs.Packet.{Lock}
@@ -10,13 +10,13 @@ use Rattle.framing.specs.Streams.{Begins}
 use Rattle.transport.specs.Directions.{through}
 use Rattle.transport.specs.Forms.{framing_of}
 use Rattle.transport.specs.Wires.{Line}
-use Rattle.server_node.specs.Coming.{AllCame, AllCut, Fed, Sides, TookAll, TookWhole, Unfed, WholeFramed, WholeRaw}
-use Rattle.server_node.specs.Connection.{AreFirst, AreWhole, Close, ClosesBehind, EndsHeard, EndsUnfed, Heard, Hearing, IsCut, IsIdle, IsPieceSize, IsText, IsUnnamed, OwesBy, PassedBy, Place, ShowsClose, Turn, Unfed as UnfedAt, Working, closes, does, gets, hears, turned}
-use Rattle.server_node.specs.Doing.{Did, DidThen, Due, IsEventEnd, IsFeedEnd, IsPacketsEnd, IsPart, Side, Stands, StandsBy, Worked}
-use Rattle.server_node.specs.Record.{counted, turns_max}
+use Rattle.server_node.specs.Coming.{AllCame, AllCut, Fed, Sides, TookAll, TookWhole, Unfed}
+use Rattle.server_node.specs.Connection.{AreWhole, EndsHeard, EndsUnfed, Heard, Hearing, IsCut, IsText, IsUnnamed, OwesBy, Place, Turn, Unfed as UnfedAt, Working, gets, hears, turned}
+use Rattle.server_node.specs.Doing.{Did, Due, IsEventEnd, IsFeedEnd, IsPacketsEnd, IsPart, Side, Stands, StandsBy, Worked}
+use Rattle.server_node.specs.Record.{counted}
 use Rattle.server_node.specs.Steps.{HearsAlike, IsQuiet, LineTells, SentBy}
 use Rattle.server_node.specs.Trace.{Act, IsOutside, Outside, Rules, Talk, after_acts, packet_acts, packets_acts, rules_of, work_acts}
-use Rattle.server_node.specs.Turns.{IsFramed, IsLine, IsRaw, PieceBy, PieceDone, PieceEnded, StandsAt, TookPiece, came_max}
+use Rattle.server_node.specs.Turns.{IsFramed, IsLine, IsRaw, PieceDone, PieceEnded, StandsAt, TookPiece, came_max}
 use Rattle.server_node.specs.Writes.{WrittenBy}
 use Rattle.server_node.specs.declared.conn.ConnEnd.{ConnEnd}
 use Rattle.server_node.specs.declared.conn.ConnEnd.TheVariants as ends
@@ -24,7 +24,7 @@ use Rattle.server_node.specs.declared.heard.SessionName.{SessionName}
 use Rattle.server_node.specs.declared.line.Line.{Line as Ends}
 use Rattle.server_node.specs.declared.line.Line.TheVariants.{Raw, Framed}
 use Rattle.server_node.proofs.Doings.{written_both}
-use Rattle.server_node.proofs.Lines.{SameForm, alike_form, faulty_by, fed_line, first_by, line_alike, owes_text, owes_then, text_of, text_on, text_then, whole_by}
+use Rattle.server_node.proofs.Lines.{alike_form, faulty_by, fed_line, first_by, line_alike, owes_text, owes_then, text_of, text_on, text_then, whole_by}
 use Rattle.server_node.proofs.Writing.{wrote_nothing}
 
 -- ---- the count

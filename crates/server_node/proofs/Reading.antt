@@ -1,5 +1,5 @@
 -- One read of a connection, and what came of it.
-use Rattle.std.proofs.Common.{◌≡◌, ◌<◌, ◌≤◌, ◌+◌, ℕ, List, [], ◌∷◌, ◌++◌, length, take, Option, Some, None, IfSome, IsSomeAnd, inl, inr, refl, sym, ap, subst, ◌∙◌, append_assoc, append-nil, length-take, arith}
+use Rattle.std.proofs.Common.{◌≡◌, ◌<◌, ◌≤◌, ℕ, List, [], ◌∷◌, ◌++◌, length, take, Option, Some, None, IfSome, IsSomeAnd, refl, sym, ap, subst, ◌∙◌, append_assoc, append-nil, length-take, arith}
 use Rattle.auth_keys.specs.declared.ring.RingKey.{RingKey}
 use Rattle.envelope.specs.Packet.{Lock}
 use Rattle.mt_edge.specs.Links.{ReadsOver, Told}
@@ -7,11 +7,11 @@ use Rattle.mt_edge.specs.declared.link_read.LinkRead.{LinkRead}
 use Rattle.mt_edge.specs.declared.source.Got.{Got}
 use Rattle.mt_edge.specs.declared.source.Got.TheVariants as got
 use Rattle.regs_service.specs.Served.{Step}
-use Rattle.server_node.specs.Connection.{Close, Gave, IsNoPiece, IsPieceSize, IsText, Passed, PassedBy, PassedFront, Place, ShowsClose, Sight, Turn, Unread, closes, end_of_read, gets, reads, turned}
+use Rattle.server_node.specs.Connection.{Gave, IsNoPiece, IsPieceSize, IsText, Passed, PassedBy, PassedFront, Place, ShowsClose, Sight, Turn, Unread, closes, end_of_read, gets, reads, turned}
 use Rattle.server_node.specs.Doing.{Side, Stands, StandsBy}
-use Rattle.server_node.specs.Record.{counted, piece_bytes}
-use Rattle.server_node.specs.Trace.{IsOutside, Outside, Rules, Talk, rules_of}
-use Rattle.server_node.specs.Turns.{PieceBy, PieceDone, PieceEnded, Seen, StandsAt, TookPiece, TookTurn, TurnBy, TurnDone, TurnEnded, came_max}
+use Rattle.server_node.specs.Record.{piece_bytes}
+use Rattle.server_node.specs.Trace.{Rules, Talk, rules_of}
+use Rattle.server_node.specs.Turns.{PieceBy, Seen, StandsAt, TookPiece, TookTurn, TurnBy}
 use Rattle.server_node.specs.Writes.{WrittenBy, Wrote, WroteBy, WroteFront}
 use Rattle.server_node.specs.declared.conn.ConnEnd.{ConnEnd}
 use Rattle.server_node.specs.declared.conn.ConnEnd.TheVariants as ends

@@ -1,21 +1,21 @@
 -- The turns of a connection, one after the other, and how it closes.
-use Rattle.std.proofs.Common.{◌≡◌, ◌<◌, ◌≤◌, ◌+◌, ◌*◌, ℕ, List, [], ◌∷◌, ◌++◌, length, Option, Some, None, IfSome, IsSomeAnd, inl, inr, refl, sym, ap, subst, ◌∙◌, append-nil, length-append, arith}
+use Rattle.std.proofs.Common.{◌≡◌, ◌<◌, ◌+◌, ℕ, List, [], ◌∷◌, ◌++◌, length, Option, Some, None, IfSome, IsSomeAnd, inl, refl, sym, ap, subst, ◌∙◌, append-nil, length-append, arith}
 use Rattle.auth_keys.specs.declared.ring.RingKey.{RingKey}
 use Rattle.envelope.specs.Packet.{Lock}
 use Rattle.mt_edge.specs.Links.{Told}
 use Rattle.regs_service.specs.Served.{Step}
 use Rattle.server_rules.specs.Server.{Server}
-use Rattle.server_node.specs.Connection.{Gave, IsText, Passed, Place, ServerTrace, Sight, Spent, Unbegun, began, turns_from}
-use Rattle.server_node.specs.Doing.{Side, Stands, StandsBy}
-use Rattle.server_node.specs.Record.{counted, piece_bytes, turns_max}
+use Rattle.server_node.specs.Connection.{Gave, Passed, Place, ServerTrace, Sight, Spent, Unbegun, began, turns_from}
+use Rattle.server_node.specs.Doing.{Side, StandsBy}
+use Rattle.server_node.specs.Record.{counted, turns_max}
 use Rattle.server_node.specs.Served.{Begins, LeavesBy}
 use Rattle.server_node.specs.Trace.{IsOutside, Outside, Rules, Talk, rules_of}
-use Rattle.server_node.specs.Turns.{Seen, StandsAt, TookTurn, TurnDone, TurnEnded, TurnsSoFar, came_max}
+use Rattle.server_node.specs.Turns.{TookTurn, TurnDone, TurnEnded, TurnsSoFar}
 use Rattle.server_node.specs.declared.conn.ConnEnd.{ConnEnd}
 use Rattle.server_node.specs.declared.conn.ConnEnd.TheVariants as ends
 use Rattle.server_node.specs.declared.heard.SessionName.{SessionName}
 use Rattle.server_node.specs.declared.line.Line.TheVariants.{Raw}
-use Rattle.server_node.proofs.Lines.{owes_text, text_of}
+use Rattle.server_node.proofs.Lines.{text_of}
 
 -- ---- no turn yet
 

@@ -217,7 +217,8 @@ EndsHeard came packets ends.TurnsSpent = ⊥
 EndsHeard came packets (ends.Journal fault) = ⊥
 EndsHeard came packets ends.Memory = ⊥
 
--- of these events a front came: a write failed, the desk answered a fault, or memory ran out
+-- Of these events a front came: a write failed, the desk answered a fault, or memory ran out. That the bytes which a failed write
+-- was given are the last event's isn't said.
 abbrev pub IsCut : ConnEnd → List Act → List Act → Type 0
 IsCut ends.LinkFault whole acts = (rest : List Act) × (whole ≡ acts ++ rest)
 IsCut (ends.Journal fault) whole acts = (rest : List Act) × (whole ≡ acts ++ rest)

@@ -89,9 +89,7 @@ fn take_piece<L: Link, K: Desk, V: Service>(
         Ok(line) => line,
         Err(end) => return Err(end),
     };
-    if let Err(end) =
-        take_whole::<L, K, V>(alloc, &mut line, now, desk, link, heard, text, left)
-    {
+    if let Err(end) = take_whole::<L, K, V>(alloc, &mut line, now, desk, link, heard, text, left) {
         return Err(end);
     }
     match work_all(alloc, desk, service, now, &mut line, link, heard, text) {
@@ -200,7 +198,7 @@ pub fn serve_one<L: Link, K: Desk, V: Service, C: Clock>(
     // What was read: pieces, each into 65,536 bytes of room, and the read that ended it, if one did.
     ensures record { IfSome (L.told result.0) (λ after. IsSomeAnd (L.told conn) (λ before. ReadTo result.1 before after)) }
     ensures same_place { L.place result.0 ≡ L.place conn }
-    // One call of the link failed exactly where it ended by that, and no other did.
+    // The count of the link's faults is one more, or still its last value, exactly where it ended by that; else it is the same.
     ensures counted { CountsBy (Some result.1) (L.faults conn) (L.faults result.0) }
     ensures first_fault { IsSome (L.told conn) → L.faults conn ≡ 0 → IsSome (L.told result.0) }
     // None is left exactly where it ended by that.

@@ -1,4 +1,4 @@
-use Rattle.std.proofs.Common.{[], arith, length, length-append, refl}
+use Rattle.std.proofs.Common.{[], arith, length-append, refl}
 use Rattle.server_node.specs.declared.line.Line.TheVariants.{Raw}
 use Rattle.server_node.proofs.Pieces.{piece_done, piece_unfed, piece_working, stands_fed, whole_done, whole_ended}
 use Rattle.server_node.proofs.serve.take_piece.Goals as goal

@@ -1,4 +1,4 @@
-use Rattle.std.proofs.Common.{[], None, Some, rules, arith, length, refl, ◌∙◌}
+use Rattle.std.proofs.Common.{[], rules, arith, length, refl, ◌∙◌}
 use Rattle.server_node.specs.declared.line.Line.TheVariants.{Raw}
 use Rattle.server_node.proofs.Goings.{fewer_both, same_fewer}
 use Rattle.server_node.proofs.Serving.{turn_more, turns_ended, turns_none, turns_spent}

@@ -1,4 +1,4 @@
-use Rattle.std.proofs.Common.{refl, None}
+use Rattle.std.proofs.Common.{refl}
 use Rattle.server_node.proofs.AllPackets.{did_zero}
 use Rattle.server_node.proofs.serve.take_whole.Goals as goal
 
