@@ -1,5 +1,5 @@
 -- What the parts of a connection do: scaffolding of private functions, and no promise.
-use Rattle.std.specs.Prelude.{◌≡◌, ◌<◌, ◌≤◌, ◌⊎◌, ℕ, List, [], ◌∷◌, ◌++◌, length, Option, IfSome, IsSomeAnd, Result, Ok, Err}
+use Rattle.std.specs.Prelude.{◌≡◌, ◌<◌, ◌≤◌, ◌⊎◌, ℕ, false, List, [], ◌∷◌, ◌++◌, length, Option, IfSome, IsSomeAnd, Result, Ok, Err}
 use Rattle.auth_keys.specs.declared.ring.RingKey.{RingKey}
 use Rattle.envelope.specs.Packet.{Lock}
 use Rattle.transport.specs.Starts.{Opening}
@@ -10,7 +10,7 @@ use Rattle.mt_edge.specs.declared.net_call.NetCall.{NetCall}
 use Rattle.mt_edge.specs.declared.source.Got.{Got}
 use Rattle.mt_edge.specs.declared.source.Got.TheVariants as got
 use Rattle.client_core.specs.declared.holder.Holder.{Holder}
-use Rattle.client_node.specs.Course.{Course}
+use Rattle.client_node.specs.Course.{Course, is_decided}
 use Rattle.client_node.specs.Standing.{StandsAs}
 use Rattle.client_node.specs.Talks.{AreTurns, Connection, IsConnection, IsNoPiece, IsTalk, Passes, Place, Rules, Shows, ShowsClose, Talk, Turn, course_after, end_by, end_of, moments_of, piece_bytes, place_after, turns_from}
 use Rattle.client_node.specs.Took.{TookPiece}
@@ -77,6 +77,7 @@ pub record TurnsSoFar {S : Type 0} (rules : Rules S) (opening : Opening) (place 
   pub are : AreTurns rules opening place turns
   pub moment : (turns_from rules place turns).now ≡ now
   pub stands : StandsAs kept draw (turns_from rules place turns).course
+  pub undecided : is_decided (turns_from rules place turns).course.client ≡ false
   pub hears : Hears line opening.down (turns_from rules place turns).heard (turns_from rules place turns).came
   pub tells : Tells line opening.up (turns_from rules place turns).sent bytes
   pub form : line.form ≡ opening.form
@@ -89,7 +90,7 @@ pub record Talked {S : Type 0} (rules : Rules S) (opening : Opening) (place : Pl
   pub is : IsTalk rules opening place talk
   pub ends_so : end_by talk.close ≡ end
   pub stands : StandsAs kept draw (place_after rules place talk).course
-  pub shows : ShowsClose talk.close talk.bytes (place_after rules place talk) link link_then
+  pub shows : ShowsClose talk.close opening [] (turns_from rules place talk.turns).sent talk.said talk.bytes (place_after rules place talk) link link_then
   pub gave : Gave (place_after rules place talk).moments given given_then
 
 -- All that was done over a connection.

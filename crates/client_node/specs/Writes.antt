@@ -1,5 +1,5 @@
 -- What is written over a link.
-use Rattle.std.specs.Prelude.{◌≡◌, ℕ, List, ◌++◌, Option, IfSome, IsSomeAnd, Result, Ok, Err, ⊤}
+use Rattle.std.specs.Prelude.{◌≡◌, ◌≢◌, ℕ, List, [], ◌++◌, Option, IfSome, IsSomeAnd, Result, Ok, Err, ⊤}
 use Rattle.mt_edge.specs.Links.{Told}
 use Rattle.mt_edge.specs.Faults.{one_more}
 use Rattle.transport.specs.Directions.{through}
@@ -15,12 +15,13 @@ pub record Wrote (bytes : List ℕ) (before after : Told) : Type 0 where
   pub left : after.left ≡ before.left
   pub reads : after.reads ≡ before.reads
 
--- a front of these bytes was written
-pub record WroteFront (bytes : List ℕ) (before after : Told) : Type 0 where
+-- all of the first bytes was written, and a front of the last ones, short of the whole
+pub record WroteFront (whole last : List ℕ) (before after : Told) : Type 0 where
   pub front : List ℕ
   pub rest : List ℕ
-  pub whole : bytes ≡ front ++ rest
-  pub wrote : Wrote front before after
+  pub cut : last ≡ front ++ rest
+  pub some : rest ≢ []
+  pub wrote : Wrote (whole ++ front) before after
 
 -- what a link tells, where it does, and its count of faults
 pub record Seen : Type 0 where
@@ -35,15 +36,15 @@ pub record Writes (bytes : List ℕ) (before after : Seen) : Type 0 where
   pub told : IfSome after.told (λ last. IsSomeAnd before.told (λ first. Wrote bytes first last))
   pub faults : after.faults ≡ before.faults
 
--- a front of these bytes was written, and then a write failed
-pub record Breaks (bytes : List ℕ) (before after : Seen) : Type 0 where
-  pub told : IfSome after.told (λ last. IsSomeAnd before.told (λ first. WroteFront bytes first last))
+-- all of the first bytes was written, a front of the last ones, and then a write failed
+pub record Breaks (whole last : List ℕ) (before after : Seen) : Type 0 where
+  pub told : IfSome after.told (λ ended. IsSomeAnd before.told (λ first. WroteFront whole last first ended))
   pub faults : after.faults ≡ one_more before.faults
 
--- by how it ended: all of them; a front of them, where a write failed; nothing, where memory ran out before
+-- by how it ended: all of them; a front of them, short of the whole, where a write failed; nothing, where memory ran out before
 abbrev pub WroteBy : {X : Type 0} → Result X End → List ℕ → Told → Told → Type 0
 WroteBy (Ok done) bytes before after = Wrote bytes before after
-WroteBy (Err Lost) bytes before after = WroteFront bytes before after
+WroteBy (Err Lost) bytes before after = WroteFront [] bytes before after
 WroteBy (Err Memory) bytes before after = after ≡ before
 WroteBy (Err Decided) bytes before after = ⊥
 WroteBy (Err TurnsSpent) bytes before after = ⊥

@@ -58,8 +58,8 @@ fn connect_all<N: Net, S: Seal, C: Clock, D: Draw>(
 }
 
 /// Runs a client's calls over connections of a net, one after the other, and says how that ended. With no call to decide it
-/// connects to nothing. Each connection is to the plan's port, and is closed and given back before the next one and at the
-/// end. What it sends, reads and hears over each is the trace of the client (`specs/Trace.antt`), up to the answer and its cause.
+/// connects to nothing. Each connection is to the plan's port, and is given back before the next one and at the end. What it
+/// sends, reads and hears over each is the trace of the client (`specs/Trace.antt`), up to the answer and its cause.
 pub fn run_batch<N: Net, S: Seal, C: Clock, D: Draw>(
     alloc: Global,
     client: Holder,

@@ -89,8 +89,8 @@ fn take_next<S: Seal, D: Draw>(
     }
 }
 
-/// The client hears the packets that are whole with this piece. A frame has more than a byte, so there are no more of them
-/// than bytes.
+/// The client hears the packets that are whole with this piece, as many as it has bytes. There should never be more, which isn't
+/// proved: a frame has more than a byte.
 ///
 /// # Errors
 ///

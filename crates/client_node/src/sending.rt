@@ -35,7 +35,7 @@ pub(crate) fn send<L: Link>(link: &mut L, piece: &[u8]) -> Result<(), End>
     Ok(())
 }
 
-/// Sends a packet in a frame.
+/// Sends a packet in a frame, for which it uses the room of a text that is spent.
 ///
 /// # Errors
 ///
@@ -45,6 +45,7 @@ pub(crate) fn send_packet<L: Link>(
     alloc: Global,
     wire: &mut Wire<Framed>,
     link: &mut L,
+    frame: &mut Octets,
     packet: &[u8],
 ) -> Result<(), End>
     requires sent { IsSent wire.old.form packet.now }
@@ -58,8 +59,8 @@ pub(crate) fn send_packet<L: Link>(
     ensures unchanged_on_memory { StaysBy result (wire.new ≡ wire.old) }
     ensures same_in { (wire.new.form ≡ wire.old.form) × (wire.new.held ≡ wire.old.held) × (wire.new.reading ≡ wire.old.reading) }
 {
-    let mut frame = Octets::new(alloc);
-    match wire.put(alloc, packet, &mut frame) {
+    frame.truncate(0);
+    match wire.put(alloc, packet, frame) {
         Ok(()) => send(link, frame.as_slice()),
         Err(Memory) => Err(End::Memory),
     }

@@ -20,7 +20,7 @@ returns-in-Packet-clause-flow g c =
     c.flush.new.client c.flush.new.draw c.send_packet.new.wire (seen (g.L.Link.told c.send_packet.new.link) (g.L.Link.faults c.send_packet.new.link))
     (λ course stands. subst (λ (bytes : List ℕ). FlushedAs setting g.S.Seal.lock (g.S.Seal.keys c.args.seal.now) c.args.now course (answers.Packet bytes) c.flush.new.client c.flush.new.draw)
     (sym c.as_slice.ensures.value) (c.in-Packet.ensures.flushes course stands))
-    c.is_decided-is_decided.ensures c.send_packet.ensures.told c.send_packet.ensures.counted c.send_packet.ensures.tells c.send_packet.ensures.unchanged_on_memory)
+    c.is_decided-is_decided.ensures c.send_packet.ensures.told c.send_packet.ensures.counted c.send_packet.ensures.tells c.send_packet.ensures.unchanged_on_memory c.send_packet.ensures.same_in.0)
 
 pub returns-then-is_decided-clause-flow : goal.returns-then-is_decided-clause-flow
 returns-then-is_decided-clause-flow g c =
