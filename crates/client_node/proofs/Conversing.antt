@@ -28,6 +28,7 @@ use Rattle.client_node.specs.declared.plan.Batch.TheVariants as batch
 use Rattle.client_node.specs.declared.plan.Plan.{Plan}
 use Rattle.client_node.proofs.Connecting.{closes_last}
 use Rattle.client_node.proofs.Flowing.{map_told}
+use Rattle.client_node.proofs.Spelling.{none_spelt}
 use Rattle.client_node.proofs.Passing.{gave_more, gave_none, passes_behind, passes_none, reading_behind, writing_behind}
 use Rattle.client_node.proofs.Undecided.{last_undecided}
 
@@ -92,7 +93,7 @@ unstarted step lock keys reading plan course link link_then given given_then fir
 -- ---- a connection with a talk
 
 pub opened : (line : Line) (form : _) (start : List ℕ) → (its : HasBegun line form start) → HasOpened line its.opening
-opened line form start its = record { form = its.form ∙ sym its.opens; hears = its.hears; tells = its.tells }
+opened line form start its = record { form = its.form ∙ sym its.opens; hears = its.hears; tells = none_spelt line its.opening.up its.tells }
 
 fails_behind : {S : Type 0} (opening : Opening) (start : List ℕ) (sent : List (List ℕ)) (said : Said) (bytes : List ℕ) (place : Place S) (first middle last : Seen)
     → Writes start first middle → FailsLast opening [] sent said bytes place middle last → FailsLast opening start sent said bytes place first last

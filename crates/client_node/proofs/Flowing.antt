@@ -1,10 +1,10 @@
 -- What is sent in two steps is sent in one.
-use Rattle.std.proofs.Common.{◌≡◌, ℕ, nat_lt, if◌then◌else◌, Bool, true, false, List, [], ◌∷◌, ◌++◌, Option, Some, None, IfSome, IsSomeAnd, Result, Ok, Err, inl, inr, refl, sym, ap, subst, ◌∙◌, append_assoc, append-nil}
+use Rattle.std.proofs.Common.{◌≡◌, ℕ, nat_lt, not, if◌then◌else◌, Bool, true, false, List, [], ◌∷◌, ◌++◌, Option, Some, None, IfSome, IsSomeAnd, Result, Ok, Err, inl, inr, refl, sym, ap, subst, ◌∙◌, append_assoc, append-nil}
 use Rattle.auth_keys.specs.declared.ring.RingKey.{RingKey}
 use Rattle.envelope.specs.Packet.{Lock}
 use Rattle.cipher_modes.specs.CounterMode.{CtrState}
 use Rattle.mt_edge.specs.Links.{Told}
-use Rattle.transport.specs.Wires.{Line, Tells}
+use Rattle.transport.specs.Wires.{Line}
 use Rattle.msg_ids.specs.Counters.{room}
 use Rattle.service_tl.specs.declared.lists.Message.{Message}
 use Rattle.client_rules.specs.Client.{Client, at_moment}
@@ -16,11 +16,12 @@ use Rattle.client_core.specs.declared.flush.Flush.TheVariants as answers
 use Rattle.client_core.specs.declared.holder.Holder.{Holder}
 use Rattle.client_node.specs.Course.{AreSent, Course, Phase, Opening, Open, Ended, flushed_in, flushes, is_decided, sends_all}
 use Rattle.client_node.specs.Flow.{BreaksLast, CountsEnd, Cut, Flow, FlowedBy, Follows, FramedBy, FoundNothing, OneFlush, StoppedBy, Stops, ended_by, flowed, went_on}
-use Rattle.client_node.specs.Standing.{AllDecided, DecidedBy, FlushedAs, StandsAs, StandsFor}
+use Rattle.client_node.specs.Standing.{DecidedBy, FlushedAs, StandsAs, StandsFor, has_undecided}
 use Rattle.mt_edge.specs.Faults.{one_more}
-use Rattle.client_node.specs.Writes.{Breaks, CountsBy, Seen, StaysBy, TellsMore, Writes, Wrote, WroteBy, WroteFront}
+use Rattle.client_node.specs.Writes.{Breaks, CountsBy, Seen, Spells, StaysBy, TellsMore, Writes, Wrote, WroteBy, WroteFront}
 use Rattle.client_node.specs.declared.end.End.{End}
 use Rattle.client_node.specs.declared.end.End.TheVariants as ends
+use Rattle.client_node.proofs.KindLemmas.{all_decided}
 
 -- ---- what is written
 
@@ -71,16 +72,16 @@ breaks_both one whole rest first middle last before after =
 -- ---- what the wire tells
 
 pub tells_after : (first middle last : Line) (one other : List (List ℕ)) (bytes more : List ℕ)
-    → ((to : Option CtrState) (packets : List (List ℕ)) (before : List ℕ) → Tells first to packets before → Tells middle to (packets ++ one) (before ++ bytes))
-    → ((to : Option CtrState) (packets : List (List ℕ)) (before : List ℕ) → Tells middle to packets before → Tells last to (packets ++ other) (before ++ more))
-    → ((to : Option CtrState) (packets : List (List ℕ)) (before : List ℕ) → Tells first to packets before → Tells last to (packets ++ (one ++ other)) (before ++ (bytes ++ more)))
+    → ((to : Option CtrState) (packets : List (List ℕ)) (before : List ℕ) → Spells first to packets before → Spells middle to (packets ++ one) (before ++ bytes))
+    → ((to : Option CtrState) (packets : List (List ℕ)) (before : List ℕ) → Spells middle to packets before → Spells last to (packets ++ other) (before ++ more))
+    → ((to : Option CtrState) (packets : List (List ℕ)) (before : List ℕ) → Spells first to packets before → Spells last to (packets ++ (one ++ other)) (before ++ (bytes ++ more)))
 tells_after first middle last one other bytes more before after to packets text tells =
     rw (sym (append_assoc packets one other), sym (append_assoc text bytes more)) (after to (packets ++ one) (text ++ bytes) (before to packets text tells))
 
 -- the frames of all packets but the last one
 abbrev cut_both : (line line_between : Line) (framed those : List (List ℕ)) (one other : List ℕ)
     → line_between.form ≡ line.form
-    → ((to : Option CtrState) (packets : List (List ℕ)) (text : List ℕ) → Tells line to packets text → Tells line_between to (packets ++ framed) (text ++ one))
+    → ((to : Option CtrState) (packets : List (List ℕ)) (text : List ℕ) → Spells line to packets text → Spells line_between to (packets ++ framed) (text ++ one))
     → Cut line_between those other → Cut line (framed ++ those) (one ++ other)
 cut_both line line_between framed those one other form tells cut =
     record {
@@ -97,7 +98,7 @@ cut_both line line_between framed those one other form tells cut =
 
 breaks_last_both : (is_done : Bool) (line line_between : Line) (framed those : List (List ℕ)) (one other : List ℕ) (first middle last : Seen)
     → line_between.form ≡ line.form
-    → ((to : Option CtrState) (packets : List (List ℕ)) (text : List ℕ) → Tells line to packets text → Tells line_between to (packets ++ framed) (text ++ one))
+    → ((to : Option CtrState) (packets : List (List ℕ)) (text : List ℕ) → Spells line to packets text → Spells line_between to (packets ++ framed) (text ++ one))
     → Writes one first middle → BreaksLast is_done line_between those other middle last → BreaksLast is_done line (framed ++ those) (one ++ other) first last
 breaks_last_both is_done line line_between framed those one other first middle last form tells before after =
     record {
@@ -111,7 +112,7 @@ both_same sent framed others those before after = ap (λ (all : List (List ℕ))
 
 pub flowed_both : {X : Type 0} (result : Result X End) (is_done : Bool) (line line_between : Line) (framed those : List (List ℕ)) (one other : List ℕ) (first middle last : Seen)
     → line_between.form ≡ line.form
-    → ((to : Option CtrState) (packets : List (List ℕ)) (text : List ℕ) → Tells line to packets text → Tells line_between to (packets ++ framed) (text ++ one))
+    → ((to : Option CtrState) (packets : List (List ℕ)) (text : List ℕ) → Spells line to packets text → Spells line_between to (packets ++ framed) (text ++ one))
     → Writes one first middle → FlowedBy result is_done line_between those other middle last → FlowedBy result is_done line (framed ++ those) (one ++ other) first last
 flowed_both (Ok done) is_done line line_between framed those one other first middle last form tells before after = writes_both one other first middle last before after
 flowed_both (Err ends.Spent) is_done line line_between framed those one other first middle last form tells before after = writes_both one other first middle last before after
@@ -209,7 +210,7 @@ stands_first setting lock keys now course sent is_done middle between goes follo
 
 -- ---- nothing was sent yet
 
-pub tells_as_before : (line : Line) (to : Option CtrState) (packets : List (List ℕ)) (before : List ℕ) → Tells line to packets before → Tells line to (packets ++ []) (before ++ [])
+pub tells_as_before : (line : Line) (to : Option CtrState) (packets : List (List ℕ)) (before : List ℕ) → Spells line to packets before → Spells line to (packets ++ []) (before ++ [])
 tells_as_before line to packets before tells = rw (append-nil packets, append-nil before) tells
 
 -- ---- one packet
@@ -256,7 +257,7 @@ abbrev flow_of_packet : {S : Type 0} (setting : Setting S) (lock : Lock) (keys :
     → FramedBy result false (packet ∷ []) framed
     → FlowedBy result false line framed bytes link link_then
     → line_then.form ≡ line.form
-    → ((to : Option CtrState) (packets : List (List ℕ)) (text : List ℕ) → Tells line to packets text → Tells line_then to (packets ++ framed) (text ++ bytes))
+    → ((to : Option CtrState) (packets : List (List ℕ)) (text : List ℕ) → Spells line to packets text → Spells line_then to (packets ++ framed) (text ++ bytes))
     → Flow setting lock keys now kept draw line link result left drawn line_then link_then
 flow_of_packet setting lock keys now kept draw line link packet bytes framed result left drawn line_then link_then flushed all written form tells =
     record {
@@ -279,9 +280,9 @@ decided_so setting lock keys now kept draw packet decided left drawn flushed dec
     sym (decided_now _ (flushed course stands).leaves.0)
 
 -- memory ran out before the packet was in a frame
-unframed : (line line_then : Line) → line_then ≡ line → (to : Option CtrState) (packets : List (List ℕ)) (text : List ℕ) → Tells line to packets text → Tells line_then to (packets ++ []) (text ++ [])
+unframed : (line line_then : Line) → line_then ≡ line → (to : Option CtrState) (packets : List (List ℕ)) (text : List ℕ) → Spells line to packets text → Spells line_then to (packets ++ []) (text ++ [])
 unframed line line_then same to packets text tells =
-    subst (λ (one : Line). Tells one to (packets ++ []) (text ++ [])) (sym same) (tells_as_before line to packets text tells)
+    subst (λ (one : Line). Spells one to (packets ++ []) (text ++ [])) (sym same) (tells_as_before line to packets text tells)
 
 -- there is no packet before it
 abbrev cut_one : (line : Line) (packet bytes : List ℕ) → Cut line (packet ∷ []) bytes
@@ -295,7 +296,7 @@ pub flow_packet : {S : Type 0} (setting : Setting S) (lock : Lock) (keys : List 
     → ((whole : Client) → StandsFor left whole → decided ≡ is_decided whole)
     → IfSome link_then.told (λ after. IsSomeAnd link.told (λ before. WroteBy sent bytes before after))
     → CountsBy sent link.faults link_then.faults
-    → TellsMore sent ((to : Option CtrState) (packets : List (List ℕ)) (text : List ℕ) → Tells line to packets text → Tells line_then to (packets ++ packet ∷ []) (text ++ bytes))
+    → TellsMore sent ((to : Option CtrState) (packets : List (List ℕ)) (text : List ℕ) → Spells line to packets text → Spells line_then to (packets ++ packet ∷ []) (text ++ bytes))
     → StaysBy sent (line_then ≡ line)
     → line_then.form ≡ line.form
     → OneFlush setting lock keys now kept draw line link (ended_by decided sent) left drawn line_then link_then
@@ -479,18 +480,15 @@ ended_counts false (Err ends.Lost) before after counted = counted
 
 -- ---- whether each call is decided
 
-pub told_all : (kept : Holder) (answer : Bool) → ((whole : Client) → StandsFor kept whole → answer ≡ is_decided whole) → answer ≡ true → AllDecided kept
-told_all kept answer tells all whole stands = sym (tells whole stands) ∙ all
-
 pub ended_decided : (decided : Bool) (sent : Result Unit End) (before after : ℕ) (kept : Holder) → CountsBy sent before after
-    → ((whole : Client) → StandsFor kept whole → decided ≡ is_decided whole) → DecidedBy (ended_by decided sent) kept
+    → decided ≡ not (has_undecided kept) → DecidedBy (ended_by decided sent) kept
 ended_decided decided (Err ends.Decided) before after kept counted tells = absurd counted
 ended_decided decided (Err ends.TurnsSpent) before after kept counted tells = absurd counted
 ended_decided decided (Err ends.Spent) before after kept counted tells = absurd counted
 ended_decided decided (Err ends.Memory) before after kept counted tells = tt
-ended_decided true (Ok done) before after kept counted tells = told_all kept true tells refl
+ended_decided true (Ok done) before after kept counted tells = all_decided kept true tells refl
 ended_decided false (Ok done) before after kept counted tells = tt
-ended_decided true (Err ends.Lost) before after kept counted tells = told_all kept true tells refl
+ended_decided true (Err ends.Lost) before after kept counted tells = all_decided kept true tells refl
 ended_decided false (Err ends.Lost) before after kept counted tells = tt
 
 pub counts_from : {X : Type 0} (result : Result X End) (first before after : ℕ) → before ≡ first → CountsEnd result before after → CountsEnd result first after

@@ -9,6 +9,7 @@ pub mod PacketLemmas
 pub mod Passing
 pub mod Reading
 pub mod Sendable
+pub mod Spelling
 pub mod Talking
 pub mod Turning
 pub mod Undecided

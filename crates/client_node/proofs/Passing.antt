@@ -14,7 +14,7 @@ use Rattle.mt_edge.specs.declared.link_read.LinkRead.{LinkRead}
 use Rattle.mt_edge.specs.declared.source.Got.{Got}
 use Rattle.client_node.specs.Runs.{Gave, ReadBy, ReadsBy}
 use Rattle.client_node.specs.Talks.{FailsReading, FailsWriting, Passed, PassedFront, Passes, Place, Rules, Said, piece_bytes, says}
-use Rattle.client_node.specs.Writes.{Breaks, Seen, Writes, Wrote, WroteFront}
+use Rattle.client_node.specs.Writes.{Breaks, Seen, Spells, Writes, Wrote, WroteFront, frames_of}
 use Rattle.client_node.proofs.Flowing.{told_both}
 
 -- ---- the packets of what came
@@ -42,7 +42,7 @@ hears_as one other from packets bytes same hears =
           (subst (λ (reading : Option CtrState). IfNone one.held.fault (reading ≡ behind from (length bytes))) (sym same.2) hears.place);
     }
 
-pub tells_as : (one other : Line) (to : Option CtrState) (packets : List (List ℕ)) (bytes : List ℕ)
+tells_as : (one other : Line) (to : Option CtrState) (packets : List (List ℕ)) (bytes : List ℕ)
     → (other.form ≡ one.form) × (other.writing ≡ one.writing) × (other.number ≡ one.number) → Tells one to packets bytes → Tells other to packets bytes
 tells_as one other to packets bytes same tells =
     record {
@@ -50,6 +50,14 @@ tells_as one other to packets bytes same tells =
       number = subst (λ form. IsNumbered form other.number (length packets)) (sym same.0)
           (subst (λ (number : ℕ). IsNumbered one.form number (length packets)) (sym same.2) tells.number);
       place = same.1 ∙ tells.place;
+    }
+
+pub spells_as : (one other : Line) (to : Option CtrState) (packets : List (List ℕ)) (bytes : List ℕ)
+    → (other.form ≡ one.form) × (other.writing ≡ one.writing) × (other.number ≡ one.number) → Spells one to packets bytes → Spells other to packets bytes
+spells_as one other to packets bytes same spells =
+    record {
+      tells = tells_as one other to packets bytes same spells.tells;
+      spelt = subst (λ form. through to bytes ≡ frames_of form 0 packets) (sym same.0) spells.spelt;
     }
 
 -- ---- a clock

@@ -7,7 +7,7 @@ use Rattle.framing.specs.Streams.{Begins, Faulty, Frames, Stream}
 use Rattle.transport.specs.Directions.{through}
 use Rattle.transport.specs.Forms.{framing_of}
 use Rattle.transport.specs.Starts.{Opening}
-use Rattle.transport.specs.Wires.{Hears, Line, Tells}
+use Rattle.transport.specs.Wires.{Hears, Line}
 use Rattle.mt_edge.specs.Faults.{one_more}
 use Rattle.mt_edge.specs.declared.source.Got.{Got}
 use Rattle.mt_edge.specs.declared.source.Got.TheVariants as got
@@ -19,10 +19,10 @@ use Rattle.client_node.specs.Runs.{Gave, GotPiece, MissedPiece, ReadsBy, Talked,
 use Rattle.client_node.specs.Standing.{IsReading, StandsAs}
 use Rattle.client_node.specs.Talks.{AreFramed, AreWhole, EndsHearing, FailsLast, Heard, IsNoPiece, IsReady, IsSaid, IsText, Loses, Passes, Place, Rules, Said, ShowsClose, Stopped, Turn, TurnsDone, Unread, gets, hears_all, reads, rules_of, says, turned, turns_from, turns_max}
 use Rattle.client_node.specs.Took.{CameAll, IsDone, IsLost, TookAll, takes_all}
-use Rattle.client_node.specs.Writes.{Seen}
+use Rattle.client_node.specs.Writes.{Seen, Spells, frames_of}
 use Rattle.client_node.specs.declared.end.End.{End}
 use Rattle.client_node.specs.declared.end.End.TheVariants as ends
-use Rattle.client_node.proofs.Passing.{begins_by, fails_read, fails_said, gave_more, gave_none, hears_as, passes_none, passes_read, passes_said, tells_as}
+use Rattle.client_node.proofs.Passing.{begins_by, fails_read, fails_said, gave_more, gave_none, hears_as, passes_none, passes_read, passes_said, spells_as}
 use Rattle.client_node.proofs.Undecided.{all_undecided}
 
 -- ---- the packets of what came
@@ -53,8 +53,12 @@ loses_by line opening packets bytes form (inl lost) =
 loses_by line opening packets bytes form (inr lost) =
     inr (lost.fault, subst (λ one. Faulty (framing_of one) packets lost.fault (through opening.down bytes)) form lost.shown)
 
-text_by : (line : Line) (opening : Opening) (packets : List (List ℕ)) (bytes : List ℕ) → line.form ≡ opening.form → Tells line opening.up packets bytes → IsText opening packets bytes
-text_by line opening packets bytes form tells = subst (λ one. Frames (framing_of one) 0 packets (through opening.up bytes)) form tells.frames
+text_by : (line : Line) (opening : Opening) (packets : List (List ℕ)) (bytes : List ℕ) → line.form ≡ opening.form → Spells line opening.up packets bytes → IsText opening packets bytes
+text_by line opening packets bytes form tells =
+    record {
+      frames = subst (λ one. Frames (framing_of one) 0 packets (through opening.up bytes)) form tells.tells.frames;
+      spelt = subst (λ one. through opening.up bytes ≡ frames_of one 0 packets) form tells.spelt;
+    }
 
 -- ---- what was said
 
@@ -80,7 +84,7 @@ is_ready step lock keys reading place kept draw line link left drawn line_then l
 
 pub no_turns : {S : Type 0} (rules : Rules S) (opening : Opening) (place : Place S) (kept : Holder) (draw : S) (line : Line) (link : Seen) (given : Option (List ℕ))
     → place.came ≡ [] → place.reads ≡ [] → place.heard ≡ [] → place.sent ≡ [] → place.moments ≡ []
-    → StandsAs kept draw place.course → is_decided place.course.client ≡ false → line.form ≡ opening.form → Hears line opening.down [] [] → Tells line opening.up [] []
+    → StandsAs kept draw place.course → is_decided place.course.client ≡ false → line.form ≡ opening.form → Hears line opening.down [] [] → Spells line opening.up [] []
     → TurnsSoFar rules opening place 0 place.now kept draw line link given link given
 no_turns rules opening place kept draw line link given came reads heard sent moments stands some form hears tells =
     record {
@@ -92,7 +96,7 @@ no_turns rules opening place kept draw line link given came reads heard sent mom
       stands = stands;
       undecided = some;
       hears = subst (λ (packets : List (List ℕ)). Hears line opening.down packets place.came) (sym heard) (subst (λ (bytes : List ℕ). Hears line opening.down [] bytes) (sym came) hears);
-      tells = subst (λ (packets : List (List ℕ)). Tells line opening.up packets []) (sym sent) tells;
+      tells = subst (λ (packets : List (List ℕ)). Spells line opening.up packets []) (sym sent) tells;
       form = form;
       passes = passes_none place came reads link;
       gave = subst (λ (all : List ℕ). Gave all given given) (sym moments) (gave_none given);
@@ -121,7 +125,7 @@ turn_more step lock keys reading opening place times now kept draw line link giv
     let form = same_in.0 ∙ before.form in
     let form_then = same_out.0 ∙ form in
     let came = gets_it.took.came opening.down here.heard here.came (hears_as line line_between opening.down here.heard here.came same_in before.hears) in
-    let tells = subst (λ (all : List (List ℕ)). Tells line_between opening.up (here.sent ++ all) (before.bytes ++ flushed.flow.bytes)) (sym flushed.flow.all)
+    let tells = subst (λ (all : List (List ℕ)). Spells line_between opening.up (here.sent ++ all) (before.bytes ++ flushed.flow.bytes)) (sym flushed.flow.all)
     (flushed.flow.tells opening.up here.sent before.bytes before.tells) in
     let turn : Turn = record { said = said; piece = piece; moment = moment; heard = heard } in
     record {
@@ -143,7 +147,7 @@ turn_more step lock keys reading opening place times now kept draw line link giv
       stands = took.1;
       undecided = all_undecided step reading moment mid.course heard took.0 (flushed.stops here.course before.stands before.undecided);
       hears = hears_by line_between line_then opening.down here.heard heard (here.came ++ piece) (length piece) came;
-      tells = tells_as line_between line_then opening.up (here.sent ++ flushed.flow.sent) (before.bytes ++ flushed.flow.bytes) same_out tells;
+      tells = spells_as line_between line_then opening.up (here.sent ++ flushed.flow.sent) (before.bytes ++ flushed.flow.bytes) same_out tells;
       form = form_then;
       passes = passes_read (before.bytes ++ flushed.flow.bytes) piece (got.Bytes (length piece)) mid (turned rules turn here) refl refl link_first link_between link_then
           (passes_said rules said before.bytes flushed.flow.bytes here link_first link link_between before.passes flushed.flow.written) gets_it.told gets_it.faults;
@@ -163,7 +167,7 @@ framed_stopped X ends.TurnsSpent before said framed same = ap (λ (all : List (L
 
 -- a write of the last frame failed
 fails_last : {S : Type 0} (rules : Rules S) (opening : Opening) (said : Said) (sent framed : List (List ℕ)) (bytes more : List ℕ) (line : Line) (place : Place S) (first middle last : Seen)
-    → line.form ≡ opening.form → Tells line opening.up sent bytes → Passes bytes place first middle → said.packets ≡ framed → BreaksLast said.is_done line framed more middle last
+    → line.form ≡ opening.form → Spells line opening.up sent bytes → Passes bytes place first middle → said.packets ≡ framed → BreaksLast said.is_done line framed more middle last
     → FailsLast opening [] sent said (bytes ++ more) (says rules said place) first last
 fails_last rules opening said sent framed bytes more line place first middle last form tells before all after =
     let cut = after.cut in
@@ -180,7 +184,7 @@ fails_last rules opening said sent framed bytes more line place first middle las
     }
 
 shows_stopped : {S : Type 0} (X : Type 0) (rules : Rules S) (opening : Opening) (said : Said) (end : End) (sent framed : List (List ℕ)) (bytes more : List ℕ) (line : Line) (place : Place S) (first middle last : Seen)
-    → line.form ≡ opening.form → Tells line opening.up sent bytes → Passes bytes place first middle
+    → line.form ≡ opening.form → Spells line opening.up sent bytes → Passes bytes place first middle
     → FramedBy {X = X} (Err end) said.is_done said.packets framed → FlowedBy {X = X} (Err end) said.is_done line framed more middle last
     → ShowsClose (Stopped end) opening [] sent said (bytes ++ more) (says rules said place) first last
 shows_stopped X rules opening said ends.Lost sent framed bytes more line place first middle last form tells before all after =

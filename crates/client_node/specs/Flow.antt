@@ -4,13 +4,13 @@ use Rattle.auth_keys.specs.declared.ring.RingKey.{RingKey}
 use Rattle.envelope.specs.Packet.{Lock}
 use Rattle.cipher_modes.specs.CounterMode.{CtrState}
 use Rattle.mt_edge.specs.Faults.{one_more}
-use Rattle.transport.specs.Wires.{Line, Tells}
+use Rattle.transport.specs.Wires.{Line}
 use Rattle.client_rules.specs.Sending.{Setting}
 use Rattle.client_core.specs.declared.flush.Flush.TheVariants as told
 use Rattle.client_core.specs.declared.holder.Holder.{Holder}
 use Rattle.client_node.specs.Course.{Answers, AreSent, Course, flushes, is_decided, sends_all}
 use Rattle.client_node.specs.Standing.{StandsAs}
-use Rattle.client_node.specs.Writes.{Breaks, Seen, Writes}
+use Rattle.client_node.specs.Writes.{Breaks, Seen, Spells, Writes}
 use Rattle.client_node.specs.declared.end.End.{End}
 use Rattle.client_node.specs.declared.end.End.TheVariants.{Decided, Lost, TurnsSpent, Spent, Memory}
 
@@ -44,7 +44,7 @@ pub record Cut (wire : Line) (framed : List (List ℕ)) (bytes : List ℕ) : Typ
   pub packets : framed ≡ earlier ++ packet ∷ []
   pub all : bytes ≡ whole ++ last
   pub form : between.form ≡ wire.form
-  pub tells : (to : Option CtrState) (packets : List (List ℕ)) (before : List ℕ) → Tells wire to packets before → Tells between to (packets ++ earlier) (before ++ whole)
+  pub tells : (to : Option CtrState) (packets : List (List ℕ)) (before : List ℕ) → Spells wire to packets before → Spells between to (packets ++ earlier) (before ++ whole)
 
 -- a write of the last packet's frame failed, and there was no further flush
 pub record BreaksLast (is_done : Bool) (wire : Line) (framed : List (List ℕ)) (bytes : List ℕ) (before after : Seen) : Type 0 where
@@ -94,7 +94,7 @@ pub record Flow {S : Type 0} {X : Type 0} (setting : Setting S) (lock : Lock) (k
   pub all : FramedBy result is_done sent framed
   pub course : (course : Course S) → StandsAs kept draw course → is_decided course.client ≡ false → Follows setting lock keys now course sent is_done kept_then draw_then
   pub form : wire_then.form ≡ wire.form
-  pub tells : (to : Option CtrState) (packets : List (List ℕ)) (before : List ℕ) → Tells wire to packets before → Tells wire_then to (packets ++ framed) (before ++ bytes)
+  pub tells : (to : Option CtrState) (packets : List (List ℕ)) (before : List ℕ) → Spells wire to packets before → Spells wire_then to (packets ++ framed) (before ++ bytes)
   pub written : FlowedBy result is_done wire framed bytes link link_then
 
 -- why it stopped then, for each course that it began as

@@ -3,7 +3,7 @@ use Rattle.std.specs.Prelude.{◌≡◌, ◌<◌, ◌≤◌, ◌⊎◌, ℕ, fal
 use Rattle.auth_keys.specs.declared.ring.RingKey.{RingKey}
 use Rattle.envelope.specs.Packet.{Lock}
 use Rattle.transport.specs.Starts.{Opening}
-use Rattle.transport.specs.Wires.{Hears, Line, Tells}
+use Rattle.transport.specs.Wires.{Hears, Line}
 use Rattle.mt_edge.specs.Faults.{one_more}
 use Rattle.mt_edge.specs.Links.{Told}
 use Rattle.mt_edge.specs.declared.net_call.NetCall.{NetCall}
@@ -15,7 +15,7 @@ use Rattle.client_node.specs.Standing.{StandsAs}
 use Rattle.client_node.specs.Talks.{AreTurns, Connection, IsConnection, IsNoPiece, IsTalk, Passes, Place, Rules, Shows, ShowsClose, Talk, Turn, course_after, end_by, end_of, moments_of, piece_bytes, place_after, turns_from}
 use Rattle.client_node.specs.Took.{TookPiece}
 use Rattle.client_node.specs.Trace.{AreLost, AreNoted, Attempt, IsAttempt, IsNoted, after_all, all_moments, attempted, end_of_attempt, moments_in}
-use Rattle.client_node.specs.Writes.{Seen}
+use Rattle.client_node.specs.Writes.{Seen, Spells}
 use Rattle.client_node.specs.declared.end.End.{End}
 use Rattle.client_node.specs.declared.end.End.TheVariants as ends
 use Rattle.client_node.specs.declared.plan.Plan.{Plan}
@@ -67,7 +67,7 @@ TookTurn step lock keys kept draw line link given (Err end) kept_then draw_then 
 pub record HasOpened (line : Line) (opening : Opening) : Type 0 where
   pub form : line.form ≡ opening.form
   pub hears : Hears line opening.down [] []
-  pub tells : Tells line opening.up [] []
+  pub tells : Spells line opening.up [] []
 
 -- So many turns, from a place on, with the frames' bytes that were written.
 pub record TurnsSoFar {S : Type 0} (rules : Rules S) (opening : Opening) (place : Place S) (times : ℕ) (now : ℕ) (kept : Holder) (draw : S) (line : Line) (link : Seen) (given : Option (List ℕ)) (link_first : Seen) (given_first : Option (List ℕ)) : Type 0 where
@@ -79,7 +79,7 @@ pub record TurnsSoFar {S : Type 0} (rules : Rules S) (opening : Opening) (place 
   pub stands : StandsAs kept draw (turns_from rules place turns).course
   pub undecided : is_decided (turns_from rules place turns).course.client ≡ false
   pub hears : Hears line opening.down (turns_from rules place turns).heard (turns_from rules place turns).came
-  pub tells : Tells line opening.up (turns_from rules place turns).sent bytes
+  pub tells : Spells line opening.up (turns_from rules place turns).sent bytes
   pub form : line.form ≡ opening.form
   pub passes : Passes bytes (turns_from rules place turns) link_first link
   pub gave : Gave (turns_from rules place turns).moments given_first given

@@ -20,7 +20,7 @@ use Rattle.client_core.specs.Flushed.{setting_of}
 use Rattle.client_node.specs.Course.{AreSent, Course, Reading, attaches, is_decided, renews, sends_all}
 use Rattle.client_node.specs.Flow.{FoundNothing, IsAll, StoppedBy, flowed}
 use Rattle.client_node.specs.Took.{IsNoError, NoneDecides, decides, error_bytes, takes_all}
-use Rattle.client_node.specs.Writes.{Seen}
+use Rattle.client_node.specs.Writes.{Seen, frames_of}
 use Rattle.client_node.specs.declared.end.End.{End}
 use Rattle.client_node.specs.declared.end.End.TheVariants as ends
 use Rattle.client_node.specs.declared.plan.Plan.{Plan}
@@ -235,9 +235,10 @@ pub record FailsWriting {S : Type 0} (whole last : List ℕ) (place : Place S) (
   pub told : IfSome after.told (λ ended. IsSomeAnd before.told (λ first. PassedFront whole last place first ended))
   pub faults : after.faults ≡ one_more before.faults
 
--- these bytes, sent behind the start, are the frames of these packets
-abbrev pub IsText : Opening → List (List ℕ) → List ℕ → Type 0
-IsText opening packets bytes = Frames (framing_of opening.form) 0 packets (through opening.up bytes)
+-- These bytes, sent behind the start, are the frames of these packets: they read as the packets, and are the writer's.
+pub record IsText (opening : Opening) (packets : List (List ℕ)) (bytes : List ℕ) : Type 0 where
+  pub frames : Frames (framing_of opening.form) 0 packets (through opening.up bytes)
+  pub spelt : through opening.up bytes ≡ frames_of opening.form 0 packets
 
 -- A write of the frame of the packet that was said last failed, with all that was sent before it, the start too, written. There
 -- was no further flush.

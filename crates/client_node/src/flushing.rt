@@ -43,7 +43,7 @@ fn end_of(is_decided: bool, sent: Result<(), End>) -> Result<bool, End>
 /// # Errors
 ///
 /// Why the connection ends: by `Decided` and `Lost` once the packet is written, as far as writes don't fail.
-#[tactic(auto, using(crate::proofs::Flowing::flow_packet, crate::proofs::Flowing::flush_nothing, crate::proofs::Flowing::flush_spent, crate::proofs::Flowing::flush_memory, crate::proofs::Flowing::ended_counts, crate::proofs::Flowing::ended_decided, crate::proofs::Flowing::told_all, crate::proofs::Sendable::told_sendable))]
+#[tactic(auto, using(crate::proofs::Flowing::flow_packet, crate::proofs::Flowing::flush_nothing, crate::proofs::Flowing::flush_spent, crate::proofs::Flowing::flush_memory, crate::proofs::Flowing::ended_counts, crate::proofs::Flowing::ended_decided, crate::proofs::KindLemmas::all_decided, crate::proofs::Sendable::told_sendable))]
 fn flush_once<L: Link, S: Seal, D: Draw>(
     client: &mut Holder,
     alloc: Global,

@@ -24,7 +24,7 @@ const ERROR_BYTES: usize = 4;
 /// # Errors
 ///
 /// Why the connection ends.
-#[tactic(auto, using(crate::proofs::PacketLemmas::packet_memory, crate::proofs::PacketLemmas::packet_decided, crate::proofs::PacketLemmas::packet_goes, crate::proofs::Flowing::told_all))]
+#[tactic(auto, using(crate::proofs::PacketLemmas::packet_memory, crate::proofs::PacketLemmas::packet_decided, crate::proofs::PacketLemmas::packet_goes, crate::proofs::KindLemmas::all_decided))]
 fn take_packet<S: Seal, D: Draw>(
     client: Holder,
     alloc: Global,
