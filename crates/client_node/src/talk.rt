@@ -149,5 +149,7 @@ pub(crate) fn talk<L: Link, S: Seal, C: Clock, D: Draw>(
     attach(&mut client);
     let client = renew(client, draw);
     let mut frame = start;
-    take_turns(client, alloc, &mut wire, link, &mut frame, into, now, seal, clock, draw)
+    take_turns(
+        client, alloc, &mut wire, link, &mut frame, into, now, seal, clock, draw,
+    )
 }
