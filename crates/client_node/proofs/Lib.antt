@@ -4,6 +4,7 @@ pub mod Conversing
 pub mod Flowing
 pub mod HearingSteps
 pub mod HolderLemmas
+pub mod Joining
 pub mod KindLemmas
 pub mod PacketLemmas
 pub mod Passing

@@ -18,7 +18,8 @@ use envelope::Seal;
 use mt_edge::{Clock, Link, Linked, Net};
 use std::alloc::Global;
 
-/// Connects, talks over the connection, closes it and gives it back. An attempt that fails is a lost connection.
+/// Connects, talks over the connection, closes it, which no link tells, and gives it back. An attempt that fails is a lost
+/// connection.
 #[tactic(auto, using(crate::proofs::Connecting::gave_back, crate::proofs::Connecting::attempt_failed, crate::proofs::Talking::counts_after))]
 pub(crate) fn connect<N: Net, S: Seal, C: Clock, D: Draw>(
     client: Holder,
