@@ -2,3 +2,4 @@ pub mod Keys
 pub mod Worlds
 pub mod Told
 pub mod Drawn
+pub mod Families

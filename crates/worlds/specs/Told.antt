@@ -1,11 +1,10 @@
 -- What is answered to an event, and what it leaves.
 use Rattle.std.specs.Prelude.{◌≡◌, ℕ, List, Option, Some, None, option_map, Result, Ok, Err, OnErr, OnOk, ⊤}
 use Rattle.auth_keys.specs.declared.ring.RingKey.{RingKey}
-use Rattle.client_core.specs.declared.fault.SubmitFault.TheVariants as submit
-use Rattle.client_rules.specs.Asking as fault
 use Rattle.envelope.specs.Packet.{Lock}
 use Rattle.regs_service.specs.Served.{Step}
 use Rattle.sched_text.specs.declared.event.Event.{Event}
+use Rattle.sched_text.specs.declared.event.Event.TheVariants as line
 use Rattle.seats.specs.declared.fault.SeatFault.{SeatFault}
 use Rattle.seats.specs.declared.fault.SeatFault.TheVariants as seat
 use Rattle.hosts.specs.Settings.{IsOf, Sealing}
@@ -39,23 +38,31 @@ refusal_of told.Spent = Some NumbersSpent
 refusal_of told.NotSent = Some NotSent
 refusal_of told.Memory = None
 
+-- a fault tells this refusal
+abbrev pub IsTold : Option Refusal → Option Refusal → Type 0
+IsTold due None = ⊥
+IsTold due (Some refusal) = due ≡ Some refusal
+
 -- the answer is the refusal exactly where there is one, unless memory runs out
 abbrev pub Tells : {X : Type 0} → Option Refusal → Result X StepFault → Type 0
 Tells due (Ok done) = due ≡ None
-Tells due (Err (told.NoPacket k)) = due ≡ Some (NoPacket k)
-Tells due (Err told.NoClient) = due ≡ Some NoClient
-Tells due (Err (told.NoJob k)) = due ≡ Some (NoJob k)
-Tells due (Err told.ForeignOpens) = due ≡ Some ForeignOpens
-Tells due (Err told.WrongState) = due ≡ Some WrongState
-Tells due (Err (told.Submit (submit.TooLong len))) = due ≡ Some (Submit (fault.TooLong len))
-Tells due (Err (told.Submit (submit.NotWords len))) = due ≡ Some (Submit (fault.NotWords len))
-Tells due (Err (told.Submit (submit.ServiceTag tag))) = due ≡ Some (Submit (fault.ServiceTag tag))
-Tells due (Err (told.Submit submit.NoSuchCall)) = due ≡ Some (Submit fault.NoSuchCall)
-Tells due (Err (told.Submit submit.TooMany)) = due ≡ Some (Submit fault.TooMany)
-Tells due (Err (told.Submit submit.Memory)) = ⊥
-Tells due (Err told.Spent) = due ≡ Some NumbersSpent
-Tells due (Err told.NotSent) = due ≡ Some NotSent
 Tells due (Err told.Memory) = ⊤
+Tells due (Err fault) = IsTold due (refusal_of fault)
+
+-- an event that takes no memory: a clock, a loss, a client's wish
+abbrev pub TakesNoMemory : Event → Type 0
+TakesNoMemory (line.ClockAll at) = ⊤
+TakesNoMemory (line.ClockServer at) = ⊤
+TakesNoMemory (line.ClockClient client at) = ⊤
+TakesNoMemory (line.Lose client) = ⊤
+TakesNoMemory (line.TickClient client) = ⊤
+TakesNoMemory (line.AttachClient client) = ⊤
+TakesNoMemory (line.Ping client) = ⊤
+TakesNoMemory (line.Salts client count) = ⊤
+TakesNoMemory (line.DropAnswer client call) = ⊤
+TakesNoMemory (line.Renew client) = ⊤
+TakesNoMemory (line.End client) = ⊤
+TakesNoMemory event = ⊥
 
 -- An event is answered so and leaves this world: the refusal where it is refused, else it is done. A refused event, and one
 -- for which memory ran out, leaves what it stood for but for the draw.

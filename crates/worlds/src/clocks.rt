@@ -1,8 +1,9 @@
 //! Clocks are set.
 
-ghost use Rattle.std.specs.Prelude.{◌≡◌};
+ghost use Rattle.std.specs.Prelude.{◌≡◌, ◌≢◌, IfErr};
 ghost use Rattle.sched_text.specs.declared.event.Event.TheVariants as line;
 ghost use Rattle.worlds.specs.Told.{StepsFrom};
+ghost use Rattle.worlds.specs.declared.fault.StepFault.TheVariants as told;
 
 use crate::fault::StepFault;
 use crate::world::World;
@@ -15,6 +16,7 @@ impl<S: Seal, V: Service, D: Draw> World<S, V, D> {
     /// All clocks are set.
     pub(crate) fn clock_all(&mut self, at: u64) -> Result<(), StepFault>
         ensures steps { StepsFrom S.lock D.step V.step V.fresh_state (S.keys self.old.host.server.seal) self.old (line.ClockAll at) result self.new }
+        ensures takes_no_memory { IfErr result (λ fault. fault ≢ told.Memory) }
         ensures same_seal { self.new.host.server.seal ≡ self.old.host.server.seal }
     {
         self.host.set_clock(at);
@@ -25,6 +27,7 @@ impl<S: Seal, V: Service, D: Draw> World<S, V, D> {
     /// The server's clock is set.
     pub(crate) fn clock_server(&mut self, at: u64) -> Result<(), StepFault>
         ensures steps { StepsFrom S.lock D.step V.step V.fresh_state (S.keys self.old.host.server.seal) self.old (line.ClockServer at) result self.new }
+        ensures takes_no_memory { IfErr result (λ fault. fault ≢ told.Memory) }
         ensures same_seal { self.new.host.server.seal ≡ self.old.host.server.seal }
     {
         self.host.set_clock(at);
@@ -34,6 +37,7 @@ impl<S: Seal, V: Service, D: Draw> World<S, V, D> {
     /// A client's clock is set.
     pub(crate) fn clock_client(&mut self, client: u64, at: u64) -> Result<(), StepFault>
         ensures steps { StepsFrom S.lock D.step V.step V.fresh_state (S.keys self.old.host.server.seal) self.old (line.ClockClient client at) result self.new }
+        ensures takes_no_memory { IfErr result (λ fault. fault ≢ told.Memory) }
         ensures same_seal { self.new.host.server.seal ≡ self.old.host.server.seal }
     {
         Ok(self.seats.set_clock(client as usize, at)?)

@@ -1,8 +1,9 @@
 //! Events of the server.
 
-ghost use Rattle.std.specs.Prelude.{◌≡◌};
+ghost use Rattle.std.specs.Prelude.{◌≡◌, ◌≢◌, IfErr};
 ghost use Rattle.sched_text.specs.declared.event.Event.TheVariants as line;
 ghost use Rattle.worlds.specs.Told.{StepsFrom};
+ghost use Rattle.worlds.specs.declared.fault.StepFault.TheVariants as told;
 
 use crate::fault::StepFault;
 use crate::world::World;
@@ -46,6 +47,7 @@ impl<S: Seal, V: Service, D: Draw> World<S, V, D> {
     /// The server loses the present session of this client.
     pub(crate) fn lose(&mut self, client: u64) -> Result<(), StepFault>
         ensures steps { StepsFrom S.lock D.step V.step V.fresh_state (S.keys self.old.host.server.seal) self.old (line.Lose client) result self.new }
+        ensures takes_no_memory { IfErr result (λ fault. fault ≢ told.Memory) }
         ensures same_seal { self.new.host.server.seal ≡ self.old.host.server.seal }
     {
         let Some(holder) = self.seats.holder(client as usize) else {

@@ -1,13 +1,15 @@
 //! One event of a schedule.
 
-ghost use Rattle.std.specs.Prelude.{◌≡◌, OnErr, OnOk};
+ghost use Rattle.std.specs.Prelude.{◌≡◌, ◌≢◌, IfErr, OnErr, OnOk};
 ghost use Rattle.world_rules.specs.Refusals.{refusal};
 ghost use Rattle.world_rules.specs.Run.{step};
 ghost use Rattle.world_rules.specs.Setting.{Setting};
 ghost use Rattle.world_rules.specs.World.{World as Rules};
 ghost use Rattle.hosts.specs.Settings.{IsOf, Sealing};
-ghost use Rattle.worlds.specs.Told.{StepsFrom, Tells};
+ghost use Rattle.worlds.specs.Families.{IsAtServerOrOther, IsBytesOrWish, IsWish};
+ghost use Rattle.worlds.specs.Told.{StepsFrom, TakesNoMemory, Tells};
 ghost use Rattle.worlds.specs.Worlds.{Stands, world_setting};
+ghost use Rattle.worlds.specs.declared.fault.StepFault.TheVariants as told;
 
 use crate::fault::StepFault;
 use crate::world::World;
@@ -34,14 +36,17 @@ impl<S: Seal, V: Service, D: Draw> World<S, V, D> {
         ensures unchanged { (sealing : Sealing) (world : Rules D V) → let ring = S.keys self.old.host.server.seal in
             let setting : Setting D V = world_setting D.step V.step V.fresh_state ring sealing in
             IsOf S.lock ring setting → Stands setting self.old world → OnErr result (Stands setting self.new (record world { draw = self.new.draw })) }
+        // What takes no memory never runs out of it.
+        ensures takes_no_memory { TakesNoMemory event.now → IfErr result (λ fault. fault ≢ told.Memory) }
         ensures same_seal { self.new.host.server.seal ≡ self.old.host.server.seal }
     {
         self.does(alloc, event)
     }
 
-    // The same, said at once. Events that set the scene.
+    // The same, said at once: events that set the scene, or of the families below.
     fn does(&mut self, alloc: Global, event: &Event) -> Result<(), StepFault>
         ensures steps { StepsFrom S.lock D.step V.step V.fresh_state (S.keys self.old.host.server.seal) self.old event.now result self.new }
+        ensures takes_no_memory { TakesNoMemory event.now → IfErr result (λ fault. fault ≢ told.Memory) }
         ensures same_seal { self.new.host.server.seal ≡ self.old.host.server.seal }
     {
         match event {
@@ -50,13 +55,15 @@ impl<S: Seal, V: Service, D: Draw> World<S, V, D> {
             Event::ClockAll { at } => self.clock_all(*at),
             Event::ClockServer { at } => self.clock_server(*at),
             Event::ClockClient { client, at } => self.clock_client(*client, *at),
-            _ => self.serves(alloc, event),
+            _ => self.at_server_or_other(alloc, event),
         }
     }
 
-    // Events of the server.
-    fn serves(&mut self, alloc: Global, event: &Event) -> Result<(), StepFault>
+    // Events of the server, or of the families below.
+    fn at_server_or_other(&mut self, alloc: Global, event: &Event) -> Result<(), StepFault>
+        requires family { IsAtServerOrOther event.now }
         ensures steps { StepsFrom S.lock D.step V.step V.fresh_state (S.keys self.old.host.server.seal) self.old event.now result self.new }
+        ensures takes_no_memory { TakesNoMemory event.now → IfErr result (λ fault. fault ≢ told.Memory) }
         ensures same_seal { self.new.host.server.seal ≡ self.old.host.server.seal }
     {
         match event {
@@ -66,13 +73,15 @@ impl<S: Seal, V: Service, D: Draw> World<S, V, D> {
             Event::AttachServer { client } => self.attach_server(alloc, *client),
             Event::Lose { client } => self.lose(*client),
             Event::Restart => self.restart(alloc),
-            _ => self.carries(alloc, event),
+            _ => self.bytes_or_wish(alloc, event),
         }
     }
 
-    // Events that bring bytes, and calls.
-    fn carries(&mut self, alloc: Global, event: &Event) -> Result<(), StepFault>
+    // Events that bring bytes, and calls, or a wish.
+    fn bytes_or_wish(&mut self, alloc: Global, event: &Event) -> Result<(), StepFault>
+        requires family { IsBytesOrWish event.now }
         ensures steps { StepsFrom S.lock D.step V.step V.fresh_state (S.keys self.old.host.server.seal) self.old event.now result self.new }
+        ensures takes_no_memory { TakesNoMemory event.now → IfErr result (λ fault. fault ≢ told.Memory) }
         ensures same_seal { self.new.host.server.seal ≡ self.old.host.server.seal }
     {
         match event {
@@ -86,13 +95,15 @@ impl<S: Seal, V: Service, D: Draw> World<S, V, D> {
             Event::ForeignClient { client, bytes } => {
                 self.foreign_client(alloc, *client, bytes.as_slice())
             }
-            _ => self.wishes(event),
+            _ => self.wish(event),
         }
     }
 
-    // What else a client is asked to do. No other event comes here.
-    fn wishes(&mut self, event: &Event) -> Result<(), StepFault>
+    // What else a client is asked to do.
+    fn wish(&mut self, event: &Event) -> Result<(), StepFault>
+        requires family { IsWish event.now }
         ensures steps { StepsFrom S.lock D.step V.step V.fresh_state (S.keys self.old.host.server.seal) self.old event.now result self.new }
+        ensures takes_no_memory { TakesNoMemory event.now → IfErr result (λ fault. fault ≢ told.Memory) }
         ensures same_seal { self.new.host.server.seal ≡ self.old.host.server.seal }
     {
         match event {
@@ -103,7 +114,7 @@ impl<S: Seal, V: Service, D: Draw> World<S, V, D> {
             Event::DropAnswer { client, call } => self.drop_answer(*client, *call),
             Event::Renew { client } => self.renew(*client),
             Event::End { client } => self.end(*client),
-            _ => Err(StepFault::Memory),
+            _ => unreachable!(),
         }
     }
 }

@@ -1,8 +1,9 @@
 //! Clients do as their users wish.
 
-ghost use Rattle.std.specs.Prelude.{◌≡◌, option_map};
+ghost use Rattle.std.specs.Prelude.{◌≡◌, ◌≢◌, IfErr, option_map};
 ghost use Rattle.sched_text.specs.declared.event.Event.TheVariants as line;
 ghost use Rattle.worlds.specs.Told.{StepsFrom};
+ghost use Rattle.worlds.specs.declared.fault.StepFault.TheVariants as told;
 ghost use Rattle.world_rules.specs.Refusals.{call_numbered};
 
 use crate::fault::StepFault;
@@ -35,6 +36,7 @@ impl<S: Seal, V: Service, D: Draw> World<S, V, D> {
     /// A tick at a client.
     pub(crate) fn tick_client(&mut self, client: u64) -> Result<(), StepFault>
         ensures steps { StepsFrom S.lock D.step V.step V.fresh_state (S.keys self.old.host.server.seal) self.old (line.TickClient client) result self.new }
+        ensures takes_no_memory { IfErr result (λ fault. fault ≢ told.Memory) }
         ensures same_seal { self.new.host.server.seal ≡ self.old.host.server.seal }
     {
         Ok(self.seats.tick(client as usize)?)
@@ -43,6 +45,7 @@ impl<S: Seal, V: Service, D: Draw> World<S, V, D> {
     /// A connection of a client is opened.
     pub(crate) fn attach_client(&mut self, client: u64) -> Result<(), StepFault>
         ensures steps { StepsFrom S.lock D.step V.step V.fresh_state (S.keys self.old.host.server.seal) self.old (line.AttachClient client) result self.new }
+        ensures takes_no_memory { IfErr result (λ fault. fault ≢ told.Memory) }
         ensures same_seal { self.new.host.server.seal ≡ self.old.host.server.seal }
     {
         Ok(self.seats.attach(client as usize)?)
@@ -51,6 +54,7 @@ impl<S: Seal, V: Service, D: Draw> World<S, V, D> {
     /// A client is to have a ping answered.
     pub(crate) fn ping(&mut self, client: u64) -> Result<(), StepFault>
         ensures steps { StepsFrom S.lock D.step V.step V.fresh_state (S.keys self.old.host.server.seal) self.old (line.Ping client) result self.new }
+        ensures takes_no_memory { IfErr result (λ fault. fault ≢ told.Memory) }
         ensures same_seal { self.new.host.server.seal ≡ self.old.host.server.seal }
     {
         Ok(self.seats.ping(client as usize, 1)?)
@@ -59,6 +63,7 @@ impl<S: Seal, V: Service, D: Draw> World<S, V, D> {
     /// A client asks for salts.
     pub(crate) fn salts(&mut self, client: u64, count: u32) -> Result<(), StepFault>
         ensures steps { StepsFrom S.lock D.step V.step V.fresh_state (S.keys self.old.host.server.seal) self.old (line.Salts client count) result self.new }
+        ensures takes_no_memory { IfErr result (λ fault. fault ≢ told.Memory) }
         ensures same_seal { self.new.host.server.seal ≡ self.old.host.server.seal }
     {
         Ok(self.seats.ask_salts(client as usize, count)?)
@@ -67,6 +72,7 @@ impl<S: Seal, V: Service, D: Draw> World<S, V, D> {
     /// A client drops the answer to one of its calls.
     pub(crate) fn drop_answer(&mut self, client: u64, call: u64) -> Result<(), StepFault>
         ensures steps { StepsFrom S.lock D.step V.step V.fresh_state (S.keys self.old.host.server.seal) self.old (line.DropAnswer client call) result self.new }
+        ensures takes_no_memory { IfErr result (λ fault. fault ≢ told.Memory) }
         ensures same_seal { self.new.host.server.seal ≡ self.old.host.server.seal }
     {
         Ok(self.seats.drop_answer(client as usize, CallNo { n: call })?)
@@ -75,6 +81,7 @@ impl<S: Seal, V: Service, D: Draw> World<S, V, D> {
     /// A client goes on in another session.
     pub(crate) fn renew(&mut self, client: u64) -> Result<(), StepFault>
         ensures steps { StepsFrom S.lock D.step V.step V.fresh_state (S.keys self.old.host.server.seal) self.old (line.Renew client) result self.new }
+        ensures takes_no_memory { IfErr result (λ fault. fault ≢ told.Memory) }
         ensures same_seal { self.new.host.server.seal ≡ self.old.host.server.seal }
     {
         Ok(self.seats.renew(client as usize, &mut self.draw)?)
@@ -83,6 +90,7 @@ impl<S: Seal, V: Service, D: Draw> World<S, V, D> {
     /// A client ends.
     pub(crate) fn end(&mut self, client: u64) -> Result<(), StepFault>
         ensures steps { StepsFrom S.lock D.step V.step V.fresh_state (S.keys self.old.host.server.seal) self.old (line.End client) result self.new }
+        ensures takes_no_memory { IfErr result (λ fault. fault ≢ told.Memory) }
         ensures same_seal { self.new.host.server.seal ≡ self.old.host.server.seal }
     {
         Ok(self.seats.end(client as usize)?)

@@ -1,8 +1,10 @@
 //! A world.
 
 ghost use Rattle.std.specs.Prelude.{◌≡◌, ◌<◌, ◌≤◌, ℕ, Some, length, option_map};
+ghost use Rattle.server_core.specs.Server.{Stands as ServerStands};
+ghost use Rattle.seats.specs.Told.{IsClientOf};
 ghost use Rattle.world_rules.specs.Setting.{Setting};
-ghost use Rattle.world_rules.specs.World.{begins, counted};
+ghost use Rattle.world_rules.specs.World.{World as Rules, begins, counted};
 ghost use Rattle.hosts.specs.Settings.{Sealing};
 ghost use Rattle.worlds.specs.Drawn.{steps_of_words};
 ghost use Rattle.worlds.specs.Keys.{HasWorldKeys};
@@ -73,14 +75,17 @@ impl<S: Seal, V: Service, D: Draw> World<S, V, D> {
 
     /// The server of the present start.
     pub fn server(&self) -> &Server<S>
-        ensures { result.now ≡ self.now.host.server }
+        ensures kept { result.now ≡ self.now.host.server }
+        // It stands for that world's server: its sessions, with their histories, calls and jobs.
+        ensures stands { (setting : Setting D V) (world : Rules D V) → Stands setting self.now world → ServerStands result.now world.server }
     {
         self.host.server()
     }
 
     /// How many clients there are, at most 64.
     pub fn clients(&self) -> u32
-        ensures { result ≡ length self.now.seats }
+        ensures kept { result ≡ length self.now.seats }
+        ensures count { (setting : Setting D V) (world : Rules D V) → Stands setting self.now world → result ≡ length world.seats }
     {
         self.seats.len() as u32
     }
@@ -90,14 +95,17 @@ impl<S: Seal, V: Service, D: Draw> World<S, V, D> {
     pub fn client(&self, c: u32) -> &Holder
         requires from_1 { 0 < c }
         requires there { c ≤ length self.now.seats }
-        ensures { option_map (λ kept. kept.holder) (counted c self.now.seats) ≡ Some result.now }
+        ensures kept { option_map (λ kept. kept.holder) (counted c self.now.seats) ≡ Some result.now }
+        // It is the client of that world's seat of this number.
+        ensures stands { (setting : Setting D V) (world : Rules D V) → Stands setting self.now world → IsClientOf result.now (counted c world.seats) }
     {
         self.seats.holder(c as usize).unwrap()
     }
 
     /// How many packets were ever made.
     pub fn packets(&self) -> u64
-        ensures { result ≡ length self.now.host.bag }
+        ensures kept { result ≡ length self.now.host.bag }
+        ensures count { (setting : Setting D V) (world : Rules D V) → Stands setting self.now world → result ≡ length world.bag }
     {
         self.host.bag().count()
     }

@@ -44,7 +44,7 @@ pub returns-in-ClockClient-clause-same_seal : goal.returns-in-ClockClient-clause
 returns-in-ClockClient-clause-same_seal g c = c.clock_client.ensures.same_seal
 
 pub returns-in_default-clause-steps : goal.returns-in_default-clause-steps
-returns-in_default-clause-steps g c = c.serves.ensures.steps
+returns-in_default-clause-steps g c = c.at_server_or_other.ensures.steps
 
 pub returns-in_default-clause-same_seal : goal.returns-in_default-clause-same_seal
-returns-in_default-clause-same_seal g c = c.serves.ensures.same_seal
+returns-in_default-clause-same_seal g c = c.at_server_or_other.ensures.same_seal

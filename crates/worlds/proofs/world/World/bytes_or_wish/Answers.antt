@@ -2,7 +2,7 @@ use Rattle.std.proofs.Common.{◌∙◌, List, ℕ, ap, subst, sym}
 use Rattle.sched_text.specs.declared.event.Event.{Event}
 use Rattle.sched_text.specs.declared.event.Event.TheVariants as line
 use Rattle.worlds.specs.Told.{StepsFrom}
-use Rattle.worlds.proofs.world.World.carries.Goals as goal
+use Rattle.worlds.proofs.world.World.bytes_or_wish.Goals as goal
 
 pub returns-in-Call-clause-steps : goal.returns-in-Call-clause-steps
 returns-in-Call-clause-steps g c =
@@ -37,7 +37,7 @@ pub returns-in-ForeignClient-clause-same_seal : goal.returns-in-ForeignClient-cl
 returns-in-ForeignClient-clause-same_seal g c = c.foreign_client.ensures.same_seal
 
 pub returns-in_default-clause-steps : goal.returns-in_default-clause-steps
-returns-in_default-clause-steps g c = c.wishes.ensures.steps
+returns-in_default-clause-steps g c = c.wish.ensures.steps
 
 pub returns-in_default-clause-same_seal : goal.returns-in_default-clause-same_seal
-returns-in_default-clause-same_seal g c = c.wishes.ensures.same_seal
+returns-in_default-clause-same_seal g c = c.wish.ensures.same_seal

@@ -1,10 +1,7 @@
 use Rattle.std.proofs.Common.{subst, sym}
 use Rattle.sched_text.specs.declared.event.Event.{Event}
 use Rattle.worlds.specs.Told.{StepsFrom}
-use Rattle.worlds.specs.Worlds.{world_setting}
-use Rattle.worlds.specs.declared.fault.StepFault.TheVariants as told
-use Rattle.worlds.proofs.Steps.{redrawn, refuses}
-use Rattle.worlds.proofs.world.World.wishes.Goals as goal
+use Rattle.worlds.proofs.world.World.wish.Goals as goal
 
 pub returns-in-TickClient-clause-steps : goal.returns-in-TickClient-clause-steps
 returns-in-TickClient-clause-steps g c =
@@ -61,10 +58,3 @@ returns-in-End-clause-steps g c =
 
 pub returns-in-End-clause-same_seal : goal.returns-in-End-clause-same_seal
 returns-in-End-clause-same_seal g c = c.end.ensures.same_seal
-
-pub returns-in_default-clause-steps : goal.returns-in_default-clause-steps
-returns-in_default-clause-steps g c = λ sealing world is stands.
-    let setting = world_setting g.D.Draw.step g.V.Service.step g.V.Service.fresh_state (g.S.Seal.keys c.args.self.now.host.server.seal) sealing in
-    let kept = c.args.self.now in
-    refuses setting world c.args.event.now told.Memory kept tt
-    (record { host = redrawn setting kept.host kept.draw kept.draw world stands.host; seats = stands.seats })

@@ -2,7 +2,7 @@ use Rattle.std.proofs.Common.{◌∙◌, List, ℕ, ap, subst, sym}
 use Rattle.sched_text.specs.declared.event.Event.{Event}
 use Rattle.sched_text.specs.declared.event.Event.TheVariants as line
 use Rattle.worlds.specs.Told.{StepsFrom}
-use Rattle.worlds.proofs.world.World.serves.Goals as goal
+use Rattle.worlds.proofs.world.World.at_server_or_other.Goals as goal
 
 pub returns-in-ForeignServer-clause-steps : goal.returns-in-ForeignServer-clause-steps
 returns-in-ForeignServer-clause-steps g c =
@@ -53,7 +53,7 @@ pub returns-in-Restart-clause-same_seal : goal.returns-in-Restart-clause-same_se
 returns-in-Restart-clause-same_seal g c = c.restart.ensures.same_seal
 
 pub returns-in_default-clause-steps : goal.returns-in_default-clause-steps
-returns-in_default-clause-steps g c = c.carries.ensures.steps
+returns-in_default-clause-steps g c = c.bytes_or_wish.ensures.steps
 
 pub returns-in_default-clause-same_seal : goal.returns-in_default-clause-same_seal
-returns-in_default-clause-same_seal g c = c.carries.ensures.same_seal
+returns-in_default-clause-same_seal g c = c.bytes_or_wish.ensures.same_seal
