@@ -1,11 +1,12 @@
 //! One event of a schedule.
 
-ghost use Rattle.std.specs.Prelude.{◌≡◌, OnErr, OnOk};
+ghost use Rattle.std.specs.Prelude.{◌≡◌, ◌≢◌, IfErr, OnErr, OnOk};
 ghost use Rattle.world_rules.specs.Refusals.{refusal};
 ghost use Rattle.world_rules.specs.Run.{step};
 ghost use Rattle.world_rules.specs.Setting.{Setting};
 ghost use Rattle.world_rules.specs.World.{World as Rules};
 ghost use Rattle.hosts.specs.Settings.{IsOf, Sealing};
+ghost use Rattle.worlds.specs.declared.fault.StepFault.TheVariants as told;
 ghost use Rattle.worlds.specs.Told.{StepsFrom, Tells};
 ghost use Rattle.worlds.specs.Worlds.{Stands, world_setting};
 
@@ -22,7 +23,7 @@ impl<S: Seal, V: Service, D: Draw> World<S, V, D> {
     ///
     /// # Errors
     ///
-    /// The event's refusal, or `Memory`, and then nothing has changed but the draw.
+    /// The event's refusal, and then nothing has changed; or `Memory`, and then nothing but the draw.
     pub fn step(&mut self, alloc: Global, event: &Event) -> Result<(), StepFault>
         // The refusal comes exactly where the definitions refuse the event, unless memory runs out.
         ensures refused { (sealing : Sealing) (world : Rules D V) → let ring = S.keys self.old.host.server.seal in
@@ -34,6 +35,10 @@ impl<S: Seal, V: Service, D: Draw> World<S, V, D> {
         ensures unchanged { (sealing : Sealing) (world : Rules D V) → let ring = S.keys self.old.host.server.seal in
             let setting : Setting D V = world_setting D.step V.step V.fresh_state ring sealing in
             IsOf S.lock ring setting → Stands setting self.old world → OnErr result (Stands setting self.new (record world { draw = self.new.draw })) }
+        // Words are drawn for nothing only where memory runs out.
+        ensures same_draw { (sealing : Sealing) (world : Rules D V) → let ring = S.keys self.old.host.server.seal in
+            let setting : Setting D V = world_setting D.step V.step V.fresh_state ring sealing in
+            IsOf S.lock ring setting → Stands setting self.old world → IfErr result (λ fault. fault ≢ told.Memory → self.new.draw ≡ self.old.draw) }
         ensures same_seal { self.new.host.server.seal ≡ self.old.host.server.seal }
     {
         self.does(alloc, event)

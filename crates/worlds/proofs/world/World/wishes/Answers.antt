@@ -67,5 +67,5 @@ pub returns-in_default-clause-steps : goal.returns-in_default-clause-steps
 returns-in_default-clause-steps g c = λ sealing world is stands.
     let setting = world_setting g.D.Draw.step g.V.Service.step g.V.Service.fresh_state (g.S.Seal.keys c.args.self.now.host.server.seal) sealing in
     let kept = c.args.self.now in
-    refuses setting world c.args.event.now told.Memory kept tt
+    refuses setting world c.args.event.now told.Memory kept tt stands.host.drawn
     (record { host = redrawn setting kept.host kept.draw kept.draw world stands.host; seats = stands.seats })
