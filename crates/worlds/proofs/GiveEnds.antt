@@ -69,7 +69,7 @@ gives-memory {S} {V} {D} X Y setting host draw before after number session clien
     let free = packet-free setting host draw world number (GoesDown session bytes) stands.host there in
     let none = subst (λ (one : Option Seat). TellsRefusal {X = X} (at_client one nothing_more) (Err fault)) found.1 refused in
     refuses setting world (line.Give number) (step_fault fault) kept
-    (subst (λ (due : Option Refusal). Tells {X = Y} due (Err (step_fault fault))) (sym free) (tells-as X Y None fault none))
+    (subst (λ (due : Option Refusal). Tells {X = Y} due (Err (step_fault fault))) (sym free) (tells-as X Y None fault none)) stands.host.drawn
     (record { host = redrawn setting host draw draw world stands.host; seats = same })
 
 -- ---- what is told of a client
@@ -89,5 +89,5 @@ pub foreign-memory : {S V D : Type 0} (X Y : Type 0) (setting : Setting D V) (ho
 foreign-memory {S} {V} {D} X Y setting host draw after number bytes fault world stands told same =
     let kept : World S V D = record { host = host; seats = after; draw = draw } in
     refuses setting world (line.ForeignClient number bytes) (step_fault fault) kept
-    (untold X Y (counted number world.seats) (opened setting number bytes) fault told)
+    (untold X Y (counted number world.seats) (opened setting number bytes) fault told) stands.drawn
     (record { host = redrawn setting host draw draw world stands; seats = same })

@@ -127,8 +127,9 @@ wished setting number act rest change host old draw before after world free beco
 
 pub does : {S V D X : Type 0} (setting : Setting D V) (world : Rules D V) (event : Event) (done : X) (after : World S V D)
     → refusal setting world event ≡ None → Stands setting after (run.after setting world event) → Steps setting world event (Ok done) after
-does setting world event done after free stands = record { refused = free; done = stands; kept = tt }
+does setting world event done after free stands = record { refused = free; done = stands; kept = tt; drawn = tt }
 
 pub refuses : {S V D X : Type 0} (setting : Setting D V) (world : Rules D V) (event : Event) (fault : StepFault) (after : World S V D)
-    → Tells {X = X} (refusal setting world event) (Err fault) → Stands setting after (record world { draw = after.draw }) → Steps {X = X} setting world event (Err fault) after
-refuses setting world event fault after told stands = record { refused = told; done = tt; kept = stands }
+    → Tells {X = X} (refusal setting world event) (Err fault) → after.draw ≡ world.draw → Stands setting after (record world { draw = after.draw })
+    → Steps {X = X} setting world event (Err fault) after
+refuses setting world event fault after told drawn stands = record { refused = told; done = tt; kept = stands; drawn = λ other. drawn }

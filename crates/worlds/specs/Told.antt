@@ -1,5 +1,5 @@
 -- What is answered to an event, and what it leaves.
-use Rattle.std.specs.Prelude.{◌≡◌, ℕ, List, Option, Some, None, option_map, Result, Ok, Err, OnErr, OnOk, ⊤}
+use Rattle.std.specs.Prelude.{◌≡◌, ◌≢◌, ℕ, List, Option, Some, None, option_map, Result, Ok, Err, IfErr, OnErr, OnOk, ⊤}
 use Rattle.auth_keys.specs.declared.ring.RingKey.{RingKey}
 use Rattle.envelope.specs.Packet.{Lock}
 use Rattle.regs_service.specs.Served.{Step}
@@ -64,12 +64,14 @@ TakesNoMemory (line.Renew client) = ⊤
 TakesNoMemory (line.End client) = ⊤
 TakesNoMemory event = ⊥
 
--- An event is answered so and leaves this world: the refusal where it is refused, else it is done. A refused event, and one
--- for which memory ran out, leaves what it stood for but for the draw.
+-- An event is answered so and leaves this world: the refusal where it is refused, else it is done. A refused event leaves what
+-- it stood for, and one for which memory ran out leaves that but for the draw.
 pub record Steps {S V D X : Type 0} (setting : Setting D V) (world : Rules D V) (event : Event) (result : Result X StepFault) (after : World S V D) : Type 0 where
   pub refused : Tells (refusal setting world event) result
   pub done : OnOk result (Stands setting after (run.after setting world event))
   pub kept : OnErr result (Stands setting after (record world { draw = after.draw }))
+  -- words are drawn for nothing only where memory runs out
+  pub drawn : IfErr result (λ fault. fault ≢ told.Memory → after.draw ≡ world.draw)
 
 -- So it is for each world that the kept one stands for, in each setting that says what the seal does under this ring.
 abbrev pub StepsFrom : {S V D X : Type 0} → Lock → (D → ℕ × D) → Step V → V → List RingKey → World S V D → Event → Result X StepFault → World S V D → Type 0

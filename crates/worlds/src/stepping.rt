@@ -24,7 +24,7 @@ impl<S: Seal, V: Service, D: Draw> World<S, V, D> {
     ///
     /// # Errors
     ///
-    /// The event's refusal, or `Memory`, and then nothing has changed but the draw.
+    /// The event's refusal, and then nothing has changed; or `Memory`, and then nothing but the draw.
     pub fn step(&mut self, alloc: Global, event: &Event) -> Result<(), StepFault>
         // The refusal comes exactly where the definitions refuse the event, unless memory runs out.
         ensures refused { (sealing : Sealing) (world : Rules D V) → let ring = S.keys self.old.host.server.seal in
@@ -38,6 +38,10 @@ impl<S: Seal, V: Service, D: Draw> World<S, V, D> {
             IsOf S.lock ring setting → Stands setting self.old world → OnErr result (Stands setting self.new (record world { draw = self.new.draw })) }
         // What takes no memory never runs out of it.
         ensures takes_no_memory { TakesNoMemory event.now → IfErr result (λ fault. fault ≢ told.Memory) }
+        // Words are drawn for nothing only where memory runs out.
+        ensures same_draw { (sealing : Sealing) (world : Rules D V) → let ring = S.keys self.old.host.server.seal in
+            let setting : Setting D V = world_setting D.step V.step V.fresh_state ring sealing in
+            IsOf S.lock ring setting → Stands setting self.old world → IfErr result (λ fault. fault ≢ told.Memory → self.new.draw ≡ self.old.draw) }
         ensures same_seal { self.new.host.server.seal ≡ self.old.host.server.seal }
     {
         self.does(alloc, event)

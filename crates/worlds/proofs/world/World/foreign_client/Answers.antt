@@ -23,7 +23,7 @@ returns-then-branch-clause-steps g c = λ sealing world is stands.
     let found = is-there (counted c.args.client world.seats) (c.in_ok-opens.ensures.refused world.seats stood.seats) in
     let opens = c.in_ok-opens.ensures.told setting.opens world.seats found.0 reading stood.seats found.1 in
     refuses setting world (line.ForeignClient c.args.client c.args.bytes.now) told.ForeignOpens kept
-    (opens-down setting world c.args.client c.args.bytes.now found.0 found.1 (sym c.if-branch.true ∙ opens))
+    (opens-down setting world c.args.client c.args.bytes.now found.0 found.1 (sym c.if-branch.true ∙ opens)) stands.host.drawn
     (record { host = redrawn setting kept.host kept.draw kept.draw world stands.host; seats = stands.seats })
 
 pub returns-clause-steps : goal.returns-clause-steps

@@ -21,7 +21,7 @@ returns-then-branch-clause-steps g c = λ sealing world is stands.
     let of = subst (λ kept. IsOf lock (g.S.Seal.keys kept.host.server.seal) setting) (sym c.self.view_is) is in
     let opens = c.in_ok-opens.ensures own c.self.inside.draw world of stood.host in
     refuses setting world (line.ForeignServer c.args.bytes.now) told.ForeignOpens kept
-    (foreign-opens setting world c.args.bytes.now (sym c.if-branch.true ∙ opens))
+    (foreign-opens setting world c.args.bytes.now (sym c.if-branch.true ∙ opens)) stands.host.drawn
     (record { host = redrawn setting kept.host kept.draw kept.draw world stands.host; seats = stands.seats })
 
 pub returns-clause-steps : goal.returns-clause-steps

@@ -30,7 +30,7 @@ returns-in-None-clause-steps g c = λ sealing world is stands.
     let kept : World g.row.S.Denot g.row.V.Denot g.row.D.Denot = record { host = inside.host; seats = inside.seats; draw = inside.draw } in
     subst (λ kept. Steps {X = Unit {0}} setting world (line.Give packet) (Err (told.NoPacket packet)) kept) c.self.view_is
     (refuses setting world (line.Give packet) (told.NoPacket packet) kept
-    (no-packet setting inside.host inside.draw world packet stood.host there)
+    (no-packet setting inside.host inside.draw world packet stood.host there) stood.host.drawn
     (record { host = redrawn setting inside.host inside.draw inside.draw world stood.host; seats = stood.seats }))
 
 pub returns-in_ok-_goes_up-in-Some-Up-clause-steps : goal.returns-in_ok-_goes_up-in-Some-Up-clause-steps

@@ -1,3 +1,6 @@
+use Rattle.std.proofs.Common.{◌≡◌, ◌≢◌, subst, sym}
+use Rattle.std.specs.Prelude.{IfErr}
+use Rattle.worlds.specs.declared.fault.StepFault.TheVariants as told
 use Rattle.worlds.specs.Worlds.{world_setting}
 use Rattle.worlds.proofs.Step.{steps_stand}
 use Rattle.worlds.proofs.world.World.step.Goals as goal
@@ -13,3 +16,8 @@ returns-clause-stands g c = λ sealing world is stands.
 
 pub returns-clause-unchanged : goal.returns-clause-unchanged
 returns-clause-unchanged g c = λ sealing world is stands. (c.does.ensures.steps sealing world is stands).kept
+
+pub returns-clause-same_draw : goal.returns-clause-same_draw
+returns-clause-same_draw g c = λ sealing world is stands.
+    subst (λ (draw : g.row.D.Denot). IfErr c.does.result (λ fault. fault ≢ told.Memory → c.does.new.self.draw ≡ draw)) (sym stands.host.drawn)
+    (c.does.ensures.steps sealing world is stands).drawn

@@ -25,7 +25,7 @@ returns-then-job-eq0-clause-steps g c = λ sealing world is stands.
       | then-job-eq0-via-else-job-eq0+then-job-ready w ↦ λ some.
           let count = w.ready.ensures.stands world.server (subst (λ server. ServerStands server world.server) (sym w.server.ensures) stood.host.server) in
           subst (λ (n : ℕ). n < c.args.job) count w.if-job-ready.true
-    ]))
+    ])) stands.host.drawn
     (record { host = redrawn setting kept.host kept.draw kept.draw world stands.host; seats = stands.seats })
 
 pub returns-clause-steps : goal.returns-clause-steps
