@@ -31,7 +31,7 @@ use Rattle.server_rules.specs.Waiting.{gives_up, tells_of}
 use Rattle.server_rules.specs.Calls.{accepts_call, becomes_job, binds, binds_by, bool_true_content, drops_answer, drops_by, dropped_running, has_failed_already, if_so, is_full, is_unbound, job_of, query_refusal, refusal, with_binding}
 use Rattle.server_rules.specs.Rows.{accepts, acked_by, acknowledges, answers_broken, came_again, future_salt_of, kept_numbered, notices, owes, says_reply, sends_again, takes_acks, tells_salts, tells_states}
 use Rattle.server_rules.specs.Answer.{attaches, finishes, opens}
-use Rattle.server_orders.specs.After.{HasRun, IsAnswer, IsFor, IsWaiting, Pair, RanBehind, awaited, is_among, is_aside, is_query, is_run, is_run_well}
+use Rattle.server_orders.specs.After.{HasRun, IsAnswer, IsFor, IsHonest, IsWaiting, Pair, RanBehind, awaited, is_among, is_aside, is_query, is_run, is_run_well}
 use Rattle.server_orders.proofs.Lists.{all-append, all-map, all-weaker, some-append, some-last, split-last, true-false}
 use Rattle.server_orders.proofs.Waiting.{first-left, its-name, name-so, still-awaited, told-waits}
 
@@ -108,6 +108,7 @@ pub record Sound {S : Type 0} (pair : Pair) (past : List Entry) (name : Name) (R
   pub waiting : AllByRecursion (IsWaiting pair (HasRun pair (past ++ speaker.entries))) speaker.jobs
   pub answers : name ≡ pair.name → AllByRecursion (IsAnswer pair (HasRun pair (past ++ speaker.entries))) speaker.session.replies
   pub behind : RanBehind pair (past ++ speaker.entries)
+  pub honest : AllByRecursion IsHonest (past ++ speaker.entries)
   pub stays : R → HasRun pair (past ++ speaker.entries)
 
 pub more-waits : (pair : Pair) (R Q : Type 0) (jobs : Queue) → (R → Q) → AllByRecursion (IsWaiting pair R) jobs → AllByRecursion (IsWaiting pair Q) jobs
@@ -139,22 +140,22 @@ module _ {S : Type 0} (setting : Setting S) (pair : Pair) (past : List Entry) (n
   -- ---- words
 
   pub says-sound : (item : Item) (speaker : Speaker S) → P speaker → P (says setting item speaker)
-  says-sound item speaker s = record { named = s.named; waiting = s.waiting; answers = s.answers; behind = s.behind; stays = s.stays }
+  says-sound item speaker s = record { named = s.named; waiting = s.waiting; answers = s.answers; behind = s.behind; honest = s.honest; stays = s.stays }
 
   again-sound : (reply : Reply) (speaker : Speaker S) → P speaker → P (says_again reply speaker)
   again-sound reply speaker s =
       cond_both (has_said reply.number speaker) speaker _ P (λ is. s)
-      (λ is. record { named = s.named; waiting = s.waiting; answers = s.answers; behind = s.behind; stays = s.stays })
+      (λ is. record { named = s.named; waiting = s.waiting; answers = s.answers; behind = s.behind; honest = s.honest; stays = s.stays })
 
   pub salts-sound : (count : ℕ) (speaker : Speaker S) → P speaker → P (needs_salts setting count speaker)
-  salts-sound count speaker s = record { named = s.named; waiting = s.waiting; answers = s.answers; behind = s.behind; stays = s.stays }
+  salts-sound count speaker s = record { named = s.named; waiting = s.waiting; answers = s.answers; behind = s.behind; honest = s.honest; stays = s.stays }
 
   replies-sound : (replies : List Reply) (speaker : Speaker S) → (name ≡ pair.name → AllByRecursion (IsAnswer pair (Ran speaker)) replies)
       → P speaker → P (record speaker { session = record speaker.session { replies = replies } })
-  replies-sound replies speaker are s = record { named = s.named; waiting = s.waiting; answers = are; behind = s.behind; stays = s.stays }
+  replies-sound replies speaker are s = record { named = s.named; waiting = s.waiting; answers = are; behind = s.behind; honest = s.honest; stays = s.stays }
 
   jobs-sound : (jobs : Queue) (speaker : Speaker S) → AllByRecursion (IsWaiting pair (Ran speaker)) jobs → P speaker → P (record speaker { jobs = jobs })
-  jobs-sound jobs speaker are s = record { named = s.named; waiting = are; answers = s.answers; behind = s.behind; stays = s.stays }
+  jobs-sound jobs speaker are s = record { named = s.named; waiting = are; answers = s.answers; behind = s.behind; honest = s.honest; stays = s.stays }
 
   -- a further reply
   with-answers : (Q : Type 0) (call bytes : ℕ) (reply : Reply) (replies : List Reply) → reply.call ≡ call → (call ≡ pair.earlier → is_good reply.content ≡ true → Q)
@@ -170,6 +171,7 @@ module _ {S : Type 0} (setting : Setting S) (pair : Pair) (past : List Entry) (n
     waiting = s.waiting;
     answers = λ own. with-answers (Ran speaker) call _ _ speaker.session.replies refl (good own) (s.answers own);
     behind = s.behind;
+    honest = s.honest;
     stays = s.stays;
   }
 
@@ -192,11 +194,15 @@ module _ {S : Type 0} (setting : Setting S) (pair : Pair) (past : List Entry) (n
   grown : (entries : List Entry) (entry : Entry) → HasRun pair (past ++ entries) → HasRun pair (past ++ (entries ++ entry ∷ []))
   grown entries entry has = subst (HasRun pair) (sym (entries-more entries entry)) (some-append (is_run_well pair.name pair.earlier) (past ++ entries) (entry ∷ []) has)
 
+  grown-honest : (entries : List Entry) (entry : Entry) → IsHonest entry → AllByRecursion IsHonest (past ++ entries) → AllByRecursion IsHonest (past ++ (entries ++ entry ∷ []))
+  grown-honest entries entry is all =
+      subst (AllByRecursion IsHonest) (sym (entries-more entries entry)) (all-append IsHonest (past ++ entries) (entry ∷ []) all (is, tt))
+
   -- by what ran or didn't
   pub records-sound : (ran : Bool) (call : ℕ) (request content : List ℕ) (speaker : Speaker S)
       → (is_run pair.name pair.call (entry_of ran call request content speaker) ≡ true → Ran speaker)
-      → P speaker → P (records ran call request content speaker)
-  records-sound ran call request content speaker so s =
+      → (ran ≡ false → is_good content ≡ false) → P speaker → P (records ran call request content speaker)
+  records-sound ran call request content speaker so honest s =
       let entry = entry_of ran call request content speaker in
       let more = grown speaker.entries entry in
       record {
@@ -204,6 +210,7 @@ module _ {S : Type 0} (setting : Setting S) (pair : Pair) (past : List Entry) (n
         waiting = more-waits pair (Ran speaker) (HasRun pair (past ++ (speaker.entries ++ entry ∷ []))) speaker.jobs more s.waiting;
         answers = λ own. more-answers pair (Ran speaker) (HasRun pair (past ++ (speaker.entries ++ entry ∷ []))) speaker.session.replies more (s.answers own);
         behind = subst (RanBehind pair) (sym (entries-more speaker.entries entry)) (entered-behind (past ++ speaker.entries) entry so s.behind);
+        honest = grown-honest speaker.entries entry honest s.honest;
         stays = λ r. more (s.stays r);
       }
 
@@ -214,7 +221,7 @@ module _ {S : Type 0} (setting : Setting S) (pair : Pair) (past : List Entry) (n
       → P (answers_in_place setting call request content speaker)
   in_place-sound call request content speaker bad s =
       let own = answers setting call content speaker in
-      records-sound false call request content own (unrun call request content own)
+      records-sound false call request content own (unrun call request content own) (λ unran. bad)
       (answers-sound call content speaker (λ of_name of_call good. absurd (true-false (sym good ∙ bad))) s)
 
   pub tells-sound : (number : ℕ) (speaker : Speaker S) → P speaker → P (tells_of number speaker)
@@ -320,6 +327,7 @@ module _ {S : Type 0} (setting : Setting S) (pair : Pair) (past : List Entry) (n
         behind =
             subst (RanBehind pair) (sym (entries-more speaker.entries entry))
             (entered-behind (past ++ speaker.entries) entry (λ is. s.stays (ready (of_name ∙ (sym s.named ∙ (mine is).0)) (mine is).1)) s.behind);
+        honest = grown-honest speaker.entries entry (λ unran. absurd (true-false unran)) s.honest;
         stays = λ r. more (s.stays r);
       }) where
     mine : is_run pair.name pair.call (entry_of true job.number job.request reply speaker) ≡ true → (name_of speaker.session ≡ pair.name) × (job.number ≡ pair.call)
@@ -389,7 +397,7 @@ module _ {S : Type 0} (setting : Setting S) (pair : Pair) (past : List Entry) (n
       let bindings = with_binding binding speaker.bindings in
       let bound : Speaker S = record speaker { bindings = bindings } in
       answers-sound number bool_true_content bound (λ of_name of_call good. apart of_name of_call)
-      (record { named = s.named; waiting = s.waiting; answers = s.answers; behind = s.behind; stays = s.stays })
+      (record { named = s.named; waiting = s.waiting; answers = s.answers; behind = s.behind; honest = s.honest; stays = s.stays })
 
   -- ---- rows
 

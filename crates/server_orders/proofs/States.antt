@@ -66,6 +66,7 @@ module _ {S : Type 0} (setting : Setting S) (pair : Pair) (past : List Entry) wh
         waiting = kept.waiting;
         answers = λ own. found.0 (named ∙ own);
         behind = kept.behind;
+        honest = kept.honest;
         stays = λ r. r;
       }) in
       let Now = HasRun pair (past ++ after.entries) in
@@ -79,6 +80,7 @@ module _ {S : Type 0} (setting : Setting S) (pair : Pair) (past : List Entry) wh
             (λ apart own. more-answers pair (Ran state) Now other.replies a.stays (its own)))
             kept.answers;
         behind = a.behind;
+        honest = a.honest;
       }
 
   pub speaks-kept : (name : Name) (speak : Speaker S → Speaker S) (state : State S)
@@ -91,6 +93,7 @@ module _ {S : Type 0} (setting : Setting S) (pair : Pair) (past : List Entry) wh
     waiting = all-filter (IsWaiting pair (Ran state)) _ state.jobs kept.waiting;
     answers = all-filter (IsSession (Ran state)) _ state.sessions kept.answers;
     behind = kept.behind;
+    honest = kept.honest;
   }
 
   -- ---- jobs that are given up
@@ -113,6 +116,7 @@ module _ {S : Type 0} (setting : Setting S) (pair : Pair) (past : List Entry) wh
         waiting = first-left pair (Ran state) test state.jobs kept.waiting;
         answers = kept.answers;
         behind = kept.behind;
+        honest = kept.honest;
       }))
 
   pub failures-kept : (state : State S) → Kept state → Kept (after_failures setting state)
@@ -136,6 +140,7 @@ module _ {S : Type 0} (setting : Setting S) (pair : Pair) (past : List Entry) wh
         waiting = ready-left pair (Ran state) place state.jobs kept.waiting;
         answers = kept.answers;
         behind = kept.behind;
+        honest = kept.honest;
       }))
 
   -- ---- judgements
@@ -204,7 +209,7 @@ module _ {S : Type 0} (setting : Setting S) (pair : Pair) (past : List Entry) wh
       → Sound pair past name R (opens setting history judged speaker)
   opens-sound name R history judged speaker s =
       let ready : Speaker S = record speaker { session = record speaker.session { history = history } } in
-      let r : Sound pair past name R ready = record { named = s.named; waiting = s.waiting; answers = s.answers; behind = s.behind; stays = s.stays } in
+      let r : Sound pair past name R ready = record { named = s.named; waiting = s.waiting; answers = s.answers; behind = s.behind; honest = s.honest; stays = s.stays } in
       acknowledges-sound setting pair past name R (acks_of judged) (cond (has_accepted ready.session) ready (says_it_is_new setting ready))
       (cond_both (has_accepted ready.session) ready (says_it_is_new setting ready) (Sound pair past name R) (λ is. r) (λ is. new-sound setting pair past name R ready r))
 
@@ -239,6 +244,7 @@ module _ {S : Type 0} (setting : Setting S) (pair : Pair) (past : List Entry) wh
             all-append (IsSession (Ran state)) (without_session (name_of session) state.sessions) (session ∷ [])
             (all-filter (IsSession (Ran state)) _ state.sessions kept.answers) (found.0, tt);
         behind = kept.behind;
+        honest = kept.honest;
       }
   hears-kept envelope None state is kept =
       let place = with_place state in
@@ -247,6 +253,7 @@ module _ {S : Type 0} (setting : Setting S) (pair : Pair) (past : List Entry) wh
         waiting = rest.waiting;
         answers = all-append (IsSession (Ran place)) place.sessions (session_for setting envelope place.draw ∷ []) rest.answers (λ own. tt, tt);
         behind = rest.behind;
+        honest = rest.honest;
       }
 
   takes-kept : (envelope : Envelope) (state : State S) → IsPacketFor pair envelope → Kept state → Kept (takes setting envelope state)
@@ -262,7 +269,7 @@ module _ {S : Type 0} (setting : Setting S) (pair : Pair) (past : List Entry) wh
   sealed-sound name R salt [] speaker s = s
   sealed-sound name R salt (packet ∷ packets) speaker s =
       sealed-sound name R salt packets (seals setting salt speaker packet)
-      (record { named = s.named; waiting = s.waiting; answers = s.answers; behind = s.behind; stays = s.stays })
+      (record { named = s.named; waiting = s.waiting; answers = s.answers; behind = s.behind; honest = s.honest; stays = s.stays })
 
   sends-sound : (name : Name) (R : Type 0) (messages : List Message) (speaker : Speaker S) → Sound pair past name R speaker
       → Sound pair past name R (sends setting messages speaker)
@@ -271,7 +278,7 @@ module _ {S : Type 0} (setting : Setting S) (pair : Pair) (past : List Entry) wh
       let r = salts-sound setting pair past name R 1 speaker s in
       let counted : Speaker S = record ready { session = record ready.session { counters = after_packets setting.now ready.session.counters messages } } in
       sealed-sound name R (current_salt ready.session.salts setting.now) (packets_of setting.now ready.session.counters messages) counted
-      (record { named = r.named; waiting = r.waiting; answers = r.answers; behind = r.behind; stays = r.stays })
+      (record { named = r.named; waiting = r.waiting; answers = r.answers; behind = r.behind; honest = r.honest; stays = r.stays })
 
   sent-kept : (messages : Name → List Message) (names : List Name) (state : State S) → Kept state
       → Kept (fold (λ so_far name. speaks name (sends setting (messages name)) so_far) state names)
@@ -291,7 +298,7 @@ module _ {S : Type 0} (setting : Setting S) (pair : Pair) (past : List Entry) wh
   ended-kept state kept =
       let sent = all_sent setting state in
       let done = spent-kept (filter is_spent sent.sessions) sent (sent-kept (λ name. messages_by name state.owed) (names_in state.owed) state kept) in
-      record { waiting = done.waiting; answers = done.answers; behind = done.behind }
+      record { waiting = done.waiting; answers = done.answers; behind = done.behind; honest = done.honest }
 
   ticks-kept : (state : State S) → Kept state → Kept (ticks setting state)
   ticks-kept state kept = failures-kept (after_timeouts setting state) (timeouts-kept state kept)
@@ -350,8 +357,9 @@ module _ {S V : Type 0} (setting : Setting S) (serve : Step V) (fresh : V) (pair
         all-filter (λ (session : Session). name_of session ≡ pair.name → AllByRecursion (IsAnswer pair (HasRun pair (past ++ course.entries))) session.replies) _ course.server.sessions
         so.answers;
     behind = so.behind;
+    honest = so.honest;
   }
-  event-kept course Restart are so = record { waiting = tt; answers = tt; behind = so.behind }
+  event-kept course Restart are so = record { waiting = tt; answers = tt; behind = so.behind; honest = so.honest }
 
   pub events-kept : (events : List Event) (course : Course S V) → AllByRecursion (IsEventFor pair) events → AreSo course
       → AreSo (fold (after_event setting serve fresh) course events)

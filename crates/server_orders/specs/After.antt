@@ -79,6 +79,10 @@ abbrev pub RanBehind : Pair → List Entry → Type 0
 RanBehind pair entries =
     (before behind : List Entry) (entry : Entry) → entries ≡ before ++ entry ∷ behind → is_run pair.name pair.call entry ≡ true → HasRun pair before
 
+-- what didn't run has a reply that isn't good
+abbrev pub IsHonest : Entry → Type 0
+IsHonest entry = entry.ran ≡ false → is_good entry.reply ≡ false
+
 -- ---- what is kept
 
 -- the call waits for the earlier one, unless that has run
@@ -95,3 +99,4 @@ pub record AreInTurn (pair : Pair) (sessions : List Session) (jobs : Queue) (ent
   pub waiting : AllByRecursion (IsWaiting pair (HasRun pair entries)) jobs
   pub answers : AllByRecursion (λ session. name_of session ≡ pair.name → AllByRecursion (IsAnswer pair (HasRun pair entries)) session.replies) sessions
   pub behind : RanBehind pair entries
+  pub honest : AllByRecursion IsHonest entries

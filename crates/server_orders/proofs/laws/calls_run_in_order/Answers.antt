@@ -12,6 +12,7 @@ none-yet pair = record {
   behind = λ before behind entry is ran.
       let count : 0 ≡ length (before ++ entry ∷ behind) = ap length is in
       let more = length-append before (entry ∷ behind) in absurd (omega arith);
+  honest = tt;
 }
 
 pub returns-clause-fresh : goal.returns-clause-fresh

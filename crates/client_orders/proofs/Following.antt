@@ -1,0 +1,238 @@
+-- Calls that change, one by one, and stay in turn.
+use Rattle.std.proofs.Common.{◌≡◌, ◌≢◌, ◌∙◌, ◌==◌, ℕ, zero, suc, ◌+◌, ◌-◌, ◌<◌, ◌≤◌, Bool, true, false, cond, Option, Some, None, List, [], ◌∷◌, ◌++◌, length, map, ap, sym, subst, refl, arith, inl, inr, eqb-true}
+use Rattle.std.specs.Prelude.{◌⊎◌, ⊤, option_map, slice_get}
+use Rattle.std.specs.List.{AllByRecursion, Contains}
+use Rattle.call_table.specs.declared.call.CallNo.{CallNo}
+use Rattle.call_table.specs.declared.call.Flags.{Flags}
+use Rattle.call_table.specs.declared.call.Fate.{Fate}
+use Rattle.call_table.specs.declared.call.Fate.TheVariants as fate
+use Rattle.call_table.specs.declared.call.Living.{Living}
+use Rattle.call_table.specs.Table.{Call, Name, State, at, call_no, changed_at, first_from, flagged, is_number_of, living_name, living_name_in, new_call, no_flags, owner, sent, sent_again, settled, state_after, with_salt}
+use Rattle.call_table.specs.Table as table
+use Rattle.client_orders.specs.Behind.{AreInTurn, GoesBehind, HasName, IsBehind, IsDoneWell, IsInTurn, LivesIn, WentBehind}
+use Rattle.client_orders.proofs.Lists.{all-append, all-at, all-weaker, first-from, first_or, get-append, here, later, none-some, some-same, true-false}
+
+abbrev pub NotDone : Call → Type 0
+NotDone call = (result : List ℕ) → call.state ≡ table.Done result → ⊥
+
+-- a call that was that one: what went behind it did so still, and its own names stay behind the earlier call among all calls
+pub record Follows (calls : List Call) (session : ℕ) (old new : Call) : Type 0 where
+  pub after : new.after ≡ old.after
+  pub covers : (before : ℕ) (wrap : Option ℕ) → WentBehind old before wrap → WentBehind new before wrap
+  pub names : (number : CallNo) → old.after ≡ Some number → (earlier : Call) → at number calls ≡ Some earlier
+      → AllByRecursion (IsBehind earlier) old.names → AllByRecursion (IsBehind earlier) new.names
+  pub living : LivesIn session new
+
+-- one by one
+abbrev pub AreFollowed : List Call → ℕ → List Call → List Call → Type 0
+AreFollowed calls session [] [] = ⊤
+AreFollowed calls session [] (new ∷ news) = ⊥
+AreFollowed calls session (old ∷ olds) [] = ⊥
+AreFollowed calls session (old ∷ olds) (new ∷ news) = Follows calls session old new × AreFollowed calls session olds news
+
+module _ (calls : List Call) (session : ℕ) where
+  followed-at : (olds news : List Call) → AreFollowed calls session olds news → (place : ℕ) (old : Call) → slice_get olds place ≡ Some old
+      → (new : Call) × (slice_get news place ≡ Some new) × Follows calls session old new
+  followed-at [] news are place old is = absurd (none-some old is)
+  followed-at (one ∷ olds) [] are place old is = absurd are
+  followed-at (one ∷ olds) (new ∷ news) are zero old is = (new, refl, subst (λ (old : Call). Follows calls session old new) (some-same one old is) are.0)
+  followed-at (one ∷ olds) (new ∷ news) are (suc place) old is = followed-at olds news are.1 place old is
+
+  all-living : (olds news : List Call) → AreFollowed calls session olds news → AllByRecursion (LivesIn session) news
+  all-living [] [] are = tt
+  all-living [] (new ∷ news) are = absurd are
+  all-living (old ∷ olds) [] are = absurd are
+  all-living (old ∷ olds) (new ∷ news) are = (are.0.living, all-living olds news are.1)
+
+  one-behind : (news : List Call) → AreFollowed calls session calls news → (old new : Call) → Follows calls session old new → IsInTurn calls old → IsInTurn news new
+  one-behind news are old new follows turn number is =
+      let own : old.after ≡ Some number = sym follows.after ∙ is in
+      let was = turn number own in
+      let now = followed-at calls news are (number.n - 1) was.earlier was.there in
+      record {
+        earlier = now.0;
+        there = now.1;
+        names =
+            all-weaker (IsBehind was.earlier) (IsBehind now.0) new.names (λ name behind. now.2.covers name.session name.message.wrap behind)
+            (follows.names number own was.earlier was.there was.names);
+      }
+
+  all-behind : (news : List Call) → AreFollowed calls session calls news → (olds left : List Call) → AreFollowed calls session olds left
+      → AllByRecursion (IsInTurn calls) olds → AllByRecursion (IsInTurn news) left
+  all-behind news are [] [] all turns = tt
+  all-behind news are [] (new ∷ left) all turns = absurd all
+  all-behind news are (old ∷ olds) [] all turns = absurd all
+  all-behind news are (old ∷ olds) (new ∷ left) all turns = (one-behind news are old new all.0 turns.0, all-behind news are olds left all.1 turns.1)
+
+-- the calls are in turn still
+pub followed : (before session : ℕ) (calls news : List Call) → AreFollowed calls session calls news → AreInTurn before calls → AreInTurn session news
+followed before session calls news are turn =
+    record { behind = all-behind calls session news are calls news are turn.behind; living = all-living calls session calls news are }
+
+-- ---- one is changed, or all are
+
+follows-itself : (calls : List Call) (session : ℕ) (call : Call) → LivesIn session call → Follows calls session call call
+follows-itself calls session call lives = record { after = refl; covers = λ before wrap went. went; names = λ number is earlier there names. names; living = lives }
+
+changed-among : (calls : List Call) (session place : ℕ) (change : Call → Call) (olds : List Call)
+    → ((call : Call) → slice_get olds place ≡ Some call → LivesIn session call → Follows calls session call (change call))
+    → AllByRecursion (LivesIn session) olds → AreFollowed calls session olds (changed_at place change olds)
+changed-among calls session place change [] so lives = tt
+changed-among calls session zero change (old ∷ olds) so lives = (so old refl lives.0, same olds lives.1) where
+  same : (olds : List Call) → AllByRecursion (LivesIn session) olds → AreFollowed calls session olds olds
+  same [] lives = tt
+  same (old ∷ olds) lives = (follows-itself calls session old lives.0, same olds lives.1)
+changed-among calls session (suc place) change (old ∷ olds) so lives =
+    (follows-itself calls session old lives.0, changed-among calls session place change olds so lives.1)
+
+pub changed-turn : (session place : ℕ) (change : Call → Call) (calls : List Call)
+    → ((call : Call) → slice_get calls place ≡ Some call → LivesIn session call → Follows calls session call (change call))
+    → AreInTurn session calls → AreInTurn session (changed_at place change calls)
+changed-turn session place change calls so turn = followed session session calls (changed_at place change calls) (changed-among calls session place change calls so turn.living) turn
+
+mapped-among : (calls : List Call) (before session : ℕ) (change : Call → Call) (olds : List Call)
+    → ((call : Call) → LivesIn before call → Follows calls session call (change call)) → AllByRecursion (LivesIn before) olds
+    → AreFollowed calls session olds (map change olds)
+mapped-among calls before session change [] so lives = tt
+mapped-among calls before session change (old ∷ olds) so lives = (so old lives.0, mapped-among calls before session change olds so lives.1)
+
+pub mapped-turn : (before session : ℕ) (change : Call → Call) (calls : List Call)
+    → ((call : Call) → LivesIn before call → Follows calls session call (change call)) → AreInTurn before calls → AreInTurn session (map change calls)
+mapped-turn before session change calls so turn = followed before session calls (map change calls) (mapped-among calls before session change calls so turn.living) turn
+
+-- ---- changes
+
+-- flags alone
+pub flagged-follows : (calls : List Call) (session : ℕ) (flags : Flags) (call : Call) → LivesIn session call → Follows calls session call (flagged flags call)
+flagged-follows calls session flags call lives =
+    record { after = refl; covers = covers; names = λ number is earlier there names. names; living = lives } where
+  covers : (before : ℕ) (wrap : Option ℕ) → WentBehind call before wrap → WentBehind (flagged flags call) before wrap
+  covers before (Some number) went = record { name = went.name; among = went.among; of_session = went.of_session; of_number = went.of_number }
+  covers before None went = record { result = went.result; done = went.done; good = went.good }
+
+never-sent : (fate : Fate) → state_after fate ≡ table.Sent → ⊥
+never-sent fate.Queue is = cc
+never-sent fate.Hold is = cc
+never-sent (fate.Done bytes) is = cc
+never-sent (fate.Refused code) is = cc
+never-sent (fate.Unknown cause) is = cc
+
+-- something becomes of a call that isn't done
+pub settled-follows : (calls : List Call) (session : ℕ) (fate : Fate) (call : Call) → NotDone call → Follows calls session call (settled fate call)
+settled-follows calls session fate call undone =
+    record { after = refl; covers = covers; names = λ number is earlier there names. names; living = λ sent. absurd (never-sent fate sent) } where
+  covers : (before : ℕ) (wrap : Option ℕ) → WentBehind call before wrap → WentBehind (settled fate call) before wrap
+  covers before (Some number) went = record { name = went.name; among = went.among; of_session = went.of_session; of_number = went.of_number }
+  covers before None went = absurd (undone went.result went.done)
+
+-- the message goes again
+salted-names : (salt : ℕ) (names : List Name) (session number : ℕ) (name : Name) → Contains names name → name.session ≡ session → name.message.number ≡ number
+    → (one : Name) × Contains (with_salt salt names) one × (one.session ≡ session) × (one.message.number ≡ number)
+salted-names salt [] session number name among of_session of_number = let below : among.0 < 0 = among.1 in absurd (omega (arith, below))
+salted-names salt (first ∷ names) session number name among of_session of_number =
+    let again : Name = record first { salts = salt ∷ first.salts } in
+    elim (first_or name first names among) [
+      | inl is ↦ (again, here again names, ap (λ (name : Name). name.session) is ∙ of_session, ap (λ (name : Name). name.message.number) is ∙ of_number)
+      | inr other ↦ (name, later name again names other, of_session, of_number)
+    ]
+
+salted-behind : (earlier : Call) (salt : ℕ) (names : List Name) → AllByRecursion (IsBehind earlier) names → AllByRecursion (IsBehind earlier) (with_salt salt names)
+salted-behind earlier salt [] all = tt
+salted-behind earlier salt (first ∷ names) all = (all.0, all.1)
+
+salted-living : (session salt : ℕ) (state : State) (names : List Name) (name : Name) → living_name_in state names ≡ Some name → name.session ≡ session
+    → (one : Name) × (living_name_in state (with_salt salt names) ≡ Some one) × (one.session ≡ session)
+salted-living session salt table.Sent [] name is of_session = absurd (none-some name is)
+salted-living session salt table.Sent (first ∷ names) name is of_session =
+    (record first { salts = salt ∷ first.salts }, refl, ap (λ (name : Name). name.session) (some-same first name is) ∙ of_session)
+salted-living session salt table.Queued names name is of_session = absurd (none-some name is)
+salted-living session salt table.Held names name is of_session = absurd (none-some name is)
+salted-living session salt (table.Done reply) names name is of_session = absurd (none-some name is)
+salted-living session salt (table.Refused code) names name is of_session = absurd (none-some name is)
+salted-living session salt (table.Unknown cause) names name is of_session = absurd (none-some name is)
+
+pub again-follows : (calls : List Call) (session salt : ℕ) (flags : Flags) (call : Call) → LivesIn session call
+    → Follows calls session call (sent_again salt (flagged flags call))
+again-follows calls session salt flags call lives =
+    record {
+      after = refl;
+      covers = covers;
+      names = λ number is earlier there names. salted-behind earlier salt call.names names;
+      living = λ sent. let was = lives sent in salted-living session salt call.state call.names was.0 was.1 was.2;
+    } where
+  covers : (before : ℕ) (wrap : Option ℕ) → WentBehind call before wrap → WentBehind (sent_again salt (flagged flags call)) before wrap
+  covers before (Some number) went =
+      let now = salted-names salt call.names before number went.name went.among went.of_session went.of_number in
+      record { name = now.0; among = now.1; of_session = now.2; of_number = now.3 }
+  covers before None went = record { result = went.result; done = went.done; good = went.good }
+
+-- it goes for the first time in a session
+pub sent-follows : (calls : List Call) (session : ℕ) (message : Living) (salt : ℕ) (call : Call) → NotDone call
+    → ((number : CallNo) → call.after ≡ Some number → (earlier : Call) → at number calls ≡ Some earlier → WentBehind earlier session message.wrap)
+    → Follows calls session call (sent session message salt call)
+sent-follows calls session message salt call undone behind =
+    record {
+      after = refl;
+      covers = covers;
+      names = λ number is earlier there names. (behind number is earlier there, names);
+      living = λ is. (record { session = session; message = message; salts = salt ∷ [] }, refl, refl);
+    } where
+  covers : (before : ℕ) (wrap : Option ℕ) → WentBehind call before wrap → WentBehind (sent session message salt call) before wrap
+  covers before (Some number) went =
+      record {
+        name = went.name;
+        among = later went.name (record { session = session; message = message; salts = salt ∷ [] }) call.names went.among;
+        of_session = went.of_session;
+        of_number = went.of_number;
+      }
+  covers before None went = absurd (undone went.result went.done)
+
+-- a call more
+pub added-turn : (session : ℕ) (calls : List Call) (body : List ℕ) (after : Option CallNo)
+    → ((number : CallNo) → after ≡ Some number → (earlier : Call) × (at number calls ≡ Some earlier))
+    → AreInTurn session calls → AreInTurn session (calls ++ new_call body after ∷ [])
+added-turn session calls body after there turn =
+    let more = calls ++ new_call body after ∷ [] in
+    record {
+      behind =
+          all-append (IsInTurn more) calls (new_call body after ∷ [])
+          (all-weaker (IsInTurn calls) (IsInTurn more) calls
+          (λ call turn number is.
+          let was = turn number is in
+          record { earlier = was.earlier; there = get-append calls (new_call body after ∷ []) (number.n - 1) was.earlier was.there; names = was.names })
+          turn.behind)
+          (λ number is.
+          let was = there number is in
+          record { earlier = was.0; there = get-append calls (new_call body after ∷ []) (number.n - 1) was.0 was.1; names = tt },
+          tt);
+      living = all-append (LivesIn session) calls (new_call body after ∷ []) turn.living (λ sent. absurd (let no : table.Queued ≡ table.Sent = sent in cc), tt);
+    }
+
+-- ---- the call that has a number
+
+living-sent : (number : ℕ) (state : State) (names : List Name) → is_number_of number (living_name_in state names) ≡ true → state ≡ table.Sent
+living-sent number table.Sent names is = refl
+living-sent number table.Queued names is = absurd (true-false (sym is))
+living-sent number table.Held names is = absurd (true-false (sym is))
+living-sent number (table.Done reply) names is = absurd (true-false (sym is))
+living-sent number (table.Refused code) names is = absurd (true-false (sym is))
+living-sent number (table.Unknown cause) names is = absurd (true-false (sym is))
+
+pub owner-sent : (number : ℕ) (calls : List Call) (call : CallNo) → owner number calls ≡ Some call → (one : Call) → at call calls ≡ Some one → one.state ≡ table.Sent
+owner-sent number calls call is one there = go (first_from (λ call. is_number_of number (living_name call)) 0 calls) refl is where
+  go : (found : Option ℕ) → first_from (λ call. is_number_of number (living_name call)) 0 calls ≡ found → option_map call_no found ≡ Some call → one.state ≡ table.Sent
+  go None found is = absurd (none-some call is)
+  go (Some place) found is =
+      let same : call_no place ≡ call = some-same (call_no place) call is in
+      let first = first-from (λ (call : Call). is_number_of number (living_name call)) 0 calls place found in
+      let at_place = first.1 in
+      let counted : call.n ≡ place + 1 = ap (λ (call : CallNo). call.n) (sym same) in
+      let where_ : call.n - 1 ≡ first.0 = omega arith in
+      let its : first.2.0 ≡ one = some-same first.2.0 one (sym first.2.1 ∙ (ap (slice_get calls) (sym where_) ∙ there)) in
+      living-sent number one.state one.names (ap (λ (call : Call). is_number_of number (living_name call)) (sym its) ∙ first.2.2)
+
+pub sent-open : (call : Call) → call.state ≡ table.Sent → NotDone call
+sent-open call is = λ result done. let no : table.Sent ≡ table.Done result = sym is ∙ done in cc
+
+pub queued-open : (call : Call) → call.state ≡ table.Queued → NotDone call
+queued-open call is = λ result done. let no : table.Queued ≡ table.Done result = sym is ∙ done in cc
