@@ -9,16 +9,15 @@ use Rattle.call_table.specs.declared.call.Fate.TheVariants as fate
 use Rattle.call_table.specs.declared.call.Living.{Living}
 use Rattle.call_table.specs.Table.{Call, Name, State, at, call_no, changed_at, first_from, flagged, is_number_of, living_name, living_name_in, new_call, no_flags, owner, sent, sent_again, settled, state_after, with_salt}
 use Rattle.call_table.specs.Table as table
-use Rattle.client_orders.specs.Behind.{AreInTurn, GoesBehind, HasName, IsBehind, IsDoneWell, IsInTurn, LivesIn, WentBehind}
+use Rattle.client_orders.specs.Behind.{AreInTurn, GoesBehind, HasMessage, HasName, IsBehind, IsDoneWell, IsInTurn, IsStill, Last, LivesIn, WentBehind}
 use Rattle.client_orders.proofs.Lists.{all-append, all-at, all-weaker, first-from, first_or, get-append, here, later, none-some, some-same, true-false}
 
 abbrev pub NotDone : Call → Type 0
 NotDone call = (result : List ℕ) → call.state ≡ table.Done result → ⊥
 
--- a call that was that one: what went behind it did so still, and its own names stay behind the earlier call among all calls
+-- a call that was that one still, and its own names stay behind the earlier call among all calls
 pub record Follows (calls : List Call) (session : ℕ) (old new : Call) : Type 0 where
-  pub after : new.after ≡ old.after
-  pub covers : (before : ℕ) (wrap : Option ℕ) → WentBehind old before wrap → WentBehind new before wrap
+  pub still : IsStill old new
   pub names : (number : CallNo) → old.after ≡ Some number → (earlier : Call) → at number calls ≡ Some earlier
       → AllByRecursion (IsBehind earlier) old.names → AllByRecursion (IsBehind earlier) new.names
   pub living : LivesIn session new
@@ -29,6 +28,45 @@ AreFollowed calls session [] [] = ⊤
 AreFollowed calls session [] (new ∷ news) = ⊥
 AreFollowed calls session (old ∷ olds) [] = ⊥
 AreFollowed calls session (old ∷ olds) (new ∷ news) = Follows calls session old new × AreFollowed calls session olds news
+
+-- what went behind a call did so still
+covered : (old new : Call) → IsStill old new → (session : ℕ) (wrap : Option ℕ) → WentBehind old session wrap → WentBehind new session wrap
+covered old new still session (Some number) went =
+    let has = still.names went.name went.among in
+    record {
+      name = has.name;
+      among = has.among;
+      of_session = has.of_session ∙ went.of_session;
+      of_number = ap (λ (message : Living). message.number) has.same ∙ went.of_number;
+    }
+covered old new still session None went = record { result = went.result; done = still.done went.result went.done; good = went.good }
+
+itself : (call : Call) → IsStill call call
+itself call = record {
+  body = refl;
+  after = refl;
+  names = λ name among. record { name = name; among = among; of_session = refl; same = refl };
+  done = λ result done. done;
+}
+
+then-still : (one two three : Call) → IsStill one two → IsStill two three → IsStill one three
+then-still one two three first second = record {
+  body = second.body ∙ first.body;
+  after = second.after ∙ first.after;
+  names = λ name among.
+      let has = first.names name among in
+      let later = second.names has.name has.among in
+      record { name = later.name; among = later.among; of_session = later.of_session ∙ has.of_session; same = later.same ∙ has.same };
+  done = λ result done. second.done result (first.done result done);
+}
+
+pub nothing-last : (calls : List Call) → Last calls calls
+nothing-last calls = λ place call is. (call, is, itself call)
+
+-- the calls at the beginning last, and these are in turn
+pub record AreKept (base : List Call) (session : ℕ) (calls : List Call) : Type 0 where
+  pub turn : AreInTurn session calls
+  pub last : Last base calls
 
 module _ (calls : List Call) (session : ℕ) where
   followed-at : (olds news : List Call) → AreFollowed calls session olds news → (place : ℕ) (old : Call) → slice_get olds place ≡ Some old
@@ -46,14 +84,14 @@ module _ (calls : List Call) (session : ℕ) where
 
   one-behind : (news : List Call) → AreFollowed calls session calls news → (old new : Call) → Follows calls session old new → IsInTurn calls old → IsInTurn news new
   one-behind news are old new follows turn number is =
-      let own : old.after ≡ Some number = sym follows.after ∙ is in
+      let own : old.after ≡ Some number = sym follows.still.after ∙ is in
       let was = turn number own in
       let now = followed-at calls news are (number.n - 1) was.earlier was.there in
       record {
         earlier = now.0;
         there = now.1;
         names =
-            all-weaker (IsBehind was.earlier) (IsBehind now.0) new.names (λ name behind. now.2.covers name.session name.message.wrap behind)
+            all-weaker (IsBehind was.earlier) (IsBehind now.0) new.names (λ name behind. covered was.earlier now.0 now.2.still name.session name.message.wrap behind)
             (follows.names number own was.earlier was.there was.names);
       }
 
@@ -64,15 +102,24 @@ module _ (calls : List Call) (session : ℕ) where
   all-behind news are (old ∷ olds) [] all turns = absurd all
   all-behind news are (old ∷ olds) (new ∷ left) all turns = (one-behind news are old new all.0 turns.0, all-behind news are olds left all.1 turns.1)
 
+then-last : (base calls news : List Call) (session : ℕ) → AreFollowed calls session calls news → Last base calls → Last base news
+then-last base calls news session are last = λ place call is.
+    let was = last place call is in
+    let now = followed-at calls session calls news are place was.0 was.1 in
+    (now.0, now.1, then-still call was.0 now.0 was.2 now.2.still)
+
 -- the calls are in turn still
-pub followed : (before session : ℕ) (calls news : List Call) → AreFollowed calls session calls news → AreInTurn before calls → AreInTurn session news
-followed before session calls news are turn =
-    record { behind = all-behind calls session news are calls news are turn.behind; living = all-living calls session calls news are }
+pub followed : (base : List Call) (before session : ℕ) (calls news : List Call) → AreFollowed calls session calls news → AreKept base before calls → AreKept base session news
+followed base before session calls news are kept =
+    record {
+      turn = record { behind = all-behind calls session news are calls news are kept.turn.behind; living = all-living calls session calls news are };
+      last = then-last base calls news session are kept.last;
+    }
 
 -- ---- one is changed, or all are
 
 follows-itself : (calls : List Call) (session : ℕ) (call : Call) → LivesIn session call → Follows calls session call call
-follows-itself calls session call lives = record { after = refl; covers = λ before wrap went. went; names = λ number is earlier there names. names; living = lives }
+follows-itself calls session call lives = record { still = itself call; names = λ number is earlier there names. names; living = lives }
 
 changed-among : (calls : List Call) (session place : ℕ) (change : Call → Call) (olds : List Call)
     → ((call : Call) → slice_get olds place ≡ Some call → LivesIn session call → Follows calls session call (change call))
@@ -85,10 +132,11 @@ changed-among calls session zero change (old ∷ olds) so lives = (so old refl l
 changed-among calls session (suc place) change (old ∷ olds) so lives =
     (follows-itself calls session old lives.0, changed-among calls session place change olds so lives.1)
 
-pub changed-turn : (session place : ℕ) (change : Call → Call) (calls : List Call)
+pub changed-turn : (base : List Call) (session place : ℕ) (change : Call → Call) (calls : List Call)
     → ((call : Call) → slice_get calls place ≡ Some call → LivesIn session call → Follows calls session call (change call))
-    → AreInTurn session calls → AreInTurn session (changed_at place change calls)
-changed-turn session place change calls so turn = followed session session calls (changed_at place change calls) (changed-among calls session place change calls so turn.living) turn
+    → AreKept base session calls → AreKept base session (changed_at place change calls)
+changed-turn base session place change calls so kept =
+    followed base session session calls (changed_at place change calls) (changed-among calls session place change calls so kept.turn.living) kept
 
 mapped-among : (calls : List Call) (before session : ℕ) (change : Call → Call) (olds : List Call)
     → ((call : Call) → LivesIn before call → Follows calls session call (change call)) → AllByRecursion (LivesIn before) olds
@@ -96,19 +144,26 @@ mapped-among : (calls : List Call) (before session : ℕ) (change : Call → Cal
 mapped-among calls before session change [] so lives = tt
 mapped-among calls before session change (old ∷ olds) so lives = (so old lives.0, mapped-among calls before session change olds so lives.1)
 
-pub mapped-turn : (before session : ℕ) (change : Call → Call) (calls : List Call)
-    → ((call : Call) → LivesIn before call → Follows calls session call (change call)) → AreInTurn before calls → AreInTurn session (map change calls)
-mapped-turn before session change calls so turn = followed before session calls (map change calls) (mapped-among calls before session change calls so turn.living) turn
+pub mapped-turn : (base : List Call) (before session : ℕ) (change : Call → Call) (calls : List Call)
+    → ((call : Call) → LivesIn before call → Follows calls session call (change call)) → AreKept base before calls → AreKept base session (map change calls)
+mapped-turn base before session change calls so kept =
+    followed base before session calls (map change calls) (mapped-among calls before session change calls so kept.turn.living) kept
 
 -- ---- changes
 
 -- flags alone
 pub flagged-follows : (calls : List Call) (session : ℕ) (flags : Flags) (call : Call) → LivesIn session call → Follows calls session call (flagged flags call)
 flagged-follows calls session flags call lives =
-    record { after = refl; covers = covers; names = λ number is earlier there names. names; living = lives } where
-  covers : (before : ℕ) (wrap : Option ℕ) → WentBehind call before wrap → WentBehind (flagged flags call) before wrap
-  covers before (Some number) went = record { name = went.name; among = went.among; of_session = went.of_session; of_number = went.of_number }
-  covers before None went = record { result = went.result; done = went.done; good = went.good }
+    record {
+      still = record {
+        body = refl;
+        after = refl;
+        names = λ name among. record { name = name; among = among; of_session = refl; same = refl };
+        done = λ result done. done;
+      };
+      names = λ number is earlier there names. names;
+      living = lives;
+    }
 
 never-sent : (fate : Fate) → state_after fate ≡ table.Sent → ⊥
 never-sent fate.Queue is = cc
@@ -120,20 +175,37 @@ never-sent (fate.Unknown cause) is = cc
 -- something becomes of a call that isn't done
 pub settled-follows : (calls : List Call) (session : ℕ) (fate : Fate) (call : Call) → NotDone call → Follows calls session call (settled fate call)
 settled-follows calls session fate call undone =
-    record { after = refl; covers = covers; names = λ number is earlier there names. names; living = λ sent. absurd (never-sent fate sent) } where
-  covers : (before : ℕ) (wrap : Option ℕ) → WentBehind call before wrap → WentBehind (settled fate call) before wrap
-  covers before (Some number) went = record { name = went.name; among = went.among; of_session = went.of_session; of_number = went.of_number }
-  covers before None went = absurd (undone went.result went.done)
+    record {
+      still = record {
+        body = refl;
+        after = refl;
+        names = λ name among. record { name = name; among = among; of_session = refl; same = refl };
+        done = λ result done. absurd (undone result done);
+      };
+      names = λ number is earlier there names. names;
+      living = λ sent. absurd (never-sent fate sent);
+    }
 
 -- the message goes again
-salted-names : (salt : ℕ) (names : List Name) (session number : ℕ) (name : Name) → Contains names name → name.session ≡ session → name.message.number ≡ number
-    → (one : Name) × Contains (with_salt salt names) one × (one.session ≡ session) × (one.message.number ≡ number)
-salted-names salt [] session number name among of_session of_number = let below : among.0 < 0 = among.1 in absurd (omega (arith, below))
-salted-names salt (first ∷ names) session number name among of_session of_number =
+salted-names : (call : Call) (salt : ℕ) (names : List Name) → call.names ≡ with_salt salt names → (name : Name) → Contains names name
+    → HasMessage call name.session name.message
+salted-names call salt [] its name among = let below : among.0 < 0 = among.1 in absurd (omega (arith, below))
+salted-names call salt (first ∷ names) its name among =
     let again : Name = record first { salts = salt ∷ first.salts } in
+    let all : List Name = again ∷ names in
     elim (first_or name first names among) [
-      | inl is ↦ (again, here again names, ap (λ (name : Name). name.session) is ∙ of_session, ap (λ (name : Name). name.message.number) is ∙ of_number)
-      | inr other ↦ (name, later name again names other, of_session, of_number)
+      | inl is ↦ record {
+        name = again;
+        among = subst (λ (names : List Name). Contains names again) (sym its) (here again names);
+        of_session = ap (λ (name : Name). name.session) is;
+        same = ap (λ (name : Name). name.message) is;
+      }
+      | inr other ↦ record {
+        name = name;
+        among = subst (λ (names : List Name). Contains names name) (sym its) (later name again names other);
+        of_session = refl;
+        same = refl;
+      }
     ]
 
 salted-behind : (earlier : Call) (salt : ℕ) (names : List Name) → AllByRecursion (IsBehind earlier) names → AllByRecursion (IsBehind earlier) (with_salt salt names)
@@ -155,57 +227,58 @@ pub again-follows : (calls : List Call) (session salt : ℕ) (flags : Flags) (ca
     → Follows calls session call (sent_again salt (flagged flags call))
 again-follows calls session salt flags call lives =
     record {
-      after = refl;
-      covers = covers;
+      still = record {
+        body = refl;
+        after = refl;
+        names = salted-names (sent_again salt (flagged flags call)) salt call.names refl;
+        done = λ result done. done;
+      };
       names = λ number is earlier there names. salted-behind earlier salt call.names names;
       living = λ sent. let was = lives sent in salted-living session salt call.state call.names was.0 was.1 was.2;
-    } where
-  covers : (before : ℕ) (wrap : Option ℕ) → WentBehind call before wrap → WentBehind (sent_again salt (flagged flags call)) before wrap
-  covers before (Some number) went =
-      let now = salted-names salt call.names before number went.name went.among went.of_session went.of_number in
-      record { name = now.0; among = now.1; of_session = now.2; of_number = now.3 }
-  covers before None went = record { result = went.result; done = went.done; good = went.good }
+    }
 
 -- it goes for the first time in a session
 pub sent-follows : (calls : List Call) (session : ℕ) (message : Living) (salt : ℕ) (call : Call) → NotDone call
     → ((number : CallNo) → call.after ≡ Some number → (earlier : Call) → at number calls ≡ Some earlier → WentBehind earlier session message.wrap)
     → Follows calls session call (sent session message salt call)
 sent-follows calls session message salt call undone behind =
+    let first : Name = record { session = session; message = message; salts = salt ∷ [] } in
     record {
-      after = refl;
-      covers = covers;
+      still = record {
+        body = refl;
+        after = refl;
+        names = λ name among. record { name = name; among = later name first call.names among; of_session = refl; same = refl };
+        done = λ result done. absurd (undone result done);
+      };
       names = λ number is earlier there names. (behind number is earlier there, names);
-      living = λ is. (record { session = session; message = message; salts = salt ∷ [] }, refl, refl);
-    } where
-  covers : (before : ℕ) (wrap : Option ℕ) → WentBehind call before wrap → WentBehind (sent session message salt call) before wrap
-  covers before (Some number) went =
-      record {
-        name = went.name;
-        among = later went.name (record { session = session; message = message; salts = salt ∷ [] }) call.names went.among;
-        of_session = went.of_session;
-        of_number = went.of_number;
-      }
-  covers before None went = absurd (undone went.result went.done)
+      living = λ is. (first, refl, refl);
+    }
 
 -- a call more
-pub added-turn : (session : ℕ) (calls : List Call) (body : List ℕ) (after : Option CallNo)
+pub added-turn : (base : List Call) (session : ℕ) (calls : List Call) (body : List ℕ) (after : Option CallNo)
     → ((number : CallNo) → after ≡ Some number → (earlier : Call) × (at number calls ≡ Some earlier))
-    → AreInTurn session calls → AreInTurn session (calls ++ new_call body after ∷ [])
-added-turn session calls body after there turn =
+    → AreKept base session calls → AreKept base session (calls ++ new_call body after ∷ [])
+added-turn base session calls body after there kept =
     let more = calls ++ new_call body after ∷ [] in
     record {
-      behind =
-          all-append (IsInTurn more) calls (new_call body after ∷ [])
-          (all-weaker (IsInTurn calls) (IsInTurn more) calls
-          (λ call turn number is.
-          let was = turn number is in
-          record { earlier = was.earlier; there = get-append calls (new_call body after ∷ []) (number.n - 1) was.earlier was.there; names = was.names })
-          turn.behind)
-          (λ number is.
-          let was = there number is in
-          record { earlier = was.0; there = get-append calls (new_call body after ∷ []) (number.n - 1) was.0 was.1; names = tt },
-          tt);
-      living = all-append (LivesIn session) calls (new_call body after ∷ []) turn.living (λ sent. absurd (let no : table.Queued ≡ table.Sent = sent in cc), tt);
+      turn = record {
+        behind =
+            all-append (IsInTurn more) calls (new_call body after ∷ [])
+            (all-weaker (IsInTurn calls) (IsInTurn more) calls
+            (λ call turn number is.
+            let was = turn number is in
+            record { earlier = was.earlier; there = get-append calls (new_call body after ∷ []) (number.n - 1) was.earlier was.there; names = was.names })
+            kept.turn.behind)
+            (λ number is.
+            let was = there number is in
+            record { earlier = was.0; there = get-append calls (new_call body after ∷ []) (number.n - 1) was.0 was.1; names = tt },
+            tt);
+        living =
+            all-append (LivesIn session) calls (new_call body after ∷ []) kept.turn.living (λ sent. absurd (let no : table.Queued ≡ table.Sent = sent in cc), tt);
+      };
+      last = λ place call is.
+          let was = kept.last place call is in
+          (was.0, get-append calls (new_call body after ∷ []) place was.0 was.1, was.2);
     }
 
 -- ---- the call that has a number

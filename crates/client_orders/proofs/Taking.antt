@@ -20,173 +20,177 @@ use Rattle.client_rules.specs.Client.{Client, Needed, StateRequest, at_moment, c
 use Rattle.client_rules.specs.Asking.{alone}
 use Rattle.client_rules.specs.Learning.{each_becomes, ended, fate_at_end, fate_learning, fate_under, learn, learnt_max, learns, settled_if, with_clock}
 use Rattle.client_rules.specs.Taking.{Notice, acknowledges, alone_call, alone_number, answered_by, asks_answer, asked_states, becomes, fate_noticed, goes_again, has_asked, is_for, is_odd, message_in, messages_of, noticed, noticed_by, packet_noticed, row, take, takes_message, takes_over, told_of, told_state, told_states, with_notice_clock, with_notice_salt, without_idle_wish}
-use Rattle.client_orders.specs.Behind.{AreInTurn, KeepsTurn, LivesIn}
-use Rattle.client_orders.proofs.Following.{Follows, NotDone, changed-turn, flagged-follows, mapped-turn, owner-sent, sent-open, settled-follows}
+use Rattle.client_orders.specs.Behind.{LivesIn}
+use Rattle.client_orders.proofs.Following.{AreKept, Follows, NotDone, changed-turn, flagged-follows, mapped-turn, owner-sent, sent-open, settled-follows}
 use Rattle.client_orders.proofs.Lists.{none-some, some-same}
 
--- ---- one call
+module _ (base : List Call) where
+  abbrev KeepsTurn : Client → Type 0
+  KeepsTurn client = AreKept base client.session (calls_of client)
 
--- a call of which one hears is sent
-becomes-turn : (number : ℕ) (call : CallNo) (fate : Fate) (client : Client) → owner number (calls_of client) ≡ Some call → KeepsTurn client → KeepsTurn (becomes call fate client)
-becomes-turn number call fate client is turn =
-    changed-turn client.session (call.n - 1) (settled fate) (calls_of client)
-    (λ one there lives. settled-follows (calls_of client) client.session fate one (sent-open one (owner-sent number (calls_of client) call is one there))) turn
+  -- ---- one call
 
-alone-turn : (call : Option CallNo) (client : Client) → KeepsTurn client → KeepsTurn (alone_call call client)
-alone-turn None client turn = turn
-alone-turn (Some call) client turn =
-    changed-turn client.session (call.n - 1) alone (calls_of client)
-    (λ one there lives. flagged-follows (calls_of client) client.session (record one.flags { alone = true }) one lives) turn
+  -- a call of which one hears is sent
+  becomes-turn : (number : ℕ) (call : CallNo) (fate : Fate) (client : Client) → owner number (calls_of client) ≡ Some call → KeepsTurn client → KeepsTurn (becomes call fate client)
+  becomes-turn number call fate client is turn =
+      changed-turn base client.session (call.n - 1) (settled fate) (calls_of client)
+      (λ one there lives. settled-follows (calls_of client) client.session fate one (sent-open one (owner-sent number (calls_of client) call is one there))) turn
 
-alone_all-turn : (numbers : List ℕ) (client : Client) → KeepsTurn client → KeepsTurn (fold alone_number client numbers)
-alone_all-turn [] client turn = turn
-alone_all-turn (number ∷ numbers) client turn =
-    alone_all-turn numbers (alone_number client number) (alone-turn (owner number (calls_of client)) client turn)
+  alone-turn : (call : Option CallNo) (client : Client) → KeepsTurn client → KeepsTurn (alone_call call client)
+  alone-turn None client turn = turn
+  alone-turn (Some call) client turn =
+      changed-turn base client.session (call.n - 1) alone (calls_of client)
+      (λ one there lives. flagged-follows (calls_of client) client.session (record one.flags { alone = true }) one lives) turn
 
--- ---- all calls
+  alone_all-turn : (numbers : List ℕ) (client : Client) → KeepsTurn client → KeepsTurn (fold alone_number client numbers)
+  alone_all-turn [] client turn = turn
+  alone_all-turn (number ∷ numbers) client turn =
+      alone_all-turn numbers (alone_number client number) (alone-turn (owner number (calls_of client)) client turn)
 
--- what a fate says of a call that isn't done
-abbrev pub IsOpenFate : (Call → Option Fate) → Type 0
-IsOpenFate fate = (call : Call) (one : Fate) → fate call ≡ Some one → NotDone call
+  -- ---- all calls
 
--- a call that it says nothing of lives on, where it lived
-settled_if-follows : (calls : List Call) (session : ℕ) (found : Option Fate) (call : Call) → ((one : Fate) → found ≡ Some one → NotDone call)
-    → (found ≡ None → LivesIn session call) → Follows calls session call (settled_if found call)
-settled_if-follows calls session None call undone lives = flagged-follows calls session call.flags call (lives refl)
-settled_if-follows calls session (Some one) call undone lives = settled-follows calls session one call (undone one refl)
+  -- what a fate says of a call that isn't done
+  abbrev pub IsOpenFate : (Call → Option Fate) → Type 0
+  IsOpenFate fate = (call : Call) (one : Fate) → fate call ≡ Some one → NotDone call
 
-pub each-turn : (before session : ℕ) (fate : Call → Option Fate) (calls : List Call) → IsOpenFate fate
-    → ((call : Call) → LivesIn before call → fate call ≡ None → LivesIn session call) → AreInTurn before calls
-    → AreInTurn session (map (λ call. settled_if (fate call) call) calls)
-each-turn before session fate calls undone lives turn =
-    mapped-turn before session (λ call. settled_if (fate call) call) calls
-    (λ call was. settled_if-follows calls session (fate call) call (undone call) (λ none. lives call was none)) turn
+  -- a call that it says nothing of lives on, where it lived
+  settled_if-follows : (calls : List Call) (session : ℕ) (found : Option Fate) (call : Call) → ((one : Fate) → found ≡ Some one → NotDone call)
+      → (found ≡ None → LivesIn session call) → Follows calls session call (settled_if found call)
+  settled_if-follows calls session None call undone lives = flagged-follows calls session call.flags call (lives refl)
+  settled_if-follows calls session (Some one) call undone lives = settled-follows calls session one call (undone one refl)
 
-end-open : (state : State) (fate : Fate) → fate_at_end state ≡ Some fate → (result : List ℕ) → state ≡ table.Done result → ⊥
-end-open table.Sent fate is result done = cc
-end-open table.Queued fate is result done = cc
-end-open table.Held fate is result done = cc
-end-open (table.Done reply) fate is result done = none-some fate is
-end-open (table.Refused code) fate is result done = none-some fate is
-end-open (table.Unknown cause) fate is result done = none-some fate is
+  pub each-turn : (before session : ℕ) (fate : Call → Option Fate) (calls : List Call) → IsOpenFate fate
+      → ((call : Call) → LivesIn before call → fate call ≡ None → LivesIn session call) → AreKept base before calls
+      → AreKept base session (map (λ call. settled_if (fate call) call) calls)
+  each-turn before session fate calls undone lives turn =
+      mapped-turn base before session (λ call. settled_if (fate call) call) calls
+      (λ call was. settled_if-follows calls session (fate call) call (undone call) (λ none. lives call was none)) turn
 
-pub ended-turn : (client : Client) → KeepsTurn client → KeepsTurn (ended client)
-ended-turn client turn =
-    each-turn client.session client.session (λ call. fate_at_end call.state) (calls_of client) (λ call fate is. end-open call.state fate is) (λ call lives none. lives) turn
+  end-open : (state : State) (fate : Fate) → fate_at_end state ≡ Some fate → (result : List ℕ) → state ≡ table.Done result → ⊥
+  end-open table.Sent fate is result done = cc
+  end-open table.Queued fate is result done = cc
+  end-open table.Held fate is result done = cc
+  end-open (table.Done reply) fate is result done = none-some fate is
+  end-open (table.Refused code) fate is result done = none-some fate is
+  end-open (table.Unknown cause) fate is result done = none-some fate is
 
-learning-open : (first : Bool) (salt : ℕ) (state : State) (names : List Name) (fate : Fate) → fate_learning first salt (living_name_in state names) ≡ Some fate
-    → (result : List ℕ) → state ≡ table.Done result → ⊥
-learning-open first salt table.Sent names fate is result done = cc
-learning-open first salt table.Queued names fate is result done = cc
-learning-open first salt table.Held names fate is result done = cc
-learning-open first salt (table.Done reply) names fate is result done = none-some fate is
-learning-open first salt (table.Refused code) names fate is result done = none-some fate is
-learning-open first salt (table.Unknown cause) names fate is result done = none-some fate is
+  pub ended-turn : (client : Client) → KeepsTurn client → KeepsTurn (ended client)
+  ended-turn client turn =
+      each-turn client.session client.session (λ call. fate_at_end call.state) (calls_of client) (λ call fate is. end-open call.state fate is) (λ call lives none. lives) turn
 
-learns-turn : (unique salt : ℕ) (client : Client) → KeepsTurn client → KeepsTurn (learns unique salt client)
-learns-turn unique salt client turn =
-    let first = not (is_open client) in
-    each-turn client.session client.session (λ call. fate_learning first salt (living_name call)) (calls_of client)
-    (λ call fate is. learning-open first salt call.state call.names fate is) (λ call lives none. lives) turn
+  learning-open : (first : Bool) (salt : ℕ) (state : State) (names : List Name) (fate : Fate) → fate_learning first salt (living_name_in state names) ≡ Some fate
+      → (result : List ℕ) → state ≡ table.Done result → ⊥
+  learning-open first salt table.Sent names fate is result done = cc
+  learning-open first salt table.Queued names fate is result done = cc
+  learning-open first salt table.Held names fate is result done = cc
+  learning-open first salt (table.Done reply) names fate is result done = none-some fate is
+  learning-open first salt (table.Refused code) names fate is result done = none-some fate is
+  learning-open first salt (table.Unknown cause) names fate is result done = none-some fate is
 
-learn-turn : (outer unique salt : ℕ) (client : Client) → KeepsTurn client → KeepsTurn (learn outer unique salt client)
-learn-turn outer unique salt client turn =
-    cond_both (list_any (λ learnt. learnt == unique) client.learnt) client _ KeepsTurn (λ is. turn)
-    (λ is.
-    cond_both (nat_le learnt_max (length client.learnt)) (ended client) (with_clock outer (learns unique salt client)) KeepsTurn
-    (λ is. ended-turn client turn) (λ is. learns-turn unique salt client turn))
+  learns-turn : (unique salt : ℕ) (client : Client) → KeepsTurn client → KeepsTurn (learns unique salt client)
+  learns-turn unique salt client turn =
+      let first = not (is_open client) in
+      each-turn client.session client.session (λ call. fate_learning first salt (living_name call)) (calls_of client)
+      (λ call fate is. learning-open first salt call.state call.names fate is) (λ call lives none. lives) turn
 
--- ---- notices
+  learn-turn : (outer unique salt : ℕ) (client : Client) → KeepsTurn client → KeepsTurn (learn outer unique salt client)
+  learn-turn outer unique salt client turn =
+      cond_both (list_any (λ learnt. learnt == unique) client.learnt) client _ KeepsTurn (λ is. turn)
+      (λ is.
+      cond_both (nat_le learnt_max (length client.learnt)) (ended client) (with_clock outer (learns unique salt client)) KeepsTurn
+      (λ is. ended-turn client turn) (λ is. learns-turn unique salt client turn))
 
--- the clock and the salt are taken over
-over-session : (outer : ℕ) (notice : Notice) (client : Client)
-    → ((takes_over outer notice client).session ≡ client.session) × (calls_of (takes_over outer notice client) ≡ calls_of client)
-over-session outer notice client = go notice.salt where
-  clock : ((with_notice_clock outer notice.code client).session ≡ client.session) × (calls_of (with_notice_clock outer notice.code client) ≡ calls_of client)
-  clock =
-      cond_both ((notice.code == 16) || (notice.code == 17)) (with_clock outer client) client (λ (other : Client). (other.session ≡ client.session) × (calls_of other ≡ calls_of client))
-      (λ is. (refl, refl)) (λ is. (refl, refl))
-  go : (salt : Option ℕ) → ((with_notice_salt salt (with_notice_clock outer notice.code client)).session ≡ client.session)
-      × (calls_of (with_notice_salt salt (with_notice_clock outer notice.code client)) ≡ calls_of client)
-  go None = clock
-  go (Some salt) = clock
+  -- ---- notices
 
-over-turn : (outer : ℕ) (notice : Notice) (client : Client) → KeepsTurn client → KeepsTurn (takes_over outer notice client)
-over-turn outer notice client turn =
-    let same = over-session outer notice client in
-    subst (λ (session : ℕ). AreInTurn session (calls_of (takes_over outer notice client))) (sym same.0) (subst (AreInTurn client.session) (sym same.1) turn)
+  -- the clock and the salt are taken over
+  over-session : (outer : ℕ) (notice : Notice) (client : Client)
+      → ((takes_over outer notice client).session ≡ client.session) × (calls_of (takes_over outer notice client) ≡ calls_of client)
+  over-session outer notice client = go notice.salt where
+    clock : ((with_notice_clock outer notice.code client).session ≡ client.session) × (calls_of (with_notice_clock outer notice.code client) ≡ calls_of client)
+    clock =
+        cond_both ((notice.code == 16) || (notice.code == 17)) (with_clock outer client) client (λ (other : Client). (other.session ≡ client.session) × (calls_of other ≡ calls_of client))
+        (λ is. (refl, refl)) (λ is. (refl, refl))
+    go : (salt : Option ℕ) → ((with_notice_salt salt (with_notice_clock outer notice.code client)).session ≡ client.session)
+        × (calls_of (with_notice_salt salt (with_notice_clock outer notice.code client)) ≡ calls_of client)
+    go None = clock
+    go (Some salt) = clock
 
-noticed_by-turn : (call : Option CallNo) (is_binding : Bool) (packet : Option (List ℕ)) (outer : ℕ) (notice : Notice) (client : Client)
-    → owner notice.about (calls_of client) ≡ call → KeepsTurn client → KeepsTurn (noticed_by call is_binding packet outer notice client)
-noticed_by-turn (Some call) is_binding packet outer notice client is turn =
-    let over = takes_over outer notice client in
-    becomes-turn notice.about call (fate_noticed notice.code) over (ap (owner notice.about) (over-session outer notice client).1 ∙ is) (over-turn outer notice client turn)
-noticed_by-turn None true packet outer notice client is turn = over-turn outer notice client turn
-noticed_by-turn None false (Some numbers) outer notice client is turn = alone_all-turn numbers _ (over-turn outer notice client turn)
-noticed_by-turn None false None outer notice client is turn = turn
+  over-turn : (outer : ℕ) (notice : Notice) (client : Client) → KeepsTurn client → KeepsTurn (takes_over outer notice client)
+  over-turn outer notice client turn =
+      let same = over-session outer notice client in
+      subst (λ (session : ℕ). AreKept base session (calls_of (takes_over outer notice client))) (sym same.0) (subst (AreKept base client.session) (sym same.1) turn)
 
-noticed-turn : (outer : ℕ) (notice : Notice) (client : Client) → KeepsTurn client → KeepsTurn (noticed outer notice client)
-noticed-turn outer notice client turn =
-    noticed_by-turn (owner notice.about (calls_of client)) (has_asked notice.about client.temporary) (inner_of notice.about client.table.packets) outer notice client refl turn
+  noticed_by-turn : (call : Option CallNo) (is_binding : Bool) (packet : Option (List ℕ)) (outer : ℕ) (notice : Notice) (client : Client)
+      → owner notice.about (calls_of client) ≡ call → KeepsTurn client → KeepsTurn (noticed_by call is_binding packet outer notice client)
+  noticed_by-turn (Some call) is_binding packet outer notice client is turn =
+      let over = takes_over outer notice client in
+      becomes-turn notice.about call (fate_noticed notice.code) over (ap (owner notice.about) (over-session outer notice client).1 ∙ is) (over-turn outer notice client turn)
+  noticed_by-turn None true packet outer notice client is turn = over-turn outer notice client turn
+  noticed_by-turn None false (Some numbers) outer notice client is turn = alone_all-turn numbers _ (over-turn outer notice client turn)
+  noticed_by-turn None false None outer notice client is turn = turn
 
-answered-turn : (about : ℕ) (call : Option CallNo) (is_binding : Bool) (result : List ℕ) (client : Client) → owner about (calls_of client) ≡ call → KeepsTurn client
-    → KeepsTurn (answered_by call is_binding result client)
-answered-turn about (Some call) is_binding result client is turn = becomes-turn about call (fate.Done result) client is turn
-answered-turn about None true result client is turn = turn
-answered-turn about None false result client is turn = turn
+  noticed-turn : (outer : ℕ) (notice : Notice) (client : Client) → KeepsTurn client → KeepsTurn (noticed outer notice client)
+  noticed-turn outer notice client turn =
+      noticed_by-turn (owner notice.about (calls_of client)) (has_asked notice.about client.temporary) (inner_of notice.about client.table.packets) outer notice client refl turn
 
--- ---- states
+  answered-turn : (about : ℕ) (call : Option CallNo) (is_binding : Bool) (result : List ℕ) (client : Client) → owner about (calls_of client) ≡ call → KeepsTurn client
+      → KeepsTurn (answered_by call is_binding result client)
+  answered-turn about (Some call) is_binding result client is turn = becomes-turn about call (fate.Done result) client is turn
+  answered-turn about None true result client is turn = turn
+  answered-turn about None false result client is turn = turn
 
-state-turn : (client : Client) (one : ℕ × ℕ) → KeepsTurn client → KeepsTurn (told_state client one)
-state-turn client (number, byte) turn =
-    cond_both (goes_again byte) (alone_number client number) client KeepsTurn (λ is. alone-turn (owner number (calls_of client)) client turn) (λ is. turn)
+  -- ---- states
 
-all_states-turn : (told : List (ℕ × ℕ)) (client : Client) → KeepsTurn client → KeepsTurn (fold told_state client told)
-all_states-turn [] client turn = turn
-all_states-turn (one ∷ told) client turn = all_states-turn told (told_state client one) (state-turn client one turn)
+  state-turn : (client : Client) (one : ℕ × ℕ) → KeepsTurn client → KeepsTurn (told_state client one)
+  state-turn client (number, byte) turn =
+      cond_both (goes_again byte) (alone_number client number) client KeepsTurn (λ is. alone-turn (owner number (calls_of client)) client turn) (λ is. turn)
 
-told_states-turn : (numbers info : List ℕ) (client : Client) → KeepsTurn client → KeepsTurn (told_states numbers info client)
-told_states-turn numbers info client turn =
-    cond_both (length info == length numbers) (fold told_state client (zip numbers info)) client KeepsTurn (λ is. all_states-turn (zip numbers info) client turn) (λ is. turn)
+  all_states-turn : (told : List (ℕ × ℕ)) (client : Client) → KeepsTurn client → KeepsTurn (fold told_state client told)
+  all_states-turn [] client turn = turn
+  all_states-turn (one ∷ told) client turn = all_states-turn told (told_state client one) (state-turn client one turn)
 
-told-turn : (asked : Option StateRequest) (request : ℕ) (info : List ℕ) (client : Client) → KeepsTurn client → KeepsTurn (told_of asked request info client)
-told-turn None request info client turn = turn
-told-turn (Some asked) request info client turn =
-    cond_both (asked.number == request) (told_states asked.numbers info client) client KeepsTurn (λ is. told_states-turn asked.numbers info client turn) (λ is. turn)
+  told_states-turn : (numbers info : List ℕ) (client : Client) → KeepsTurn client → KeepsTurn (told_states numbers info client)
+  told_states-turn numbers info client turn =
+      cond_both (length info == length numbers) (fold told_state client (zip numbers info)) client KeepsTurn (λ is. all_states-turn (zip numbers info) client turn) (λ is. turn)
 
-answer-turn : (number : ℕ) (client : Client) → KeepsTurn client → KeepsTurn (asks_answer number client)
-answer-turn number client turn = cond_both (nat_lt (length client.waiting.resent) 8192) _ client KeepsTurn (λ is. turn) (λ is. turn)
+  told-turn : (asked : Option StateRequest) (request : ℕ) (info : List ℕ) (client : Client) → KeepsTurn client → KeepsTurn (told_of asked request info client)
+  told-turn None request info client turn = turn
+  told-turn (Some asked) request info client turn =
+      cond_both (asked.number == request) (told_states asked.numbers info client) client KeepsTurn (λ is. told_states-turn asked.numbers info client turn) (λ is. turn)
 
--- ---- rows
+  answer-turn : (number : ℕ) (client : Client) → KeepsTurn client → KeepsTurn (asks_answer number client)
+  answer-turn number client turn = cond_both (nat_lt (length client.waiting.resent) 8192) _ client KeepsTurn (λ is. turn) (λ is. turn)
 
-row-turn : (outer number : ℕ) (item : Item) (client : Client) → KeepsTurn client → KeepsTurn (row outer number item client)
-row-turn outer number (NewSessionCreated first unique salt) client turn = learn-turn outer unique salt client turn
-row-turn outer number (RpcResult about result) client turn =
-    answered-turn about (owner about (calls_of client)) (has_asked about client.temporary) result client refl turn
-row-turn outer number (BadMsgNotification about seq code) client turn = noticed-turn outer (record { about = about; code = code; salt = None }) client turn
-row-turn outer number (BadServerSalt about seq code salt) client turn = noticed-turn outer (record { about = about; code = 48; salt = Some salt }) client turn
-row-turn outer number (MsgsStateInfo request info) client turn = told-turn client.asked request info client turn
-row-turn outer number (MsgsAllInfo numbers info) client turn = told_states-turn numbers info client turn
-row-turn outer number (MsgResendReq numbers) client turn = alone_all-turn numbers client turn
-row-turn outer number (MsgsStateReq numbers) client turn = turn
-row-turn outer number (MsgDetailedInfo about answer bytes status) client turn = answer-turn answer client turn
-row-turn outer number (MsgNewDetailedInfo answer bytes status) client turn = answer-turn answer client turn
-row-turn outer number _ client turn = turn
+  -- ---- rows
 
-acked-turn : (message : Message) (client : Client) → KeepsTurn client → KeepsTurn (acknowledges message client)
-acked-turn message client turn = cond_both (is_odd message.seq) _ client KeepsTurn (λ is. turn) (λ is. turn)
+  row-turn : (outer number : ℕ) (item : Item) (client : Client) → KeepsTurn client → KeepsTurn (row outer number item client)
+  row-turn outer number (NewSessionCreated first unique salt) client turn = learn-turn outer unique salt client turn
+  row-turn outer number (RpcResult about result) client turn =
+      answered-turn about (owner about (calls_of client)) (has_asked about client.temporary) result client refl turn
+  row-turn outer number (BadMsgNotification about seq code) client turn = noticed-turn outer (record { about = about; code = code; salt = None }) client turn
+  row-turn outer number (BadServerSalt about seq code salt) client turn = noticed-turn outer (record { about = about; code = 48; salt = Some salt }) client turn
+  row-turn outer number (MsgsStateInfo request info) client turn = told-turn client.asked request info client turn
+  row-turn outer number (MsgsAllInfo numbers info) client turn = told_states-turn numbers info client turn
+  row-turn outer number (MsgResendReq numbers) client turn = alone_all-turn numbers client turn
+  row-turn outer number (MsgsStateReq numbers) client turn = turn
+  row-turn outer number (MsgDetailedInfo about answer bytes status) client turn = answer-turn answer client turn
+  row-turn outer number (MsgNewDetailedInfo answer bytes status) client turn = answer-turn answer client turn
+  row-turn outer number _ client turn = turn
 
-message-turn : (outer : ℕ) (client : Client) (message : Message) → KeepsTurn client → KeepsTurn (takes_message outer client message)
-message-turn outer client message turn =
-    cond_both client.has_ended client _ KeepsTurn (λ is. turn)
-    (λ is. row-turn outer message.number (item_of message.body) (acknowledges message client) (acked-turn message client turn))
+  acked-turn : (message : Message) (client : Client) → KeepsTurn client → KeepsTurn (acknowledges message client)
+  acked-turn message client turn = cond_both (is_odd message.seq) _ client KeepsTurn (λ is. turn) (λ is. turn)
 
-messages-turn : (outer : ℕ) (messages : List Message) (client : Client) → KeepsTurn client → KeepsTurn (fold (takes_message outer) client messages)
-messages-turn outer [] client turn = turn
-messages-turn outer (message ∷ messages) client turn = messages-turn outer messages (takes_message outer client message) (message-turn outer client message turn)
+  message-turn : (outer : ℕ) (client : Client) (message : Message) → KeepsTurn client → KeepsTurn (takes_message outer client message)
+  message-turn outer client message turn =
+      cond_both client.has_ended client _ KeepsTurn (λ is. turn)
+      (λ is. row-turn outer message.number (item_of message.body) (acknowledges message client) (acked-turn message client turn))
 
-pub take-turn : (now : ℕ) (envelope : Envelope) (client : Client) → KeepsTurn client → KeepsTurn (take now envelope client)
-take-turn now envelope client turn =
-    let ready = at_moment now client in
-    cond_both (is_for client envelope) (without_idle_wish (fold (takes_message envelope.number) ready (messages_of (message_in envelope)))) ready KeepsTurn
-    (λ is. messages-turn envelope.number (messages_of (message_in envelope)) ready turn) (λ is. turn)
+  messages-turn : (outer : ℕ) (messages : List Message) (client : Client) → KeepsTurn client → KeepsTurn (fold (takes_message outer) client messages)
+  messages-turn outer [] client turn = turn
+  messages-turn outer (message ∷ messages) client turn = messages-turn outer messages (takes_message outer client message) (message-turn outer client message turn)
+
+  pub take-turn : (now : ℕ) (envelope : Envelope) (client : Client) → KeepsTurn client → KeepsTurn (take now envelope client)
+  take-turn now envelope client turn =
+      let ready = at_moment now client in
+      cond_both (is_for client envelope) (without_idle_wish (fold (takes_message envelope.number) ready (messages_of (message_in envelope)))) ready KeepsTurn
+      (λ is. messages-turn envelope.number (messages_of (message_in envelope)) ready turn) (λ is. turn)

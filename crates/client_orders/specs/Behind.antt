@@ -1,7 +1,8 @@
 -- A call that is to execute after an earlier one, and how it goes (core.telegram.org/api/invoking, "Saving query order").
-use Rattle.std.specs.Prelude.{◌≡◌, ℕ, true, Option, Some, None, List}
+use Rattle.std.specs.Prelude.{◌≡◌, ℕ, true, Option, Some, None, List, slice_get}
 use Rattle.std.specs.List.{AllByRecursion, Contains}
 use Rattle.call_table.specs.declared.call.CallNo.{CallNo}
+use Rattle.call_table.specs.declared.call.Living.{Living}
 use Rattle.call_table.specs.Table.{Call, Name, at, living_name}
 use Rattle.call_table.specs.Table as table
 use Rattle.client_rules.specs.Client.{Client, calls_of}
@@ -50,3 +51,23 @@ pub record AreInTurn (session : ℕ) (calls : List Call) : Type 0 where
 
 abbrev pub KeepsTurn : Client → Type 0
 KeepsTurn client = AreInTurn client.session (calls_of client)
+
+-- ---- calls at a later moment
+
+-- the call went in this session as this message: with its number, and behind which it went
+pub record HasMessage (call : Call) (session : ℕ) (message : Living) : Type 0 where
+  pub name : Name
+  pub among : Contains call.names name
+  pub of_session : name.session ≡ session
+  pub same : name.message ≡ message
+
+-- it is the same call; all that it ever went as it went as still, and where it was done it is done with that result
+pub record IsStill (call later : Call) : Type 0 where
+  pub body : later.body ≡ call.body
+  pub after : later.after ≡ call.after
+  pub names : (name : Name) → Contains call.names name → HasMessage later name.session name.message
+  pub done : (result : List ℕ) → call.state ≡ table.Done result → later.state ≡ table.Done result
+
+-- each call stands in its place
+abbrev pub Last : List Call → List Call → Type 0
+Last calls later = (place : ℕ) (call : Call) → slice_get calls place ≡ Some call → (other : Call) × (slice_get later place ≡ Some other) × IsStill call other
