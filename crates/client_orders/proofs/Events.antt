@@ -20,7 +20,7 @@ use Rattle.client_orders.proofs.Lists.{get-below, none-some, some-same, true-fal
 
 module _ (base : List Call) where
   abbrev KeepsTurn : Client → Type 0
-  KeepsTurn client = AreKept base client.session (calls_of client)
+  KeepsTurn client = AreKept base client.session client.counters.last (calls_of client)
 
   -- ---- a call is submitted
 
@@ -54,7 +54,7 @@ module _ (base : List Call) where
 
   submitted-turn : (body : List ℕ) (after : Option CallNo) (client : Client) → submit_fault body after client ≡ None → KeepsTurn client → KeepsTurn (submitted body after client)
   submitted-turn body after client is turn =
-      added-turn base client.session (calls_of client) body after (there after (earlier-there (length (calls_of client)) body after is)) turn where
+      added-turn base client.session client.counters.last (calls_of client) body after (there after (earlier-there (length (calls_of client)) body after is)) turn where
     there : (after : Option CallNo) → has_earlier (length (calls_of client)) after ≡ true → (number : CallNo) → after ≡ Some number
         → (earlier : Call) × (at number (calls_of client) ≡ Some earlier)
     there None has number is = absurd (none-some number is)
@@ -71,19 +71,19 @@ module _ (base : List Call) where
 
   attached-turn : (client : Client) → KeepsTurn client → KeepsTurn (attached client)
   attached-turn client turn =
-      mapped-turn base client.session client.session alone_if_sent (calls_of client)
+      mapped-turn base client.session client.counters.last client.session client.counters.last alone_if_sent (calls_of client)
       (λ call lives.
-      cond_both (Rattle.call_table.specs.Table.is_sent call.state) _ call (Follows (calls_of client) client.session call)
-      (λ is. flagged-follows (calls_of client) client.session (record call.flags { alone = true }) call lives)
-      (λ is. flagged-follows (calls_of client) client.session call.flags call lives))
+      cond_both (Rattle.call_table.specs.Table.is_sent call.state) _ call (Follows (calls_of client) client.session client.counters.last call)
+      (λ is. flagged-follows (calls_of client) client.session client.counters.last (record call.flags { alone = true }) call lives)
+      (λ is. flagged-follows (calls_of client) client.session client.counters.last call.flags call lives))
       turn
 
   dropped-turn : (call : CallNo) (client : Client) → KeepsTurn client → KeepsTurn (dropped call client)
   dropped-turn call client turn =
       cond_both (can_drop call client) (with_call call drops client) client KeepsTurn
       (λ is.
-      changed-turn base client.session (call.n - 1) drops (calls_of client)
-      (λ one there lives. flagged-follows (calls_of client) client.session (record one.flags { dropping = true }) one lives) turn)
+      changed-turn base client.session client.counters.last (call.n - 1) drops (calls_of client)
+      (λ one there lives. flagged-follows (calls_of client) client.session client.counters.last (record one.flags { dropping = true }) one lives) turn)
       (λ is. turn)
 
   -- ---- another session
@@ -106,7 +106,7 @@ module _ (base : List Call) where
 
   renewed-turn : (session : ℕ) (client : Client) → KeepsTurn client → KeepsTurn (renewed session client)
   renewed-turn session client turn =
-      each-turn base client.session session (λ call. fate_renewed call.state) (calls_of client) (λ call fate is. renewed-open call.state fate is)
+      each-turn base client.session client.counters.last session 0 (λ call. fate_renewed call.state) (calls_of client) (λ call fate is. renewed-open call.state fate is)
       (λ call lives none sent. absurd (renewed-gone call.state none sent)) turn
 
   -- ---- all events
@@ -118,7 +118,7 @@ module _ (base : List Call) where
   step-turn setting run (Ping id) turn = turn
   step-turn setting run (AskSalts count) turn = turn
   step-turn setting run (Drop call) turn = dropped-turn call run.client turn
-  step-turn setting run (Flush now) turn = flush-so base setting now run.client run.draw turn
+  step-turn setting run (Flush now) turn = (flush-so base ⊥ setting now run.client run.draw (λ none. absurd none) turn).0
   step-turn setting run (Take now None) turn = turn
   step-turn setting run (Take now (Some envelope)) turn = take-turn base now envelope run.client turn
   step-turn setting run Renew turn = renewed-turn (word_after setting.step 0 run.draw) run.client turn

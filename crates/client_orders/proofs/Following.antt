@@ -16,30 +16,31 @@ abbrev pub NotDone : Call → Type 0
 NotDone call = (result : List ℕ) → call.state ≡ table.Done result → ⊥
 
 -- a call that was that one still, and its own names stay behind the earlier call among all calls
-pub record Follows (calls : List Call) (session : ℕ) (old new : Call) : Type 0 where
+pub record Follows (calls : List Call) (session last : ℕ) (old new : Call) : Type 0 where
   pub still : IsStill old new
   pub names : (number : CallNo) → old.after ≡ Some number → (earlier : Call) → at number calls ≡ Some earlier
       → AllByRecursion (IsBehind earlier) old.names → AllByRecursion (IsBehind earlier) new.names
-  pub living : LivesIn session new
+  pub living : LivesIn session last new
 
 -- one by one
-abbrev pub AreFollowed : List Call → ℕ → List Call → List Call → Type 0
-AreFollowed calls session [] [] = ⊤
-AreFollowed calls session [] (new ∷ news) = ⊥
-AreFollowed calls session (old ∷ olds) [] = ⊥
-AreFollowed calls session (old ∷ olds) (new ∷ news) = Follows calls session old new × AreFollowed calls session olds news
+abbrev pub AreFollowed : List Call → ℕ → ℕ → List Call → List Call → Type 0
+AreFollowed calls session last [] [] = ⊤
+AreFollowed calls session last [] (new ∷ news) = ⊥
+AreFollowed calls session last (old ∷ olds) [] = ⊥
+AreFollowed calls session last (old ∷ olds) (new ∷ news) = Follows calls session last old new × AreFollowed calls session last olds news
 
 -- what went behind a call did so still
-covered : (old new : Call) → IsStill old new → (session : ℕ) (wrap : Option ℕ) → WentBehind old session wrap → WentBehind new session wrap
-covered old new still session (Some number) went =
+covered : (old new : Call) → IsStill old new → (session own : ℕ) (wrap : Option ℕ) → WentBehind old session own wrap → WentBehind new session own wrap
+covered old new still session own (Some number) went =
     let has = still.names went.name went.among in
     record {
       name = has.name;
       among = has.among;
       of_session = has.of_session ∙ went.of_session;
       of_number = ap (λ (message : Living). message.number) has.same ∙ went.of_number;
+      below = went.below;
     }
-covered old new still session None went = record { result = went.result; done = still.done went.result went.done; good = went.good }
+covered old new still session own None went = record { result = went.result; done = still.done went.result went.done; good = went.good }
 
 itself : (call : Call) → IsStill call call
 itself call = record {
@@ -64,25 +65,25 @@ pub nothing-last : (calls : List Call) → Last calls calls
 nothing-last calls = λ place call is. (call, is, itself call)
 
 -- the calls at the beginning last, and these are in turn
-pub record AreKept (base : List Call) (session : ℕ) (calls : List Call) : Type 0 where
-  pub turn : AreInTurn session calls
-  pub last : Last base calls
+pub record AreKept (base : List Call) (session last : ℕ) (calls : List Call) : Type 0 where
+  pub turn : AreInTurn session last calls
+  pub lasting : Last base calls
 
-module _ (calls : List Call) (session : ℕ) where
-  followed-at : (olds news : List Call) → AreFollowed calls session olds news → (place : ℕ) (old : Call) → slice_get olds place ≡ Some old
-      → (new : Call) × (slice_get news place ≡ Some new) × Follows calls session old new
+module _ (calls : List Call) (session last : ℕ) where
+  followed-at : (olds news : List Call) → AreFollowed calls session last olds news → (place : ℕ) (old : Call) → slice_get olds place ≡ Some old
+      → (new : Call) × (slice_get news place ≡ Some new) × Follows calls session last old new
   followed-at [] news are place old is = absurd (none-some old is)
   followed-at (one ∷ olds) [] are place old is = absurd are
-  followed-at (one ∷ olds) (new ∷ news) are zero old is = (new, refl, subst (λ (old : Call). Follows calls session old new) (some-same one old is) are.0)
+  followed-at (one ∷ olds) (new ∷ news) are zero old is = (new, refl, subst (λ (old : Call). Follows calls session last old new) (some-same one old is) are.0)
   followed-at (one ∷ olds) (new ∷ news) are (suc place) old is = followed-at olds news are.1 place old is
 
-  all-living : (olds news : List Call) → AreFollowed calls session olds news → AllByRecursion (LivesIn session) news
+  all-living : (olds news : List Call) → AreFollowed calls session last olds news → AllByRecursion (LivesIn session last) news
   all-living [] [] are = tt
   all-living [] (new ∷ news) are = absurd are
   all-living (old ∷ olds) [] are = absurd are
   all-living (old ∷ olds) (new ∷ news) are = (are.0.living, all-living olds news are.1)
 
-  one-behind : (news : List Call) → AreFollowed calls session calls news → (old new : Call) → Follows calls session old new → IsInTurn calls old → IsInTurn news new
+  one-behind : (news : List Call) → AreFollowed calls session last calls news → (old new : Call) → Follows calls session last old new → IsInTurn calls old → IsInTurn news new
   one-behind news are old new follows turn number is =
       let own : old.after ≡ Some number = sym follows.still.after ∙ is in
       let was = turn number own in
@@ -91,69 +92,69 @@ module _ (calls : List Call) (session : ℕ) where
         earlier = now.0;
         there = now.1;
         names =
-            all-weaker (IsBehind was.earlier) (IsBehind now.0) new.names (λ name behind. covered was.earlier now.0 now.2.still name.session name.message.wrap behind)
+            all-weaker (IsBehind was.earlier) (IsBehind now.0) new.names (λ name behind. covered was.earlier now.0 now.2.still name.session name.message.number name.message.wrap behind)
             (follows.names number own was.earlier was.there was.names);
       }
 
-  all-behind : (news : List Call) → AreFollowed calls session calls news → (olds left : List Call) → AreFollowed calls session olds left
+  all-behind : (news : List Call) → AreFollowed calls session last calls news → (olds left : List Call) → AreFollowed calls session last olds left
       → AllByRecursion (IsInTurn calls) olds → AllByRecursion (IsInTurn news) left
   all-behind news are [] [] all turns = tt
   all-behind news are [] (new ∷ left) all turns = absurd all
   all-behind news are (old ∷ olds) [] all turns = absurd all
   all-behind news are (old ∷ olds) (new ∷ left) all turns = (one-behind news are old new all.0 turns.0, all-behind news are olds left all.1 turns.1)
 
-then-last : (base calls news : List Call) (session : ℕ) → AreFollowed calls session calls news → Last base calls → Last base news
-then-last base calls news session are last = λ place call is.
-    let was = last place call is in
-    let now = followed-at calls session calls news are place was.0 was.1 in
+then-last : (base calls news : List Call) (session last : ℕ) → AreFollowed calls session last calls news → Last base calls → Last base news
+then-last base calls news session last are lasting = λ place call is.
+    let was = lasting place call is in
+    let now = followed-at calls session last calls news are place was.0 was.1 in
     (now.0, now.1, then-still call was.0 now.0 was.2 now.2.still)
 
 -- the calls are in turn still
-pub followed : (base : List Call) (before session : ℕ) (calls news : List Call) → AreFollowed calls session calls news → AreKept base before calls → AreKept base session news
-followed base before session calls news are kept =
+pub followed : (base : List Call) (before past session last : ℕ) (calls news : List Call) → AreFollowed calls session last calls news → AreKept base before past calls → AreKept base session last news
+followed base before past session last calls news are kept =
     record {
-      turn = record { behind = all-behind calls session news are calls news are kept.turn.behind; living = all-living calls session calls news are };
-      last = then-last base calls news session are kept.last;
+      turn = record { behind = all-behind calls session last news are calls news are kept.turn.behind; living = all-living calls session last calls news are };
+      lasting = then-last base calls news session last are kept.lasting;
     }
 
 -- ---- one is changed, or all are
 
-follows-itself : (calls : List Call) (session : ℕ) (call : Call) → LivesIn session call → Follows calls session call call
-follows-itself calls session call lives = record { still = itself call; names = λ number is earlier there names. names; living = lives }
+follows-itself : (calls : List Call) (session last : ℕ) (call : Call) → LivesIn session last call → Follows calls session last call call
+follows-itself calls session last call lives = record { still = itself call; names = λ number is earlier there names. names; living = lives }
 
-changed-among : (calls : List Call) (session place : ℕ) (change : Call → Call) (olds : List Call)
-    → ((call : Call) → slice_get olds place ≡ Some call → LivesIn session call → Follows calls session call (change call))
-    → AllByRecursion (LivesIn session) olds → AreFollowed calls session olds (changed_at place change olds)
-changed-among calls session place change [] so lives = tt
-changed-among calls session zero change (old ∷ olds) so lives = (so old refl lives.0, same olds lives.1) where
-  same : (olds : List Call) → AllByRecursion (LivesIn session) olds → AreFollowed calls session olds olds
+pub changed-among : (calls : List Call) (session last place : ℕ) (change : Call → Call) (olds : List Call)
+    → ((call : Call) → slice_get olds place ≡ Some call → LivesIn session last call → Follows calls session last call (change call))
+    → AllByRecursion (LivesIn session last) olds → AreFollowed calls session last olds (changed_at place change olds)
+changed-among calls session last place change [] so lives = tt
+changed-among calls session last zero change (old ∷ olds) so lives = (so old refl lives.0, same olds lives.1) where
+  same : (olds : List Call) → AllByRecursion (LivesIn session last) olds → AreFollowed calls session last olds olds
   same [] lives = tt
-  same (old ∷ olds) lives = (follows-itself calls session old lives.0, same olds lives.1)
-changed-among calls session (suc place) change (old ∷ olds) so lives =
-    (follows-itself calls session old lives.0, changed-among calls session place change olds so lives.1)
+  same (old ∷ olds) lives = (follows-itself calls session last old lives.0, same olds lives.1)
+changed-among calls session last (suc place) change (old ∷ olds) so lives =
+    (follows-itself calls session last old lives.0, changed-among calls session last place change olds so lives.1)
 
-pub changed-turn : (base : List Call) (session place : ℕ) (change : Call → Call) (calls : List Call)
-    → ((call : Call) → slice_get calls place ≡ Some call → LivesIn session call → Follows calls session call (change call))
-    → AreKept base session calls → AreKept base session (changed_at place change calls)
-changed-turn base session place change calls so kept =
-    followed base session session calls (changed_at place change calls) (changed-among calls session place change calls so kept.turn.living) kept
+pub changed-turn : (base : List Call) (session last place : ℕ) (change : Call → Call) (calls : List Call)
+    → ((call : Call) → slice_get calls place ≡ Some call → LivesIn session last call → Follows calls session last call (change call))
+    → AreKept base session last calls → AreKept base session last (changed_at place change calls)
+changed-turn base session last place change calls so kept =
+    followed base session last session last calls (changed_at place change calls) (changed-among calls session last place change calls so kept.turn.living) kept
 
-mapped-among : (calls : List Call) (before session : ℕ) (change : Call → Call) (olds : List Call)
-    → ((call : Call) → LivesIn before call → Follows calls session call (change call)) → AllByRecursion (LivesIn before) olds
-    → AreFollowed calls session olds (map change olds)
-mapped-among calls before session change [] so lives = tt
-mapped-among calls before session change (old ∷ olds) so lives = (so old lives.0, mapped-among calls before session change olds so lives.1)
+mapped-among : (calls : List Call) (before past session last : ℕ) (change : Call → Call) (olds : List Call)
+    → ((call : Call) → LivesIn before past call → Follows calls session last call (change call)) → AllByRecursion (LivesIn before past) olds
+    → AreFollowed calls session last olds (map change olds)
+mapped-among calls before past session last change [] so lives = tt
+mapped-among calls before past session last change (old ∷ olds) so lives = (so old lives.0, mapped-among calls before past session last change olds so lives.1)
 
-pub mapped-turn : (base : List Call) (before session : ℕ) (change : Call → Call) (calls : List Call)
-    → ((call : Call) → LivesIn before call → Follows calls session call (change call)) → AreKept base before calls → AreKept base session (map change calls)
-mapped-turn base before session change calls so kept =
-    followed base before session calls (map change calls) (mapped-among calls before session change calls so kept.turn.living) kept
+pub mapped-turn : (base : List Call) (before past session last : ℕ) (change : Call → Call) (calls : List Call)
+    → ((call : Call) → LivesIn before past call → Follows calls session last call (change call)) → AreKept base before past calls → AreKept base session last (map change calls)
+mapped-turn base before past session last change calls so kept =
+    followed base before past session last calls (map change calls) (mapped-among calls before past session last change calls so kept.turn.living) kept
 
 -- ---- changes
 
 -- flags alone
-pub flagged-follows : (calls : List Call) (session : ℕ) (flags : Flags) (call : Call) → LivesIn session call → Follows calls session call (flagged flags call)
-flagged-follows calls session flags call lives =
+pub flagged-follows : (calls : List Call) (session last : ℕ) (flags : Flags) (call : Call) → LivesIn session last call → Follows calls session last call (flagged flags call)
+flagged-follows calls session last flags call lives =
     record {
       still = record {
         body = refl;
@@ -173,8 +174,8 @@ never-sent (fate.Refused code) is = cc
 never-sent (fate.Unknown cause) is = cc
 
 -- something becomes of a call that isn't done
-pub settled-follows : (calls : List Call) (session : ℕ) (fate : Fate) (call : Call) → NotDone call → Follows calls session call (settled fate call)
-settled-follows calls session fate call undone =
+pub settled-follows : (calls : List Call) (session last : ℕ) (fate : Fate) (call : Call) → NotDone call → Follows calls session last call (settled fate call)
+settled-follows calls session last fate call undone =
     record {
       still = record {
         body = refl;
@@ -212,20 +213,21 @@ salted-behind : (earlier : Call) (salt : ℕ) (names : List Name) → AllByRecur
 salted-behind earlier salt [] all = tt
 salted-behind earlier salt (first ∷ names) all = (all.0, all.1)
 
-salted-living : (session salt : ℕ) (state : State) (names : List Name) (name : Name) → living_name_in state names ≡ Some name → name.session ≡ session
-    → (one : Name) × (living_name_in state (with_salt salt names) ≡ Some one) × (one.session ≡ session)
-salted-living session salt table.Sent [] name is of_session = absurd (none-some name is)
-salted-living session salt table.Sent (first ∷ names) name is of_session =
-    (record first { salts = salt ∷ first.salts }, refl, ap (λ (name : Name). name.session) (some-same first name is) ∙ of_session)
-salted-living session salt table.Queued names name is of_session = absurd (none-some name is)
-salted-living session salt table.Held names name is of_session = absurd (none-some name is)
-salted-living session salt (table.Done reply) names name is of_session = absurd (none-some name is)
-salted-living session salt (table.Refused code) names name is of_session = absurd (none-some name is)
-salted-living session salt (table.Unknown cause) names name is of_session = absurd (none-some name is)
+salted-living : (session last salt : ℕ) (state : State) (names : List Name) (name : Name) → living_name_in state names ≡ Some name → name.session ≡ session → name.message.number ≤ last
+    → (one : Name) × (living_name_in state (with_salt salt names) ≡ Some one) × (one.session ≡ session) × (one.message.number ≤ last)
+salted-living session last salt table.Sent [] name is of_session within = absurd (none-some name is)
+salted-living session last salt table.Sent (first ∷ names) name is of_session within =
+    let number = ap (λ (name : Name). name.message.number) (some-same first name is) in
+    (record first { salts = salt ∷ first.salts }, refl, ap (λ (name : Name). name.session) (some-same first name is) ∙ of_session, omega (arith, number, within))
+salted-living session last salt table.Queued names name is of_session within = absurd (none-some name is)
+salted-living session last salt table.Held names name is of_session within = absurd (none-some name is)
+salted-living session last salt (table.Done reply) names name is of_session within = absurd (none-some name is)
+salted-living session last salt (table.Refused code) names name is of_session within = absurd (none-some name is)
+salted-living session last salt (table.Unknown cause) names name is of_session within = absurd (none-some name is)
 
-pub again-follows : (calls : List Call) (session salt : ℕ) (flags : Flags) (call : Call) → LivesIn session call
-    → Follows calls session call (sent_again salt (flagged flags call))
-again-follows calls session salt flags call lives =
+pub again-follows : (calls : List Call) (session last salt : ℕ) (flags : Flags) (call : Call) → LivesIn session last call
+    → Follows calls session last call (sent_again salt (flagged flags call))
+again-follows calls session last salt flags call lives =
     record {
       still = record {
         body = refl;
@@ -234,14 +236,14 @@ again-follows calls session salt flags call lives =
         done = λ result done. done;
       };
       names = λ number is earlier there names. salted-behind earlier salt call.names names;
-      living = λ sent. let was = lives sent in salted-living session salt call.state call.names was.0 was.1 was.2;
+      living = λ sent. let was = lives sent in salted-living session last salt call.state call.names was.0 was.1 was.2 was.3;
     }
 
 -- it goes for the first time in a session
-pub sent-follows : (calls : List Call) (session : ℕ) (message : Living) (salt : ℕ) (call : Call) → NotDone call
-    → ((number : CallNo) → call.after ≡ Some number → (earlier : Call) → at number calls ≡ Some earlier → WentBehind earlier session message.wrap)
-    → Follows calls session call (sent session message salt call)
-sent-follows calls session message salt call undone behind =
+pub sent-follows : (calls : List Call) (session last : ℕ) (message : Living) (salt : ℕ) (call : Call) → NotDone call
+    → ((number : CallNo) → call.after ≡ Some number → (earlier : Call) → at number calls ≡ Some earlier → WentBehind earlier session message.number message.wrap) → message.number ≤ last
+    → Follows calls session last call (sent session message salt call)
+sent-follows calls session last message salt call undone behind within =
     let first : Name = record { session = session; message = message; salts = salt ∷ [] } in
     record {
       still = record {
@@ -251,14 +253,14 @@ sent-follows calls session message salt call undone behind =
         done = λ result done. absurd (undone result done);
       };
       names = λ number is earlier there names. (behind number is earlier there, names);
-      living = λ is. (first, refl, refl);
+      living = λ is. (first, refl, refl, within);
     }
 
 -- a call more
-pub added-turn : (base : List Call) (session : ℕ) (calls : List Call) (body : List ℕ) (after : Option CallNo)
+pub added-turn : (base : List Call) (session last : ℕ) (calls : List Call) (body : List ℕ) (after : Option CallNo)
     → ((number : CallNo) → after ≡ Some number → (earlier : Call) × (at number calls ≡ Some earlier))
-    → AreKept base session calls → AreKept base session (calls ++ new_call body after ∷ [])
-added-turn base session calls body after there kept =
+    → AreKept base session last calls → AreKept base session last (calls ++ new_call body after ∷ [])
+added-turn base session last calls body after there kept =
     let more = calls ++ new_call body after ∷ [] in
     record {
       turn = record {
@@ -274,10 +276,10 @@ added-turn base session calls body after there kept =
             record { earlier = was.0; there = get-append calls (new_call body after ∷ []) (number.n - 1) was.0 was.1; names = tt },
             tt);
         living =
-            all-append (LivesIn session) calls (new_call body after ∷ []) kept.turn.living (λ sent. absurd (let no : table.Queued ≡ table.Sent = sent in cc), tt);
+            all-append (LivesIn session last) calls (new_call body after ∷ []) kept.turn.living (λ sent. absurd (let no : table.Queued ≡ table.Sent = sent in cc), tt);
       };
-      last = λ place call is.
-          let was = kept.last place call is in
+      lasting = λ place call is.
+          let was = kept.lasting place call is in
           (was.0, get-append calls (new_call body after ∷ []) place was.0 was.1, was.2);
     }
 
@@ -309,3 +311,24 @@ sent-open call is = λ result done. let no : table.Sent ≡ table.Done result = 
 
 pub queued-open : (call : Call) → call.state ≡ table.Queued → NotDone call
 queued-open call is = λ result done. let no : table.Queued ≡ table.Done result = sym is ∙ done in cc
+
+-- numbers were given since
+pub raised-lives : (session last more : ℕ) → last ≤ more → (call : Call) → LivesIn session last call → LivesIn session more call
+raised-lives session last more less call lives = λ sent. let was = lives sent in (was.0, was.1, was.2, let within = was.3 in omega (arith, less, within))
+
+pub raised : (base : List Call) (session last more : ℕ) (calls : List Call) → last ≤ more → AreKept base session last calls → AreKept base session more calls
+raised base session last more calls less kept =
+    record {
+      turn = record {
+        behind = kept.turn.behind;
+        living = all-weaker (LivesIn session last) (LivesIn session more) calls (raised-lives session last more less) kept.turn.living;
+      };
+      lasting = kept.lasting;
+    }
+
+-- one is changed: all last
+pub changed-last : (session last place : ℕ) (change : Call → Call) (calls : List Call)
+    → ((call : Call) → slice_get calls place ≡ Some call → LivesIn session last call → Follows calls session last call (change call))
+    → AllByRecursion (LivesIn session last) calls → Last calls (changed_at place change calls)
+changed-last session last place change calls so lives =
+    then-last calls calls (changed_at place change calls) session last (changed-among calls session last place change calls so lives) (nothing-last calls)

@@ -1,10 +1,12 @@
 //! Laws of the order of calls, each the contract of a function that does nothing.
 
 ghost use Rattle.std.specs.Prelude.{List, Option, ℕ};
-ghost use Rattle.client_rules.specs.Client.{Temporary, calls_of};
+ghost use Rattle.client_rules.specs.Client.{Client, Temporary, calls_of};
 ghost use Rattle.client_rules.specs.Events.{Event, Run, made, run_of, step};
+ghost use Rattle.client_rules.specs.Flush.{flush};
 ghost use Rattle.client_rules.specs.Sending.{Setting};
 ghost use Rattle.client_orders.specs.Behind.{KeepsTurn, Last};
+ghost use Rattle.client_orders.specs.Going.{IsAnswerFrom, IsReady};
 
 use draws::Draw;
 
@@ -22,4 +24,11 @@ pub fn calls_go_in_order<D: Draw>()
 /// that it ever went as stays, and a call that is done stays done with that result.
 pub fn calls_stay<D: Draw>()
     ensures { (setting : Setting D) (run : Run D) (event : Event) → KeepsTurn run.client → Last (calls_of run.client) (calls_of (step setting run event).client) }
+{}
+
+/// A flush of a client whose calls are in turn sends messages as which its calls went, each with the call's body, behind the
+/// number of an earlier message where it went behind one; and other messages, which ask nothing of the service.
+pub fn packets_have_calls_as_they_went<D: Draw>()
+    ensures { (setting : Setting D) (now : ℕ) (client : Client) (draw : D) → KeepsTurn client → IsReady client
+        → IsAnswerFrom (calls_of (flush setting now client draw).client) (flush setting now client draw).answer }
 {}

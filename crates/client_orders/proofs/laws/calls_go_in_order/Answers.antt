@@ -11,8 +11,8 @@ returns-clause-made g c = λ setting key temporary draw. record { behind = tt; l
 pub returns-clause-event : goal.returns-clause-event
 returns-clause-event g c = λ setting run event turn.
     let calls = calls_of run.client in
-    (step-turn calls setting run event (record { turn = turn; last = nothing-last calls })).turn
+    (step-turn calls setting run event (record { turn = turn; lasting = nothing-last calls })).turn
 
 pub returns-clause-all : goal.returns-clause-all
 returns-clause-all g c = λ setting key temporary draw events.
-    (all-turn [] setting events (made setting key temporary draw) (record { turn = record { behind = tt; living = tt }; last = nothing-last [] })).turn
+    (all-turn [] setting events (made setting key temporary draw) (record { turn = record { behind = tt; living = tt }; lasting = nothing-last [] })).turn

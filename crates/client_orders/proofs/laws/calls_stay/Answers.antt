@@ -6,4 +6,4 @@ use Rattle.client_orders.proofs.laws.calls_stay.Goals as goal
 pub returns : goal.returns
 returns g c = λ setting run event turn.
     let calls = calls_of run.client in
-    (step-turn calls setting run event (record { turn = turn; last = nothing-last calls })).last
+    (step-turn calls setting run event (record { turn = turn; lasting = nothing-last calls })).lasting
