@@ -1,6 +1,6 @@
 -- Each event of a client keeps its calls in turn.
-use Rattle.std.proofs.Common.{◌≡◌, ◌∙◌, ◌==◌, ℕ, ◌+◌, ◌-◌, ◌<◌, ◌≤◌, Bool, true, false, cond, Option, Some, None, List, [], ◌∷◌, length, map, ap, sym, subst, refl, arith, inl, inr}
-use Rattle.std.specs.Prelude.{◌%◌, ◌&&◌, not, fold, is_none, nat_le, nat_lt}
+use Rattle.std.proofs.Common.{◌≡◌, ◌==◌, ℕ, ◌-◌, true, cond, Option, Some, None, List, [], ◌∷◌, length, sym, subst, refl, arith, inl, inr}
+use Rattle.std.specs.Prelude.{◌%◌, not, is_none, nat_lt}
 use Rattle.std.proofs.lemmas.Bool.{and_parts, cases_Bool, cond_both, ltb-true, leb-true}
 use Rattle.byteorder.specs.Endian.{little_number}
 use Rattle.draws.specs.Draws.{word_after}
@@ -10,13 +10,12 @@ use Rattle.call_table.specs.Table.{Call, State, at}
 use Rattle.call_table.specs.Table as table
 use Rattle.client_rules.specs.Client.{Client, calls_of, with_call}
 use Rattle.client_rules.specs.Asking.{Fault, NoSuchCall, alone_if_sent, attached, begins_service, body_bytes_max, can_drop, drops, dropped, fault_at, has_call, has_earlier, submit_fault, submitted, NotWords, ServiceTag, TooLong}
-use Rattle.client_rules.specs.Events.{Attach, AskSalts, Drop, End, Event, Flush, Ping, Renew, Run, Submit, Take, Tick, fate_renewed, renewed, run_of, step, takes, unless_fault}
+use Rattle.client_rules.specs.Events.{Attach, AskSalts, Drop, End, Event, Flush, Ping, Renew, Run, Submit, Take, Tick, fate_renewed, renewed, run_of, step, unless_fault}
 use Rattle.client_rules.specs.Sending.{Setting}
-use Rattle.client_orders.specs.Behind.{LivesIn}
 use Rattle.client_orders.proofs.Following.{AreKept, Follows, added-turn, changed-turn, flagged-follows, mapped-turn}
 use Rattle.client_orders.proofs.Taking.{each-turn, ended-turn, take-turn}
 use Rattle.client_orders.proofs.Filling.{flush-so}
-use Rattle.client_orders.proofs.Lists.{get-below, none-some, some-same, true-false}
+use Rattle.client_orders.proofs.Lists.{get-below, none-some, some-same}
 
 module _ (base : List Call) where
   abbrev KeepsTurn : Client → Type 0
@@ -55,11 +54,11 @@ module _ (base : List Call) where
   submitted-turn : (body : List ℕ) (after : Option CallNo) (client : Client) → submit_fault body after client ≡ None → KeepsTurn client → KeepsTurn (submitted body after client)
   submitted-turn body after client is turn =
       added-turn base client.session client.counters.last (calls_of client) body after (there after (earlier-there (length (calls_of client)) body after is)) turn where
-    there : (after : Option CallNo) → has_earlier (length (calls_of client)) after ≡ true → (number : CallNo) → after ≡ Some number
-        → (earlier : Call) × (at number (calls_of client) ≡ Some earlier)
-    there None has number is = absurd (none-some number is)
-    there (Some one) has number is =
-        subst (λ (number : CallNo). (earlier : Call) × (at number (calls_of client) ≡ Some earlier)) (some-same one number is) (call-there (calls_of client) one has)
+        there : (after : Option CallNo) → has_earlier (length (calls_of client)) after ≡ true → (number : CallNo) → after ≡ Some number
+            → (earlier : Call) × (at number (calls_of client) ≡ Some earlier)
+        there None has number is = absurd (none-some number is)
+        there (Some one) has number is =
+            subst (λ (number : CallNo). (earlier : Call) × (at number (calls_of client) ≡ Some earlier)) (some-same one number is) (call-there (calls_of client) one has)
 
   unless-turn : (body : List ℕ) (after : Option CallNo) (client : Client) → KeepsTurn client → KeepsTurn (unless_fault body after client)
   unless-turn body after client turn = go (submit_fault body after client) refl where

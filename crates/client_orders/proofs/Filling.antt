@@ -1,5 +1,5 @@
 -- A flush keeps a client's calls in turn.
-use Rattle.std.proofs.Common.{◌≡◌, ◌≢◌, ◌∙◌, ◌==◌, ℕ, suc, zero, ◌+◌, ◌-◌, ◌<◌, ◌≤◌, Bool, true, false, cond, Option, Some, None, List, [], ◌∷◌, ◌++◌, length, map, ap, sym, subst, refl, arith, inl, inr}
+use Rattle.std.proofs.Common.{◌≡◌, ◌≢◌, ◌∙◌, ℕ, suc, ◌+◌, ◌-◌, ◌<◌, ◌≤◌, Bool, true, false, Option, Some, None, List, [], ◌∷◌, ◌++◌, length, map, ap, sym, subst, refl, arith, inl, inr}
 use Rattle.std.specs.Prelude.{◌&&◌, ◌⊎◌, ⊤, IfSome, filter_map, fold, is_some, nat_lt, option_map, slice_get}
 use Rattle.std.specs.List.{AllByRecursion}
 use Rattle.std.proofs.lemmas.Bool.{cases_Bool, cases_eq, cond_both}
@@ -10,20 +10,18 @@ use Rattle.service_tl.specs.declared.item.Item.{Item}
 use Rattle.service_tl.specs.declared.item.Item.TheVariants.{DestroySession, GetFutureSalts, MsgResendReq, MsgsAck, MsgsStateInfo, MsgsStateReq, Ping, RpcDropAnswer, AuthBindTempAuthKey}
 use Rattle.service_tl.specs.declared.lists.Message.{Message}
 use Rattle.service_tl.specs.Items.{spelling_of}
-use Rattle.containers.specs.Container.{container_of}
 use Rattle.packing.specs.Packing.{is_within}
 use Rattle.call_table.specs.declared.call.CallNo.{CallNo}
 use Rattle.call_table.specs.declared.call.Fate.TheVariants as fate
-use Rattle.call_table.specs.declared.call.Flags.{Flags}
 use Rattle.call_table.specs.declared.call.Group.TheVariants as group
 use Rattle.call_table.specs.declared.call.Living.{Living}
 use Rattle.call_table.specs.Table.{Call, Name, State, at, call_no, changed_at, flagged, group_of, is_in, is_queued, living_name, living_name_in, owner, places_from, sent, settled}
 use Rattle.call_table.specs.Table as table
-use Rattle.client_rules.specs.Client.{Asked, Bound, Client, Binding, Held, Needed, Refused, States, Temporary, after_message, at_moment, calls_of, is_open, numbered, with_binding, with_call, time_of}
+use Rattle.client_rules.specs.Client.{Asked, Bound, Client, Binding, Held, Needed, Refused, States, Temporary, after_message, at_moment, calls_of, is_open, numbered, with_call, time_of}
 use Rattle.client_rules.specs.Sending.{Setting, binding_body, inner_of, packet_of}
 use Rattle.client_rules.specs.Filling.{Filling, Goes, Never, Turn, Waits, asks_binding, asks_states, body_behind, changes, empty, fills, goes, is_good, inserted, is_needed, living_number, number_of, numbers_max, outstanding, says, says_acks, says_binding, says_call, says_call_at, says_destroyed, says_drop, says_drop_of, says_ping, says_resent, says_salts, says_states, says_told, sends_call, takes_turn, turn_after, turn_behind, turn_by, turn_of, turn_under, turn_with, undropped}
-use Rattle.client_rules.specs.Flush.{Marked, Flushed, Sends, asked_alone, binding_alone, filled, first_marked, flush, gone_again, has_any, marked_at, message_behind, remembers, remembers_lone, room_min, sends, unless_binding, unless_call}
-use Rattle.client_orders.specs.Behind.{IsStill, Last, LivesIn, WentBehind}
+use Rattle.client_rules.specs.Flush.{Marked, Flushed, asked_alone, binding_alone, filled, first_marked, flush, gone_again, has_any, marked_at, message_behind, remembers, remembers_lone, room_min, sends, unless_binding, unless_call}
+use Rattle.client_orders.specs.Behind.{Last, LivesIn, WentBehind}
 use Rattle.client_orders.specs.Going.{IsAnswerFrom, IsAskedBy, IsFrom, IsOfCall, IsPacketFrom, IsReady}
 use Rattle.world_moves.specs.Clients.{IsShort}
 use Rattle.world_moves.specs.Sent.{Asks, IsBindingCall, IsSaidAside}
@@ -288,7 +286,7 @@ module _ (base : List Call) (Q : Type 0) where
         says-so ks true (RpcDropAnswer number) (with_call k undropped) filling (λ q. tt)
         (λ client messages holds.
         let so : (one : Call) → slice_get (calls_of client) (k.n - 1) ≡ Some one → LivesIn client.session client.counters.last one
-            → Rattle.client_orders.proofs.Following.Follows (calls_of client) client.session client.counters.last one (undropped one) =
+        → Rattle.client_orders.proofs.Following.Follows (calls_of client) client.session client.counters.last one (undropped one) =
         λ one there lives. flagged-follows (calls_of client) client.session client.counters.last (record one.flags { dropping = false }) one lives in
         record {
           turn = changed-turn base client.session client.counters.last (k.n - 1) undropped (calls_of client) so holds.turn;
@@ -385,7 +383,7 @@ module _ (base : List Call) (Q : Type 0) where
         let last = filling.client.counters.last in
         let stop : Call → Call = settled (fate.Refused 0) in
         let so : (one : Call) → slice_get calls (k.n - 1) ≡ Some one → LivesIn session last one
-            → Rattle.client_orders.proofs.Following.Follows calls session last one (stop one) =
+        → Rattle.client_orders.proofs.Following.Follows calls session last one (stop one) =
         λ one there lives.
         settled-follows calls session last (fate.Refused 0) one (queued-open one (ap (λ (call : Call). call.state) (some-same one call (sym there ∙ found)) ∙ queued)) in
         record {
@@ -406,7 +404,7 @@ module _ (base : List Call) (Q : Type 0) where
         let change = sent session living filling.client.salt in
         let name : Name = record { session = session; message = living; salts = filling.client.salt ∷ [] } in
         let so : (one : Call) → slice_get calls (k.n - 1) ≡ Some one → LivesIn session new one
-            → Rattle.client_orders.proofs.Following.Follows calls session new one (change one) =
+        → Rattle.client_orders.proofs.Following.Follows calls session new one (change one) =
         λ one there lives.
         let same : one ≡ call = some-same one call (sym there ∙ found) in
         sent-follows calls session new living filling.client.salt one (queued-open one (ap (λ (call : Call). call.state) same ∙ queued))
@@ -421,19 +419,20 @@ module _ (base : List Call) (Q : Type 0) where
           queued = other-queued calls k change ks differs holds.queued;
           from = λ q.
               all-append (λ (message : Message). IsFrom session news message.number message.body) filling.messages (message ∷ [])
-              (all-from session calls news filling.messages (changed-last session new (k.n - 1) change calls so kept.turn.living) (holds.from q))
-              (inl
-              (record {
-                place = k.n - 1;
-                call = change call;
-                name = name;
-                there = get_changed (k.n - 1) change calls (k.n - 1) refl ∙ ap (λ (one : Option Call). option_map change one) found;
-                among = here name call.names;
-                of_session = refl;
-                of_number = refl;
-                goes = refl;
-              }),
-              tt);
+              (all-from session calls news filling.messages (changed-last session new (k.n - 1) change calls so kept.turn.living) (holds.from q)) (
+                inl
+                    (record {
+                      place = k.n - 1;
+                      call = change call;
+                      name = name;
+                      there = get_changed (k.n - 1) change calls (k.n - 1) refl ∙ ap (λ (one : Option Call). option_map change one) found;
+                      among = here name call.names;
+                      of_session = refl;
+                      of_number = refl;
+                      goes = refl;
+                    }),
+                tt,
+              );
           within =
               all-append (λ (message : Message). message.number ≤ new) filling.messages (message ∷ []) (more-within last new filling.messages less holds.within) (omega arith, tt);
         })
@@ -573,15 +572,15 @@ module _ (base : List Call) (Q : Type 0) where
         let calls = calls_of client in
         let change = gone_again client.salt in
         let so : (one : Call) → slice_get calls (marked.call.n - 1) ≡ Some one → LivesIn session last one
-            → Rattle.client_orders.proofs.Following.Follows calls session last one (change one) =
+        → Rattle.client_orders.proofs.Following.Follows calls session last one (change one) =
         λ one there lives. again-follows calls session last client.salt (record one.flags { alone = false }) one lives in
         let news = changed_at (marked.call.n - 1) change calls in
         record {
           turn = changed-turn base session last (marked.call.n - 1) change calls so turn;
           from = λ q. (
-              from-last session marked.message.number marked.message.body calls news (changed-last session last (marked.call.n - 1) change calls so turn.turn.living)
-                  (inl (marked-from client marked turn (is-marked client (group_of group.Alone calls) marked is))),
-              tt,
+            from-last session marked.message.number marked.message.body calls news (changed-last session last (marked.call.n - 1) change calls so turn.turn.living)
+                (inl (marked-from client marked turn (is-marked client (group_of group.Alone calls) marked is))),
+            tt,
           );
           numbers = inl tt;
         }
@@ -618,8 +617,7 @@ module _ (base : List Call) (Q : Type 0) where
         let new = next_number last (time_of client) in
         let more = above last (time_of client) in
         let less : last ≤ new = omega (arith, more) in
-        let all : List Message = message ∷ (other ∷ messages) in
-        (
+        let all : List Message = message ∷ (other ∷ messages) in (
           raised base client.session last new (calls_of client) less whole.turn,
           λ q.
               inr

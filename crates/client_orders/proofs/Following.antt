@@ -1,6 +1,6 @@
 -- Calls that change, one by one, and stay in turn.
-use Rattle.std.proofs.Common.{◌≡◌, ◌≢◌, ◌∙◌, ◌==◌, ℕ, zero, suc, ◌+◌, ◌-◌, ◌<◌, ◌≤◌, Bool, true, false, cond, Option, Some, None, List, [], ◌∷◌, ◌++◌, length, map, ap, sym, subst, refl, arith, inl, inr, eqb-true}
-use Rattle.std.specs.Prelude.{◌⊎◌, ⊤, option_map, slice_get}
+use Rattle.std.proofs.Common.{◌≡◌, ◌∙◌, ℕ, zero, suc, ◌+◌, ◌-◌, ◌<◌, ◌≤◌, true, Option, Some, None, List, [], ◌∷◌, ◌++◌, map, ap, sym, subst, refl, arith, inl, inr}
+use Rattle.std.specs.Prelude.{⊤, option_map, slice_get}
 use Rattle.std.specs.List.{AllByRecursion, Contains}
 use Rattle.call_table.specs.declared.call.CallNo.{CallNo}
 use Rattle.call_table.specs.declared.call.Flags.{Flags}
@@ -9,8 +9,8 @@ use Rattle.call_table.specs.declared.call.Fate.TheVariants as fate
 use Rattle.call_table.specs.declared.call.Living.{Living}
 use Rattle.call_table.specs.Table.{Call, Name, State, at, call_no, changed_at, first_from, flagged, is_number_of, living_name, living_name_in, new_call, no_flags, owner, sent, sent_again, settled, state_after, with_salt}
 use Rattle.call_table.specs.Table as table
-use Rattle.client_orders.specs.Behind.{AreInTurn, GoesBehind, HasMessage, HasName, IsBehind, IsDoneWell, IsInTurn, IsStill, Last, LivesIn, WentBehind}
-use Rattle.client_orders.proofs.Lists.{all-append, all-at, all-weaker, first-from, first_or, get-append, here, later, none-some, some-same, true-false}
+use Rattle.client_orders.specs.Behind.{AreInTurn, HasMessage, IsBehind, IsInTurn, IsStill, Last, LivesIn, WentBehind}
+use Rattle.client_orders.proofs.Lists.{all-append, all-weaker, first-from, first_or, get-append, here, later, none-some, some-same, true-false}
 
 abbrev pub NotDone : Call → Type 0
 NotDone call = (result : List ℕ) → call.state ≡ table.Done result → ⊥
@@ -270,11 +270,12 @@ added-turn base session last calls body after there kept =
             (λ call turn number is.
             let was = turn number is in
             record { earlier = was.earlier; there = get-append calls (new_call body after ∷ []) (number.n - 1) was.earlier was.there; names = was.names })
-            kept.turn.behind)
-            (λ number is.
-            let was = there number is in
-            record { earlier = was.0; there = get-append calls (new_call body after ∷ []) (number.n - 1) was.0 was.1; names = tt },
-            tt);
+            kept.turn.behind) (
+              λ number is.
+                  let was = there number is in
+                  record { earlier = was.0; there = get-append calls (new_call body after ∷ []) (number.n - 1) was.0 was.1; names = tt },
+              tt,
+            );
         living =
             all-append (LivesIn session last) calls (new_call body after ∷ []) kept.turn.living (λ sent. absurd (let no : table.Queued ≡ table.Sent = sent in cc), tt);
       };

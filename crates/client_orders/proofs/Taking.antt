@@ -1,7 +1,7 @@
 -- What a client hears keeps its calls in turn.
-use Rattle.std.proofs.Common.{◌≡◌, ◌∙◌, ◌==◌, ℕ, ◌-◌, Bool, true, false, cond, Option, Some, None, List, [], ◌∷◌, ◌++◌, length, map, ap, sym, subst, refl, arith, inl, inr}
-use Rattle.std.specs.Prelude.{◌&&◌, ◌||◌, not, bit_and, fold, nat_le, nat_lt, option_map}
-use Rattle.std.specs.List.{AllByRecursion, list_any, zip}
+use Rattle.std.proofs.Common.{◌≡◌, ◌∙◌, ◌==◌, ℕ, ◌-◌, Bool, true, false, Option, Some, None, List, [], ◌∷◌, length, map, ap, sym, subst, refl}
+use Rattle.std.specs.Prelude.{◌||◌, not, fold, nat_le, nat_lt}
+use Rattle.std.specs.List.{list_any, zip}
 use Rattle.std.proofs.lemmas.Bool.{cond_both}
 use Rattle.service_tl.specs.declared.item.Item.{Item}
 use Rattle.service_tl.specs.declared.item.Item.TheVariants.{RpcResult, NewSessionCreated, MsgsStateReq, MsgsStateInfo, MsgsAllInfo, MsgResendReq, MsgDetailedInfo, MsgNewDetailedInfo, BadMsgNotification, BadServerSalt}
@@ -11,18 +11,15 @@ use Rattle.envelope.specs.declared.parts.Envelope.{Envelope}
 use Rattle.call_table.specs.declared.call.CallNo.{CallNo}
 use Rattle.call_table.specs.declared.call.Fate.{Fate}
 use Rattle.call_table.specs.declared.call.Fate.TheVariants as fate
-use Rattle.call_table.specs.declared.call.Cause.TheVariants as cause
-use Rattle.call_table.specs.declared.call.Under.{Under}
-use Rattle.call_table.specs.declared.call.Under.TheVariants.{Zero, One, More}
 use Rattle.call_table.specs.Table.{Call, Name, State, inner_of, living_name, living_name_in, owner, settled, under_of}
 use Rattle.call_table.specs.Table as table
-use Rattle.client_rules.specs.Client.{Client, Needed, StateRequest, at_moment, calls_of, has_sent, is_open, with_binding, with_call}
+use Rattle.client_rules.specs.Client.{Client, StateRequest, at_moment, calls_of, is_open}
 use Rattle.client_rules.specs.Asking.{alone}
-use Rattle.client_rules.specs.Learning.{each_becomes, ended, fate_at_end, fate_learning, fate_under, learn, learnt_max, learns, settled_if, with_clock}
-use Rattle.client_rules.specs.Taking.{Notice, acknowledges, alone_call, alone_number, answered_by, asks_answer, asked_states, becomes, fate_noticed, goes_again, has_asked, is_for, is_odd, message_in, messages_of, noticed, noticed_by, packet_noticed, row, take, takes_message, takes_over, told_of, told_state, told_states, with_notice_clock, with_notice_salt, without_idle_wish}
+use Rattle.client_rules.specs.Learning.{ended, fate_at_end, fate_learning, learn, learnt_max, learns, settled_if, with_clock}
+use Rattle.client_rules.specs.Taking.{Notice, acknowledges, alone_call, alone_number, answered_by, asks_answer, becomes, fate_noticed, goes_again, has_asked, is_for, is_odd, message_in, messages_of, noticed, noticed_by, row, take, takes_message, takes_over, told_of, told_state, told_states, with_notice_clock, with_notice_salt, without_idle_wish}
 use Rattle.client_orders.specs.Behind.{LivesIn}
 use Rattle.client_orders.proofs.Following.{AreKept, Follows, NotDone, changed-turn, flagged-follows, mapped-turn, owner-sent, sent-open, settled-follows}
-use Rattle.client_orders.proofs.Lists.{none-some, some-same}
+use Rattle.client_orders.proofs.Lists.{none-some}
 
 module _ (base : List Call) where
   abbrev KeepsTurn : Client → Type 0
@@ -112,6 +109,7 @@ module _ (base : List Call) where
     clock =
         cond_both ((notice.code == 16) || (notice.code == 17)) (with_clock outer client) client (λ (other : Client). (other.session ≡ client.session) × (calls_of other ≡ calls_of client) × (other.counters.last ≡ client.counters.last))
         (λ is. (refl, refl, refl)) (λ is. (refl, refl, refl))
+
     go : (salt : Option ℕ) → ((with_notice_salt salt (with_notice_clock outer notice.code client)).session ≡ client.session)
         × (calls_of (with_notice_salt salt (with_notice_clock outer notice.code client)) ≡ calls_of client)
         × ((with_notice_salt salt (with_notice_clock outer notice.code client)).counters.last ≡ client.counters.last)

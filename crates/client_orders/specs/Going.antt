@@ -1,11 +1,11 @@
 -- What a packet of a client has: messages as which its calls went, and others that are no calls.
-use Rattle.std.specs.Prelude.{◌≡◌, ◌<◌, ◌⊎◌, ⊤, ℕ, Option, None, Some, List, slice_get, IfSome}
+use Rattle.std.specs.Prelude.{◌≡◌, ◌<◌, ◌⊎◌, ⊤, ℕ, None, Some, List, slice_get, IfSome}
 use Rattle.std.specs.List.{AllByRecursion, Contains}
 use Rattle.service_tl.specs.declared.lists.Message.{Message}
 use Rattle.containers.specs.Container.{container_of}
 use Rattle.envelope.specs.declared.parts.Envelope.{Envelope}
 use Rattle.call_table.specs.Table.{Call, Name}
-use Rattle.client_rules.specs.Client.{Asked, Binding, Client, calls_of}
+use Rattle.client_rules.specs.Client.{Asked, Binding, Client}
 use Rattle.client_rules.specs.Filling.{body_behind}
 use Rattle.client_rules.specs.Flush.{Answer, Nothing, Spent, Sends}
 use Rattle.world_moves.specs.Clients.{IsShort}

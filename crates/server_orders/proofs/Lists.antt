@@ -1,6 +1,6 @@
 -- Lists of which all, or some, are so.
-use Rattle.std.proofs.Common.{◌≡◌, ◌∙◌, ◌==◌, ℕ, suc, zero, ◌+◌, Bool, true, false, cond, Option, Some, None, List, [], ◌∷◌, ◌++◌, length, length-append, map, filter, ap, sym, subst, refl, arith, inl, inr}
-use Rattle.std.specs.Prelude.{◌⊎◌, ◌||◌, not}
+use Rattle.std.proofs.Common.{◌≡◌, ◌∙◌, ◌==◌, ℕ, Bool, true, false, Some, None, List, [], ◌∷◌, ◌++◌, length, length-append, map, filter, ap, sym, subst, refl, arith, inl, inr}
+use Rattle.std.specs.Prelude.{◌⊎◌}
 use Rattle.std.specs.List.{AllByRecursion, find, list_any}
 use Rattle.std.proofs.lemmas.Bool.{cases_Bool, cond-true, cond-false, eqb-true}
 use Rattle.server_orders.specs.After.{is_among}

@@ -1,13 +1,12 @@
 -- A session that speaks keeps its calls in turn, row by row.
-use Rattle.std.proofs.Common.{◌≡◌, ◌∙◌, ◌==◌, ℕ, eqb, Bool, true, false, cond, Option, Some, None, List, [], ◌∷◌, ◌++◌, length, map, append_assoc, eq-eqb, ap, sym, subst, refl, arith, inl, inr}
-use Rattle.std.specs.Prelude.{◌⊎◌, ◌&&◌, not, fold, is_some, min}
+use Rattle.std.proofs.Common.{◌≡◌, ◌∙◌, ◌==◌, ℕ, eqb, Bool, true, false, cond, Option, Some, None, List, [], ◌∷◌, ◌++◌, length, map, append_assoc, eq-eqb, ap, sym, subst, refl, inl, inr}
+use Rattle.std.specs.Prelude.{◌&&◌, fold, is_some, min}
 use Rattle.std.specs.List.{AllByRecursion, filter, find, list_all, list_any}
 use Rattle.std.specs.Option.{option_or}
-use Rattle.std.proofs.lemmas.Bool.{cases_Bool, cond_both, and_parts, eqb-true}
+use Rattle.std.proofs.lemmas.Bool.{cond_both, and_parts, eqb-true}
 use Rattle.tl_codec.specs.Spelling.{spelling}
 use Rattle.service_tl.specs.declared.item.Item.{Item}
-use Rattle.service_tl.specs.declared.item.Item.TheVariants.{NewSessionCreated, RpcDropAnswer, RpcAnswerUnknown, RpcAnswerDropped, RpcResult, GetFutureSalts, FutureSalts, Ping, PingDelayDisconnect, Pong, MsgsAck, MsgsStateReq, MsgsStateInfo, MsgResendReq, BadMsgNotification, BadServerSalt, InvokeAfterMsg, InvokeAfterMsgs, AuthBindTempAuthKey, Packed, Call, Broken}
-use Rattle.service_tl.specs.declared.lists.Message.{Message}
+use Rattle.service_tl.specs.declared.item.Item.TheVariants.{NewSessionCreated, RpcDropAnswer, RpcAnswerUnknown, RpcAnswerDropped, GetFutureSalts, FutureSalts, Ping, PingDelayDisconnect, Pong, MsgsAck, MsgsStateReq, MsgsStateInfo, MsgResendReq, BadMsgNotification, BadServerSalt, InvokeAfterMsg, InvokeAfterMsgs, AuthBindTempAuthKey, Packed, Call, Broken}
 use Rattle.service_tl.specs.Items.{spelling_of}
 use Rattle.service_tl.specs.Schema.{service_numbers, gzip_packed, rpc_drop_answer}
 use Rattle.salt_line.specs.Line.{current_salt}
@@ -19,19 +18,17 @@ use Rattle.inbox.specs.Kinds.{constructor_of}
 use Rattle.inbox.specs.States.{state_byte}
 use Rattle.inbox.specs.declared.judged.Verdict.{Verdict}
 use Rattle.inbox.specs.declared.judged.Verdict.TheVariants.{Accepted, Again, Noticed}
-use Rattle.packing.specs.Numbering.{numbered}
 use Rattle.waits.specs.declared.job.Job.{Job}
-use Rattle.waits.specs.declared.job.Unfinished.{Unfinished}
 use Rattle.waits.specs.Jobs.{Queue, accepted, is_call, first_job, without_first}
-use Rattle.server_rules.specs.Server.{Binding, Name, Reply, Session, has_accepted, is_good, is_kept, kept_of, kept_replies, mark_in, marks_of, name_of, reply_to}
+use Rattle.server_rules.specs.Server.{Binding, Name, Reply, has_accepted, is_good, is_kept, kept_of, kept_replies, mark_in, marks_of, name_of, reply_to}
 use Rattle.server_rules.specs.Event.{BindingCall, Entry, Setting, Speaker}
-use Rattle.server_rules.specs.Speaking.{answers, answers_in_place, auth_key_perm_empty, bad_body, dropped, encrypted_message_invalid, has_said, jobs_full, made_room, msg_wait_failed, msg_wait_timeout, needs_salts, packed_body_refused, records, says, says_again, says_it_is_new, says_with_salt, with_reply}
+use Rattle.server_rules.specs.Speaking.{answers, answers_in_place, auth_key_perm_empty, bad_body, dropped, encrypted_message_invalid, has_said, jobs_full, made_room, msg_wait_failed, msg_wait_timeout, needs_salts, packed_body_refused, records, says, says_again, says_it_is_new, says_with_salt}
 use Rattle.outbox.specs.Replies.{fits}
 use Rattle.server_rules.specs.Waiting.{gives_up, tells_of}
-use Rattle.server_rules.specs.Calls.{accepts_call, becomes_job, binds, binds_by, bool_true_content, drops_answer, drops_by, dropped_running, has_failed_already, if_so, is_full, is_unbound, job_of, query_refusal, refusal, with_binding}
+use Rattle.server_rules.specs.Calls.{accepts_call, becomes_job, binds_by, bool_true_content, drops_answer, drops_by, dropped_running, has_failed_already, if_so, is_full, is_unbound, job_of, query_refusal, refusal, with_binding}
 use Rattle.server_rules.specs.Rows.{accepts, acked_by, acknowledges, answers_broken, came_again, future_salt_of, kept_numbered, notices, owes, says_reply, sends_again, takes_acks, tells_salts, tells_states}
-use Rattle.server_rules.specs.Answer.{attaches, finishes, opens}
-use Rattle.server_orders.specs.After.{HasRun, IsAnswer, IsFor, IsHonest, IsWaiting, Pair, RanBehind, awaited, is_among, is_aside, is_query, is_run, is_run_well}
+use Rattle.server_rules.specs.Answer.{attaches, finishes}
+use Rattle.server_orders.specs.After.{HasRun, IsAnswer, IsFor, IsHonest, IsWaiting, Pair, RanBehind, is_among, is_aside, is_run, is_run_well}
 use Rattle.server_orders.proofs.Lists.{all-append, all-map, all-weaker, some-append, some-last, split-last, true-false}
 use Rattle.server_orders.proofs.Waiting.{first-left, its-name, name-so, still-awaited, told-waits}
 
@@ -126,7 +123,7 @@ room-answers : (pair : Pair) (R : Type 0) (bytes : ℕ) (replies : List Reply) �
 room-answers pair R bytes [] all = tt
 room-answers pair R bytes (reply ∷ replies) all = (
   cond_both (fits bytes (kept_replies (reply ∷ replies))) reply (dropped reply) (IsAnswer pair R) (λ is. all.0)
-  (λ is. cond_both (is_kept reply) _ reply (IsAnswer pair R) (λ is. all.0) (λ is. all.0)),
+      (λ is. cond_both (is_kept reply) _ reply (IsAnswer pair R) (λ is. all.0) (λ is. all.0)),
   room-answers pair R bytes replies all.1,
 )
 
@@ -330,16 +327,17 @@ module _ {S : Type 0} (setting : Setting S) (pair : Pair) (past : List Entry) (n
         honest = grown-honest speaker.entries entry (λ unran. absurd (true-false unran)) s.honest;
         stays = λ r. more (s.stays r);
       }) where
-    mine : is_run pair.name pair.call (entry_of true job.number job.request reply speaker) ≡ true → (name_of speaker.session ≡ pair.name) × (job.number ≡ pair.call)
-    mine is =
-        let parts = and_parts _ _ is in
-        (name-so speaker.session.key speaker.session.number pair.name parts.0, eqb-true job.number pair.call (and_parts _ _ parts.1).0)
-    well : name ≡ pair.name → job.number ≡ pair.earlier → is_good reply ≡ true → is_run_well pair.name pair.earlier (entry_of true job.number job.request reply speaker) ≡ true
-    well same of_call good =
-        let whose : name_of speaker.session ≡ pair.name = s.named ∙ same in
-        let of_key : speaker.session.key ≡ pair.name.key = ap (λ (name : Name). name.key) whose in
-        let of_session : speaker.session.number ≡ pair.name.session = ap (λ (name : Name). name.session) whose in
-        rw (eq-eqb speaker.session.key pair.name.key of_key, eq-eqb speaker.session.number pair.name.session of_session, eq-eqb job.number pair.earlier of_call) good
+        mine : is_run pair.name pair.call (entry_of true job.number job.request reply speaker) ≡ true → (name_of speaker.session ≡ pair.name) × (job.number ≡ pair.call)
+        mine is =
+            let parts = and_parts _ _ is in
+            (name-so speaker.session.key speaker.session.number pair.name parts.0, eqb-true job.number pair.call (and_parts _ _ parts.1).0)
+
+        well : name ≡ pair.name → job.number ≡ pair.earlier → is_good reply ≡ true → is_run_well pair.name pair.earlier (entry_of true job.number job.request reply speaker) ≡ true
+        well same of_call good =
+            let whose : name_of speaker.session ≡ pair.name = s.named ∙ same in
+            let of_key : speaker.session.key ≡ pair.name.key = ap (λ (name : Name). name.key) whose in
+            let of_session : speaker.session.number ≡ pair.name.session = ap (λ (name : Name). name.session) whose in
+            rw (eq-eqb speaker.session.key pair.name.key of_key, eq-eqb speaker.session.number pair.name.session of_session, eq-eqb job.number pair.earlier of_call) good
 
   -- ---- calls
 

@@ -1,6 +1,6 @@
 -- Each event keeps calls in turn.
-use Rattle.std.proofs.Common.{◌≡◌, ◌∙◌, ◌==◌, ℕ, zero, suc, Bool, true, false, cond, Option, Some, None, List, [], ◌∷◌, ◌++◌, length, map, append_assoc, ap, sym, subst, refl, arith, inl, inr}
-use Rattle.std.specs.Prelude.{◌&&◌, fold, is_some, nat_lt}
+use Rattle.std.proofs.Common.{◌≡◌, ◌∙◌, ℕ, zero, suc, Bool, true, cond, Option, Some, None, List, [], ◌∷◌, ◌++◌, length, map, append_assoc, ap, sym, subst, refl}
+use Rattle.std.specs.Prelude.{fold, nat_lt}
 use Rattle.std.specs.List.{AllByRecursion, filter, zip}
 use Rattle.std.proofs.lemmas.Bool.{cond_both, and_parts, eqb-true}
 use Rattle.std.proofs.lemmas.List.{append-nil}
@@ -20,19 +20,19 @@ use Rattle.packing.specs.Packing.{packets_of, after_packets}
 use Rattle.regs_service.specs.Served.{Step}
 use Rattle.waits.specs.declared.job.Job.{Job}
 use Rattle.waits.specs.declared.job.Unfinished.{Unfinished}
-use Rattle.waits.specs.Jobs.{Queue, first_job, has_failed, is_of, is_overdue, ready_job, without_first, without_ready}
-use Rattle.server_rules.specs.Server.{Name, Session, has_accepted, is_named, is_same, name_of, remembered, session_named, without_session}
+use Rattle.waits.specs.Jobs.{first_job, has_failed, is_overdue, ready_job, without_first, without_ready}
+use Rattle.server_rules.specs.Server.{Name, Session, has_accepted, is_named, name_of, remembered, session_named, without_session}
 use Rattle.server_rules.specs.Event.{Entry, Envelope, Setting, Speaker, State, lost, speaker_in, speaks, spoken_by}
-use Rattle.server_rules.specs.Events.{Attach, Course, Event, Loss, Packet, Restart, Tick, Work, after_event, begun_course, course_of, setting_at}
+use Rattle.server_rules.specs.Events.{Attach, Course, Event, Loss, Packet, Restart, Tick, Work, after_event, setting_at}
 use Rattle.server_rules.specs.Speaking.{msg_wait_failed, msg_wait_timeout, needs_salts, says, says_it_is_new}
 use Rattle.server_rules.specs.Waiting.{after_failures, after_timeouts, all_given_up, first_given_up, given_up, gives_up, tells_of}
-use Rattle.server_rules.specs.Rows.{acknowledges, acks_of, destroys, owes, row, settles}
+use Rattle.server_rules.specs.Rows.{acks_of, destroys, owes, row, settles}
 use Rattle.server_rules.specs.Sending.{all_sent, messages_by, names_in, seals, sends}
-use Rattle.server_rules.specs.Answer.{Answer, after_run, attaches, begun, ended, finishes, hears, hears_by, is_spent, makes, message_in, messages_judged, name_in, opens, runs, session_for, takes, takes_by, ticks, with_place, without_first as without_first_session, without_spent}
-use Rattle.server_orders.specs.After.{AreInTurn, HasRun, IsAnswer, IsEventFor, IsFor, IsPacketFor, IsWaiting, Pair, RanBehind}
-use Rattle.server_orders.proofs.Lists.{all-append, all-filter, all-found, all-map, none-some, some-same}
-use Rattle.server_orders.proofs.Waiting.{first-left, name-so, ready-left, ready-ran}
-use Rattle.server_orders.proofs.Rows.{IsVerdictFor, Sound, acknowledges-sound, attaches-sound, failed-bad, finishes-sound, gives_up-sound, more-answers, more-waits, new-sound, owes-sound, says-sound, salts-sound, tells-sound, timeout-bad}
+use Rattle.server_rules.specs.Answer.{Answer, after_run, attaches, begun, ended, finishes, hears, hears_by, is_spent, message_in, name_in, opens, runs, session_for, takes, takes_by, ticks, with_place, without_first as without_first_session}
+use Rattle.server_orders.specs.After.{AreInTurn, HasRun, IsAnswer, IsEventFor, IsFor, IsPacketFor, IsWaiting, Pair}
+use Rattle.server_orders.proofs.Lists.{all-append, all-filter, all-found, all-map}
+use Rattle.server_orders.proofs.Waiting.{first-left, ready-left, ready-ran}
+use Rattle.server_orders.proofs.Rows.{IsVerdictFor, Sound, acknowledges-sound, attaches-sound, failed-bad, finishes-sound, gives_up-sound, more-answers, new-sound, owes-sound, says-sound, salts-sound, tells-sound, timeout-bad}
 
 its-own : (name : Name) (session : Session) → is_named name session ≡ true → name_of session ≡ name
 its-own name session is =

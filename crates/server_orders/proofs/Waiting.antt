@@ -1,20 +1,19 @@
 -- Jobs of a call that waits, and replies to the one that it waits for.
-use Rattle.std.proofs.Common.{◌≡◌, ◌∙◌, ◌==◌, ℕ, suc, zero, Bool, true, false, cond, Option, Some, None, List, [], ◌∷◌, ◌++◌, map, filter, eq-eqb, ap, sym, subst, refl, arith, inl, inr}
+use Rattle.std.proofs.Common.{◌≡◌, ◌∙◌, ◌==◌, ℕ, suc, zero, Bool, true, false, cond, Option, Some, None, List, [], ◌∷◌, filter, eq-eqb, ap, sym, subst, refl, arith, inl, inr}
 use Rattle.std.specs.Prelude.{◌⊎◌, ◌&&◌, not, fold, nat_le}
-use Rattle.std.specs.List.{AllByRecursion, find, list_any}
-use Rattle.std.proofs.lemmas.Bool.{cases_Bool, cond-true, cond-false, cond_both, and_parts, eqb-true}
+use Rattle.std.specs.List.{AllByRecursion, list_any}
+use Rattle.std.proofs.lemmas.Bool.{cases_Bool, cond-true, cond-false, and_parts, eqb-true}
 use Rattle.id_window.specs.declared.mark.Mark.{Mark}
-use Rattle.id_window.specs.declared.mark.Mark.TheVariants.{Noticed, Service, Container, Waiting, Replied, Acked, Dropped}
-use Rattle.id_window.specs.History.{History, FirstJudgement, Outcome, Refused, AcceptedContainer, AcceptedCall, AcceptedOther, floor, is_kept}
-use Rattle.id_window.specs.Marks.{mark_of}
+use Rattle.id_window.specs.declared.mark.Mark.TheVariants.{Service, Waiting}
+use Rattle.id_window.specs.History.{History, Outcome, Refused, AcceptedContainer, AcceptedCall, AcceptedOther, floor, is_kept}
 use Rattle.waits.specs.declared.job.Job.{Job}
 use Rattle.waits.specs.declared.job.Unfinished.{Unfinished}
-use Rattle.waits.specs.Jobs.{Queue, is_call, is_of, is_ready, is_empty, first_job, without_first, ready_job, without_ready, waits_for, after_answer, settled}
+use Rattle.waits.specs.Jobs.{Queue, is_call, is_of, is_ready, is_empty, without_first, ready_job, without_ready, waits_for, after_answer}
 use Rattle.server_rules.specs.Server.{Name, Reply, Session, Fate, IsKept, WasAcked, WasDropped, answered_mark, is_good, mark_after, mark_by, mark_in, marks_of, name_of, reply_to}
 use Rattle.server_rules.specs.Waiting.{Outlook, Over, InVain, GoesOn, outlook, outlook_by, outlook_of_mark, told}
 use Rattle.server_rules.specs.Calls.{each_once, is_over}
 use Rattle.server_orders.specs.After.{IsAnswer, IsWaiting, Pair, is_among}
-use Rattle.server_orders.proofs.Lists.{all-filter, all-map, among-filter, none-some, some-same, true-false}
+use Rattle.server_orders.proofs.Lists.{all-map, among-filter, none-some, some-same, true-false}
 
 -- ---- names
 
@@ -97,9 +96,11 @@ module _ (pair : Pair) (R : Type 0) where
           | inl kept ↦ rw kept (marks-over session.replies answers pair.earlier refl session.history None (λ mark no. absurd (none-some mark no)))
           | inr gone ↦ rw gone (λ mark no. absurd (none-some mark no))
         ]
+
     forgotten : (test : Bool) → cond test InVain GoesOn ≡ Over → R
     forgotten true is = absurd (let f : InVain ≡ Over = is in cc)
     forgotten false is = absurd (let f : GoesOn ≡ Over = is in cc)
+
     go : (found : Option Mark) → mark_in session pair.earlier ≡ found → outlook_by found (nat_le pair.earlier (floor session.history)) (list_any (is_call session.key session.number pair.earlier) jobs) ≡ Over → R
     go None found is = forgotten (nat_le pair.earlier (floor session.history) && not (list_any (is_call session.key session.number pair.earlier) jobs)) is
     go (Some mark) found is = marked mark found is
@@ -215,6 +216,7 @@ module _ (pair : Pair) (R : Type 0) where
     stays : not (is_over (outlook session jobs pair.earlier)) ≡ true
         → (is_among pair.earlier (filter (λ other. not (is_over (outlook session jobs other))) (each_once numbers)) ≡ true) ⊎ R
     stays goes = inl (among-filter (λ other. not (is_over (outlook session jobs other))) pair.earlier (each_once numbers) goes (among-once numbers among))
+
     go : (found : Outlook) → outlook session jobs pair.earlier ≡ found
         → (is_among pair.earlier (filter (λ other. not (is_over (outlook session jobs other))) (each_once numbers)) ≡ true) ⊎ R
     go Over is = inr (over-ran session jobs answers is)

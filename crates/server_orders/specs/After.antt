@@ -1,10 +1,9 @@
 -- A call that is to run after another one of its session (core.telegram.org/api/invoking, "Saving query order").
-use Rattle.std.specs.Prelude.{◌≡◌, ◌==◌, ◌&&◌, ℕ, Bool, true, false, Option, Some, None, List, [], ◌∷◌, ◌++◌, ⊤}
+use Rattle.std.specs.Prelude.{◌≡◌, ◌==◌, ◌&&◌, ℕ, Bool, true, false, Some, List, [], ◌∷◌, ◌++◌, ⊤}
 use Rattle.std.specs.Prelude.{◌⊎◌}
 use Rattle.std.specs.List.{AllByRecursion, list_any}
 use Rattle.service_tl.specs.declared.item.Item.{Item}
 use Rattle.service_tl.specs.declared.item.Item.TheVariants.{RpcDropAnswer, InvokeAfterMsg, InvokeAfterMsgs, AuthBindTempAuthKey, Call}
-use Rattle.service_tl.specs.declared.lists.Message.{Message}
 use Rattle.inbox.specs.Kinds.{item_told}
 use Rattle.inbox.specs.Refusals.{Way}
 use Rattle.waits.specs.declared.job.Unfinished.{Unfinished}

@@ -1,5 +1,4 @@
-use Rattle.std.proofs.Common.{◌≡◌, ◌+◌, ℕ, List, [], ◌∷◌, ◌++◌, length, length-append, ap, arith}
-use Rattle.server_rules.specs.Event.{Entry}
+use Rattle.std.proofs.Common.{◌≡◌, [], ◌∷◌, ◌++◌, length, length-append, ap, arith}
 use Rattle.server_rules.specs.Events.{begun_course}
 use Rattle.server_orders.specs.After.{AreInTurn, Pair}
 use Rattle.server_orders.proofs.States.{event-kept, events-kept}
