@@ -12,14 +12,14 @@ use Rattle.client_rules.specs.Client.{Client, calls_of, with_call}
 use Rattle.client_rules.specs.Asking.{Fault, NoSuchCall, alone_if_sent, attached, begins_service, body_bytes_max, can_drop, drops, dropped, fault_at, has_call, has_earlier, submit_fault, submitted, NotWords, ServiceTag, TooLong}
 use Rattle.client_rules.specs.Events.{Attach, AskSalts, Drop, End, Event, Flush, Ping, Renew, Run, Submit, Take, Tick, fate_renewed, renewed, run_of, step, unless_fault}
 use Rattle.client_rules.specs.Sending.{Setting}
-use Rattle.client_orders.proofs.Following.{AreKept, Follows, added-turn, changed-turn, flagged-follows, mapped-turn}
+use Rattle.client_orders.proofs.Following.{AreKept, Base, Follows, added-turn, changed-turn, flagged-follows, mapped-turn}
 use Rattle.client_orders.proofs.Taking.{each-turn, ended-turn, take-turn}
 use Rattle.client_orders.proofs.Filling.{flush-so}
 use Rattle.client_orders.proofs.Lists.{get-below, none-some, some-same}
 
-module _ (base : List Call) where
+module _ (base : Base) where
   abbrev KeepsTurn : Client → Type 0
-  KeepsTurn client = AreKept base client.session client.counters.last (calls_of client)
+  KeepsTurn client = AreKept base client.key client.session client.counters.last (calls_of client)
 
   -- ---- a call is submitted
 
@@ -53,7 +53,7 @@ module _ (base : List Call) where
 
   submitted-turn : (body : List ℕ) (after : Option CallNo) (client : Client) → submit_fault body after client ≡ None → KeepsTurn client → KeepsTurn (submitted body after client)
   submitted-turn body after client is turn =
-      added-turn base client.session client.counters.last (calls_of client) body after (there after (earlier-there (length (calls_of client)) body after is)) turn where
+      added-turn base client.key client.session client.counters.last (calls_of client) body after (there after (earlier-there (length (calls_of client)) body after is)) turn where
         there : (after : Option CallNo) → has_earlier (length (calls_of client)) after ≡ true → (number : CallNo) → after ≡ Some number
             → (earlier : Call) × (at number (calls_of client) ≡ Some earlier)
         there None has number is = absurd (none-some number is)
@@ -70,7 +70,7 @@ module _ (base : List Call) where
 
   attached-turn : (client : Client) → KeepsTurn client → KeepsTurn (attached client)
   attached-turn client turn =
-      mapped-turn base client.session client.counters.last client.session client.counters.last alone_if_sent (calls_of client)
+      mapped-turn base client.key client.session client.counters.last client.session client.counters.last alone_if_sent (calls_of client)
       (λ call lives.
       cond_both (Rattle.call_table.specs.Table.is_sent call.state) _ call (Follows (calls_of client) client.session client.counters.last call)
       (λ is. flagged-follows (calls_of client) client.session client.counters.last (record call.flags { alone = true }) call lives)
@@ -81,7 +81,7 @@ module _ (base : List Call) where
   dropped-turn call client turn =
       cond_both (can_drop call client) (with_call call drops client) client KeepsTurn
       (λ is.
-      changed-turn base client.session client.counters.last (call.n - 1) drops (calls_of client)
+      changed-turn base client.key client.session client.counters.last (call.n - 1) drops (calls_of client)
       (λ one there lives. flagged-follows (calls_of client) client.session client.counters.last (record one.flags { dropping = true }) one lives) turn)
       (λ is. turn)
 
@@ -105,7 +105,7 @@ module _ (base : List Call) where
 
   renewed-turn : (session : ℕ) (client : Client) → KeepsTurn client → KeepsTurn (renewed session client)
   renewed-turn session client turn =
-      each-turn base client.session client.counters.last session 0 (λ call. fate_renewed call.state) (calls_of client) (λ call fate is. renewed-open call.state fate is)
+      each-turn base client.key client.session client.counters.last session 0 (λ call. fate_renewed call.state) (calls_of client) (λ call fate is. renewed-open call.state fate is)
       (λ call lives none sent. absurd (renewed-gone call.state none sent)) turn
 
   -- ---- all events

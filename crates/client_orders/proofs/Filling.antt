@@ -26,12 +26,12 @@ use Rattle.client_orders.specs.Going.{IsAnswerFrom, IsAskedBy, IsFrom, IsOfCall,
 use Rattle.world_moves.specs.Clients.{IsShort}
 use Rattle.world_moves.specs.Sent.{Asks, IsBindingCall, IsSaidAside}
 use Rattle.tl_codec.specs.Standard.{longs_max}
-use Rattle.client_orders.proofs.Following.{AreKept, again-follows, changed-last, changed-turn, flagged-follows, nothing-last, queued-open, raised, raised-lives, sent-follows, settled-follows}
+use Rattle.client_orders.proofs.Following.{AreKept, Base, again-follows, changed-last, changed-turn, flagged-follows, nothing-last, queued-open, raised, raised-lives, sent-follows, settled-follows}
 use Rattle.client_orders.proofs.Lists.{all-append, all-at, all-weaker, get_changed, get_unchanged, here, none-some, some-same, true-false}
 
-module _ (base : List Call) (Q : Type 0) where
+module _ (base : Base) (Q : Type 0) where
   abbrev KeepsTurn : Client → Type 0
-  KeepsTurn client = AreKept base client.session client.counters.last (calls_of client)
+  KeepsTurn client = AreKept base client.key client.session client.counters.last (calls_of client)
 
   -- ---- calls that are queued
 
@@ -127,7 +127,7 @@ module _ (base : List Call) (Q : Type 0) where
   above : (last now : ℕ) → last < next_number last now
   above last now = omega arith
 
-  from-last : (session number : ℕ) (body : List ℕ) (calls news : List Call) → Last calls news → IsFrom session calls number body → IsFrom session news number body
+  pub from-last : (session number : ℕ) (body : List ℕ) (calls news : List Call) → Last calls news → IsFrom session calls number body → IsFrom session news number body
   from-last session number body calls news lasts (inr none) = inr none
   from-last session number body calls news lasts (inl of_call) =
       let later = lasts of_call.place of_call.call of_call.there in
@@ -150,7 +150,7 @@ module _ (base : List Call) (Q : Type 0) where
   abbrev AreFrom : ℕ → List Call → List Message → Type 0
   AreFrom session calls messages = AllByRecursion (λ (message : Message). IsFrom session calls message.number message.body) messages
 
-  all-from : (session : ℕ) (calls news : List Call) (messages : List Message) → Last calls news → AreFrom session calls messages → AreFrom session news messages
+  pub all-from : (session : ℕ) (calls news : List Call) (messages : List Message) → Last calls news → AreFrom session calls messages → AreFrom session news messages
   all-from session calls news messages lasts are =
       all-weaker (λ (message : Message). IsFrom session calls message.number message.body) (λ (message : Message). IsFrom session news message.number message.body) messages
       (λ message. from-last session message.number message.body calls news lasts) are
@@ -190,7 +190,7 @@ module _ (base : List Call) (Q : Type 0) where
       let less : last ≤ new = omega (arith, more) in
       let message : Message = numbered is_content body client in
       record {
-        turn = raised base client.session last new calls less holds.turn;
+        turn = raised base client.key client.session last new calls less holds.turn;
         queued = holds.queued;
         from = λ q. all-append (λ (message : Message). IsFrom client.session calls message.number message.body) messages (message ∷ []) (holds.from q) (inr (asks q), tt);
         within = all-append (λ (message : Message). message.number ≤ new) messages (message ∷ []) (more-within last new messages less holds.within) (omega arith, tt);
@@ -289,7 +289,7 @@ module _ (base : List Call) (Q : Type 0) where
         → Rattle.client_orders.proofs.Following.Follows (calls_of client) client.session client.counters.last one (undropped one) =
         λ one there lives. flagged-follows (calls_of client) client.session client.counters.last (record one.flags { dropping = false }) one lives in
         record {
-          turn = changed-turn base client.session client.counters.last (k.n - 1) undropped (calls_of client) so holds.turn;
+          turn = changed-turn base client.key client.session client.counters.last (k.n - 1) undropped (calls_of client) so holds.turn;
           queued =
               still-queued (calls_of client) (changed_at (k.n - 1) undropped (calls_of client)) ks
               (state-queued (calls_of client) (k.n - 1) undropped (λ call. refl)) holds.queued;
@@ -387,7 +387,7 @@ module _ (base : List Call) (Q : Type 0) where
         λ one there lives.
         settled-follows calls session last (fate.Refused 0) one (queued-open one (ap (λ (call : Call). call.state) (some-same one call (sym there ∙ found)) ∙ queued)) in
         record {
-          turn = changed-turn base session last (k.n - 1) stop calls so holds.turn;
+          turn = changed-turn base filling.client.key session last (k.n - 1) stop calls so holds.turn;
           queued = other-queued calls k stop ks differs holds.queued;
           from = λ q. all-from session calls (changed_at (k.n - 1) stop calls) filling.messages (changed-last session last (k.n - 1) stop calls so holds.turn.turn.living) (holds.from q);
           within = holds.within;
@@ -411,11 +411,11 @@ module _ (base : List Call) (Q : Type 0) where
         (λ number of_number earlier at_number.
         turn-behind filling.client call wrap new more holds.turn is number (ap (λ (call : Call). call.after) (sym same) ∙ of_number) earlier at_number)
         (omega arith) in
-        let kept = raised base session last new calls less holds.turn in
+        let kept = raised base filling.client.key session last new calls less holds.turn in
         let news = changed_at (k.n - 1) change calls in
         goes-so (Holds ks) message (sends_call k wrap message) filling holds
         (record {
-          turn = changed-turn base session new (k.n - 1) change calls so kept;
+          turn = changed-turn base filling.client.key session new (k.n - 1) change calls so kept;
           queued = other-queued calls k change ks differs holds.queued;
           from = λ q.
               all-append (λ (message : Message). IsFrom session news message.number message.body) filling.messages (message ∷ [])
@@ -576,7 +576,7 @@ module _ (base : List Call) (Q : Type 0) where
         λ one there lives. again-follows calls session last client.salt (record one.flags { alone = false }) one lives in
         let news = changed_at (marked.call.n - 1) change calls in
         record {
-          turn = changed-turn base session last (marked.call.n - 1) change calls so turn;
+          turn = changed-turn base client.key session last (marked.call.n - 1) change calls so turn;
           from = λ q. (
             from-last session marked.message.number marked.message.body calls news (changed-last session last (marked.call.n - 1) change calls so turn.turn.living)
                 (inl (marked-from client marked turn (is-marked client (group_of group.Alone calls) marked is))),
@@ -618,7 +618,7 @@ module _ (base : List Call) (Q : Type 0) where
         let more = above last (time_of client) in
         let less : last ≤ new = omega (arith, more) in
         let all : List Message = message ∷ (other ∷ messages) in (
-          raised base client.session last new (calls_of client) less whole.turn,
+          raised base client.key client.session last new (calls_of client) less whole.turn,
           λ q.
               inr
               (record {

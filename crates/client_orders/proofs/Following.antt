@@ -64,10 +64,16 @@ then-still one two three first second = record {
 pub nothing-last : (calls : List Call) → Last calls calls
 nothing-last calls = λ place call is. (call, is, itself call)
 
--- the calls at the beginning last, and these are in turn
-pub record AreKept (base : List Call) (session last : ℕ) (calls : List Call) : Type 0 where
+-- what a client had at the beginning
+pub record Base : Type 0 where
+  pub calls : List Call
+  pub key : ℕ
+
+-- its calls then last, its key is the same, and these are in turn
+pub record AreKept (base : Base) (key session last : ℕ) (calls : List Call) : Type 0 where
   pub turn : AreInTurn session last calls
-  pub lasting : Last base calls
+  pub lasting : Last base.calls calls
+  pub same : key ≡ base.key
 
 module _ (calls : List Call) (session last : ℕ) where
   followed-at : (olds news : List Call) → AreFollowed calls session last olds news → (place : ℕ) (old : Call) → slice_get olds place ≡ Some old
@@ -110,11 +116,12 @@ then-last base calls news session last are lasting = λ place call is.
     (now.0, now.1, then-still call was.0 now.0 was.2 now.2.still)
 
 -- the calls are in turn still
-pub followed : (base : List Call) (before past session last : ℕ) (calls news : List Call) → AreFollowed calls session last calls news → AreKept base before past calls → AreKept base session last news
-followed base before past session last calls news are kept =
+pub followed : (base : Base) (key before past session last : ℕ) (calls news : List Call) → AreFollowed calls session last calls news → AreKept base key before past calls → AreKept base key session last news
+followed base key before past session last calls news are kept =
     record {
       turn = record { behind = all-behind calls session last news are calls news are kept.turn.behind; living = all-living calls session last calls news are };
-      lasting = then-last base calls news session last are kept.lasting;
+      lasting = then-last base.calls calls news session last are kept.lasting;
+      same = kept.same;
     }
 
 -- ---- one is changed, or all are
@@ -133,11 +140,11 @@ changed-among calls session last zero change (old ∷ olds) so lives = (so old r
 changed-among calls session last (suc place) change (old ∷ olds) so lives =
     (follows-itself calls session last old lives.0, changed-among calls session last place change olds so lives.1)
 
-pub changed-turn : (base : List Call) (session last place : ℕ) (change : Call → Call) (calls : List Call)
+pub changed-turn : (base : Base) (key session last place : ℕ) (change : Call → Call) (calls : List Call)
     → ((call : Call) → slice_get calls place ≡ Some call → LivesIn session last call → Follows calls session last call (change call))
-    → AreKept base session last calls → AreKept base session last (changed_at place change calls)
-changed-turn base session last place change calls so kept =
-    followed base session last session last calls (changed_at place change calls) (changed-among calls session last place change calls so kept.turn.living) kept
+    → AreKept base key session last calls → AreKept base key session last (changed_at place change calls)
+changed-turn base key session last place change calls so kept =
+    followed base key session last session last calls (changed_at place change calls) (changed-among calls session last place change calls so kept.turn.living) kept
 
 mapped-among : (calls : List Call) (before past session last : ℕ) (change : Call → Call) (olds : List Call)
     → ((call : Call) → LivesIn before past call → Follows calls session last call (change call)) → AllByRecursion (LivesIn before past) olds
@@ -145,10 +152,10 @@ mapped-among : (calls : List Call) (before past session last : ℕ) (change : Ca
 mapped-among calls before past session last change [] so lives = tt
 mapped-among calls before past session last change (old ∷ olds) so lives = (so old lives.0, mapped-among calls before past session last change olds so lives.1)
 
-pub mapped-turn : (base : List Call) (before past session last : ℕ) (change : Call → Call) (calls : List Call)
-    → ((call : Call) → LivesIn before past call → Follows calls session last call (change call)) → AreKept base before past calls → AreKept base session last (map change calls)
-mapped-turn base before past session last change calls so kept =
-    followed base before past session last calls (map change calls) (mapped-among calls before past session last change calls so kept.turn.living) kept
+pub mapped-turn : (base : Base) (key before past session last : ℕ) (change : Call → Call) (calls : List Call)
+    → ((call : Call) → LivesIn before past call → Follows calls session last call (change call)) → AreKept base key before past calls → AreKept base key session last (map change calls)
+mapped-turn base key before past session last change calls so kept =
+    followed base key before past session last calls (map change calls) (mapped-among calls before past session last change calls so kept.turn.living) kept
 
 -- ---- changes
 
@@ -257,10 +264,10 @@ sent-follows calls session last message salt call undone behind within =
     }
 
 -- a call more
-pub added-turn : (base : List Call) (session last : ℕ) (calls : List Call) (body : List ℕ) (after : Option CallNo)
+pub added-turn : (base : Base) (key session last : ℕ) (calls : List Call) (body : List ℕ) (after : Option CallNo)
     → ((number : CallNo) → after ≡ Some number → (earlier : Call) × (at number calls ≡ Some earlier))
-    → AreKept base session last calls → AreKept base session last (calls ++ new_call body after ∷ [])
-added-turn base session last calls body after there kept =
+    → AreKept base key session last calls → AreKept base key session last (calls ++ new_call body after ∷ [])
+added-turn base key session last calls body after there kept =
     let more = calls ++ new_call body after ∷ [] in
     record {
       turn = record {
@@ -282,6 +289,7 @@ added-turn base session last calls body after there kept =
       lasting = λ place call is.
           let was = kept.lasting place call is in
           (was.0, get-append calls (new_call body after ∷ []) place was.0 was.1, was.2);
+      same = kept.same;
     }
 
 -- ---- the call that has a number
@@ -317,14 +325,15 @@ queued-open call is = λ result done. let no : table.Queued ≡ table.Done resul
 pub raised-lives : (session last more : ℕ) → last ≤ more → (call : Call) → LivesIn session last call → LivesIn session more call
 raised-lives session last more less call lives = λ sent. let was = lives sent in (was.0, was.1, was.2, let within = was.3 in omega (arith, less, within))
 
-pub raised : (base : List Call) (session last more : ℕ) (calls : List Call) → last ≤ more → AreKept base session last calls → AreKept base session more calls
-raised base session last more calls less kept =
+pub raised : (base : Base) (key session last more : ℕ) (calls : List Call) → last ≤ more → AreKept base key session last calls → AreKept base key session more calls
+raised base key session last more calls less kept =
     record {
       turn = record {
         behind = kept.turn.behind;
         living = all-weaker (LivesIn session last) (LivesIn session more) calls (raised-lives session last more less) kept.turn.living;
       };
       lasting = kept.lasting;
+      same = kept.same;
     }
 
 -- one is changed: all last

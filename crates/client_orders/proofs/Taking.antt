@@ -18,25 +18,25 @@ use Rattle.client_rules.specs.Asking.{alone}
 use Rattle.client_rules.specs.Learning.{ended, fate_at_end, fate_learning, learn, learnt_max, learns, settled_if, with_clock}
 use Rattle.client_rules.specs.Taking.{Notice, acknowledges, alone_call, alone_number, answered_by, asks_answer, becomes, fate_noticed, goes_again, has_asked, is_for, is_odd, message_in, messages_of, noticed, noticed_by, row, take, takes_message, takes_over, told_of, told_state, told_states, with_notice_clock, with_notice_salt, without_idle_wish}
 use Rattle.client_orders.specs.Behind.{LivesIn}
-use Rattle.client_orders.proofs.Following.{AreKept, Follows, NotDone, changed-turn, flagged-follows, mapped-turn, owner-sent, sent-open, settled-follows}
+use Rattle.client_orders.proofs.Following.{AreKept, Base, Follows, NotDone, changed-turn, flagged-follows, mapped-turn, owner-sent, sent-open, settled-follows}
 use Rattle.client_orders.proofs.Lists.{none-some}
 
-module _ (base : List Call) where
+module _ (base : Base) where
   abbrev KeepsTurn : Client → Type 0
-  KeepsTurn client = AreKept base client.session client.counters.last (calls_of client)
+  KeepsTurn client = AreKept base client.key client.session client.counters.last (calls_of client)
 
   -- ---- one call
 
   -- a call of which one hears is sent
   becomes-turn : (number : ℕ) (call : CallNo) (fate : Fate) (client : Client) → owner number (calls_of client) ≡ Some call → KeepsTurn client → KeepsTurn (becomes call fate client)
   becomes-turn number call fate client is turn =
-      changed-turn base client.session client.counters.last (call.n - 1) (settled fate) (calls_of client)
+      changed-turn base client.key client.session client.counters.last (call.n - 1) (settled fate) (calls_of client)
       (λ one there lives. settled-follows (calls_of client) client.session client.counters.last fate one (sent-open one (owner-sent number (calls_of client) call is one there))) turn
 
   alone-turn : (call : Option CallNo) (client : Client) → KeepsTurn client → KeepsTurn (alone_call call client)
   alone-turn None client turn = turn
   alone-turn (Some call) client turn =
-      changed-turn base client.session client.counters.last (call.n - 1) alone (calls_of client)
+      changed-turn base client.key client.session client.counters.last (call.n - 1) alone (calls_of client)
       (λ one there lives. flagged-follows (calls_of client) client.session client.counters.last (record one.flags { alone = true }) one lives) turn
 
   alone_all-turn : (numbers : List ℕ) (client : Client) → KeepsTurn client → KeepsTurn (fold alone_number client numbers)
@@ -56,11 +56,11 @@ module _ (base : List Call) where
   settled_if-follows calls session last None call undone lives = flagged-follows calls session last call.flags call (lives refl)
   settled_if-follows calls session last (Some one) call undone lives = settled-follows calls session last one call (undone one refl)
 
-  pub each-turn : (before past session last : ℕ) (fate : Call → Option Fate) (calls : List Call) → IsOpenFate fate
-      → ((call : Call) → LivesIn before past call → fate call ≡ None → LivesIn session last call) → AreKept base before past calls
-      → AreKept base session last (map (λ call. settled_if (fate call) call) calls)
-  each-turn before past session last fate calls undone lives turn =
-      mapped-turn base before past session last (λ call. settled_if (fate call) call) calls
+  pub each-turn : (key before past session last : ℕ) (fate : Call → Option Fate) (calls : List Call) → IsOpenFate fate
+      → ((call : Call) → LivesIn before past call → fate call ≡ None → LivesIn session last call) → AreKept base key before past calls
+      → AreKept base key session last (map (λ call. settled_if (fate call) call) calls)
+  each-turn key before past session last fate calls undone lives turn =
+      mapped-turn base key before past session last (λ call. settled_if (fate call) call) calls
       (λ call was. settled_if-follows calls session last (fate call) call (undone call) (λ none. lives call was none)) turn
 
   end-open : (state : State) (fate : Fate) → fate_at_end state ≡ Some fate → (result : List ℕ) → state ≡ table.Done result → ⊥
@@ -73,7 +73,7 @@ module _ (base : List Call) where
 
   pub ended-turn : (client : Client) → KeepsTurn client → KeepsTurn (ended client)
   ended-turn client turn =
-      each-turn client.session client.counters.last client.session client.counters.last (λ call. fate_at_end call.state) (calls_of client) (λ call fate is. end-open call.state fate is) (λ call lives none. lives) turn
+      each-turn client.key client.session client.counters.last client.session client.counters.last (λ call. fate_at_end call.state) (calls_of client) (λ call fate is. end-open call.state fate is) (λ call lives none. lives) turn
 
   learning-open : (first : Bool) (salt : ℕ) (state : State) (names : List Name) (fate : Fate) → fate_learning first salt (living_name_in state names) ≡ Some fate
       → (result : List ℕ) → state ≡ table.Done result → ⊥
@@ -87,7 +87,7 @@ module _ (base : List Call) where
   learns-turn : (unique salt : ℕ) (client : Client) → KeepsTurn client → KeepsTurn (learns unique salt client)
   learns-turn unique salt client turn =
       let first = not (is_open client) in
-      each-turn client.session client.counters.last client.session client.counters.last (λ call. fate_learning first salt (living_name call)) (calls_of client)
+      each-turn client.key client.session client.counters.last client.session client.counters.last (λ call. fate_learning first salt (living_name call)) (calls_of client)
       (λ call fate is. learning-open first salt call.state call.names fate is) (λ call lives none. lives) turn
 
   learn-turn : (outer unique salt : ℕ) (client : Client) → KeepsTurn client → KeepsTurn (learn outer unique salt client)
@@ -102,26 +102,29 @@ module _ (base : List Call) where
   -- the clock and the salt are taken over
   over-session : (outer : ℕ) (notice : Notice) (client : Client)
       → ((takes_over outer notice client).session ≡ client.session) × (calls_of (takes_over outer notice client) ≡ calls_of client)
-      × ((takes_over outer notice client).counters.last ≡ client.counters.last)
+      × ((takes_over outer notice client).counters.last ≡ client.counters.last) × ((takes_over outer notice client).key ≡ client.key)
   over-session outer notice client = go notice.salt where
     clock : ((with_notice_clock outer notice.code client).session ≡ client.session) × (calls_of (with_notice_clock outer notice.code client) ≡ calls_of client)
-        × ((with_notice_clock outer notice.code client).counters.last ≡ client.counters.last)
+        × ((with_notice_clock outer notice.code client).counters.last ≡ client.counters.last) × ((with_notice_clock outer notice.code client).key ≡ client.key)
     clock =
-        cond_both ((notice.code == 16) || (notice.code == 17)) (with_clock outer client) client (λ (other : Client). (other.session ≡ client.session) × (calls_of other ≡ calls_of client) × (other.counters.last ≡ client.counters.last))
-        (λ is. (refl, refl, refl)) (λ is. (refl, refl, refl))
+        cond_both ((notice.code == 16) || (notice.code == 17)) (with_clock outer client) client (λ (other : Client). (other.session ≡ client.session) × (calls_of other ≡ calls_of client) × (other.counters.last ≡ client.counters.last) × (other.key ≡ client.key))
+        (λ is. (refl, refl, refl, refl)) (λ is. (refl, refl, refl, refl))
 
     go : (salt : Option ℕ) → ((with_notice_salt salt (with_notice_clock outer notice.code client)).session ≡ client.session)
         × (calls_of (with_notice_salt salt (with_notice_clock outer notice.code client)) ≡ calls_of client)
         × ((with_notice_salt salt (with_notice_clock outer notice.code client)).counters.last ≡ client.counters.last)
+        × ((with_notice_salt salt (with_notice_clock outer notice.code client)).key ≡ client.key)
     go None = clock
     go (Some salt) = clock
 
   over-turn : (outer : ℕ) (notice : Notice) (client : Client) → KeepsTurn client → KeepsTurn (takes_over outer notice client)
   over-turn outer notice client turn =
       let same = over-session outer notice client in
-      subst (λ (session : ℕ). AreKept base session (takes_over outer notice client).counters.last (calls_of (takes_over outer notice client))) (sym same.0)
-      (subst (λ (last : ℕ). AreKept base client.session last (calls_of (takes_over outer notice client))) (sym same.2)
-      (subst (AreKept base client.session client.counters.last) (sym same.1) turn))
+      let over = takes_over outer notice client in
+      subst (λ (key : ℕ). AreKept base key over.session over.counters.last (calls_of over)) (sym same.3)
+      (subst (λ (session : ℕ). AreKept base client.key session over.counters.last (calls_of over)) (sym same.0)
+      (subst (λ (last : ℕ). AreKept base client.key client.session last (calls_of over)) (sym same.2)
+      (subst (AreKept base client.key client.session client.counters.last) (sym same.1) turn)))
 
   noticed_by-turn : (call : Option CallNo) (is_binding : Bool) (packet : Option (List ℕ)) (outer : ℕ) (notice : Notice) (client : Client)
       → owner notice.about (calls_of client) ≡ call → KeepsTurn client → KeepsTurn (noticed_by call is_binding packet outer notice client)

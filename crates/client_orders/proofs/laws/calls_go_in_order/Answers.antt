@@ -1,5 +1,5 @@
-use Rattle.std.proofs.Common.{[]}
-use Rattle.client_rules.specs.Client.{calls_of}
+use Rattle.std.proofs.Common.{[], refl}
+use Rattle.client_rules.specs.Client.{Client, calls_of}
 use Rattle.client_rules.specs.Events.{made}
 use Rattle.client_orders.proofs.Events.{all-turn, step-turn}
 use Rattle.client_orders.proofs.Following.{nothing-last}
@@ -10,9 +10,10 @@ returns-clause-made g c = λ setting key temporary draw. record { behind = tt; l
 
 pub returns-clause-event : goal.returns-clause-event
 returns-clause-event g c = λ setting run event turn.
-    let calls = calls_of run.client in
-    (step-turn calls setting run event (record { turn = turn; lasting = nothing-last calls })).turn
+    (step-turn (record { calls = calls_of run.client; key = run.client.key }) setting run event
+    (record { turn = turn; lasting = nothing-last (calls_of run.client); same = refl })).turn
 
 pub returns-clause-all : goal.returns-clause-all
 returns-clause-all g c = λ setting key temporary draw events.
-    (all-turn [] setting events (made setting key temporary draw) (record { turn = record { behind = tt; living = tt }; lasting = nothing-last [] })).turn
+    (all-turn (record { calls = []; key = key }) setting events (made setting key temporary draw)
+    (record { turn = record { behind = tt; living = tt }; lasting = nothing-last []; same = refl })).turn

@@ -1,3 +1,4 @@
+use Rattle.std.proofs.Common.{refl}
 use Rattle.client_rules.specs.Client.{calls_of}
 use Rattle.client_orders.specs.Going.{IsReady}
 use Rattle.client_orders.proofs.Filling.{flush-so}
@@ -6,5 +7,5 @@ use Rattle.client_orders.proofs.laws.packets_have_calls_as_they_went.Goals as go
 
 pub returns : goal.returns
 returns g c = λ setting now client draw turn ready.
-    let calls = calls_of client in
-    (flush-so calls (IsReady client) setting now client draw (λ is. is) (record { turn = turn; lasting = nothing-last calls })).1 ready
+    (flush-so (record { calls = calls_of client; key = client.key }) (IsReady client) setting now client draw (λ is. is)
+    (record { turn = turn; lasting = nothing-last (calls_of client); same = refl })).1 ready
