@@ -1,0 +1,45 @@
+//! Laws of the order of calls over a world, each the contract of a function that does nothing.
+
+ghost use Rattle.std.specs.Prelude.{List};
+ghost use Rattle.auth_keys.specs.declared.ring.RingKey.{RingKey};
+ghost use Rattle.envelope.specs.Lawful.{OpensWhatItSealed};
+ghost use Rattle.envelope.specs.Packet.{Lock};
+ghost use Rattle.sched_text.specs.declared.event.Event.{Event};
+ghost use Rattle.world_rules.specs.Setting.{Setting};
+ghost use Rattle.world_rules.specs.World.{World, begins};
+ghost use Rattle.world_rules.specs.Premises.{Fresh, IsByNoChance, IsSealed, NoChance};
+ghost use Rattle.world_rules.specs.Run.{after, run_of, run_of_any};
+ghost use Rattle.world_law.specs.Made.{AreLawfulPackets};
+ghost use Rattle.world_law.specs.Small.{Fits};
+ghost use Rattle.world_law.specs.Standing.{HasMoves};
+ghost use Rattle.world_orders.specs.Keeping.{KeepsOrder};
+
+use draws::Draw;
+
+/// Each end keeps its part of the order of calls, over every schedule, under the premises of `worlds_are_moves` of `world_law`. Each
+/// client's calls are in turn; each packet up that was ever made has messages as which calls of a client went, behind the number
+/// of an earlier message where they went behind one, and others that ask nothing of the service. And for each two messages of a
+/// session of which the packets say that the one waits for the other, an entry of the one that ran stands behind an entry of
+/// the other that ran, and whose reply begins with neither `rpc_error` nor `rpc_answer_dropped_running`.
+pub fn worlds_keep_order<D: Draw, V>()
+    ensures begins { (setting : Setting D V) (draw : D) → KeepsOrder (begins setting draw) }
+    ensures event { (lock : Lock) (ring : List RingKey) (setting : Setting D V) (world : World D V) (event : Event) → OpensWhatItSealed lock
+        → IsSealed lock ring setting → HasMoves world → AreLawfulPackets lock ring setting world → IsByNoChance setting world event
+        → KeepsOrder world → KeepsOrder (after setting world event) }
+    ensures schedule { (lock : Lock) (ring : List RingKey) (setting : Setting D V) (draw : D) (events : List Event) → OpensWhatItSealed lock
+        → IsSealed lock ring setting → Fits setting → Fresh (run_of setting draw events) → AreLawfulPackets lock ring setting (run_of setting draw events)
+        → KeepsOrder (run_of setting draw events) }
+    ensures any { (lock : Lock) (ring : List RingKey) (setting : Setting D V) (draw : D) (events : List Event) → OpensWhatItSealed lock
+        → IsSealed lock ring setting → Fits setting → NoChance setting (begins setting draw) events → Fresh (run_of_any setting draw events)
+        → AreLawfulPackets lock ring setting (run_of_any setting draw events)
+        → KeepsOrder (run_of_any setting draw events) }
+{
+    server_orders::laws::calls_run_in_order::<D, V>();
+    client_orders::laws::calls_go_in_order::<D>();
+    client_orders::laws::calls_stay::<D>();
+    client_orders::laws::packets_have_calls_as_they_went::<D>();
+    world_law::laws::what_opens_was_made::<D, V>();
+    world_law::laws::worlds_only_grow::<D, V>();
+    world_law::laws::worlds_are_moves::<D, V>();
+    server_laws::laws::servers_stay_in_order::<D, V>();
+}
