@@ -146,11 +146,11 @@ module _ {S V : Type 0} (setting : Setting S V) (ends : Ends S V setting) (world
             (went seats at.0 (record seat { client = done.client }) at.1 done.answer sent);
         served = λ pair are. kept.served pair (all-front _ world.bag (sent_up done.answer) are);
       } where
-    went : (seats : List Seat) (place : ℕ) (one : Seat) → slice_get seats place ≡ Some one → (answer : Answer) → IsAnswerFrom (calls_of one.client) answer
-        → AllByRecursion (IsUpFrom seats) (sent_up answer)
-    went seats place one there Nothing from = tt
-    went seats place one there Spent from = tt
-    went seats place one there (Sends packet) from = (λ up. record { seat = one; place = place; there = there; from = from }, tt)
+        went : (seats : List Seat) (place : ℕ) (one : Seat) → slice_get seats place ≡ Some one → (answer : Answer) → IsAnswerFrom (calls_of one.client) answer
+            → AllByRecursion (IsUpFrom seats) (sent_up answer)
+        went seats place one there Nothing from = tt
+        went seats place one there Spent from = tt
+        went seats place one there (Sends packet) from = (λ up. record { seat = one; place = place; there = there; from = from }, tt)
 
   -- the server did something
   no-up : Down ≡ Up → ⊥
@@ -187,10 +187,10 @@ module _ {S V : Type 0} (setting : Setting S V) (ends : Ends S V setting) (world
   came-kept bytes opened =
       served-kept (Comes world.clock (option_map as_heard (setting.opens (server_now world) Up bytes)))
       (λ pair are. by (setting.opens (server_now world) Up bytes) pair (opened pair are)) where
-    by : (found : Option Envelope) (pair : Pair) → ((envelope : Envelope) → found ≡ Some envelope → IsPacketFor pair (as_heard envelope))
-        → IsEventFor pair (Comes world.clock (option_map as_heard found))
-    by None pair so = tt
-    by (Some envelope) pair so = so envelope refl
+        by : (found : Option Envelope) (pair : Pair) → ((envelope : Envelope) → found ≡ Some envelope → IsPacketFor pair (as_heard envelope))
+            → IsEventFor pair (Comes world.clock (option_map as_heard found))
+        by None pair so = tt
+        by (Some envelope) pair so = so envelope refl
 
   pub walk : (w : Moved) → WorldStands w world → Walk S V setting world KeepsOrder Opened
   walk w stands = record {

@@ -3,3 +3,7 @@ pub mod Seats
 pub mod Walking
 pub mod Keeping
 pub mod Runs
+pub mod Reading
+pub mod Named
+pub mod Pairs
+pub mod Waiting

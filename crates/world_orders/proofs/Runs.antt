@@ -93,10 +93,10 @@ event-kept lock ring setting opens ends world event moves sealed chance kept =
 
 -- ---- order of sessions
 
-abbrev IsAny : List ℕ → Type 0
+abbrev pub IsAny : List ℕ → Type 0
 IsAny bytes = Unit {0}
 
-any-opened : {S V : Type 0} (setting : Setting S V) (world : World S V) (event : Event) → AreOpened setting world IsAny event
+pub any-opened : {S V : Type 0} (setting : Setting S V) (world : World S V) (event : Event) → AreOpened setting world IsAny event
 any-opened setting world (line.Give number) = λ packet is up. tt
 any-opened setting world (line.ForeignServer bytes) = tt
 any-opened setting world line.Client = tt
@@ -207,11 +207,11 @@ module _ {S V : Type 0} (lock : Lock) (ring : List RingKey) (setting : Setting S
     Steps world [] = Unit {0}
     Steps world (event ∷ events) = IsStep world event (next world event) × Steps (next world event) events
 
-    next-ordered : (world : World S V) (event : Event) → IsStep world event (next world event) → IsOrdered world → IsOrdered (next world event)
+    pub next-ordered : (world : World S V) (event : Event) → IsStep world event (next world event) → IsOrdered world → IsOrdered (next world event)
     next-ordered world event (inl same) ordered = subst IsOrdered (sym same) ordered
     next-ordered world event (inr on) ordered = subst IsOrdered (sym on.0) (known.ordered world event ordered)
 
-    fresh-back : (world : World S V) (events : List Event) → Steps world events → IsOrdered world → Fresh (fold next world events) → Fresh world
+    pub fresh-back : (world : World S V) (events : List Event) → Steps world events → IsOrdered world → Fresh (fold next world events) → Fresh world
     fresh-back world [] steps ordered fresh = fresh
     fresh-back world (event ∷ events) steps ordered fresh =
         let there : Fresh (next world event) = fresh-back (next world event) events steps.1 (next-ordered world event steps.0 ordered) fresh in
@@ -220,7 +220,7 @@ module _ {S V : Type 0} (lock : Lock) (ring : List RingKey) (setting : Setting S
           | inr on ↦ known.words world event ordered (subst Fresh on.0 there)
         ]
 
-    sealed-back : (world : World S V) (events : List Event) → Steps world events → SealedIn (fold next world events) → SealedIn world
+    pub sealed-back : (world : World S V) (events : List Event) → Steps world events → SealedIn (fold next world events) → SealedIn world
     sealed-back world [] steps sealed = sealed
     sealed-back world (event ∷ events) steps sealed =
         let there : SealedIn (next world event) = sealed-back (next world event) events steps.1 sealed in
@@ -232,7 +232,7 @@ module _ {S V : Type 0} (lock : Lock) (ring : List RingKey) (setting : Setting S
     abbrev Both : World S V → Type 0
     Both world = HasMoves world × P world
 
-    next-both : (world : World S V) (event : Event) → IsStep world event (next world event) → SealedIn world → Fresh (next world event) → SealedIn (next world event)
+    pub next-both : (world : World S V) (event : Event) → IsStep world event (next world event) → SealedIn world → Fresh (next world event) → SealedIn (next world event)
         → Both world → Both (next world event)
     next-both world event (inl same) sealed fresh behind both = subst Both (sym same) both
     next-both world event (inr on) sealed fresh behind both =

@@ -1,14 +1,16 @@
 -- What a world keeps of the order of calls.
-use Rattle.std.specs.Prelude.{◌≡◌, ℕ, Option, None, Some, List, map, slice_get}
-use Rattle.std.specs.List.{AllByRecursion}
+use Rattle.std.specs.Prelude.{◌≡◌, ℕ, true, Option, None, Some, List, [], ◌∷◌, ◌++◌, map, slice_get}
+use Rattle.std.specs.List.{AllByRecursion, Contains, list_any}
 use Rattle.envelope.specs.declared.parts.Dir.TheVariants.{Up}
 use Rattle.server_rules.specs.Event.{Entry}
-use Rattle.client_rules.specs.Client.{calls_of}
+use Rattle.call_table.specs.Table.{Call, Name}
+use Rattle.client_rules.specs.Client.{Client, calls_of}
 use Rattle.server_orders.specs.After.{AreInTurn, IsPacketFor, Pair}
 use Rattle.client_orders.specs.Behind.{KeepsTurn}
 use Rattle.client_orders.specs.Going.{IsPacketFrom}
 use Rattle.world_rules.specs.Setting.{as_heard}
-use Rattle.world_rules.specs.World.{Packet, Seat, World}
+use Rattle.world_rules.specs.World.{Entered, Packet, Seat, World}
+use Rattle.world_rules.specs.Once.{IsCallOf, IsEarlierCall, RanWell, is_entry_under}
 use Rattle.world_law.specs.Made.{IsShort}
 
 -- ---- clients
@@ -46,3 +48,19 @@ pub record KeepsOrder {S V : Type 0} (world : World S V) : Type 0 where
   pub clients : AreTurning world.seats
   pub bag : AllByRecursion (IsUpFrom world.seats) world.bag
   pub served : IsServedInTurn world
+
+-- ---- calls that wait
+
+-- An entry that ran under a name of a call that went behind a number, of a call with an earlier call, stands behind an entry of
+-- that earlier call that ran well.
+abbrev pub WaitingInOrder : {S V : Type 0} → World S V → Type 0
+WaitingInOrder world =
+    (number place : ℕ) (client : Client) (call earlier : Call) (before behind : List Entered) (entered : Entered) (name : Name) (wrap : ℕ)
+    → IsCallOf world number place client call
+    → IsEarlierCall client call earlier
+    → world.entries ≡ before ++ entered ∷ behind
+    → Contains call.names name
+    → name.message.wrap ≡ Some wrap
+    → is_entry_under client name entered ≡ true
+    → entered.entry.ran ≡ true
+    → (first : Entered) × Contains before first × (list_any (λ name. is_entry_under client name first) earlier.names ≡ true) × RanWell first

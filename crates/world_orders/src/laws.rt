@@ -12,7 +12,7 @@ ghost use Rattle.world_rules.specs.Run.{after, run_of, run_of_any};
 ghost use Rattle.world_law.specs.Made.{AreLawfulPackets};
 ghost use Rattle.world_law.specs.Small.{Fits};
 ghost use Rattle.world_law.specs.Standing.{HasMoves};
-ghost use Rattle.world_orders.specs.Keeping.{KeepsOrder};
+ghost use Rattle.world_orders.specs.Keeping.{KeepsOrder, WaitingInOrder};
 
 use draws::Draw;
 
@@ -42,4 +42,28 @@ pub fn worlds_keep_order<D: Draw, V>()
     world_law::laws::worlds_only_grow::<D, V>();
     world_law::laws::worlds_are_moves::<D, V>();
     server_laws::laws::servers_stay_in_order::<D, V>();
+}
+
+/// An entry that ran of a call with an earlier call, under a name that went behind a number, stands behind an entry of that
+/// earlier call that ran, and whose reply doesn't begin with `rpc_error`: over every schedule, under the premises of
+/// `worlds_are_moves` of `world_law`.
+pub fn calls_that_wait_run_in_order<D: Draw, V>()
+    ensures schedule { (lock : Lock) (ring : List RingKey) (setting : Setting D V) (draw : D) (events : List Event) → OpensWhatItSealed lock
+        → IsSealed lock ring setting → Fits setting → Fresh (run_of setting draw events) → AreLawfulPackets lock ring setting (run_of setting draw events)
+        → WaitingInOrder (run_of setting draw events) }
+    ensures any { (lock : Lock) (ring : List RingKey) (setting : Setting D V) (draw : D) (events : List Event) → OpensWhatItSealed lock
+        → IsSealed lock ring setting → Fits setting → NoChance setting (begins setting draw) events → Fresh (run_of_any setting draw events)
+        → AreLawfulPackets lock ring setting (run_of_any setting draw events)
+        → WaitingInOrder (run_of_any setting draw events) }
+{
+    octets::laws::parts_are_bytes();
+    service_tl::laws::items_exact();
+    containers::laws::parts_are_exact();
+    containers::laws::packed_is_unfolded();
+    session_moves::laws::names_are_apart();
+    session_moves::laws::numbers_are_given_once();
+    world_servers::laws::packets_sent_are_up();
+    world_law::laws::worlds_are_moves::<D, V>();
+    world_law::laws::calls_execute_once::<D, V>();
+    worlds_keep_order::<D, V>();
 }
