@@ -7,3 +7,5 @@ pub mod Reading
 pub mod Named
 pub mod Pairs
 pub mod Waiting
+pub mod Ordering
+pub mod Orders

@@ -62,7 +62,7 @@ filtered-some test (first ∷ xs) x among is none =
           ]
     ]
 
-split-there : {X : Type 0} (xs before behind : List X) (x : X) → xs ≡ before ++ x ∷ behind → Contains xs x
+pub split-there : {X : Type 0} (xs before behind : List X) (x : X) → xs ≡ before ++ x ∷ behind → Contains xs x
 split-there xs [] behind x is = subst (λ (xs : List _). Contains xs x) (sym is) (here x behind)
 split-there xs (first ∷ before) behind x is =
     subst (λ (xs : List _). Contains xs x) (sym is) (later x first (before ++ x ∷ behind) (split-there (before ++ x ∷ behind) before behind x refl))

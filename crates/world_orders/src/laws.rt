@@ -12,6 +12,7 @@ ghost use Rattle.world_rules.specs.Run.{after, run_of, run_of_any};
 ghost use Rattle.world_law.specs.Made.{AreLawfulPackets};
 ghost use Rattle.world_law.specs.Small.{Fits};
 ghost use Rattle.world_law.specs.Standing.{HasMoves};
+ghost use Rattle.world_rules.specs.Once.{InOrder};
 ghost use Rattle.world_orders.specs.Keeping.{KeepsOrder, WaitingInOrder};
 
 use draws::Draw;
@@ -66,4 +67,24 @@ pub fn calls_that_wait_run_in_order<D: Draw, V>()
     world_law::laws::worlds_are_moves::<D, V>();
     world_law::laws::calls_execute_once::<D, V>();
     worlds_keep_order::<D, V>();
+}
+
+/// An entry that ran of a call with an earlier call stands behind an entry of that earlier call that ran, and whose reply
+/// doesn't begin with `rpc_error`: over every schedule, under the premises of `calls_execute_once` of `world_law`.
+pub fn calls_run_in_order<D: Draw, V>()
+    ensures schedule { (lock : Lock) (ring : List RingKey) (setting : Setting D V) (draw : D) (events : List Event) → OpensWhatItSealed lock
+        → IsSealed lock ring setting → Fits setting → Fresh (run_of setting draw events) → AreLawfulPackets lock ring setting (run_of setting draw events)
+        → InOrder (run_of setting draw events) }
+{
+    server_orders::laws::calls_run_in_order::<D, V>();
+    client_orders::laws::calls_go_in_order::<D>();
+    client_orders::laws::calls_stay::<D>();
+    client_orders::laws::packets_have_calls_as_they_went::<D>();
+    world_law::laws::what_opens_was_made::<D, V>();
+    world_law::laws::worlds_only_grow::<D, V>();
+    world_law::laws::worlds_are_moves::<D, V>();
+    world_law::laws::calls_execute_once::<D, V>();
+    server_laws::laws::servers_stay_in_order::<D, V>();
+    worlds_keep_order::<D, V>();
+    calls_that_wait_run_in_order::<D, V>();
 }
