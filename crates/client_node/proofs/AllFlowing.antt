@@ -1,12 +1,12 @@
 -- All flushes, one after the other.
-use Rattle.std.proofs.Common.{◌≡◌, ◌+◌, ℕ, Bool, false, List, ◌++◌, length, Result, Ok, Err, inl, inr, refl, sym, ap, subst, ◌∙◌, length-append, arith}
+use Rattle.std.proofs.Common.{◌≡◌, ◌+◌, ℕ, Bool, false, List, ◌++◌, length, Result, Ok, Err, inl, inr, refl, sym, ap, subst, ◌∙◌, length-append}
 use Rattle.auth_keys.specs.declared.ring.RingKey.{RingKey}
 use Rattle.envelope.specs.Packet.{Lock}
 use Rattle.client_node.specs.Writes.{Seen}
 use Rattle.transport.specs.Wires.{Line}
 use Rattle.client_rules.specs.Sending.{Setting}
 use Rattle.client_core.specs.declared.holder.Holder.{Holder}
-use Rattle.client_node.specs.Course.{Course, sends_all}
+use Rattle.client_node.specs.Course.{Course, is_decided, sends_all}
 use Rattle.client_node.specs.Flow.{AllFlushes, Flow, OneFlush, SoFar, Stops, went_on}
 use Rattle.client_node.specs.Standing.{StandsAs}
 use Rattle.client_node.specs.declared.end.End.{End}
@@ -16,15 +16,15 @@ use Rattle.client_node.proofs.Flowing.{stands_first, flow_both, no_flow, stops_b
 pub so_far_none : {S : Type 0} (setting : Setting S) (lock : Lock) (keys : List RingKey) (now : ℕ) (kept : Holder) (draw : S) (line : Line) (link : Seen)
     → SoFar setting lock keys now kept draw line link 0 kept draw line link
 so_far_none setting lock keys now kept draw line link =
-    record { flow = no_flow setting lock keys now kept draw line link; goes = refl; count = refl; undecided = λ some. absurd (omega (arith, some)) }
+    record { flow = no_flow setting lock keys now kept draw line link; goes = refl; count = refl; undecided = λ course stands some. some }
 
 -- the course after the packets so far
 stands_then : {S : Type 0} (setting : Setting S) (lock : Lock) (keys : List RingKey) (now : ℕ) (kept : Holder) (draw : S) (line : Line) (link : Seen) (times : ℕ)
     (middle : Holder) (between : S) (line_between : Line) (link_between : Seen)
     → (before : SoFar setting lock keys now kept draw line link times middle between line_between link_between)
-    → (course : Course S) → StandsAs kept draw course → StandsAs middle between (sends_all setting now course before.flow.sent)
-stands_then setting lock keys now kept draw line link times middle between line_between link_between before course stands =
-    stands_first setting lock keys now course before.flow.sent before.flow.is_done middle between before.goes (before.flow.course course stands)
+    → (course : Course S) → StandsAs kept draw course → is_decided course.client ≡ false → StandsAs middle between (sends_all setting now course before.flow.sent)
+stands_then setting lock keys now kept draw line link times middle between line_between link_between before course stands some =
+    stands_first setting lock keys now course before.flow.sent before.flow.is_done middle between before.goes (before.flow.course course stands some)
 
 abbrev joined : {S X : Type 0} (setting : Setting S) (lock : Lock) (keys : List RingKey) (now : ℕ) (kept : Holder) (draw : S) (line : Line) (link : Seen) (times : ℕ)
     (middle : Holder) (between : S) (line_between : Line) (link_between : Seen) (left : Holder) (drawn : S) (line_then : Line) (link_then : Seen) (result : Result X End)
@@ -32,7 +32,7 @@ abbrev joined : {S X : Type 0} (setting : Setting S) (lock : Lock) (keys : List 
     → Flow setting lock keys now middle between line_between link_between result left drawn line_then link_then
     → Flow setting lock keys now kept draw line link result left drawn line_then link_then
 joined setting lock keys now kept draw line link times middle between line_between link_between left drawn line_then link_then result before after =
-    flow_both setting lock keys now kept draw line link middle between line_between link_between left drawn line_then link_then result before.flow before.goes after
+    flow_both setting lock keys now kept draw line link middle between line_between link_between left drawn line_then link_then result before.flow before.goes before.undecided after
 
 stopped : {S X : Type 0} (setting : Setting S) (lock : Lock) (keys : List RingKey) (now : ℕ) (kept : Holder) (draw : S) (line : Line) (link : Seen) (times : ℕ)
     (middle : Holder) (between : S) (line_between : Line) (link_between : Seen) (result : Result X End) (sent : List (List ℕ)) (is_done : Bool)
@@ -41,7 +41,7 @@ stopped : {S X : Type 0} (setting : Setting S) (lock : Lock) (keys : List RingKe
     → Stops setting lock keys now kept draw (before.flow.sent ++ sent) is_done result
 stopped setting lock keys now kept draw line link times middle between line_between link_between result sent is_done before stops =
     stops_both setting lock keys now kept draw middle between before.flow.sent sent is_done result
-    (stands_then setting lock keys now kept draw line link times middle between line_between link_between before) stops
+    (stands_then setting lock keys now kept draw line link times middle between line_between link_between before) before.undecided stops
 
 pub so_far_more : {S : Type 0} (setting : Setting S) (lock : Lock) (keys : List RingKey) (now : ℕ) (kept : Holder) (draw : S) (line : Line) (link : Seen) (times : ℕ)
     (middle : Holder) (between : S) (line_between : Line) (link_between : Seen) (left : Holder) (drawn : S) (line_then : Line) (link_then : Seen)
@@ -53,7 +53,7 @@ so_far_more setting lock keys now kept draw line link times middle between line_
       flow = joined setting lock keys now kept draw line link times middle between line_between link_between left drawn line_then link_then went_on before one.flow;
       goes = one.one.0;
       count = length-append before.flow.sent one.flow.sent ∙ ap (λ (n : ℕ). n + length one.flow.sent) before.count ∙ ap (λ (n : ℕ). times + n) one.one.1;
-      undecided = λ some. subst (λ is_done. Stops setting lock keys now kept draw (before.flow.sent ++ one.flow.sent) is_done went_on) one.one.0
+      undecided = subst (λ is_done. Stops setting lock keys now kept draw (before.flow.sent ++ one.flow.sent) is_done went_on) one.one.0
           (stopped setting lock keys now kept draw line link times middle between line_between link_between went_on one.flow.sent one.flow.is_done before one.stops);
     }
 
@@ -70,7 +70,7 @@ pub all_done : {S : Type 0} (setting : Setting S) (lock : Lock) (keys : List Rin
 all_done setting lock keys now kept draw line link times middle between line_between link_between left drawn line_then link_then before one =
     let whole = joined setting lock keys now kept draw line link times middle between line_between link_between left drawn line_then link_then (Ok false) before one.flow in
     record {
-      flow = record { sent = whole.sent; framed = whole.framed; all = whole.all; is_done = whole.is_done; bytes = whole.bytes; course = whole.course; tells = whole.tells; written = whole.written };
+      flow = record { sent = whole.sent; framed = whole.framed; all = whole.all; is_done = whole.is_done; bytes = whole.bytes; course = whole.course; form = whole.form; tells = whole.tells; written = whole.written };
       stops = stopped setting lock keys now kept draw line link times middle between line_between link_between all_well one.flow.sent one.flow.is_done before one.stops;
       all = inl one.one.0;
     }
@@ -83,10 +83,9 @@ pub all_sent : {S : Type 0} (setting : Setting S) (lock : Lock) (keys : List Rin
     → AllFlushes setting lock keys now kept draw line link (Ok tt) left drawn line_then link_then
 all_sent setting lock keys now kept draw line link times left drawn line_then link_then most before =
     let whole = before.flow in
-    let undecided = before.undecided (omega (arith, most)) in
     record {
-      flow = record { sent = whole.sent; framed = whole.framed; all = whole.all; is_done = whole.is_done; bytes = whole.bytes; course = whole.course; tells = whole.tells; written = whole.written };
-      stops = subst (λ is_done. Stops setting lock keys now kept draw before.flow.sent is_done went_on) (sym before.goes) undecided;
+      flow = record { sent = whole.sent; framed = whole.framed; all = whole.all; is_done = whole.is_done; bytes = whole.bytes; course = whole.course; form = whole.form; tells = whole.tells; written = whole.written };
+      stops = subst (λ is_done. Stops setting lock keys now kept draw before.flow.sent is_done went_on) (sym before.goes) before.undecided;
       all = inr (before.count ∙ most);
     }
 
@@ -100,15 +99,15 @@ failed_as : {S : Type 0} (setting : Setting S) (lock : Lock) (keys : List RingKe
     → Stops setting lock keys now kept draw flow.sent flow.is_done (one_err end)
     → AllFlushes setting lock keys now kept draw line link (Err end) left drawn line_then link_then
 failed_as setting lock keys now kept draw line link left drawn line_then link_then ends.Decided flow stops =
-    record { flow = record { sent = flow.sent; framed = flow.framed; all = flow.all; is_done = flow.is_done; bytes = flow.bytes; course = flow.course; tells = flow.tells; written = flow.written }; stops = stops; all = tt }
+    record { flow = record { sent = flow.sent; framed = flow.framed; all = flow.all; is_done = flow.is_done; bytes = flow.bytes; course = flow.course; form = flow.form; tells = flow.tells; written = flow.written }; stops = stops; all = tt }
 failed_as setting lock keys now kept draw line link left drawn line_then link_then ends.Lost flow stops =
-    record { flow = record { sent = flow.sent; framed = flow.framed; all = flow.all; is_done = flow.is_done; bytes = flow.bytes; course = flow.course; tells = flow.tells; written = flow.written }; stops = stops; all = tt }
+    record { flow = record { sent = flow.sent; framed = flow.framed; all = flow.all; is_done = flow.is_done; bytes = flow.bytes; course = flow.course; form = flow.form; tells = flow.tells; written = flow.written }; stops = stops; all = tt }
 failed_as setting lock keys now kept draw line link left drawn line_then link_then ends.TurnsSpent flow stops =
-    record { flow = record { sent = flow.sent; framed = flow.framed; all = flow.all; is_done = flow.is_done; bytes = flow.bytes; course = flow.course; tells = flow.tells; written = flow.written }; stops = stops; all = tt }
+    record { flow = record { sent = flow.sent; framed = flow.framed; all = flow.all; is_done = flow.is_done; bytes = flow.bytes; course = flow.course; form = flow.form; tells = flow.tells; written = flow.written }; stops = stops; all = tt }
 failed_as setting lock keys now kept draw line link left drawn line_then link_then ends.Spent flow stops =
-    record { flow = record { sent = flow.sent; framed = flow.framed; all = flow.all; is_done = flow.is_done; bytes = flow.bytes; course = flow.course; tells = flow.tells; written = flow.written }; stops = stops; all = tt }
+    record { flow = record { sent = flow.sent; framed = flow.framed; all = flow.all; is_done = flow.is_done; bytes = flow.bytes; course = flow.course; form = flow.form; tells = flow.tells; written = flow.written }; stops = stops; all = tt }
 failed_as setting lock keys now kept draw line link left drawn line_then link_then ends.Memory flow stops =
-    record { flow = record { sent = flow.sent; framed = flow.framed; all = flow.all; is_done = flow.is_done; bytes = flow.bytes; course = flow.course; tells = flow.tells; written = flow.written }; stops = stops; all = tt }
+    record { flow = record { sent = flow.sent; framed = flow.framed; all = flow.all; is_done = flow.is_done; bytes = flow.bytes; course = flow.course; form = flow.form; tells = flow.tells; written = flow.written }; stops = stops; all = tt }
 
 pub all_failed : {S : Type 0} (setting : Setting S) (lock : Lock) (keys : List RingKey) (now : ℕ) (kept : Holder) (draw : S) (line : Line) (link : Seen) (times : ℕ)
     (middle : Holder) (between : S) (line_between : Line) (link_between : Seen) (left : Holder) (drawn : S) (line_then : Line) (link_then : Seen) (end : End)

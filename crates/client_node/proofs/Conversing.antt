@@ -3,7 +3,7 @@ use Rattle.std.proofs.Common.{◌≡◌, ◌≤◌, ◌+◌, ℕ, true, false, L
 use Rattle.auth_keys.specs.declared.ring.RingKey.{RingKey}
 use Rattle.draws.specs.Draws.{draw_after, next_bytes}
 use Rattle.envelope.specs.Packet.{Lock}
-use Rattle.transport.specs.Starts.{IsSentStart, words_drawn}
+use Rattle.transport.specs.Starts.{IsSentStart, Opening, words_drawn}
 use Rattle.transport.specs.Wires.{HasBegun, Line}
 use Rattle.mt_edge.specs.Faults.{one_more}
 use Rattle.mt_edge.specs.Links.{IsFresh, Told}
@@ -18,7 +18,7 @@ use Rattle.client_node.specs.Course.{Course, Phase, Reading, attached_in, attach
 use Rattle.client_node.specs.Ends.{batch_by}
 use Rattle.client_node.specs.Runs.{Conversed, Gave, HasOpened, LostSoFar, Talked, Tried}
 use Rattle.client_node.specs.Standing.{StandsAs, StandsFor, phase_of}
-use Rattle.client_node.specs.Talks.{Began, Close, Connection, Heard, PassedFront, Place, Refused, Rules, Shows, ShowsClose, Stopped, TurnsDone, Unread, Unstarted, begun, drawn, rules_of}
+use Rattle.client_node.specs.Talks.{Began, Close, Connection, FailsLast, Heard, PassedFront, Place, Refused, Rules, Said, Shows, ShowsClose, Stopped, TurnsDone, Unread, Unstarted, begun, drawn, rules_of}
 use Rattle.client_node.specs.Trace.{AreNoted, Attempt, ClientTrace, IsNoted, Made, NoLink, UndecidedIn, after_all, all_moments}
 use Rattle.client_node.specs.Writes.{Seen, Writes, WroteFront, seen}
 use Rattle.client_node.specs.declared.end.End.{End}
@@ -28,6 +28,7 @@ use Rattle.client_node.specs.declared.plan.Batch.TheVariants as batch
 use Rattle.client_node.specs.declared.plan.Plan.{Plan}
 use Rattle.client_node.proofs.Connecting.{closes_last}
 use Rattle.client_node.proofs.Flowing.{map_told}
+use Rattle.client_node.proofs.Spelling.{none_spelt}
 use Rattle.client_node.proofs.Passing.{gave_more, gave_none, passes_behind, passes_none, reading_behind, writing_behind}
 use Rattle.client_node.proofs.Undecided.{last_undecided}
 
@@ -52,12 +53,13 @@ pub stands_drawn : {S : Type 0} (step : S → ℕ × S) (lock : Lock) (keys : Li
 stands_drawn step lock keys reading plan course kept draw after stands same =
     record { phase = stands.phase; client = stands.client; draw = same ∙ ap (λ one. draw_after step (words_drawn plan.obfuscate) one) stands.draw }
 
-front_alone : {S : Type 0} (place : Place S) (start : List ℕ) → place.came ≡ [] → place.reads ≡ [] → (before after : Told) → WroteFront start before after → PassedFront start place before after
+front_alone : {S : Type 0} (place : Place S) (start : List ℕ) → place.came ≡ [] → place.reads ≡ [] → (before after : Told) → WroteFront [] start before after → PassedFront [] start place before after
 front_alone place start came reads before after wrote =
     record {
       front = wrote.front;
       rest = wrote.rest;
-      whole = wrote.whole;
+      cut = wrote.cut;
+      some = wrote.some;
       passed = record {
         written = wrote.wrote.written;
         came = wrote.wrote.came ∙ sym (append-nil before.came) ∙ ap (λ (bytes : List ℕ). before.came ++ bytes) (sym came);
@@ -70,7 +72,7 @@ pub unstarted : {S : Type 0} (step : S → ℕ × S) (lock : Lock) (keys : List 
     → StandsAs kept draw course → after ≡ draw_after step (words_drawn plan.obfuscate) draw
     → IsSentStart plan.obfuscate plan.form (next_bytes step 64 draw) start
     → end ≡ ends.Lost
-    → IfSome link_then.told (λ last. IsSomeAnd link.told (λ first. WroteFront start first last))
+    → IfSome link_then.told (λ last. IsSomeAnd link.told (λ first. WroteFront [] start first last))
     → link_then.faults ≡ one_more link.faults
     → Gave (first ∷ []) given given_then
     → Conversed (rules_of step lock keys reading) plan course link given end kept after link_then given_then
@@ -81,7 +83,7 @@ unstarted step lock keys reading plan course link link_then given given_then fir
       ends_so = sym lost;
       stands = stands_drawn step lock keys reading plan course kept draw after stands same;
       shows = record {
-        told = map_told (WroteFront start) (PassedFront start (begun (rules_of step lock keys reading) plan course first))
+        told = map_told (WroteFront [] start) (PassedFront [] start (begun (rules_of step lock keys reading) plan course first))
             (front_alone (begun (rules_of step lock keys reading) plan course first) start refl refl) link.told link_then.told told;
         faults = faults;
       };
@@ -91,20 +93,36 @@ unstarted step lock keys reading plan course link link_then given given_then fir
 -- ---- a connection with a talk
 
 pub opened : (line : Line) (form : _) (start : List ℕ) → (its : HasBegun line form start) → HasOpened line its.opening
-opened line form start its = record { form = its.form ∙ sym its.opens; hears = its.hears; tells = its.tells }
+opened line form start its = record { form = its.form ∙ sym its.opens; hears = its.hears; tells = none_spelt line its.opening.up its.tells }
 
-shows_behind : {S : Type 0} (close : Close) (start bytes : List ℕ) (place : Place S) (first middle last : Seen) → Writes start first middle → ShowsClose close bytes place middle last → ShowsClose close (start ++ bytes) place first last
-shows_behind (Stopped ends.Lost) start bytes place first middle last before after = writing_behind start bytes place first middle last before after
-shows_behind (Stopped ends.Decided) start bytes place first middle last before (inl after) = inl (passes_behind start bytes place first middle last before after)
-shows_behind (Stopped ends.Decided) start bytes place first middle last before (inr after) = inr (writing_behind start bytes place first middle last before after)
-shows_behind (Stopped ends.Spent) start bytes place first middle last before after = passes_behind start bytes place first middle last before after
-shows_behind (Stopped ends.Memory) start bytes place first middle last before after = passes_behind start bytes place first middle last before after
-shows_behind (Stopped ends.TurnsSpent) start bytes place first middle last before after = absurd after
-shows_behind (Unread (got.Bytes count)) start bytes place first middle last before after = absurd after
-shows_behind (Unread got.End) start bytes place first middle last before after = passes_behind start bytes place first middle last before after
-shows_behind (Unread got.Failed) start bytes place first middle last before after = reading_behind start bytes place first middle last before after
-shows_behind (Heard piece moment heard end) start bytes place first middle last before after = passes_behind start bytes place first middle last before after
-shows_behind TurnsDone start bytes place first middle last before after = passes_behind start bytes place first middle last before after
+fails_behind : {S : Type 0} (opening : Opening) (start : List ℕ) (sent : List (List ℕ)) (said : Said) (bytes : List ℕ) (place : Place S) (first middle last : Seen)
+    → Writes start first middle → FailsLast opening [] sent said bytes place middle last → FailsLast opening start sent said bytes place first last
+fails_behind opening start sent said bytes place first middle last before after =
+    record {
+      earlier = after.earlier;
+      packet = after.packet;
+      whole = after.whole;
+      last = after.last;
+      each = after.each;
+      no_more = after.no_more;
+      all = after.all;
+      text = after.text;
+      fails = writing_behind start after.whole after.last place first middle last before after.fails;
+    }
+
+shows_behind : {S : Type 0} (close : Close) (opening : Opening) (start : List ℕ) (sent : List (List ℕ)) (said : Said) (bytes : List ℕ) (place : Place S) (first middle last : Seen)
+    → Writes start first middle → ShowsClose close opening [] sent said bytes place middle last → ShowsClose close opening start sent said bytes place first last
+shows_behind (Stopped ends.Lost) opening start sent said bytes place first middle last before after = fails_behind opening start sent said bytes place first middle last before after
+shows_behind (Stopped ends.Decided) opening start sent said bytes place first middle last before (inl after) = inl (passes_behind start bytes place first middle last before after)
+shows_behind (Stopped ends.Decided) opening start sent said bytes place first middle last before (inr after) = inr (fails_behind opening start sent said bytes place first middle last before after)
+shows_behind (Stopped ends.Spent) opening start sent said bytes place first middle last before after = passes_behind start bytes place first middle last before after
+shows_behind (Stopped ends.Memory) opening start sent said bytes place first middle last before after = passes_behind start bytes place first middle last before after
+shows_behind (Stopped ends.TurnsSpent) opening start sent said bytes place first middle last before after = absurd after
+shows_behind (Unread (got.Bytes count)) opening start sent said bytes place first middle last before after = absurd after
+shows_behind (Unread got.End) opening start sent said bytes place first middle last before after = passes_behind start bytes place first middle last before after
+shows_behind (Unread got.Failed) opening start sent said bytes place first middle last before after = reading_behind start bytes place first middle last before after
+shows_behind (Heard piece moment heard end) opening start sent said bytes place first middle last before after = passes_behind start bytes place first middle last before after
+shows_behind TurnsDone opening start sent said bytes place first middle last before after = passes_behind start bytes place first middle last before after
 
 pub stands_attached : {S : Type 0} (kept left : Holder) (draw : S) (course : Course S)
     → StandsAs kept draw course
@@ -140,7 +158,7 @@ talked_through step lock keys reading plan course link link_between link_then gi
       );
       ends_so = talked.ends_so;
       stands = talked.stands;
-      shows = shows_behind talked.talk.close start talked.talk.bytes _ link link_between link_then wrote talked.shows;
+      shows = shows_behind talked.talk.close its.opening start _ talked.talk.said talked.talk.bytes _ link link_between link_then wrote talked.shows;
       gave = gave_more (first ∷ []) _ given given_between given_then gave talked.gave;
     }
 
@@ -263,6 +281,7 @@ traced rules plan course times first middle last given given_between given_then 
     record {
       attempts = one.attempt ∷ before.attempts;
       ended = (
+        some,
         before.lost,
         one.is,
         ap (λ (how : End). batch_by how) one.ends_so,

@@ -1,10 +1,10 @@
 -- What is sent in two steps is sent in one.
-use Rattle.std.proofs.Common.{◌≡◌, ℕ, nat_lt, if◌then◌else◌, Bool, true, false, List, [], ◌∷◌, ◌++◌, Option, Some, None, IfSome, IsSomeAnd, Result, Ok, Err, inl, inr, refl, sym, ap, subst, ◌∙◌, append_assoc, append-nil}
+use Rattle.std.proofs.Common.{◌≡◌, ℕ, nat_lt, not, if◌then◌else◌, Bool, true, false, List, [], ◌∷◌, ◌++◌, Option, Some, None, IfSome, IsSomeAnd, Result, Ok, Err, inl, inr, refl, sym, ap, subst, ◌∙◌, append-nil}
 use Rattle.auth_keys.specs.declared.ring.RingKey.{RingKey}
 use Rattle.envelope.specs.Packet.{Lock}
 use Rattle.cipher_modes.specs.CounterMode.{CtrState}
 use Rattle.mt_edge.specs.Links.{Told}
-use Rattle.transport.specs.Wires.{Line, Tells}
+use Rattle.transport.specs.Wires.{Line}
 use Rattle.msg_ids.specs.Counters.{room}
 use Rattle.service_tl.specs.declared.lists.Message.{Message}
 use Rattle.client_rules.specs.Client.{Client, at_moment}
@@ -15,86 +15,13 @@ use Rattle.client_rules.specs.Sending.{Setting}
 use Rattle.client_core.specs.declared.flush.Flush.TheVariants as answers
 use Rattle.client_core.specs.declared.holder.Holder.{Holder}
 use Rattle.client_node.specs.Course.{AreSent, Course, Phase, Opening, Open, Ended, flushed_in, flushes, is_decided, sends_all}
-use Rattle.client_node.specs.Flow.{CountsEnd, Flow, FlowedBy, Follows, FramedBy, FoundNothing, OneFlush, StoppedBy, Stops, ended_by, flowed, went_on}
-use Rattle.client_node.specs.Standing.{AllDecided, DecidedBy, FlushedAs, StandsAs, StandsFor}
-use Rattle.mt_edge.specs.Faults.{one_more}
-use Rattle.client_node.specs.Writes.{Breaks, CountsBy, Seen, StaysBy, TellsMore, Writes, Wrote, WroteBy, WroteFront}
+use Rattle.client_node.specs.Flow.{CountsEnd, Cut, Flow, FlowedBy, Follows, FramedBy, FoundNothing, OneFlush, StoppedBy, Stops, ended_by, flowed, went_on}
+use Rattle.client_node.specs.Standing.{DecidedBy, FlushedAs, StandsAs, StandsFor, has_undecided}
+use Rattle.client_node.specs.Writes.{CountsBy, Seen, Spells, StaysBy, TellsMore, Writes, Wrote, WroteBy}
 use Rattle.client_node.specs.declared.end.End.{End}
 use Rattle.client_node.specs.declared.end.End.TheVariants as ends
-
--- ---- what is written
-
-pub wrote_both : (one other : List ℕ) (first middle last : Told) → Wrote one first middle → Wrote other middle last → Wrote (one ++ other) first last
-wrote_both one other first middle last before after =
-    record {
-      written = after.written ∙ ap (λ bytes. bytes ++ other) before.written ∙ append_assoc first.written one other;
-      came = after.came ∙ before.came;
-      left = after.left ∙ before.left;
-      reads = after.reads ∙ before.reads;
-    }
-
-pub wrote_front : (one other : List ℕ) (first middle last : Told) → Wrote one first middle → WroteFront other middle last → WroteFront (one ++ other) first last
-wrote_front one other first middle last before after =
-    record {
-      front = one ++ after.front;
-      rest = after.rest;
-      whole = ap (λ bytes. one ++ bytes) after.whole ∙ sym (append_assoc one after.front after.rest);
-      wrote = wrote_both one after.front first middle last before after.wrote;
-    }
-
--- what is told in two steps, where it tells
-pub told_both : (P Q R : Told → Told → Type 0) → ((first middle last : Told) → P first middle → Q middle last → R first last) → (first middle last : Option Told)
-    → IfSome middle (λ after. IsSomeAnd first (λ before. P before after))
-    → IfSome last (λ after. IsSomeAnd middle (λ before. Q before after))
-    → IfSome last (λ after. IsSomeAnd first (λ before. R before after))
-told_both P Q R both first middle None before after = tt
-told_both P Q R both first None (Some last) before after = absurd after
-told_both P Q R both None (Some middle) (Some last) before after = absurd before
-told_both P Q R both (Some first) (Some middle) (Some last) before after = both first middle last before after
-
-pub writes_both : (one other : List ℕ) (first middle last : Seen) → Writes one first middle → Writes other middle last → Writes (one ++ other) first last
-writes_both one other first middle last before after =
-    record {
-      told = told_both (Wrote one) (Wrote other) (Wrote (one ++ other)) (wrote_both one other) first.told middle.told last.told before.told after.told;
-      faults = after.faults ∙ before.faults;
-    }
-
-pub breaks_both : (one other : List ℕ) (first middle last : Seen) → Writes one first middle → Breaks other middle last → Breaks (one ++ other) first last
-breaks_both one other first middle last before after =
-    record {
-      told = told_both (Wrote one) (WroteFront other) (WroteFront (one ++ other)) (wrote_front one other) first.told middle.told last.told before.told after.told;
-      faults = after.faults ∙ ap (λ (count : ℕ). one_more count) before.faults;
-    }
-
-both_same : (sent framed others those : List (List ℕ)) → sent ≡ framed → others ≡ those → sent ++ others ≡ framed ++ those
-both_same sent framed others those before after = ap (λ (all : List (List ℕ)). all ++ others) before ∙ ap (λ (all : List (List ℕ)). framed ++ all) after
-
-pub flowed_both : {X : Type 0} (result : Result X End) (one other : List ℕ) (first middle last : Seen) → Writes one first middle → FlowedBy result other middle last → FlowedBy result (one ++ other) first last
-flowed_both (Ok done) one other first middle last before after = writes_both one other first middle last before after
-flowed_both (Err ends.Spent) one other first middle last before after = writes_both one other first middle last before after
-flowed_both (Err ends.Memory) one other first middle last before after = writes_both one other first middle last before after
-flowed_both (Err ends.Decided) one other first middle last before (inl after) = inl (writes_both one other first middle last before after)
-flowed_both (Err ends.Decided) one other first middle last before (inr after) = inr (breaks_both one other first middle last before after)
-flowed_both (Err ends.Lost) one other first middle last before after = breaks_both one other first middle last before after
-flowed_both (Err ends.TurnsSpent) one other first middle last before after = absurd after
-
-pub framed_both : {X : Type 0} (result : Result X End) (sent framed others those : List (List ℕ)) → sent ≡ framed → FramedBy result others those → FramedBy result (sent ++ others) (framed ++ those)
-framed_both (Ok done) sent framed others those before after = both_same sent framed others those before after
-framed_both (Err ends.Spent) sent framed others those before after = both_same sent framed others those before after
-framed_both (Err ends.Decided) sent framed others those before after = both_same sent framed others those before after
-framed_both (Err ends.Lost) sent framed others those before after = both_same sent framed others those before after
-framed_both (Err ends.TurnsSpent) sent framed others those before after = both_same sent framed others those before after
-framed_both (Err ends.Memory) sent framed others those before (rest, after) =
-    (rest, both_same sent framed others (those ++ rest) before after ∙ sym (append_assoc framed those rest))
-
--- ---- what the wire tells
-
-pub tells_after : (first middle last : Line) (one other : List (List ℕ)) (bytes more : List ℕ)
-    → ((to : Option CtrState) (packets : List (List ℕ)) (before : List ℕ) → Tells first to packets before → Tells middle to (packets ++ one) (before ++ bytes))
-    → ((to : Option CtrState) (packets : List (List ℕ)) (before : List ℕ) → Tells middle to packets before → Tells last to (packets ++ other) (before ++ more))
-    → ((to : Option CtrState) (packets : List (List ℕ)) (before : List ℕ) → Tells first to packets before → Tells last to (packets ++ (one ++ other)) (before ++ (bytes ++ more)))
-tells_after first middle last one other bytes more before after to packets text tells =
-    rw (sym (append_assoc packets one other), sym (append_assoc text bytes more)) (after to (packets ++ one) (text ++ bytes) (before to packets text tells))
+use Rattle.client_node.proofs.Joining.{flowed_both, framed_both, tells_after}
+use Rattle.client_node.proofs.KindLemmas.{all_decided}
 
 -- ---- the course
 
@@ -134,29 +61,33 @@ abbrev pub flow_both : {S X : Type 0} (setting : Setting S) (lock : Lock) (keys 
     (left : Holder) (drawn : S) (line_then : Line) (link_then : Seen) (result : Result X End)
     → (before : Flow setting lock keys now kept draw line link went_on middle between line_between link_between)
     → before.is_done ≡ false
+    → Stops setting lock keys now kept draw before.sent false went_on
     → Flow setting lock keys now middle between line_between link_between result left drawn line_then link_then
     → Flow setting lock keys now kept draw line link result left drawn line_then link_then
-flow_both setting lock keys now kept draw line link middle between line_between link_between left drawn line_then link_then result before goes after =
+flow_both setting lock keys now kept draw line link middle between line_between link_between left drawn line_then link_then result before goes undecided after =
     record {
       sent = before.sent ++ after.sent;
       framed = before.framed ++ after.framed;
       is_done = after.is_done;
       bytes = before.bytes ++ after.bytes;
-      all = framed_both result before.sent before.framed after.sent after.framed before.all after.all;
-      course = λ course stands.
-          let first = subst (λ is_done. Follows setting lock keys now course before.sent is_done middle between) goes (before.course course stands) in
-          follows_both setting lock keys now course before.sent after.sent after.is_done middle left between drawn first (after.course _ first.stands);
+      all = framed_both result after.is_done before.sent before.framed after.sent after.framed before.all after.all;
+      course = λ course stands some.
+          let first = subst (λ is_done. Follows setting lock keys now course before.sent is_done middle between) goes (before.course course stands some) in
+          follows_both setting lock keys now course before.sent after.sent after.is_done middle left between drawn first (after.course _ first.stands (undecided course stands some));
+      form = after.form ∙ before.form;
       tells = tells_after line line_between line_then before.framed after.framed before.bytes after.bytes before.tells after.tells;
-      written = flowed_both result before.bytes after.bytes link link_between link_then before.written after.written;
+      written = flowed_both result after.is_done line line_between before.framed after.framed before.bytes after.bytes link link_between link_then before.form before.tells before.written after.written;
     }
 
 pub stops_both : {S X : Type 0} (setting : Setting S) (lock : Lock) (keys : List RingKey) (now : ℕ)
     (kept : Holder) (draw : S) (middle : Holder) (between : S) (one other : List (List ℕ)) (is_done : Bool) (result : Result X End)
-    → ((course : Course S) → StandsAs kept draw course → StandsAs middle between (sends_all setting now course one))
+    → ((course : Course S) → StandsAs kept draw course → is_decided course.client ≡ false → StandsAs middle between (sends_all setting now course one))
+    → Stops setting lock keys now kept draw one false went_on
     → Stops setting lock keys now middle between other is_done result
     → Stops setting lock keys now kept draw (one ++ other) is_done result
-stops_both setting lock keys now kept draw middle between one other is_done result first stops course stands =
-    subst (λ so_far. StoppedBy setting lock keys now so_far result) (flowed_on setting now course one other is_done) (stops (sends_all setting now course one) (first course stands))
+stops_both setting lock keys now kept draw middle between one other is_done result first undecided stops course stands some =
+    subst (λ so_far. StoppedBy setting lock keys now so_far result) (flowed_on setting now course one other is_done)
+    (stops (sends_all setting now course one) (first course stands some) (undecided course stands some))
 
 -- where no flush found nothing due
 pub stands_first : {S : Type 0} (setting : Setting S) (lock : Lock) (keys : List RingKey) (now : ℕ) (course : Course S) (sent : List (List ℕ)) (is_done : Bool) (middle : Holder) (between : S)
@@ -166,7 +97,7 @@ stands_first setting lock keys now course sent is_done middle between goes follo
 
 -- ---- nothing was sent yet
 
-pub tells_as_before : (line : Line) (to : Option CtrState) (packets : List (List ℕ)) (before : List ℕ) → Tells line to packets before → Tells line to (packets ++ []) (before ++ [])
+pub tells_as_before : (line : Line) (to : Option CtrState) (packets : List (List ℕ)) (before : List ℕ) → Spells line to packets before → Spells line to (packets ++ []) (before ++ [])
 tells_as_before line to packets before tells = rw (append-nil packets, append-nil before) tells
 
 -- ---- one packet
@@ -197,11 +128,12 @@ writes_nothing link = record { told = nothing_told link.told; faults = refl }
 
 pub follows_packet : {S : Type 0} (setting : Setting S) (lock : Lock) (keys : List RingKey) (now : ℕ) (course : Course S) (packet : List ℕ)
     (left : Holder) (drawn : S)
+    → is_decided course.client ≡ false
     → FlushedAs setting lock keys now course (answers.Packet packet) left drawn
     → Follows setting lock keys now course (packet ∷ []) false left drawn
-follows_packet setting lock keys now course packet left drawn flushed =
+follows_packet setting lock keys now course packet left drawn some flushed =
     record {
-      sent = (flushed.told, tt);
+      sent = ((some, flushed.told), tt);
       nothing = tt;
       stands = record { phase = flushed.phase; client = flushed.leaves.0; draw = flushed.leaves.1 };
     }
@@ -209,18 +141,20 @@ follows_packet setting lock keys now course packet left drawn flushed =
 abbrev flow_of_packet : {S : Type 0} (setting : Setting S) (lock : Lock) (keys : List RingKey) (now : ℕ) (kept : Holder) (draw : S) (line : Line) (link : Seen)
     (packet bytes : List ℕ) (framed : List (List ℕ)) (result : Result Bool End) (left : Holder) (drawn : S) (line_then : Line) (link_then : Seen)
     → ((course : Course S) → StandsAs kept draw course → FlushedAs setting lock keys now course (answers.Packet packet) left drawn)
-    → FramedBy result (packet ∷ []) framed
-    → FlowedBy result bytes link link_then
-    → ((to : Option CtrState) (packets : List (List ℕ)) (text : List ℕ) → Tells line to packets text → Tells line_then to (packets ++ framed) (text ++ bytes))
+    → FramedBy result false (packet ∷ []) framed
+    → FlowedBy result false line framed bytes link link_then
+    → line_then.form ≡ line.form
+    → ((to : Option CtrState) (packets : List (List ℕ)) (text : List ℕ) → Spells line to packets text → Spells line_then to (packets ++ framed) (text ++ bytes))
     → Flow setting lock keys now kept draw line link result left drawn line_then link_then
-flow_of_packet setting lock keys now kept draw line link packet bytes framed result left drawn line_then link_then flushed all written tells =
+flow_of_packet setting lock keys now kept draw line link packet bytes framed result left drawn line_then link_then flushed all written form tells =
     record {
       sent = packet ∷ [];
       framed = framed;
       is_done = false;
       bytes = bytes;
       all = all;
-      course = λ course stands. follows_packet setting lock keys now course packet left drawn (flushed course stands);
+      course = λ course stands some. follows_packet setting lock keys now course packet left drawn some (flushed course stands);
+      form = form;
       tells = tells;
       written = written;
     }
@@ -228,14 +162,19 @@ flow_of_packet setting lock keys now kept draw line link packet bytes framed res
 decided_so : {S : Type 0} (setting : Setting S) (lock : Lock) (keys : List RingKey) (now : ℕ) (kept : Holder) (draw : S) (packet : List ℕ) (decided : Bool) (left : Holder) (drawn : S)
     → ((course : Course S) → StandsAs kept draw course → FlushedAs setting lock keys now course (answers.Packet packet) left drawn)
     → ((whole : Client) → StandsFor left whole → decided ≡ is_decided whole)
-    → (course : Course S) → StandsAs kept draw course → is_decided (flushes setting now course).client ≡ decided
-decided_so setting lock keys now kept draw packet decided left drawn flushed decided_now course stands =
+    → (course : Course S) → StandsAs kept draw course → is_decided course.client ≡ false → is_decided (flushes setting now course).client ≡ decided
+decided_so setting lock keys now kept draw packet decided left drawn flushed decided_now course stands some =
     sym (decided_now _ (flushed course stands).leaves.0)
 
 -- memory ran out before the packet was in a frame
-unframed : (line line_then : Line) → line_then ≡ line → (to : Option CtrState) (packets : List (List ℕ)) (text : List ℕ) → Tells line to packets text → Tells line_then to (packets ++ []) (text ++ [])
+unframed : (line line_then : Line) → line_then ≡ line → (to : Option CtrState) (packets : List (List ℕ)) (text : List ℕ) → Spells line to packets text → Spells line_then to (packets ++ []) (text ++ [])
 unframed line line_then same to packets text tells =
-    subst (λ (one : Line). Tells one to (packets ++ []) (text ++ [])) (sym same) (tells_as_before line to packets text tells)
+    subst (λ (one : Line). Spells one to (packets ++ []) (text ++ [])) (sym same) (tells_as_before line to packets text tells)
+
+-- there is no packet before it
+abbrev cut_one : (line : Line) (packet bytes : List ℕ) → Cut line (packet ∷ []) bytes
+cut_one line packet bytes =
+    record { earlier = []; packet = packet; whole = []; last = bytes; between = line; packets = refl; all = refl; form = refl; tells = tells_as_before line }
 
 -- a flush that gave a packet, by whether each call is decided then and what its write came to
 pub flow_packet : {S : Type 0} (setting : Setting S) (lock : Lock) (keys : List RingKey) (now : ℕ) (kept : Holder) (draw : S) (line : Line) (link : Seen)
@@ -244,40 +183,43 @@ pub flow_packet : {S : Type 0} (setting : Setting S) (lock : Lock) (keys : List 
     → ((whole : Client) → StandsFor left whole → decided ≡ is_decided whole)
     → IfSome link_then.told (λ after. IsSomeAnd link.told (λ before. WroteBy sent bytes before after))
     → CountsBy sent link.faults link_then.faults
-    → TellsMore sent ((to : Option CtrState) (packets : List (List ℕ)) (text : List ℕ) → Tells line to packets text → Tells line_then to (packets ++ packet ∷ []) (text ++ bytes))
+    → TellsMore sent ((to : Option CtrState) (packets : List (List ℕ)) (text : List ℕ) → Spells line to packets text → Spells line_then to (packets ++ packet ∷ []) (text ++ bytes))
     → StaysBy sent (line_then ≡ line)
+    → line_then.form ≡ line.form
     → OneFlush setting lock keys now kept draw line link (ended_by decided sent) left drawn line_then link_then
-flow_packet setting lock keys now kept draw line link packet bytes decided (Err ends.Decided) left drawn line_then link_then flushed decided_now written counted tells stays = absurd counted
-flow_packet setting lock keys now kept draw line link packet bytes decided (Err ends.TurnsSpent) left drawn line_then link_then flushed decided_now written counted tells stays = absurd counted
-flow_packet setting lock keys now kept draw line link packet bytes decided (Err ends.Spent) left drawn line_then link_then flushed decided_now written counted tells stays = absurd counted
-flow_packet setting lock keys now kept draw line link packet bytes decided (Err ends.Memory) left drawn line_then link_then flushed decided_now written counted tells stays =
+flow_packet setting lock keys now kept draw line link packet bytes decided (Err ends.Decided) left drawn line_then link_then flushed decided_now written counted tells stays form = absurd counted
+flow_packet setting lock keys now kept draw line link packet bytes decided (Err ends.TurnsSpent) left drawn line_then link_then flushed decided_now written counted tells stays form = absurd counted
+flow_packet setting lock keys now kept draw line link packet bytes decided (Err ends.Spent) left drawn line_then link_then flushed decided_now written counted tells stays form = absurd counted
+flow_packet setting lock keys now kept draw line link packet bytes decided (Err ends.Memory) left drawn line_then link_then flushed decided_now written counted tells stays form =
     record {
-      flow = flow_of_packet setting lock keys now kept draw line link packet [] [] (Err ends.Memory) left drawn line_then link_then flushed (packet ∷ [], refl)
-          (record { told = map_told (λ before after. after ≡ before) (Wrote []) wrote_nothing link.told link_then.told written; faults = counted }) (unframed line line_then stays);
-      stops = λ course stands. tt;
+      flow = flow_of_packet setting lock keys now kept draw line link packet [] [] (Err ends.Memory) left drawn line_then link_then flushed (inr (packet, refl, refl))
+          (record { told = map_told (λ before after. after ≡ before) (Wrote []) wrote_nothing link.told link_then.told written; faults = counted }) form (unframed line line_then stays);
+      stops = λ course stands some. tt;
       one = tt;
     }
-flow_packet setting lock keys now kept draw line link packet bytes false (Ok done) left drawn line_then link_then flushed decided_now written counted tells stays =
+flow_packet setting lock keys now kept draw line link packet bytes false (Ok done) left drawn line_then link_then flushed decided_now written counted tells stays form =
     record {
-      flow = flow_of_packet setting lock keys now kept draw line link packet bytes (packet ∷ []) (Ok true) left drawn line_then link_then flushed refl (record { told = written; faults = counted }) tells;
+      flow = flow_of_packet setting lock keys now kept draw line link packet bytes (packet ∷ []) (Ok true) left drawn line_then link_then flushed refl (record { told = written; faults = counted }) form tells;
       stops = decided_so setting lock keys now kept draw packet false left drawn flushed decided_now;
       one = (refl, refl);
     }
-flow_packet setting lock keys now kept draw line link packet bytes false (Err ends.Lost) left drawn line_then link_then flushed decided_now written counted tells stays =
+flow_packet setting lock keys now kept draw line link packet bytes false (Err ends.Lost) left drawn line_then link_then flushed decided_now written counted tells stays form =
     record {
-      flow = flow_of_packet setting lock keys now kept draw line link packet bytes (packet ∷ []) (Err ends.Lost) left drawn line_then link_then flushed refl (record { told = written; faults = counted }) tells;
+      flow = flow_of_packet setting lock keys now kept draw line link packet bytes (packet ∷ []) (Err ends.Lost) left drawn line_then link_then flushed refl
+          (record { last = refl; cut = cut_one line packet bytes; breaks = record { told = written; faults = counted } }) form tells;
       stops = decided_so setting lock keys now kept draw packet false left drawn flushed decided_now;
       one = tt;
     }
-flow_packet setting lock keys now kept draw line link packet bytes true (Ok done) left drawn line_then link_then flushed decided_now written counted tells stays =
+flow_packet setting lock keys now kept draw line link packet bytes true (Ok done) left drawn line_then link_then flushed decided_now written counted tells stays form =
     record {
-      flow = flow_of_packet setting lock keys now kept draw line link packet bytes (packet ∷ []) (Err ends.Decided) left drawn line_then link_then flushed refl (inl (record { told = written; faults = counted })) tells;
+      flow = flow_of_packet setting lock keys now kept draw line link packet bytes (packet ∷ []) (Err ends.Decided) left drawn line_then link_then flushed refl (inl (record { told = written; faults = counted })) form tells;
       stops = decided_so setting lock keys now kept draw packet true left drawn flushed decided_now;
       one = tt;
     }
-flow_packet setting lock keys now kept draw line link packet bytes true (Err ends.Lost) left drawn line_then link_then flushed decided_now written counted tells stays =
+flow_packet setting lock keys now kept draw line link packet bytes true (Err ends.Lost) left drawn line_then link_then flushed decided_now written counted tells stays form =
     record {
-      flow = flow_of_packet setting lock keys now kept draw line link packet bytes (packet ∷ []) (Err ends.Decided) left drawn line_then link_then flushed refl (inr (record { told = written; faults = counted })) tells;
+      flow = flow_of_packet setting lock keys now kept draw line link packet bytes (packet ∷ []) (Err ends.Decided) left drawn line_then link_then flushed refl
+          (inr (record { last = refl; cut = cut_one line packet bytes; breaks = record { told = written; faults = counted } })) form tells;
       stops = decided_so setting lock keys now kept draw packet true left drawn flushed decided_now;
       one = tt;
     }
@@ -287,8 +229,8 @@ flow_packet setting lock keys now kept draw line link packet bytes true (Err end
 -- a flush that gave no packet, or none at all, leaves the wire and the link as they were
 abbrev pub flow_nothing : {S X : Type 0} (setting : Setting S) (lock : Lock) (keys : List RingKey) (now : ℕ) (kept : Holder) (draw : S) (line : Line) (link : Seen)
     (is_done : Bool) (result : Result X End) (left : Holder) (drawn : S)
-    → FramedBy result [] [] → FlowedBy result [] link link
-    → ((course : Course S) → StandsAs kept draw course → Follows setting lock keys now course [] is_done left drawn)
+    → FramedBy result is_done [] [] → FlowedBy result is_done line [] [] link link
+    → ((course : Course S) → StandsAs kept draw course → is_decided course.client ≡ false → Follows setting lock keys now course [] is_done left drawn)
     → Flow setting lock keys now kept draw line link result left drawn line link
 flow_nothing setting lock keys now kept draw line link is_done result left drawn all written follows =
     record {
@@ -298,14 +240,15 @@ flow_nothing setting lock keys now kept draw line link is_done result left drawn
       bytes = [];
       all = all;
       course = follows;
+      form = refl;
       tells = tells_as_before line;
       written = written;
     }
 
 pub follows_nothing : {S : Type 0} (setting : Setting S) (lock : Lock) (keys : List RingKey) (now : ℕ) (course : Course S) (left : Holder) (drawn : S)
-    → FlushedAs setting lock keys now course answers.Nothing left drawn → Follows setting lock keys now course [] true left drawn
-follows_nothing setting lock keys now course left drawn flushed =
-    record { sent = tt; nothing = flushed.told; stands = record { phase = flushed.phase; client = flushed.leaves.0; draw = flushed.leaves.1 } }
+    → is_decided course.client ≡ false → FlushedAs setting lock keys now course answers.Nothing left drawn → Follows setting lock keys now course [] true left drawn
+follows_nothing setting lock keys now course left drawn some flushed =
+    record { sent = tt; nothing = (some, flushed.told); stands = record { phase = flushed.phase; client = flushed.leaves.0; draw = flushed.leaves.1 } }
 
 -- by whether each call is decided then
 abbrev pub nothing_by : Bool → Result Bool End
@@ -316,8 +259,8 @@ nothing_stops : {S : Type 0} (setting : Setting S) (lock : Lock) (keys : List Ri
     → ((course : Course S) → StandsAs kept draw course → FlushedAs setting lock keys now course answers.Nothing left drawn)
     → ((whole : Client) → StandsFor left whole → decided ≡ is_decided whole)
     → Stops setting lock keys now kept draw [] true (nothing_by decided)
-nothing_stops setting lock keys now kept draw true left drawn flushed decided_now course stands = sym (decided_now _ (flushed course stands).leaves.0)
-nothing_stops setting lock keys now kept draw false left drawn flushed decided_now course stands = sym (decided_now _ (flushed course stands).leaves.0)
+nothing_stops setting lock keys now kept draw true left drawn flushed decided_now course stands some = sym (decided_now _ (flushed course stands).leaves.0)
+nothing_stops setting lock keys now kept draw false left drawn flushed decided_now course stands some = sym (decided_now _ (flushed course stands).leaves.0)
 
 pub flush_nothing : {S : Type 0} (setting : Setting S) (lock : Lock) (keys : List RingKey) (now : ℕ) (kept : Holder) (draw : S) (line : Line) (link : Seen)
     (decided : Bool) (left : Holder) (drawn : S)
@@ -326,13 +269,13 @@ pub flush_nothing : {S : Type 0} (setting : Setting S) (lock : Lock) (keys : Lis
     → OneFlush setting lock keys now kept draw line link (nothing_by decided) left drawn line link
 flush_nothing setting lock keys now kept draw line link true left drawn flushed decided_now =
     record {
-      flow = flow_nothing setting lock keys now kept draw line link true (Err ends.Decided) left drawn refl (inl (writes_nothing link)) (λ course stands. follows_nothing setting lock keys now course left drawn (flushed course stands));
+      flow = flow_nothing setting lock keys now kept draw line link true (Err ends.Decided) left drawn refl (inl (writes_nothing link)) (λ course stands some. follows_nothing setting lock keys now course left drawn some (flushed course stands));
       stops = nothing_stops setting lock keys now kept draw true left drawn flushed decided_now;
       one = tt;
     }
 flush_nothing setting lock keys now kept draw line link false left drawn flushed decided_now =
     record {
-      flow = flow_nothing setting lock keys now kept draw line link true (Ok false) left drawn refl (writes_nothing link) (λ course stands. follows_nothing setting lock keys now course left drawn (flushed course stands));
+      flow = flow_nothing setting lock keys now kept draw line link true (Ok false) left drawn refl (writes_nothing link) (λ course stands some. follows_nothing setting lock keys now course left drawn some (flushed course stands));
       stops = nothing_stops setting lock keys now kept draw false left drawn flushed decided_now;
       one = (refl, refl);
     }
@@ -385,8 +328,8 @@ pub flush_spent : {S : Type 0} (setting : Setting S) (lock : Lock) (keys : List 
 flush_spent setting lock keys now kept draw line link left drawn flushed =
     record {
       flow = flow_nothing setting lock keys now kept draw line link false (Err ends.Spent) left drawn refl (writes_nothing link)
-          (λ course stands. follows_none setting lock keys now course left drawn (spent_stands setting lock keys now course left drawn (flushed course stands)));
-      stops = λ course stands. (flushed course stands).told;
+          (λ course stands some. follows_none setting lock keys now course left drawn (spent_stands setting lock keys now course left drawn (flushed course stands)));
+      stops = λ course stands some. (some, (flushed course stands).told);
       one = tt;
     }
 
@@ -396,10 +339,10 @@ pub flush_memory : {S : Type 0} (setting : Setting S) (lock : Lock) (keys : List
     → OneFlush setting lock keys now kept draw line link (Err ends.Memory) left drawn line link
 flush_memory setting lock keys now kept draw line link left drawn flushed =
     record {
-      flow = flow_nothing setting lock keys now kept draw line link false (Err ends.Memory) left drawn ([], refl) (writes_nothing link)
-          (λ course stands. follows_none setting lock keys now course left drawn
+      flow = flow_nothing setting lock keys now kept draw line link false (Err ends.Memory) left drawn (inl refl) (writes_nothing link)
+          (λ course stands some. follows_none setting lock keys now course left drawn
           (record { phase = (flushed course stands).phase; client = (flushed course stands).leaves.0; draw = (flushed course stands).leaves.1 }));
-      stops = λ course stands. tt;
+      stops = λ course stands some. tt;
       one = tt;
     }
 
@@ -408,7 +351,7 @@ flush_memory setting lock keys now kept draw line link left drawn flushed =
 abbrev pub no_flow : {S : Type 0} (setting : Setting S) (lock : Lock) (keys : List RingKey) (now : ℕ) (kept : Holder) (draw : S) (line : Line) (link : Seen)
     → Flow setting lock keys now kept draw line link went_on kept draw line link
 no_flow setting lock keys now kept draw line link =
-    flow_nothing setting lock keys now kept draw line link false (Ok true) kept draw refl (writes_nothing link) (λ course stands. follows_none setting lock keys now course kept draw stands)
+    flow_nothing setting lock keys now kept draw line link false (Ok true) kept draw refl (writes_nothing link) (λ course stands some. follows_none setting lock keys now course kept draw stands)
 
 -- ---- the count of faults
 
@@ -424,18 +367,15 @@ ended_counts false (Err ends.Lost) before after counted = counted
 
 -- ---- whether each call is decided
 
-pub told_all : (kept : Holder) (answer : Bool) → ((whole : Client) → StandsFor kept whole → answer ≡ is_decided whole) → answer ≡ true → AllDecided kept
-told_all kept answer tells all whole stands = sym (tells whole stands) ∙ all
-
 pub ended_decided : (decided : Bool) (sent : Result Unit End) (before after : ℕ) (kept : Holder) → CountsBy sent before after
-    → ((whole : Client) → StandsFor kept whole → decided ≡ is_decided whole) → DecidedBy (ended_by decided sent) kept
+    → decided ≡ not (has_undecided kept) → DecidedBy (ended_by decided sent) kept
 ended_decided decided (Err ends.Decided) before after kept counted tells = absurd counted
 ended_decided decided (Err ends.TurnsSpent) before after kept counted tells = absurd counted
 ended_decided decided (Err ends.Spent) before after kept counted tells = absurd counted
 ended_decided decided (Err ends.Memory) before after kept counted tells = tt
-ended_decided true (Ok done) before after kept counted tells = told_all kept true tells refl
+ended_decided true (Ok done) before after kept counted tells = all_decided kept true tells refl
 ended_decided false (Ok done) before after kept counted tells = tt
-ended_decided true (Err ends.Lost) before after kept counted tells = told_all kept true tells refl
+ended_decided true (Err ends.Lost) before after kept counted tells = all_decided kept true tells refl
 ended_decided false (Err ends.Lost) before after kept counted tells = tt
 
 pub counts_from : {X : Type 0} (result : Result X End) (first before after : ℕ) → before ≡ first → CountsEnd result before after → CountsEnd result first after

@@ -4,11 +4,13 @@ pub mod Conversing
 pub mod Flowing
 pub mod HearingSteps
 pub mod HolderLemmas
+pub mod Joining
 pub mod KindLemmas
 pub mod PacketLemmas
 pub mod Passing
 pub mod Reading
 pub mod Sendable
+pub mod Spelling
 pub mod Talking
 pub mod Turning
 pub mod Undecided

@@ -14,8 +14,8 @@ use Rattle.mt_edge.specs.declared.link_read.LinkRead.{LinkRead}
 use Rattle.mt_edge.specs.declared.source.Got.{Got}
 use Rattle.client_node.specs.Runs.{Gave, ReadBy, ReadsBy}
 use Rattle.client_node.specs.Talks.{FailsReading, FailsWriting, Passed, PassedFront, Passes, Place, Rules, Said, piece_bytes, says}
-use Rattle.client_node.specs.Writes.{Breaks, Seen, Writes, Wrote, WroteFront}
-use Rattle.client_node.proofs.Flowing.{told_both}
+use Rattle.client_node.specs.Writes.{Breaks, Seen, Spells, Writes, Wrote, WroteFront, frames_of}
+use Rattle.client_node.proofs.Joining.{told_both}
 
 -- ---- the packets of what came
 
@@ -42,7 +42,7 @@ hears_as one other from packets bytes same hears =
           (subst (λ (reading : Option CtrState). IfNone one.held.fault (reading ≡ behind from (length bytes))) (sym same.2) hears.place);
     }
 
-pub tells_as : (one other : Line) (to : Option CtrState) (packets : List (List ℕ)) (bytes : List ℕ)
+tells_as : (one other : Line) (to : Option CtrState) (packets : List (List ℕ)) (bytes : List ℕ)
     → (other.form ≡ one.form) × (other.writing ≡ one.writing) × (other.number ≡ one.number) → Tells one to packets bytes → Tells other to packets bytes
 tells_as one other to packets bytes same tells =
     record {
@@ -50,6 +50,14 @@ tells_as one other to packets bytes same tells =
       number = subst (λ form. IsNumbered form other.number (length packets)) (sym same.0)
           (subst (λ (number : ℕ). IsNumbered one.form number (length packets)) (sym same.2) tells.number);
       place = same.1 ∙ tells.place;
+    }
+
+pub spells_as : (one other : Line) (to : Option CtrState) (packets : List (List ℕ)) (bytes : List ℕ)
+    → (other.form ≡ one.form) × (other.writing ≡ one.writing) × (other.number ≡ one.number) → Spells one to packets bytes → Spells other to packets bytes
+spells_as one other to packets bytes same spells =
+    record {
+      tells = tells_as one other to packets bytes same spells.tells;
+      spelt = subst (λ form. through to bytes ≡ frames_of form 0 packets) (sym same.0) spells.spelt;
     }
 
 -- ---- a clock
@@ -93,14 +101,16 @@ passed_said rules said bytes more place first middle last before after =
       reads = after.reads ∙ before.reads;
     }
 
-front_said : {S : Type 0} (rules : Rules S) (said : Said) (bytes more : List ℕ) (place : Place S) (first middle last : Told)
-    → Passed bytes place first middle → WroteFront more middle last → PassedFront (bytes ++ more) (says rules said place) first last
-front_said rules said bytes more place first middle last before after =
+front_said : {S : Type 0} (rules : Rules S) (said : Said) (bytes whole rest : List ℕ) (place : Place S) (first middle last : Told)
+    → Passed bytes place first middle → WroteFront whole rest middle last → PassedFront (bytes ++ whole) rest (says rules said place) first last
+front_said rules said bytes whole rest place first middle last before after =
     record {
-      front = bytes ++ after.front;
+      front = after.front;
       rest = after.rest;
-      whole = ap (λ (text : List ℕ). bytes ++ text) after.whole ∙ sym (append_assoc bytes after.front after.rest);
-      passed = passed_said rules said bytes after.front place first middle last before after.wrote;
+      cut = after.cut;
+      some = after.some;
+      passed = subst (λ (text : List ℕ). Passed text (says rules said place) first last) (sym (append_assoc bytes whole after.front))
+          (passed_said rules said bytes (whole ++ after.front) place first middle last before after.wrote);
     }
 
 pub passes_said : {S : Type 0} (rules : Rules S) (said : Said) (bytes more : List ℕ) (place : Place S) (first middle last : Seen)
@@ -111,11 +121,11 @@ passes_said rules said bytes more place first middle last before after =
       faults = after.faults ∙ before.faults;
     }
 
-pub fails_said : {S : Type 0} (rules : Rules S) (said : Said) (bytes more : List ℕ) (place : Place S) (first middle last : Seen)
-    → Passes bytes place first middle → Breaks more middle last → FailsWriting (bytes ++ more) (says rules said place) first last
-fails_said rules said bytes more place first middle last before after =
+pub fails_said : {S : Type 0} (rules : Rules S) (said : Said) (bytes whole rest : List ℕ) (place : Place S) (first middle last : Seen)
+    → Passes bytes place first middle → Breaks whole rest middle last → FailsWriting (bytes ++ whole) rest (says rules said place) first last
+fails_said rules said bytes whole rest place first middle last before after =
     record {
-      told = told_both (Passed bytes place) (WroteFront more) (PassedFront (bytes ++ more) (says rules said place)) (front_said rules said bytes more place) first.told middle.told last.told before.told after.told;
+      told = told_both (Passed bytes place) (WroteFront whole rest) (PassedFront (bytes ++ whole) rest (says rules said place)) (front_said rules said bytes whole rest place) first.told middle.told last.told before.told after.told;
       faults = after.faults ∙ ap (λ (count : ℕ). one_more count) before.faults;
     }
 
@@ -162,13 +172,16 @@ passed_behind start bytes place first middle last before after =
       reads = after.reads ∙ ap (λ (all : List LinkRead). all ++ place.reads) before.reads;
     }
 
-front_behind : {S : Type 0} (start bytes : List ℕ) (place : Place S) (first middle last : Told) → Wrote start first middle → PassedFront bytes place middle last → PassedFront (start ++ bytes) place first last
-front_behind start bytes place first middle last before after =
+front_behind : {S : Type 0} (start whole rest : List ℕ) (place : Place S) (first middle last : Told)
+    → Wrote start first middle → PassedFront whole rest place middle last → PassedFront (start ++ whole) rest place first last
+front_behind start whole rest place first middle last before after =
     record {
-      front = start ++ after.front;
+      front = after.front;
       rest = after.rest;
-      whole = ap (λ (text : List ℕ). start ++ text) after.whole ∙ sym (append_assoc start after.front after.rest);
-      passed = passed_behind start after.front place first middle last before after.passed;
+      cut = after.cut;
+      some = after.some;
+      passed = subst (λ (text : List ℕ). Passed text place first last) (sym (append_assoc start whole after.front))
+          (passed_behind start (whole ++ after.front) place first middle last before after.passed);
     }
 
 pub passes_behind : {S : Type 0} (start bytes : List ℕ) (place : Place S) (first middle last : Seen) → Writes start first middle → Passes bytes place middle last → Passes (start ++ bytes) place first last
@@ -185,9 +198,10 @@ reading_behind start bytes place first middle last before after =
       faults = after.faults ∙ ap (λ (count : ℕ). one_more count) before.faults;
     }
 
-pub writing_behind : {S : Type 0} (start bytes : List ℕ) (place : Place S) (first middle last : Seen) → Writes start first middle → FailsWriting bytes place middle last → FailsWriting (start ++ bytes) place first last
-writing_behind start bytes place first middle last before after =
+pub writing_behind : {S : Type 0} (start whole rest : List ℕ) (place : Place S) (first middle last : Seen)
+    → Writes start first middle → FailsWriting whole rest place middle last → FailsWriting (start ++ whole) rest place first last
+writing_behind start whole rest place first middle last before after =
     record {
-      told = told_both (Wrote start) (PassedFront bytes place) (PassedFront (start ++ bytes) place) (front_behind start bytes place) first.told middle.told last.told before.told after.told;
+      told = told_both (Wrote start) (PassedFront whole rest place) (PassedFront (start ++ whole) rest place) (front_behind start whole rest place) first.told middle.told last.told before.told after.told;
       faults = after.faults ∙ ap (λ (count : ℕ). one_more count) before.faults;
     }

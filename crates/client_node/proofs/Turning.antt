@@ -1,5 +1,5 @@
 -- One turn more of a connection, and how it ends.
-use Rattle.std.proofs.Common.{◌≡◌, ◌<◌, ◌≤◌, ◌+◌, ℕ, Bool, List, [], ◌∷◌, ◌++◌, length, Option, Ok, Err, inl, inr, refl, sym, ap, subst, ◌∙◌, append_assoc, append-nil, arith}
+use Rattle.std.proofs.Common.{◌≡◌, ◌<◌, ◌≤◌, ◌+◌, ℕ, Bool, false, List, [], ◌∷◌, ◌++◌, length, Option, Ok, Err, inl, inr, refl, sym, ap, subst, ◌∙◌, append_assoc, append-nil, arith}
 use Rattle.auth_keys.specs.declared.ring.RingKey.{RingKey}
 use Rattle.envelope.specs.Packet.{Lock}
 use Rattle.cipher_modes.specs.CounterMode.{CtrState}
@@ -7,22 +7,23 @@ use Rattle.framing.specs.Streams.{Begins, Faulty, Frames, Stream}
 use Rattle.transport.specs.Directions.{through}
 use Rattle.transport.specs.Forms.{framing_of}
 use Rattle.transport.specs.Starts.{Opening}
-use Rattle.transport.specs.Wires.{Hears, Line, Tells}
+use Rattle.transport.specs.Wires.{Hears, Line}
 use Rattle.mt_edge.specs.Faults.{one_more}
 use Rattle.mt_edge.specs.declared.source.Got.{Got}
 use Rattle.mt_edge.specs.declared.source.Got.TheVariants as got
 use Rattle.client_core.specs.Flushed.{setting_of}
 use Rattle.client_core.specs.declared.holder.Holder.{Holder}
-use Rattle.client_node.specs.Course.{Course, Reading}
-use Rattle.client_node.specs.Flow.{AllFlushes, FlowedBy, Follows, FramedBy}
+use Rattle.client_node.specs.Course.{Course, Reading, is_decided}
+use Rattle.client_node.specs.Flow.{AllFlushes, BreaksLast, FlowedBy, Follows, FramedBy}
 use Rattle.client_node.specs.Runs.{Gave, GotPiece, MissedPiece, ReadsBy, Talked, TookTurn, TurnsSoFar}
 use Rattle.client_node.specs.Standing.{IsReading, StandsAs}
-use Rattle.client_node.specs.Talks.{AreFramed, AreWhole, EndsHearing, Heard, IsNoPiece, IsReady, IsSaid, IsText, Loses, Passes, Place, Rules, Said, ShowsClose, Stopped, Turn, TurnsDone, Unread, gets, hears_all, reads, rules_of, says, turned, turns_from, turns_max}
+use Rattle.client_node.specs.Talks.{AreFramed, AreWhole, EndsHearing, FailsLast, Heard, IsNoPiece, IsReady, IsSaid, IsText, Loses, Passes, Place, Rules, Said, ShowsClose, Stopped, Turn, TurnsDone, Unread, gets, hears_all, reads, rules_of, says, turned, turns_from, turns_max}
 use Rattle.client_node.specs.Took.{CameAll, IsDone, IsLost, TookAll, takes_all}
-use Rattle.client_node.specs.Writes.{Seen}
+use Rattle.client_node.specs.Writes.{Seen, Spells, frames_of}
 use Rattle.client_node.specs.declared.end.End.{End}
 use Rattle.client_node.specs.declared.end.End.TheVariants as ends
-use Rattle.client_node.proofs.Passing.{begins_by, fails_read, fails_said, gave_more, gave_none, hears_as, passes_none, passes_read, passes_said, tells_as}
+use Rattle.client_node.proofs.Passing.{begins_by, fails_read, fails_said, gave_more, gave_none, hears_as, passes_none, passes_read, passes_said, spells_as}
+use Rattle.client_node.proofs.Undecided.{all_undecided}
 
 -- ---- the packets of what came
 
@@ -52,8 +53,12 @@ loses_by line opening packets bytes form (inl lost) =
 loses_by line opening packets bytes form (inr lost) =
     inr (lost.fault, subst (λ one. Faulty (framing_of one) packets lost.fault (through opening.down bytes)) form lost.shown)
 
-text_by : (line : Line) (opening : Opening) (packets : List (List ℕ)) (bytes : List ℕ) → line.form ≡ opening.form → Tells line opening.up packets bytes → IsText opening packets bytes
-text_by line opening packets bytes form tells = subst (λ one. Frames (framing_of one) 0 packets (through opening.up bytes)) form tells.frames
+text_by : (line : Line) (opening : Opening) (packets : List (List ℕ)) (bytes : List ℕ) → line.form ≡ opening.form → Spells line opening.up packets bytes → IsText opening packets bytes
+text_by line opening packets bytes form tells =
+    record {
+      frames = subst (λ one. Frames (framing_of one) 0 packets (through opening.up bytes)) form tells.tells.frames;
+      spelt = subst (λ one. through opening.up bytes ≡ frames_of one 0 packets) form tells.spelt;
+    }
 
 -- ---- what was said
 
@@ -65,22 +70,23 @@ is_said step lock keys reading place packets is_done left drawn follows = record
 is_ready : {S : Type 0} (step : S → ℕ × S) (lock : Lock) (keys : List RingKey) (reading : Reading) (place : Place S) (kept : Holder) (draw : S) (line : Line) (link : Seen)
     (left : Holder) (drawn : S) (line_then : Line) (link_then : Seen)
     → StandsAs kept draw place.course
+    → is_decided place.course.client ≡ false
     → (flushes : AllFlushes (setting_of step keys) lock keys place.now kept draw line link (Ok tt) left drawn line_then link_then)
     → IsReady (rules_of step lock keys reading) place (record { packets = flushes.flow.sent; is_done = flushes.flow.is_done })
-is_ready step lock keys reading place kept draw line link left drawn line_then link_then stands flushes =
+is_ready step lock keys reading place kept draw line link left drawn line_then link_then stands some flushes =
     record {
-      sent = is_said step lock keys reading place flushes.flow.sent flushes.flow.is_done left drawn (flushes.flow.course place.course stands);
+      sent = is_said step lock keys reading place flushes.flow.sent flushes.flow.is_done left drawn (flushes.flow.course place.course stands some);
       all = flushes.all;
-      undecided = flushes.stops place.course stands;
+      undecided = flushes.stops place.course stands some;
     }
 
 -- ---- one turn more
 
 pub no_turns : {S : Type 0} (rules : Rules S) (opening : Opening) (place : Place S) (kept : Holder) (draw : S) (line : Line) (link : Seen) (given : Option (List ℕ))
     → place.came ≡ [] → place.reads ≡ [] → place.heard ≡ [] → place.sent ≡ [] → place.moments ≡ []
-    → StandsAs kept draw place.course → line.form ≡ opening.form → Hears line opening.down [] [] → Tells line opening.up [] []
+    → StandsAs kept draw place.course → is_decided place.course.client ≡ false → line.form ≡ opening.form → Hears line opening.down [] [] → Spells line opening.up [] []
     → TurnsSoFar rules opening place 0 place.now kept draw line link given link given
-no_turns rules opening place kept draw line link given came reads heard sent moments stands form hears tells =
+no_turns rules opening place kept draw line link given came reads heard sent moments stands some form hears tells =
     record {
       turns = [];
       bytes = [];
@@ -88,8 +94,9 @@ no_turns rules opening place kept draw line link given came reads heard sent mom
       are = tt;
       moment = refl;
       stands = stands;
+      undecided = some;
       hears = subst (λ (packets : List (List ℕ)). Hears line opening.down packets place.came) (sym heard) (subst (λ (bytes : List ℕ). Hears line opening.down [] bytes) (sym came) hears);
-      tells = subst (λ (packets : List (List ℕ)). Tells line opening.up packets []) (sym sent) tells;
+      tells = subst (λ (packets : List (List ℕ)). Spells line opening.up packets []) (sym sent) tells;
       form = form;
       passes = passes_none place came reads link;
       gave = subst (λ (all : List ℕ). Gave all given given) (sym moments) (gave_none given);
@@ -110,7 +117,7 @@ turn_more step lock keys reading opening place times now kept draw line link giv
     let rules = rules_of step lock keys reading in
     let here = turns_from rules place before.turns in
     let flushed = subst (λ (at : ℕ). AllFlushes (setting_of step keys) lock keys at kept draw line link (Ok tt) middle between line_between link_between) (sym before.moment) flushes in
-    let follows = flushed.flow.course here.course before.stands in
+    let follows = flushed.flow.course here.course before.stands before.undecided in
     let said : Said = record { packets = flushed.flow.sent; is_done = flushed.flow.is_done } in
     let mid = says rules said here in
     let heard = gets_it.took.heard in
@@ -118,7 +125,7 @@ turn_more step lock keys reading opening place times now kept draw line link giv
     let form = same_in.0 ∙ before.form in
     let form_then = same_out.0 ∙ form in
     let came = gets_it.took.came opening.down here.heard here.came (hears_as line line_between opening.down here.heard here.came same_in before.hears) in
-    let tells = subst (λ (all : List (List ℕ)). Tells line_between opening.up (here.sent ++ all) (before.bytes ++ flushed.flow.bytes)) (sym flushed.flow.all)
+    let tells = subst (λ (all : List (List ℕ)). Spells line_between opening.up (here.sent ++ all) (before.bytes ++ flushed.flow.bytes)) (sym flushed.flow.all)
     (flushed.flow.tells opening.up here.sent before.bytes before.tells) in
     let turn : Turn = record { said = said; piece = piece; moment = moment; heard = heard } in
     record {
@@ -128,7 +135,7 @@ turn_more step lock keys reading opening place times now kept draw line link giv
       are = (
         before.are,
         record {
-          ready = is_ready step lock keys reading here kept draw line link middle between line_between link_between before.stands flushed;
+          ready = is_ready step lock keys reading here kept draw line link middle between line_between link_between before.stands before.undecided flushed;
           some = gets_it.some;
           most = gets_it.most;
           sizes = gets_it.took.sizes;
@@ -138,8 +145,9 @@ turn_more step lock keys reading opening place times now kept draw line link giv
       );
       moment = refl;
       stands = took.1;
+      undecided = all_undecided step reading moment mid.course heard took.0 (flushed.stops here.course before.stands before.undecided);
       hears = hears_by line_between line_then opening.down here.heard heard (here.came ++ piece) (length piece) came;
-      tells = tells_as line_between line_then opening.up (here.sent ++ flushed.flow.sent) (before.bytes ++ flushed.flow.bytes) same_out tells;
+      tells = spells_as line_between line_then opening.up (here.sent ++ flushed.flow.sent) (before.bytes ++ flushed.flow.bytes) same_out tells;
       form = form_then;
       passes = passes_read (before.bytes ++ flushed.flow.bytes) piece (got.Bytes (length piece)) mid (turned rules turn here) refl refl link_first link_between link_then
           (passes_said rules said before.bytes flushed.flow.bytes here link_first link link_between before.passes flushed.flow.written) gets_it.told gets_it.faults;
@@ -148,22 +156,48 @@ turn_more step lock keys reading opening place times now kept draw line link giv
 
 -- ---- the end
 
-framed_stopped : (X : Type 0) (end : End) (before sent framed : List (List ℕ)) → FramedBy {X = X} (Err end) sent framed → AreFramed (Stopped end) (before ++ sent) (before ++ framed)
-framed_stopped X ends.Memory before sent framed (rest, same) =
-    (rest, ap (λ (all : List (List ℕ)). before ++ all) same ∙ sym (append_assoc before framed rest))
-framed_stopped X ends.Lost before sent framed same = ap (λ (all : List (List ℕ)). before ++ all) same
-framed_stopped X ends.Decided before sent framed same = ap (λ (all : List (List ℕ)). before ++ all) same
-framed_stopped X ends.Spent before sent framed same = ap (λ (all : List (List ℕ)). before ++ all) same
-framed_stopped X ends.TurnsSpent before sent framed same = ap (λ (all : List (List ℕ)). before ++ all) same
+framed_stopped : (X : Type 0) (end : End) (before : List (List ℕ)) (said : Said) (framed : List (List ℕ)) → FramedBy {X = X} (Err end) said.is_done said.packets framed
+    → AreFramed (Stopped end) before said (before ++ framed)
+framed_stopped X ends.Memory before said framed (inl same) = inl (ap (λ (all : List (List ℕ)). before ++ all) (sym same))
+framed_stopped X ends.Memory before said framed (inr (last, no_more, same)) = inr (framed, last, same, no_more, refl)
+framed_stopped X ends.Lost before said framed same = ap (λ (all : List (List ℕ)). before ++ all) (sym same)
+framed_stopped X ends.Decided before said framed same = ap (λ (all : List (List ℕ)). before ++ all) (sym same)
+framed_stopped X ends.Spent before said framed same = ap (λ (all : List (List ℕ)). before ++ all) (sym same)
+framed_stopped X ends.TurnsSpent before said framed same = ap (λ (all : List (List ℕ)). before ++ all) (sym same)
 
-shows_stopped : {S : Type 0} (X : Type 0) (rules : Rules S) (said : Said) (end : End) (bytes more : List ℕ) (place : Place S) (first middle last : Seen)
-    → Passes bytes place first middle → FlowedBy {X = X} (Err end) more middle last → ShowsClose (Stopped end) (bytes ++ more) (says rules said place) first last
-shows_stopped X rules said ends.Lost bytes more place first middle last before after = fails_said rules said bytes more place first middle last before after
-shows_stopped X rules said ends.Decided bytes more place first middle last before (inl after) = inl (passes_said rules said bytes more place first middle last before after)
-shows_stopped X rules said ends.Decided bytes more place first middle last before (inr after) = inr (fails_said rules said bytes more place first middle last before after)
-shows_stopped X rules said ends.Spent bytes more place first middle last before after = passes_said rules said bytes more place first middle last before after
-shows_stopped X rules said ends.Memory bytes more place first middle last before after = passes_said rules said bytes more place first middle last before after
-shows_stopped X rules said ends.TurnsSpent bytes more place first middle last before after = absurd after
+-- a write of the last frame failed
+fails_last : {S : Type 0} (rules : Rules S) (opening : Opening) (said : Said) (sent framed : List (List ℕ)) (bytes more : List ℕ) (line : Line) (place : Place S) (first middle last : Seen)
+    → line.form ≡ opening.form → Spells line opening.up sent bytes → Passes bytes place first middle → said.packets ≡ framed → BreaksLast said.is_done line framed more middle last
+    → FailsLast opening [] sent said (bytes ++ more) (says rules said place) first last
+fails_last rules opening said sent framed bytes more line place first middle last form tells before all after =
+    let cut = after.cut in
+    record {
+      earlier = cut.earlier;
+      packet = cut.packet;
+      whole = bytes ++ cut.whole;
+      last = cut.last;
+      each = all ∙ cut.packets;
+      no_more = after.last;
+      all = ap (λ (all : List ℕ). bytes ++ all) cut.all ∙ sym (append_assoc bytes cut.whole cut.last);
+      text = text_by cut.between opening (sent ++ cut.earlier) (bytes ++ cut.whole) (cut.form ∙ form) (cut.tells opening.up sent bytes tells);
+      fails = fails_said rules said bytes cut.whole cut.last place first middle last before after.breaks;
+    }
+
+shows_stopped : {S : Type 0} (X : Type 0) (rules : Rules S) (opening : Opening) (said : Said) (end : End) (sent framed : List (List ℕ)) (bytes more : List ℕ) (line : Line) (place : Place S) (first middle last : Seen)
+    → line.form ≡ opening.form → Spells line opening.up sent bytes → Passes bytes place first middle
+    → FramedBy {X = X} (Err end) said.is_done said.packets framed → FlowedBy {X = X} (Err end) said.is_done line framed more middle last
+    → ShowsClose (Stopped end) opening [] sent said (bytes ++ more) (says rules said place) first last
+shows_stopped X rules opening said ends.Lost sent framed bytes more line place first middle last form tells before all after =
+    fails_last rules opening said sent framed bytes more line place first middle last form tells before all after
+shows_stopped X rules opening said ends.Decided sent framed bytes more line place first middle last form tells before all (inl after) =
+    inl (passes_said rules said bytes more place first middle last before after)
+shows_stopped X rules opening said ends.Decided sent framed bytes more line place first middle last form tells before all (inr after) =
+    inr (fails_last rules opening said sent framed bytes more line place first middle last form tells before all after)
+shows_stopped X rules opening said ends.Spent sent framed bytes more line place first middle last form tells before all after =
+    passes_said rules said bytes more place first middle last before after
+shows_stopped X rules opening said ends.Memory sent framed bytes more line place first middle last form tells before all after =
+    passes_said rules said bytes more place first middle last before after
+shows_stopped X rules opening said ends.TurnsSpent sent framed bytes more line place first middle last form tells before all after = absurd after
 
 -- the flushes ended it
 pub stopped : {S : Type 0} (step : S → ℕ × S) (lock : Lock) (keys : List RingKey) (reading : Reading) (opening : Opening) (place : Place S) (times now : ℕ)
@@ -178,7 +212,7 @@ stopped step lock keys reading opening place times now kept draw line link given
     let rules = rules_of step lock keys reading in
     let here = turns_from rules place before.turns in
     let flushed = subst (λ (at : ℕ). AllFlushes (setting_of step keys) lock keys at kept draw line link (Err end) left drawn line_then link_then) (sym before.moment) flushes in
-    let follows = flushed.flow.course here.course before.stands in
+    let follows = flushed.flow.course here.course before.stands before.undecided in
     let said : Said = record { packets = flushed.flow.sent; is_done = flushed.flow.is_done } in
     let framed = here.sent ++ flushed.flow.framed in
     let bytes = before.bytes ++ flushed.flow.bytes in
@@ -189,25 +223,26 @@ stopped step lock keys reading opening place times now kept draw line link given
         closed = (
           subst (λ (count : ℕ). count ≤ turns_max) (sym before.count) most,
           is_said step lock keys reading here flushed.flow.sent flushed.flow.is_done left drawn follows,
-          flushed.stops here.course before.stands,
+          flushed.stops here.course before.stands before.undecided,
         );
-        framed = framed_stopped Unit end here.sent flushed.flow.sent flushed.flow.framed flushed.flow.all;
+        framed = framed_stopped Unit end here.sent said flushed.flow.framed flushed.flow.all;
         text = text_by line_then opening framed bytes (same ∙ before.form) (flushed.flow.tells opening.up here.sent before.bytes before.tells);
       };
       ends_so = refl;
       stands = follows.stands;
-      shows = shows_stopped Unit rules said end before.bytes flushed.flow.bytes here link_first link link_then before.passes flushed.flow.written;
+      shows = shows_stopped Unit rules opening said end here.sent flushed.flow.framed before.bytes flushed.flow.bytes line here link_first link link_then
+          before.form before.tells before.passes flushed.flow.all flushed.flow.written;
       gave = before.gave;
     }
 
-shows_unread : {S : Type 0} (answer : Got) (bytes : List ℕ) (place : Place S) (first middle last : Seen)
+shows_unread : {S : Type 0} (answer : Got) (opening : Opening) (sent : List (List ℕ)) (said : Said) (bytes : List ℕ) (place : Place S) (first middle last : Seen)
     → IsNoPiece answer → Passes bytes place first middle → ReadsBy answer [] middle.told last.told
     → (answer ≡ got.End → last.faults ≡ middle.faults) → (answer ≡ got.Failed → last.faults ≡ one_more middle.faults)
-    → ShowsClose (Unread answer) bytes (reads answer place) first last
-shows_unread (got.Bytes count) bytes place first middle last none before after ended failed = absurd none
-shows_unread got.End bytes place first middle last none before after ended failed =
+    → ShowsClose (Unread answer) opening [] sent said bytes (reads answer place) first last
+shows_unread (got.Bytes count) opening sent said bytes place first middle last none before after ended failed = absurd none
+shows_unread got.End opening sent said bytes place first middle last none before after ended failed =
     passes_read bytes [] got.End place (reads got.End place) (sym (append-nil place.came)) refl first middle last before after (ended refl)
-shows_unread got.Failed bytes place first middle last none before after ended failed =
+shows_unread got.Failed opening sent said bytes place first middle last none before after ended failed =
     fails_read bytes [] got.Failed place (reads got.Failed place) (sym (append-nil place.came)) refl first middle last before after (failed refl)
 
 -- the read behind the flushes gave no piece
@@ -225,7 +260,7 @@ unread step lock keys reading opening place times now kept draw line link given 
     let rules = rules_of step lock keys reading in
     let here = turns_from rules place before.turns in
     let flushed = subst (λ (at : ℕ). AllFlushes (setting_of step keys) lock keys at kept draw line link (Ok tt) middle between line_between link_between) (sym before.moment) flushes in
-    let follows = flushed.flow.course here.course before.stands in
+    let follows = flushed.flow.course here.course before.stands before.undecided in
     let said : Said = record { packets = flushed.flow.sent; is_done = flushed.flow.is_done } in
     let mid = says rules said here in
     let framed = here.sent ++ flushed.flow.framed in
@@ -236,15 +271,15 @@ unread step lock keys reading opening place times now kept draw line link given 
         turns = before.are;
         closed = (
           subst (λ (count : ℕ). count < turns_max) (sym before.count) few,
-          is_ready step lock keys reading here kept draw line link middle between line_between link_between before.stands flushed,
+          is_ready step lock keys reading here kept draw line link middle between line_between link_between before.stands before.undecided flushed,
           missed.none,
         );
-        framed = ap (λ (all : List (List ℕ)). here.sent ++ all) flushed.flow.all;
+        framed = ap (λ (all : List (List ℕ)). here.sent ++ all) (sym flushed.flow.all);
         text = text_by line_between opening framed bytes (same ∙ before.form) (flushed.flow.tells opening.up here.sent before.bytes before.tells);
       };
       ends_so = refl;
       stands = subst (λ (one : Holder). StandsAs one drawn mid.course) (sym missed.same_kept) (subst (λ one. StandsAs middle one mid.course) (sym missed.same_draw) follows.stands);
-      shows = shows_unread answer bytes mid link_first link_between link_then missed.none
+      shows = shows_unread answer opening here.sent said bytes mid link_first link_between link_then missed.none
           (passes_said rules said before.bytes flushed.flow.bytes here link_first link link_between before.passes flushed.flow.written) missed.told missed.ended missed.failed;
       gave = subst (λ (all : Option (List ℕ)). Gave here.moments given_first all) (sym missed.same_given) before.gave;
     }
@@ -289,7 +324,7 @@ heard_last step lock keys reading opening place times now kept draw line link gi
     let rules = rules_of step lock keys reading in
     let here = turns_from rules place before.turns in
     let flushed = subst (λ (at : ℕ). AllFlushes (setting_of step keys) lock keys at kept draw line link (Ok tt) middle between line_between link_between) (sym before.moment) flushes in
-    let follows = flushed.flow.course here.course before.stands in
+    let follows = flushed.flow.course here.course before.stands before.undecided in
     let said : Said = record { packets = flushed.flow.sent; is_done = flushed.flow.is_done } in
     let mid = says rules said here in
     let got_it = gets piece moment mid in
@@ -305,13 +340,13 @@ heard_last step lock keys reading opening place times now kept draw line link gi
         turns = before.are;
         closed = (
           subst (λ (count : ℕ). count < turns_max) (sym before.count) few,
-          is_ready step lock keys reading here kept draw line link middle between line_between link_between before.stands flushed,
+          is_ready step lock keys reading here kept draw line link middle between line_between link_between before.stands before.undecided flushed,
           gets_it.some,
           gets_it.most,
           gets_it.took.sizes,
           ends_hearing step lock keys reading opening got_it line_between line_then heard (length piece) end left drawn form (same_out ∙ form) took came,
         );
-        framed = ap (λ (all : List (List ℕ)). here.sent ++ all) flushed.flow.all;
+        framed = ap (λ (all : List (List ℕ)). here.sent ++ all) (sym flushed.flow.all);
         text = text_by line_between opening framed bytes form (flushed.flow.tells opening.up here.sent before.bytes before.tells);
       };
       ends_so = refl;
@@ -334,7 +369,7 @@ turns_done step lock keys reading opening place times now kept draw line link gi
     let rules = rules_of step lock keys reading in
     let here = turns_from rules place before.turns in
     let flushed = subst (λ (at : ℕ). AllFlushes (setting_of step keys) lock keys at kept draw line link (Ok tt) left drawn line_then link_then) (sym before.moment) flushes in
-    let follows = flushed.flow.course here.course before.stands in
+    let follows = flushed.flow.course here.course before.stands before.undecided in
     let said : Said = record { packets = flushed.flow.sent; is_done = flushed.flow.is_done } in
     let framed = here.sent ++ flushed.flow.framed in
     let bytes = before.bytes ++ flushed.flow.bytes in
@@ -344,9 +379,9 @@ turns_done step lock keys reading opening place times now kept draw line link gi
         turns = before.are;
         closed = (
           before.count ∙ most,
-          is_ready step lock keys reading here kept draw line link left drawn line_then link_then before.stands flushed,
+          is_ready step lock keys reading here kept draw line link left drawn line_then link_then before.stands before.undecided flushed,
         );
-        framed = ap (λ (all : List (List ℕ)). here.sent ++ all) flushed.flow.all;
+        framed = ap (λ (all : List (List ℕ)). here.sent ++ all) (sym flushed.flow.all);
         text = text_by line_then opening framed bytes (same ∙ before.form) (flushed.flow.tells opening.up here.sent before.bytes before.tells);
       };
       ends_so = refl;

@@ -74,7 +74,7 @@ renews_by true step course sent none = ap (λ (any : Bool). not any) (any_renewe
 pub renews_undecided : {S : Type 0} (step : S → ℕ × S) (course : Course S) → is_decided course.client ≡ false → is_decided (renews step course).client ≡ false
 renews_undecided step course none = renews_by (must_renew course.phase course.client) step course (must_sent course.phase course.client) none
 
-attached_undecided : (phase : Phase) (client : Client) → is_decided client ≡ false → is_decided (attached_in phase client) ≡ false
+pub attached_undecided : (phase : Phase) (client : Client) → is_decided client ≡ false → is_decided (attached_in phase client) ≡ false
 attached_undecided Ended client none = none
 attached_undecided Open client none = ap (λ (any : Bool). not any) (any_attached (calls_of client)) ∙ none
 attached_undecided Learning client none = ap (λ (any : Bool). not any) (any_attached (calls_of client)) ∙ none
@@ -87,7 +87,7 @@ takes_undecided step reading now course packet none =
     subst (λ (test : Bool). is_decided (renews_unless test step (hears reading now course packet)).client ≡ false) (sym none)
     (renews_undecided step (hears reading now course packet) none)
 
-all_undecided : {S : Type 0} (step : S → ℕ × S) (reading : Reading) (now : ℕ) (course : Course S) (heard : List (List ℕ))
+pub all_undecided : {S : Type 0} (step : S → ℕ × S) (reading : Reading) (now : ℕ) (course : Course S) (heard : List (List ℕ))
     → NoneDecides step reading now course heard → is_decided course.client ≡ false → is_decided (takes_all step reading now course heard).client ≡ false
 all_undecided step reading now course [] none before = before
 all_undecided step reading now course (packet ∷ packets) none before =
@@ -100,14 +100,14 @@ closed_undecided : {S : Type 0} (rules : Rules S) (opening : Opening) (count : �
 closed_undecided rules opening count place said (Stopped ends.Lost) closed = closed.2
 closed_undecided rules opening count place said (Stopped ends.TurnsSpent) closed = absurd closed.2
 closed_undecided rules opening count place said (Stopped ends.Decided) closed = tt
-closed_undecided rules opening count place said (Stopped ends.Spent) closed = tt
+closed_undecided rules opening count place said (Stopped ends.Spent) closed = closed.2.0
 closed_undecided rules opening count place said (Stopped ends.Memory) closed = tt
 closed_undecided rules opening count place said (Unread answer) closed = closed.1.undecided
 closed_undecided rules opening count place said (Heard piece moment heard ends.Lost) closed =
     all_undecided rules.setting.step rules.reading moment _ heard closed.5.0 closed.1.undecided
 closed_undecided rules opening count place said (Heard piece moment heard ends.TurnsSpent) closed = absurd closed.5
 closed_undecided rules opening count place said (Heard piece moment heard ends.Decided) closed = tt
-closed_undecided rules opening count place said (Heard piece moment heard ends.Spent) closed = tt
+closed_undecided rules opening count place said (Heard piece moment heard ends.Spent) closed = absurd closed.5
 closed_undecided rules opening count place said (Heard piece moment heard ends.Memory) closed = tt
 closed_undecided rules opening count place said TurnsDone closed = closed.1.undecided
 
@@ -136,7 +136,7 @@ undecided_so : (end : End) (client : Client) → UndecidedBy end client → Unde
 undecided_so ends.Decided client undecided = tt
 undecided_so ends.Lost client undecided = undecided
 undecided_so ends.TurnsSpent client undecided = undecided
-undecided_so ends.Spent client undecided = tt
+undecided_so ends.Spent client undecided = undecided
 undecided_so ends.Memory client undecided = tt
 
 pub last_undecided : {S : Type 0} (rules : Rules S) (plan : Plan) (course : Course S) (earlier : List Attempt) (last : Attempt) (end : End)

@@ -7,7 +7,7 @@ use Rattle.client_node.specs.declared.plan.Batch.{Batch}
 use Rattle.client_node.specs.declared.plan.Batch.TheVariants as batch
 use Rattle.client_node.specs.declared.plan.Plan.{Plan}
 
--- a connection to a port that was made, closed and given back; at most so many calls of its link failed
+-- a connection to a port that was made and given back; at most so many calls of its link failed
 abbrev pub IsGivenBack : ℕ → ℕ → NetCall → Type 0
 IsGivenBack port most (Connect to (Done told faults)) = (to ≡ port) × (faults ≤ most)
 IsGivenBack port most (Connect to Failed) = ⊥

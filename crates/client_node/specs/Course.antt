@@ -1,5 +1,5 @@
 -- A client between the events of its connections, and what each event makes of it.
-use Rattle.std.specs.Prelude.{ℕ, max, not, ◌&&◌, ◌||◌, Bool, true, false, if◌then◌else◌, Option, Some, List, [], ◌∷◌, fold, ⊤}
+use Rattle.std.specs.Prelude.{◌≡◌, ℕ, max, not, ◌&&◌, ◌||◌, Bool, true, false, if◌then◌else◌, Option, Some, List, [], ◌∷◌, fold, ⊤}
 use Rattle.std.specs.List.{list_any}
 use Rattle.draws.specs.Draws.{draw_after, word_after}
 use Rattle.envelope.specs.declared.parts.Envelope.{Envelope}
@@ -13,6 +13,7 @@ use Rattle.client_rules.specs.Sending.{Setting}
 use Rattle.auth_keys.specs.declared.ring.RingKey.{RingKey}
 use Rattle.envelope.specs.Packet.{Lock}
 use Rattle.client_core.specs.Flushed.{TellsFlush}
+use Rattle.client_core.specs.declared.flush.Flush.{Flush}
 use Rattle.client_core.specs.declared.flush.Flush.TheVariants as told
 
 -- ---- the state of a client
@@ -130,11 +131,16 @@ flushes setting now course =
 
 -- ---- what is sent before the next piece is read
 
+-- there is a flush only while a call isn't decided, and it answers so
+abbrev pub Answers : {S : Type 0} → Setting S → Lock → List RingKey → ℕ → Course S → Flush → Type 0
+Answers setting lock keys now course answer =
+    (is_decided course.client ≡ false) × TellsFlush lock keys (flush_of setting now course).answer answer
+
 -- these packets are those of as many flushes, one after the other
 abbrev pub AreSent : {S : Type 0} → Setting S → Lock → List RingKey → ℕ → Course S → List (List ℕ) → Type 0
 AreSent setting lock keys now course [] = ⊤
 AreSent setting lock keys now course (packet ∷ packets) =
-    TellsFlush lock keys (flush_of setting now course).answer (told.Packet packet)
+    Answers setting lock keys now course (told.Packet packet)
     × AreSent setting lock keys now (flushes setting now course) packets
 
 abbrev pub sends_all : {S : Type 0} → Setting S → ℕ → Course S → List (List ℕ) → Course S

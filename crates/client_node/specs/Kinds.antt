@@ -1,7 +1,9 @@
 -- Kinds of calls: scaffolding of private functions, and no promise.
 use Rattle.std.specs.Prelude.{Bool, false, Option, Some, None, List}
 use Rattle.std.specs.List.{list_any}
+use Rattle.call_table.specs.Kept.{state_of}
 use Rattle.call_table.specs.Table.{Call, State, is_held, is_open, is_sent}
+use Rattle.call_table.specs.declared.row.Row.{Row}
 use Rattle.client_node.specs.declared.calls.Kind.{Kind}
 use Rattle.client_node.specs.declared.calls.Kind.TheVariants.{Undecided, Sent, Held}
 
@@ -17,3 +19,7 @@ is_kind_at kind (Some state) = is_kind kind state
 
 abbrev pub has_kind : Kind → List Call → Bool
 has_kind kind calls = list_any (λ call. is_kind kind call.state) calls
+
+-- the same of what is kept of calls
+abbrev pub has_row : Kind → List Row → Bool
+has_row kind rows = list_any (λ row. is_kind kind (state_of row.progress)) rows

@@ -1,21 +1,21 @@
 -- What the parts of a connection do: scaffolding of private functions, and no promise.
-use Rattle.std.specs.Prelude.{◌≡◌, ◌<◌, ◌≤◌, ◌⊎◌, ℕ, List, [], ◌∷◌, ◌++◌, length, Option, IfSome, IsSomeAnd, Result, Ok, Err}
+use Rattle.std.specs.Prelude.{◌≡◌, ◌<◌, ◌≤◌, ◌⊎◌, ℕ, false, List, [], ◌∷◌, ◌++◌, length, Option, IfSome, IsSomeAnd, Result, Ok, Err}
 use Rattle.auth_keys.specs.declared.ring.RingKey.{RingKey}
 use Rattle.envelope.specs.Packet.{Lock}
 use Rattle.transport.specs.Starts.{Opening}
-use Rattle.transport.specs.Wires.{Hears, Line, Tells}
+use Rattle.transport.specs.Wires.{Hears, Line}
 use Rattle.mt_edge.specs.Faults.{one_more}
 use Rattle.mt_edge.specs.Links.{Told}
 use Rattle.mt_edge.specs.declared.net_call.NetCall.{NetCall}
 use Rattle.mt_edge.specs.declared.source.Got.{Got}
 use Rattle.mt_edge.specs.declared.source.Got.TheVariants as got
 use Rattle.client_core.specs.declared.holder.Holder.{Holder}
-use Rattle.client_node.specs.Course.{Course}
+use Rattle.client_node.specs.Course.{Course, is_decided}
 use Rattle.client_node.specs.Standing.{StandsAs}
 use Rattle.client_node.specs.Talks.{AreTurns, Connection, IsConnection, IsNoPiece, IsTalk, Passes, Place, Rules, Shows, ShowsClose, Talk, Turn, course_after, end_by, end_of, moments_of, piece_bytes, place_after, turns_from}
 use Rattle.client_node.specs.Took.{TookPiece}
 use Rattle.client_node.specs.Trace.{AreLost, AreNoted, Attempt, IsAttempt, IsNoted, after_all, all_moments, attempted, end_of_attempt, moments_in}
-use Rattle.client_node.specs.Writes.{Seen}
+use Rattle.client_node.specs.Writes.{Seen, Spells}
 use Rattle.client_node.specs.declared.end.End.{End}
 use Rattle.client_node.specs.declared.end.End.TheVariants as ends
 use Rattle.client_node.specs.declared.plan.Plan.{Plan}
@@ -67,7 +67,7 @@ TookTurn step lock keys kept draw line link given (Err end) kept_then draw_then 
 pub record HasOpened (line : Line) (opening : Opening) : Type 0 where
   pub form : line.form ≡ opening.form
   pub hears : Hears line opening.down [] []
-  pub tells : Tells line opening.up [] []
+  pub tells : Spells line opening.up [] []
 
 -- So many turns, from a place on, with the frames' bytes that were written.
 pub record TurnsSoFar {S : Type 0} (rules : Rules S) (opening : Opening) (place : Place S) (times : ℕ) (now : ℕ) (kept : Holder) (draw : S) (line : Line) (link : Seen) (given : Option (List ℕ)) (link_first : Seen) (given_first : Option (List ℕ)) : Type 0 where
@@ -77,8 +77,9 @@ pub record TurnsSoFar {S : Type 0} (rules : Rules S) (opening : Opening) (place 
   pub are : AreTurns rules opening place turns
   pub moment : (turns_from rules place turns).now ≡ now
   pub stands : StandsAs kept draw (turns_from rules place turns).course
+  pub undecided : is_decided (turns_from rules place turns).course.client ≡ false
   pub hears : Hears line opening.down (turns_from rules place turns).heard (turns_from rules place turns).came
-  pub tells : Tells line opening.up (turns_from rules place turns).sent bytes
+  pub tells : Spells line opening.up (turns_from rules place turns).sent bytes
   pub form : line.form ≡ opening.form
   pub passes : Passes bytes (turns_from rules place turns) link_first link
   pub gave : Gave (turns_from rules place turns).moments given_first given
@@ -89,7 +90,7 @@ pub record Talked {S : Type 0} (rules : Rules S) (opening : Opening) (place : Pl
   pub is : IsTalk rules opening place talk
   pub ends_so : end_by talk.close ≡ end
   pub stands : StandsAs kept draw (place_after rules place talk).course
-  pub shows : ShowsClose talk.close talk.bytes (place_after rules place talk) link link_then
+  pub shows : ShowsClose talk.close opening [] (turns_from rules place talk.turns).sent talk.said talk.bytes (place_after rules place talk) link link_then
   pub gave : Gave (place_after rules place talk).moments given given_then
 
 -- All that was done over a connection.

@@ -1,6 +1,9 @@
 -- A client as it is kept, and the course that it stands for.
-use Rattle.std.specs.Prelude.{◌≡◌, ℕ, true, Option, Some, None, Result, Ok, Err, List, length, ⊤}
+use Rattle.std.specs.Prelude.{◌≡◌, ℕ, Bool, true, false, Option, Some, None, Result, Ok, Err, List, length, ⊤}
+use Rattle.std.specs.List.{list_any}
 use Rattle.auth_keys.specs.declared.ring.RingKey.{RingKey}
+use Rattle.call_table.specs.Kept.{state_of}
+use Rattle.call_table.specs.Table.{is_open}
 use Rattle.octets.specs.declared.memory.Memory.{Memory}
 use Rattle.envelope.specs.declared.parts.Envelope.{Envelope}
 use Rattle.envelope.specs.declared.parts.Dir.TheVariants.{Down}
@@ -17,6 +20,8 @@ use Rattle.client_core.specs.declared.holder.Holder.TheVariants as holder
 use Rattle.client_node.specs.Course.{Phase, Opening, Open, Ended, Course, Reading, flush_of, is_decided, phase_after}
 use Rattle.client_node.specs.declared.end.End.{End}
 use Rattle.client_node.specs.declared.end.End.TheVariants as ends
+use Rattle.client_node.specs.declared.plan.Batch.{Batch}
+use Rattle.client_node.specs.declared.plan.Batch.TheVariants as batch
 
 abbrev pub phase_of : Holder → Phase
 phase_of (holder.Opening kept) = Opening
@@ -52,9 +57,27 @@ HasKeys keys (holder.Ended kept) = Unit {0}
 abbrev pub KeepsKeys : Holder → Holder → Type 0
 KeepsKeys before after = (ring : List RingKey) → HasKeys ring before → HasKeys ring after
 
--- each call of the client that it stands for is decided
-abbrev pub AllDecided : Holder → Type 0
-AllDecided kept = (whole : Client) → StandsFor kept whole → is_decided whole ≡ true
+-- of one of its calls it tells that it is queued, sent or held
+abbrev pub has_undecided : Holder → Bool
+has_undecided kept = list_any (λ row. is_open (state_of row.progress)) (kept_of kept).calls.rows
+
+-- each call is decided, by what it tells of each, and of every client that it stands for
+pub record AllDecided (kept : Holder) : Type 0 where
+  pub told : has_undecided kept ≡ false
+  pub stands : (whole : Client) → StandsFor kept whole → is_decided whole ≡ true
+
+-- a call isn't decided
+pub record IsUndecided (kept : Holder) : Type 0 where
+  pub told : has_undecided kept ≡ true
+  pub stands : (whole : Client) → StandsFor kept whole → is_decided whole ≡ false
+
+-- a batch that ended otherwise than as `Decided` or for want of memory left a call undecided
+abbrev pub LeavesUndecided : Batch → Holder → Type 0
+LeavesUndecided batch.LinkLost kept = IsUndecided kept
+LeavesUndecided batch.TurnsSpent kept = IsUndecided kept
+LeavesUndecided batch.Spent kept = IsUndecided kept
+LeavesUndecided batch.Decided kept = ⊤
+LeavesUndecided batch.Memory kept = ⊤
 
 -- it ended as `Decided` only where each call is
 abbrev pub DecidedIn : End → Holder → Type 0

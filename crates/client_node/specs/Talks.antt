@@ -1,6 +1,6 @@
 -- What a client says and hears over one connection, worked out from the moments, the words and the pieces that are read
 -- (core.telegram.org/mtproto/mtproto-transports).
-use Rattle.std.specs.Prelude.{◌≡◌, ◌<◌, ◌≤◌, ◌⊎◌, ℕ, Bool, true, false, List, [], ◌∷◌, ◌++◌, length, All, IfSome, IsSomeAnd, Err, ⊤}
+use Rattle.std.specs.Prelude.{◌≡◌, ◌≢◌, ◌<◌, ◌≤◌, ◌⊎◌, ℕ, Bool, true, false, List, [], ◌∷◌, ◌++◌, length, All, IfSome, IsSomeAnd, Err, ⊤}
 use Rattle.draws.specs.Draws.{draw_after, next_bytes}
 use Rattle.auth_keys.specs.declared.ring.RingKey.{RingKey}
 use Rattle.envelope.specs.Packet.{Lock}
@@ -20,7 +20,7 @@ use Rattle.client_core.specs.Flushed.{setting_of}
 use Rattle.client_node.specs.Course.{AreSent, Course, Reading, attaches, is_decided, renews, sends_all}
 use Rattle.client_node.specs.Flow.{FoundNothing, IsAll, StoppedBy, flowed}
 use Rattle.client_node.specs.Took.{IsNoError, NoneDecides, decides, error_bytes, takes_all}
-use Rattle.client_node.specs.Writes.{Seen}
+use Rattle.client_node.specs.Writes.{Seen, frames_of}
 use Rattle.client_node.specs.declared.end.End.{End}
 use Rattle.client_node.specs.declared.end.End.TheVariants as ends
 use Rattle.client_node.specs.declared.plan.Plan.{Plan}
@@ -198,12 +198,12 @@ IsClosed rules opening count place said (Heard piece moment heard end) =
     × EndsHearing rules opening (gets piece moment (says rules said place)) heard end
 IsClosed rules opening count place said TurnsDone = (count ≡ turns_max) × IsReady rules place said
 
--- a call isn't decided where the connection is lost, or gave as many pieces as one gives
+-- a call isn't decided where the connection is lost, gave as many pieces as one gives, or ended as numbers were spent
 abbrev pub UndecidedBy : End → Client → Type 0
 UndecidedBy ends.Lost client = is_decided client ≡ false
 UndecidedBy ends.TurnsSpent client = is_decided client ≡ false
 UndecidedBy ends.Decided client = ⊤
-UndecidedBy ends.Spent client = ⊤
+UndecidedBy ends.Spent client = is_decided client ≡ false
 UndecidedBy ends.Memory client = ⊤
 
 -- ---- what its link shows
@@ -214,12 +214,13 @@ pub record Passed {S : Type 0} (bytes : List ℕ) (place : Place S) (before afte
   pub came : after.came ≡ before.came ++ place.came
   pub reads : after.reads ≡ before.reads ++ place.reads
 
--- the same, but a front of the bytes alone was written
-pub record PassedFront {S : Type 0} (bytes : List ℕ) (place : Place S) (before after : Told) : Type 0 where
+-- the same, but of the last bytes a front alone was written, short of the whole
+pub record PassedFront {S : Type 0} (whole last : List ℕ) (place : Place S) (before after : Told) : Type 0 where
   pub front : List ℕ
   pub rest : List ℕ
-  pub whole : bytes ≡ front ++ rest
-  pub passed : Passed front place before after
+  pub cut : last ≡ front ++ rest
+  pub some : rest ≢ []
+  pub passed : Passed (whole ++ front) place before after
 
 -- what the link tells, where it does, and its count of faults: no call failed; a read did; a write did
 pub record Passes {S : Type 0} (bytes : List ℕ) (place : Place S) (before after : Seen) : Type 0 where
@@ -230,36 +231,55 @@ pub record FailsReading {S : Type 0} (bytes : List ℕ) (place : Place S) (befor
   pub told : IfSome after.told (λ last. IsSomeAnd before.told (λ first. Passed bytes place first last))
   pub faults : after.faults ≡ one_more before.faults
 
-pub record FailsWriting {S : Type 0} (bytes : List ℕ) (place : Place S) (before after : Seen) : Type 0 where
-  pub told : IfSome after.told (λ last. IsSomeAnd before.told (λ first. PassedFront bytes place first last))
+pub record FailsWriting {S : Type 0} (whole last : List ℕ) (place : Place S) (before after : Seen) : Type 0 where
+  pub told : IfSome after.told (λ ended. IsSomeAnd before.told (λ first. PassedFront whole last place first ended))
   pub faults : after.faults ≡ one_more before.faults
 
-abbrev pub ShowsClose : {S : Type 0} → Close → List ℕ → Place S → Seen → Seen → Type 0
-ShowsClose (Stopped ends.Lost) bytes place before after = FailsWriting bytes place before after
-ShowsClose (Stopped ends.Decided) bytes place before after = Passes bytes place before after ⊎ FailsWriting bytes place before after
-ShowsClose (Stopped ends.Spent) bytes place before after = Passes bytes place before after
-ShowsClose (Stopped ends.Memory) bytes place before after = Passes bytes place before after
-ShowsClose (Stopped ends.TurnsSpent) bytes place before after = ⊥
-ShowsClose (Unread (got.Bytes count)) bytes place before after = ⊥
-ShowsClose (Unread got.End) bytes place before after = Passes bytes place before after
-ShowsClose (Unread got.Failed) bytes place before after = FailsReading bytes place before after
-ShowsClose (Heard piece moment heard end) bytes place before after = Passes bytes place before after
-ShowsClose TurnsDone bytes place before after = Passes bytes place before after
+-- These bytes, sent behind the start, are the frames of these packets: they read as the packets, and are the writer's.
+pub record IsText (opening : Opening) (packets : List (List ℕ)) (bytes : List ℕ) : Type 0 where
+  pub frames : Frames (framing_of opening.form) 0 packets (through opening.up bytes)
+  pub spelt : through opening.up bytes ≡ frames_of opening.form 0 packets
 
--- The packets whose frames were due: all that were sent, unless memory ran out before the last one was in a frame.
-abbrev pub AreFramed : Close → List (List ℕ) → List (List ℕ) → Type 0
-AreFramed (Stopped ends.Memory) sent framed = (rest : List (List ℕ)) × (sent ≡ framed ++ rest)
-AreFramed (Stopped ends.Lost) sent framed = sent ≡ framed
-AreFramed (Stopped ends.Decided) sent framed = sent ≡ framed
-AreFramed (Stopped ends.Spent) sent framed = sent ≡ framed
-AreFramed (Stopped ends.TurnsSpent) sent framed = sent ≡ framed
-AreFramed (Unread answer) sent framed = sent ≡ framed
-AreFramed (Heard piece moment heard end) sent framed = sent ≡ framed
-AreFramed TurnsDone sent framed = sent ≡ framed
+-- A write of the frame of the packet that was said last failed, with all that was sent before it, the start too, written. There
+-- was no further flush.
+pub record FailsLast {S : Type 0} (opening : Opening) (start : List ℕ) (sent : List (List ℕ)) (said : Said) (bytes : List ℕ) (place : Place S) (before after : Seen) : Type 0 where
+  pub earlier : List (List ℕ)
+  pub packet : List ℕ
+  pub whole : List ℕ
+  pub last : List ℕ
+  pub each : said.packets ≡ earlier ++ packet ∷ []
+  pub no_more : said.is_done ≡ false
+  pub all : bytes ≡ whole ++ last
+  pub text : IsText opening (sent ++ earlier) whole
+  pub fails : FailsWriting (start ++ whole) last place before after
 
--- these bytes, sent behind the start, are the frames of these packets
-abbrev pub IsText : Opening → List (List ℕ) → List ℕ → Type 0
-IsText opening packets bytes = Frames (framing_of opening.form) 0 packets (through opening.up bytes)
+-- What the link shows: behind a start these bytes are the frames of what was sent in the turns, and of what was said last.
+abbrev pub ShowsClose : {S : Type 0} → Close → Opening → List ℕ → List (List ℕ) → Said → List ℕ → Place S → Seen → Seen → Type 0
+ShowsClose (Stopped ends.Lost) opening start sent said bytes place before after = FailsLast opening start sent said bytes place before after
+ShowsClose (Stopped ends.Decided) opening start sent said bytes place before after =
+    Passes (start ++ bytes) place before after ⊎ FailsLast opening start sent said bytes place before after
+ShowsClose (Stopped ends.Spent) opening start sent said bytes place before after = Passes (start ++ bytes) place before after
+ShowsClose (Stopped ends.Memory) opening start sent said bytes place before after = Passes (start ++ bytes) place before after
+ShowsClose (Stopped ends.TurnsSpent) opening start sent said bytes place before after = ⊥
+ShowsClose (Unread (got.Bytes count)) opening start sent said bytes place before after = ⊥
+ShowsClose (Unread got.End) opening start sent said bytes place before after = Passes (start ++ bytes) place before after
+ShowsClose (Unread got.Failed) opening start sent said bytes place before after = FailsReading (start ++ bytes) place before after
+ShowsClose (Heard piece moment heard end) opening start sent said bytes place before after = Passes (start ++ bytes) place before after
+ShowsClose TurnsDone opening start sent said bytes place before after = Passes (start ++ bytes) place before after
+
+-- The packets whose frames were due: all that were sent; or all but the last one, where memory ran out before that was in a frame,
+-- and then there was no further flush.
+abbrev pub AreFramed : Close → List (List ℕ) → Said → List (List ℕ) → Type 0
+AreFramed (Stopped ends.Memory) sent said framed =
+    (framed ≡ sent ++ said.packets)
+    ⊎ ((earlier : List (List ℕ)) × (packet : List ℕ) × (said.packets ≡ earlier ++ packet ∷ []) × (said.is_done ≡ false) × (framed ≡ sent ++ earlier))
+AreFramed (Stopped ends.Lost) sent said framed = framed ≡ sent ++ said.packets
+AreFramed (Stopped ends.Decided) sent said framed = framed ≡ sent ++ said.packets
+AreFramed (Stopped ends.Spent) sent said framed = framed ≡ sent ++ said.packets
+AreFramed (Stopped ends.TurnsSpent) sent said framed = framed ≡ sent ++ said.packets
+AreFramed (Unread answer) sent said framed = framed ≡ sent ++ said.packets
+AreFramed (Heard piece moment heard end) sent said framed = framed ≡ sent ++ said.packets
+AreFramed TurnsDone sent said framed = framed ≡ sent ++ said.packets
 
 -- ---- all of a connection
 
@@ -278,7 +298,7 @@ place_after rules place talk = closes rules talk.said talk.close (turns_from rul
 pub record IsTalk {S : Type 0} (rules : Rules S) (opening : Opening) (place : Place S) (talk : Talk) : Type 0 where
   pub turns : AreTurns rules opening place talk.turns
   pub closed : IsClosed rules opening (length talk.turns) (turns_from rules place talk.turns) talk.said talk.close
-  pub framed : AreFramed talk.close (place_after rules place talk).sent talk.framed
+  pub framed : AreFramed talk.close (turns_from rules place talk.turns).sent talk.said talk.framed
   pub text : IsText opening talk.framed talk.bytes
 
 -- A connection: memory ran out before its start; a write of the start failed; it was started with these bytes, which open it so.
@@ -330,6 +350,7 @@ moments_of rules plan course (Began first start opening talk) = first ∷ (place
 
 abbrev pub Shows : {S : Type 0} → Rules S → Plan → Course S → Connection → Seen → Seen → Type 0
 Shows rules plan course (Refused first) before after = Passes [] (begun rules plan course first) before after
-Shows rules plan course (Unstarted first start) before after = FailsWriting start (begun rules plan course first) before after
+Shows rules plan course (Unstarted first start) before after = FailsWriting [] start (begun rules plan course first) before after
 Shows rules plan course (Began first start opening talk) before after =
-    ShowsClose talk.close (start ++ talk.bytes) (place_after rules (begun rules plan course first) talk) before after
+    ShowsClose talk.close opening start (turns_from rules (begun rules plan course first) talk.turns).sent talk.said talk.bytes
+    (place_after rules (begun rules plan course first) talk) before after

@@ -72,20 +72,20 @@ AreLost rules plan course [] = ⊤
 AreLost rules plan course (last ∷ earlier) =
     AreLost rules plan course earlier × IsAttempt rules plan (after_all rules plan course earlier) last × (end_of_attempt last ≡ ends.Lost)
 
--- A batch that ended so: where each call is decided, or memory ran out before, it connects to nothing; else its attempts were lost,
--- no more of them than the plan allows, but for the last one, by which it ended.
+-- A batch that ended so: where each call is decided, or memory ran out before, it connects to nothing; else a call isn't decided,
+-- and its attempts were lost, no more of them than the plan allows, but for the last one, by which it ended.
 abbrev pub EndsBy : {S : Type 0} → Rules S → Plan → Course S → Batch → List Attempt → Type 0
 EndsBy rules plan course end [] = ((end ≡ batch.Decided) × (is_decided course.client ≡ true)) ⊎ (end ≡ batch.Memory)
 EndsBy rules plan course end (last ∷ earlier) =
-    AreLost rules plan course earlier × IsAttempt rules plan (after_all rules plan course earlier) last
+    (is_decided course.client ≡ false) × AreLost rules plan course earlier × IsAttempt rules plan (after_all rules plan course earlier) last
     × (batch_by (end_of_attempt last) ≡ end) × (length earlier ≤ plan.retries) × (end ≡ batch.LinkLost → length earlier ≡ plan.retries)
 
--- where connections lost or pieces given end it, a call isn't decided
+-- where connections lost, pieces given or numbers spent end it, a call isn't decided
 abbrev pub UndecidedIn : Batch → Client → Type 0
 UndecidedIn batch.LinkLost client = is_decided client ≡ false
 UndecidedIn batch.TurnsSpent client = is_decided client ≡ false
 UndecidedIn batch.Decided client = ⊤
-UndecidedIn batch.Spent client = ⊤
+UndecidedIn batch.Spent client = is_decided client ≡ false
 UndecidedIn batch.Memory client = ⊤
 
 -- ---- the trace

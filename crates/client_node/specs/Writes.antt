@@ -1,10 +1,13 @@
 -- What is written over a link.
-use Rattle.std.specs.Prelude.{◌≡◌, ℕ, List, ◌++◌, Option, IfSome, IsSomeAnd, Result, Ok, Err, ⊤}
+use Rattle.std.specs.Prelude.{◌≡◌, ◌≢◌, ℕ, ◌+◌, List, [], ◌∷◌, ◌++◌, Option, IfSome, IsSomeAnd, Result, Ok, Err, ⊤}
 use Rattle.mt_edge.specs.Links.{Told}
 use Rattle.mt_edge.specs.Faults.{one_more}
+use Rattle.cipher_modes.specs.CounterMode.{CtrState}
+use Rattle.framing.specs.Streams.{number_after}
 use Rattle.transport.specs.Directions.{through}
 use Rattle.transport.specs.Forms.{frame_of}
-use Rattle.transport.specs.Wires.{Line}
+use Rattle.transport.specs.Wires.{Line, Tells}
+use Rattle.transport.specs.declared.form.Form.{Form}
 use Rattle.client_node.specs.declared.end.End.{End}
 use Rattle.client_node.specs.declared.end.End.TheVariants.{Decided, Lost, TurnsSpent, Spent, Memory}
 
@@ -15,12 +18,13 @@ pub record Wrote (bytes : List ℕ) (before after : Told) : Type 0 where
   pub left : after.left ≡ before.left
   pub reads : after.reads ≡ before.reads
 
--- a front of these bytes was written
-pub record WroteFront (bytes : List ℕ) (before after : Told) : Type 0 where
+-- all of the first bytes was written, and a front of the last ones, short of the whole
+pub record WroteFront (whole last : List ℕ) (before after : Told) : Type 0 where
   pub front : List ℕ
   pub rest : List ℕ
-  pub whole : bytes ≡ front ++ rest
-  pub wrote : Wrote front before after
+  pub cut : last ≡ front ++ rest
+  pub some : rest ≢ []
+  pub wrote : Wrote (whole ++ front) before after
 
 -- what a link tells, where it does, and its count of faults
 pub record Seen : Type 0 where
@@ -35,15 +39,15 @@ pub record Writes (bytes : List ℕ) (before after : Seen) : Type 0 where
   pub told : IfSome after.told (λ last. IsSomeAnd before.told (λ first. Wrote bytes first last))
   pub faults : after.faults ≡ before.faults
 
--- a front of these bytes was written, and then a write failed
-pub record Breaks (bytes : List ℕ) (before after : Seen) : Type 0 where
-  pub told : IfSome after.told (λ last. IsSomeAnd before.told (λ first. WroteFront bytes first last))
+-- all of the first bytes was written, a front of the last ones, and then a write failed
+pub record Breaks (whole last : List ℕ) (before after : Seen) : Type 0 where
+  pub told : IfSome after.told (λ ended. IsSomeAnd before.told (λ first. WroteFront whole last first ended))
   pub faults : after.faults ≡ one_more before.faults
 
--- by how it ended: all of them; a front of them, where a write failed; nothing, where memory ran out before
+-- by how it ended: all of them; a front of them, short of the whole, where a write failed; nothing, where memory ran out before
 abbrev pub WroteBy : {X : Type 0} → Result X End → List ℕ → Told → Told → Type 0
 WroteBy (Ok done) bytes before after = Wrote bytes before after
-WroteBy (Err Lost) bytes before after = WroteFront bytes before after
+WroteBy (Err Lost) bytes before after = WroteFront [] bytes before after
 WroteBy (Err Memory) bytes before after = after ≡ before
 WroteBy (Err Decided) bytes before after = ⊥
 WroteBy (Err TurnsSpent) bytes before after = ⊥
@@ -61,6 +65,16 @@ CountsBy (Err Spent) before after = ⊥
 -- the frame of a packet as it goes over a wire
 abbrev pub framed : Line → List ℕ → List ℕ
 framed line packet = through line.writing (frame_of line.form line.number packet)
+
+-- the writer's frames of these packets, the first of them behind so many others
+abbrev pub frames_of : Form → ℕ → List (List ℕ) → List ℕ
+frames_of form count [] = []
+frames_of form count (packet ∷ packets) = frame_of form (number_after count) packet ++ frames_of form (count + 1) packets
+
+-- These packets went out over a wire as these bytes behind its start: they read as the packets, and are the writer's frames.
+pub record Spells (line : Line) (to : Option CtrState) (packets : List (List ℕ)) (bytes : List ℕ) : Type 0 where
+  pub tells : Tells line to packets bytes
+  pub spelt : through to bytes ≡ frames_of line.form 0 packets
 
 -- what went out before tells of a packet more, unless memory ran out
 abbrev pub TellsMore : {X : Type 0} → Result X End → Type 0 → Type 0

@@ -5,7 +5,7 @@ ghost use Rattle.transport.specs.declared.form.Form.TheVariants as forms;
 ghost use Rattle.client_rules.specs.Client.{Client};
 ghost use Rattle.client_node.specs.Connects.{Connects, Uses};
 ghost use Rattle.client_node.specs.Course.{Course, Reading, is_decided};
-ghost use Rattle.client_node.specs.Standing.{AllDecided, HasKeys, IsReading, StandsAs, StandsFor, count_of};
+ghost use Rattle.client_node.specs.Standing.{AllDecided, HasKeys, IsReading, LeavesUndecided, StandsAs, StandsFor, count_of};
 ghost use Rattle.client_node.specs.Talks.{piece_bytes, rules_of};
 ghost use Rattle.client_node.specs.Trace.{ClientTrace};
 
@@ -58,8 +58,8 @@ fn connect_all<N: Net, S: Seal, C: Clock, D: Draw>(
 }
 
 /// Runs a client's calls over connections of a net, one after the other, and says how that ended. With no call to decide it
-/// connects to nothing. Each connection is to the plan's port, and is closed and given back before the next one and at the
-/// end. What it sends, reads and hears over each is the trace of the client (`specs/Trace.antt`), up to the answer and its cause.
+/// connects to nothing. Each connection is to the plan's port, and is given back before the next one and at the end. What it
+/// sends, reads and hears over each is the trace of the client (`specs/Trace.antt`), up to the answer and its cause.
 pub fn run_batch<N: Net, S: Seal, C: Clock, D: Draw>(
     alloc: Global,
     client: Holder,
@@ -74,6 +74,8 @@ pub fn run_batch<N: Net, S: Seal, C: Clock, D: Draw>(
     ensures nothing_to_decide { (whole : Client) → StandsFor client whole → is_decided whole ≡ true
         → (result.0 ≡ client) × (result.1 ≡ Batch.Decided) × (net.new ≡ net.old) × (clock.new ≡ clock.old) × (draw.new ≡ draw.old) }
     ensures decided { result.1 ≡ Batch.Decided → AllDecided result.0 }
+    ensures undecided { (course : Course D) (reading : Reading) → IsReading S.lock (S.keys seal.now) reading → StandsAs client draw.old course
+        → LeavesUndecided result.1 result.0 }
     ensures uses { IfSome (N.calls net.new) (λ after. IsSomeAnd (N.calls net.old) (λ before. Uses plan.now result.1 before after)) }
     ensures goes_on { IsSome (N.calls net.old) → N.faults net.old ≡ 0 → N.faults net.new ≤ 1 → IsSome (N.calls net.new) }
     ensures keys { HasKeys (S.keys seal.now) result.0 }

@@ -1,12 +1,12 @@
 //! What became of a client's calls, whatever state it is in.
 
-ghost use Rattle.std.specs.Prelude.{◌≡◌, length};
-ghost use Rattle.call_table.specs.Kept.{shown};
-ghost use Rattle.call_table.specs.Table.{IsGiven, state_at};
+ghost use Rattle.std.specs.Prelude.{◌≡◌, length, not};
+ghost use Rattle.call_table.specs.Kept.{shown, state_in};
+ghost use Rattle.call_table.specs.Table.{IsGiven};
 ghost use Rattle.client_rules.specs.Client.{Client, calls_of};
 ghost use Rattle.client_node.specs.Course.{is_decided, must_renew};
-ghost use Rattle.client_node.specs.Kinds.{is_kind, is_kind_at, has_kind};
-ghost use Rattle.client_node.specs.Standing.{StandsFor, kept_of, phase_of};
+ghost use Rattle.client_node.specs.Kinds.{has_kind, has_row, is_kind, is_kind_at};
+ghost use Rattle.client_node.specs.Standing.{StandsFor, has_undecided, kept_of, phase_of};
 
 use client_core::{BindState, CallNo, CallState, Holder};
 
@@ -48,7 +48,7 @@ fn is_of(state: &CallState<'_>, kind: Kind) -> bool
 /// Whether a call of a client is of a kind.
 fn is_one(client: &Holder, call: CallNo, kind: Kind) -> bool
     requires given { IsGiven call (kept_of client.now).calls.rows }
-    ensures { (whole : Client) → StandsFor client.now whole → is_kind_at kind (state_at call (calls_of whole)) ≡ result }
+    ensures { is_kind_at kind (state_in call (kept_of client.now).calls.rows) ≡ result }
 {
     match client {
         Holder::Opening(client) => is_of(&client.state(call), kind),
@@ -57,9 +57,9 @@ fn is_one(client: &Holder, call: CallNo, kind: Kind) -> bool
     }
 }
 
-/// Whether a client has a call of a kind.
-pub(crate) fn has(client: &Holder, kind: Kind) -> bool
-    ensures { (whole : Client) → StandsFor client.now whole → result ≡ has_kind kind (calls_of whole) }
+/// Whether it tells of a call of a kind.
+fn tells_of(client: &Holder, kind: Kind) -> bool
+    ensures { result ≡ has_row kind (kept_of client.now).calls.rows }
 {
     for place in 0..count(client) {
         let call = CallNo {
@@ -72,11 +72,21 @@ pub(crate) fn has(client: &Holder, kind: Kind) -> bool
     false
 }
 
-/// Whether each call is decided.
-pub(crate) fn is_decided(client: &Holder) -> bool
-    ensures { (whole : Client) → StandsFor client.now whole → result ≡ is_decided whole }
+/// Whether a client has a call of a kind.
+#[tactic(auto, using(crate::proofs::KindLemmas::kinds_tell))]
+fn has(client: &Holder, kind: Kind) -> bool
+    ensures { (whole : Client) → StandsFor client.now whole → result ≡ has_kind kind (calls_of whole) }
 {
-    !has(client, Kind::Undecided)
+    tells_of(client, kind)
+}
+
+/// Whether each call is decided.
+#[tactic(auto, using(crate::proofs::KindLemmas::decided_told))]
+pub(crate) fn is_decided(client: &Holder) -> bool
+    ensures told { result ≡ not (has_undecided client.now) }
+    ensures stands { (whole : Client) → StandsFor client.now whole → result ≡ is_decided whole }
+{
+    !tells_of(client, Kind::Undecided)
 }
 
 /// Whether the client goes on in another session: it is open, a call or the binding waits for one, and no call is sent.

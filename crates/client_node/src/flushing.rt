@@ -18,6 +18,7 @@ use envelope::Seal;
 use envelope::laws::opens_what_it_sealed;
 use msg_ids::Moment;
 use mt_edge::Link;
+use octets::Octets;
 use std::alloc::Global;
 use transport::{Framed, Wire};
 
@@ -42,13 +43,14 @@ fn end_of(is_decided: bool, sent: Result<(), End>) -> Result<bool, End>
 /// # Errors
 ///
 /// Why the connection ends: by `Decided` and `Lost` once the packet is written, as far as writes don't fail.
-#[tactic(auto, using(crate::proofs::Flowing::flow_packet, crate::proofs::Flowing::flush_nothing, crate::proofs::Flowing::flush_spent, crate::proofs::Flowing::flush_memory, crate::proofs::Flowing::ended_counts, crate::proofs::Flowing::ended_decided, crate::proofs::Flowing::told_all, crate::proofs::Sendable::told_sendable))]
+#[tactic(auto, using(crate::proofs::Flowing::flow_packet, crate::proofs::Flowing::flush_nothing, crate::proofs::Flowing::flush_spent, crate::proofs::Flowing::flush_memory, crate::proofs::Flowing::ended_counts, crate::proofs::Flowing::ended_decided, crate::proofs::KindLemmas::all_decided, crate::proofs::Sendable::told_sendable))]
 fn flush_once<L: Link, S: Seal, D: Draw>(
     client: &mut Holder,
     alloc: Global,
     now: Moment,
     wire: &mut Wire<Framed>,
     link: &mut L,
+    frame: &mut Octets,
     seal: &S,
     draw: &mut D,
 ) -> Result<bool, End>
@@ -69,7 +71,7 @@ fn flush_once<L: Link, S: Seal, D: Draw>(
             let is_decided = is_decided(client);
             end_of(
                 is_decided,
-                send_packet(alloc, wire, link, packet.as_slice()),
+                send_packet(alloc, wire, link, frame, packet.as_slice()),
             )
         }
         Flush::Nothing => {
@@ -96,6 +98,7 @@ pub(crate) fn flush_all<L: Link, S: Seal, D: Draw>(
     now: Moment,
     wire: &mut Wire<Framed>,
     link: &mut L,
+    frame: &mut Octets,
     seal: &S,
     draw: &mut D,
 ) -> Result<(), End>
@@ -111,7 +114,7 @@ pub(crate) fn flush_all<L: Link, S: Seal, D: Draw>(
     ensures same_in { (wire.new.form ≡ wire.old.form) × (wire.new.held ≡ wire.old.held) × (wire.new.reading ≡ wire.old.reading) }
 {
     'flushes: for _count in 0..FLUSHES_MAX {
-        match flush_once(client, alloc, now, wire, link, seal, draw) {
+        match flush_once(client, alloc, now, wire, link, frame, seal, draw) {
             Ok(true) => {}
             Ok(false) => return Ok(()),
             Err(end) => return Err(end),

@@ -24,7 +24,7 @@ const ERROR_BYTES: usize = 4;
 /// # Errors
 ///
 /// Why the connection ends.
-#[tactic(auto, using(crate::proofs::PacketLemmas::packet_memory, crate::proofs::PacketLemmas::packet_decided, crate::proofs::PacketLemmas::packet_goes, crate::proofs::Flowing::told_all))]
+#[tactic(auto, using(crate::proofs::PacketLemmas::packet_memory, crate::proofs::PacketLemmas::packet_decided, crate::proofs::PacketLemmas::packet_goes, crate::proofs::KindLemmas::all_decided))]
 fn take_packet<S: Seal, D: Draw>(
     client: Holder,
     alloc: Global,
@@ -89,8 +89,8 @@ fn take_next<S: Seal, D: Draw>(
     }
 }
 
-/// The client hears the packets that are whole with this piece. A frame has more than a byte, so there are no more of them
-/// than bytes.
+/// The client hears the packets that are whole with this piece, as many as it has bytes. There should never be more, which isn't
+/// proved: a frame has more than a byte.
 ///
 /// # Errors
 ///

@@ -3,10 +3,10 @@
 ghost use Rattle.std.specs.Prelude.{◌≡◌, ◌++◌, ◌∷◌, [], ℕ, List, Option, IfErr, IfSome, IsSome, IsSomeAnd, OnOk};
 ghost use Rattle.cipher_modes.specs.CounterMode.{CtrState};
 ghost use Rattle.transport.specs.Forms.{IsSent};
-ghost use Rattle.transport.specs.Wires.{Tells};
-ghost use Rattle.client_node.specs.Writes.{CountsBy, StaysBy, TellsMore, WroteBy, framed};
+ghost use Rattle.client_node.specs.Writes.{CountsBy, Spells, StaysBy, TellsMore, WroteBy, framed};
 
 use crate::end::End;
+use cipher_modes::laws::{ctr_pieces_equal_the_whole, ctr_undoes_itself};
 use mt_edge::{Link, Put};
 use octets::{Memory, Octets};
 use std::alloc::Global;
@@ -35,7 +35,7 @@ pub(crate) fn send<L: Link>(link: &mut L, piece: &[u8]) -> Result<(), End>
     Ok(())
 }
 
-/// Sends a packet in a frame.
+/// Sends a packet in a frame, for which it uses the room of a text that is spent.
 ///
 /// # Errors
 ///
@@ -45,6 +45,7 @@ pub(crate) fn send_packet<L: Link>(
     alloc: Global,
     wire: &mut Wire<Framed>,
     link: &mut L,
+    frame: &mut Octets,
     packet: &[u8],
 ) -> Result<(), End>
     requires sent { IsSent wire.old.form packet.now }
@@ -53,13 +54,15 @@ pub(crate) fn send_packet<L: Link>(
     ensures first_fault { IsSome (L.told link.old) → L.faults link.old ≡ 0 → IsSome (L.told link.new) }
     ensures same_place { L.place link.new ≡ L.place link.old }
     ensures counted { CountsBy result (L.faults link.old) (L.faults link.new) }
-    ensures tells { TellsMore result ((to : Option CtrState) (packets : List (List ℕ)) (bytes : List ℕ) → Tells wire.old to packets bytes
-        → Tells wire.new to (packets ++ packet.now ∷ []) (bytes ++ framed wire.old packet.now)) }
+    ensures tells { TellsMore result ((to : Option CtrState) (packets : List (List ℕ)) (bytes : List ℕ) → Spells wire.old to packets bytes
+        → Spells wire.new to (packets ++ packet.now ∷ []) (bytes ++ framed wire.old packet.now)) }
     ensures unchanged_on_memory { StaysBy result (wire.new ≡ wire.old) }
     ensures same_in { (wire.new.form ≡ wire.old.form) × (wire.new.held ≡ wire.old.held) × (wire.new.reading ≡ wire.old.reading) }
 {
-    let mut frame = Octets::new(alloc);
-    match wire.put(alloc, packet, &mut frame) {
+    ctr_pieces_equal_the_whole();
+    ctr_undoes_itself();
+    frame.truncate(0);
+    match wire.put(alloc, packet, frame) {
         Ok(()) => send(link, frame.as_slice()),
         Err(Memory) => Err(End::Memory),
     }

@@ -1,9 +1,9 @@
 //! A connection that is open.
 
-ghost use Rattle.std.specs.Prelude.{◌≡◌, ◌≢◌, IsSome, OnOk, length, true};
+ghost use Rattle.std.specs.Prelude.{◌≡◌, ◌≢◌, IsSome, OnOk, false, length, true};
 ghost use Rattle.transport.specs.Starts.{Opening};
 ghost use Rattle.transport.specs.declared.form.Form.TheVariants as forms;
-ghost use Rattle.client_node.specs.Course.{Course, Reading};
+ghost use Rattle.client_node.specs.Course.{Course, Reading, is_decided};
 ghost use Rattle.client_node.specs.Ends.{CountsLink, CountsTurn};
 ghost use Rattle.client_node.specs.Runs.{Conversed, HasOpened, Talked, TookTurn};
 ghost use Rattle.client_node.specs.Standing.{DecidedBy, DecidedIn, HasKeys, IsReading, KeepsKeys, StandsAs, count_of};
@@ -21,7 +21,7 @@ use draws::Draw;
 use envelope::Seal;
 use msg_ids::Moment;
 use mt_edge::{Clock, Got, Link};
-use octets::Memory;
+use octets::{Memory, Octets};
 use std::alloc::Global;
 use transport::{Framed, Wire};
 
@@ -75,6 +75,7 @@ fn take_turns<L: Link, S: Seal, C: Clock, D: Draw>(
     alloc: Global,
     wire: &mut Wire<Framed>,
     link: &mut L,
+    frame: &mut Octets,
     into: &mut [u8],
     first: Moment,
     seal: &S,
@@ -90,13 +91,13 @@ fn take_turns<L: Link, S: Seal, C: Clock, D: Draw>(
     ensures counted { CountsLink result.1 (L.faults link.old) (L.faults link.new) }
     ensures same_place { L.place link.new ≡ L.place link.old }
     ensures talked { (course : Course D) (reading : Reading) (opening : Opening) → IsReading S.lock (S.keys seal.now) reading
-        → StandsAs client draw.old course → HasOpened wire.old opening
+        → StandsAs client draw.old course → is_decided course.client ≡ false → HasOpened wire.old opening
         → Talked (rules_of D.step S.lock (S.keys seal.now) reading) opening (began first course) (seen (L.told link.old) (L.faults link.old)) (C.given clock.old) result.1 result.0 draw.new (seen (L.told link.new) (L.faults link.new)) (C.given clock.new) }
 {
     let mut client = client;
     let mut now = first;
     'turns: for _count in 0..TURNS_MAX {
-        if let Err(end) = flush_all(&mut client, alloc, now, wire, link, seal, draw) {
+        if let Err(end) = flush_all(&mut client, alloc, now, wire, link, frame, seal, draw) {
             return (client, end);
         }
         let (next, turn) = take_turn(client, alloc, wire, link, into, seal, clock, draw);
@@ -106,7 +107,7 @@ fn take_turns<L: Link, S: Seal, C: Clock, D: Draw>(
             Err(end) => return (client, end),
         }
     }
-    match flush_all(&mut client, alloc, now, wire, link, seal, draw) {
+    match flush_all(&mut client, alloc, now, wire, link, frame, seal, draw) {
         Ok(()) => (client, End::TurnsSpent),
         Err(end) => (client, end),
     }
@@ -133,7 +134,7 @@ pub(crate) fn talk<L: Link, S: Seal, C: Clock, D: Draw>(
     ensures first_fault { IsSome (L.told link.old) → L.faults link.old ≡ 0 → IsSome (L.told link.new) }
     ensures counted { CountsLink result.1 (L.faults link.old) (L.faults link.new) }
     ensures same_place { L.place link.new ≡ L.place link.old }
-    ensures conversed { (course : Course D) (reading : Reading) → IsReading S.lock (S.keys seal.now) reading → StandsAs client draw.old course
+    ensures conversed { (course : Course D) (reading : Reading) → IsReading S.lock (S.keys seal.now) reading → StandsAs client draw.old course → is_decided course.client ≡ false
         → Conversed (rules_of D.step S.lock (S.keys seal.now) reading) plan.now course (seen (L.told link.old) (L.faults link.old)) (C.given clock.old) result.1 result.0 draw.new (seen (L.told link.new) (L.faults link.new)) (C.given clock.new) }
 {
     let now = clock.now();
@@ -147,5 +148,8 @@ pub(crate) fn talk<L: Link, S: Seal, C: Clock, D: Draw>(
     let mut client = client;
     attach(&mut client);
     let client = renew(client, draw);
-    take_turns(client, alloc, &mut wire, link, into, now, seal, clock, draw)
+    let mut frame = start;
+    take_turns(
+        client, alloc, &mut wire, link, &mut frame, into, now, seal, clock, draw,
+    )
 }

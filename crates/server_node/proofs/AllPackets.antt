@@ -3,26 +3,26 @@ use Rattle.std.proofs.Common.{◌≡◌, ◌+◌, ℕ, false, List, [], ◌∷�
 use Rattle.auth_keys.specs.declared.ring.RingKey.{RingKey}
 use Rattle.cipher_modes.specs.CounterMode.{CtrState}
 use Rattle.envelope.specs.Packet.{Lock}
-use Rattle.framing.specs.Streams.{Faulty, Stream}
+use Rattle.framing.specs.Streams.{Begins, Faulty, Stream}
 use Rattle.regs_service.specs.Served.{Step}
 use Rattle.server_core.specs.declared.desk.DeskFault.{DeskFault}
 use Rattle.transport.specs.Directions.{through}
 use Rattle.transport.specs.Forms.{framing_of}
 use Rattle.transport.specs.Wires.{Hears, Line}
-use Rattle.server_node.specs.Coming.{IsNext, Sides, TookAll, TookBy, TookLast, TookOne, TookSome, counted}
-use Rattle.server_node.specs.Doing.{Did, Due, IsPacketEnd, Side, then_due}
-use Rattle.server_node.specs.Record.{counted_down}
+use Rattle.server_node.specs.Coming.{AllCut, IsNext, Sides, TookAll, TookBy, TookLast, TookOne, TookSome, packets_max}
+use Rattle.server_node.specs.Doing.{Did, IsPacketEnd, Side, then_due}
+use Rattle.server_node.specs.Record.{counted, counted_down}
 use Rattle.server_node.specs.Trace.{packet_acts, packets_acts}
 use Rattle.server_node.specs.declared.conn.ConnEnd.{ConnEnd}
 use Rattle.server_node.specs.declared.conn.ConnEnd.TheVariants as ends
-use Rattle.server_node.proofs.Becoming.{packets_more}
-use Rattle.server_node.proofs.Doings.{did_as, did_both, did_under}
+use Rattle.server_node.proofs.Doings.{packets_more}
+use Rattle.server_node.proofs.Doings.{did_as, did_both, did_then, did_under}
 use Rattle.server_node.proofs.Events.{same_tells}
 use Rattle.server_node.proofs.Writing.{wrote_nothing}
 
 -- ---- no packet yet
 
-did_zero : {S V : Type 0} (step : S → ℕ × S) (serve : Step V) (lock : Lock) (ring : List RingKey) (side : Side S V) → Did step serve lock ring side (λ rules talk. []) None side
+pub did_zero : {S V : Type 0} (step : S → ℕ × S) (serve : Step V) (lock : Lock) (ring : List RingKey) (side : Side S V) → Did step serve lock ring side (λ rules talk. []) None side
 did_zero step serve lock ring side = record {
   acts = [];
   bytes = [];
@@ -89,22 +89,22 @@ some_more step serve lock ring other side middle later now count wire between wi
 
 -- ---- how it ends
 
-did_then : {S V : Type 0} (step : S → ℕ × S) (serve : Step V) (lock : Lock) (ring other : List RingKey) (side middle later : Side S V) (now : ℕ) (packets : List (List ℕ)) (end : Option ConnEnd)
-    → other ≡ ring → Did step serve lock ring side (λ rules talk. packets_acts rules now packets talk) None middle → Did step serve lock other middle (λ rules talk. []) end later
-    → Did step serve lock ring side (λ rules talk. packets_acts rules now packets talk) end later
-did_then step serve lock ring other side middle later now packets end same before next =
-    did_as step serve lock ring side later (then_due (λ rules talk. packets_acts rules now packets talk) (λ rules talk. [])) (λ rules talk. packets_acts rules now packets talk) end
+did_still : {S V : Type 0} (step : S → ℕ × S) (serve : Step V) (lock : Lock) (ring other : List RingKey) (side middle later : Side S V) (now : ℕ) (packets : List (List ℕ))
+    → other ≡ ring → Did step serve lock ring side (λ rules talk. packets_acts rules now packets talk) None middle → Did step serve lock other middle (λ rules talk. []) None later
+    → Did step serve lock ring side (λ rules talk. packets_acts rules now packets talk) None later
+did_still step serve lock ring other side middle later now packets same before next =
+    did_as step serve lock ring side later (then_due (λ rules talk. packets_acts rules now packets talk) (λ rules talk. [])) (λ rules talk. packets_acts rules now packets talk) None
     (λ rules talk. append-nil (packets_acts rules now packets talk))
-    (did_both step serve lock ring side middle later (λ rules talk. packets_acts rules now packets talk) (λ rules talk. []) end before
-    (did_under step serve lock ring other middle later (λ rules talk. []) end same next))
+    (did_both step serve lock ring side middle later (λ rules talk. packets_acts rules now packets talk) (λ rules talk. []) None before
+    (did_under step serve lock ring other middle later (λ rules talk. []) None same next))
 
 -- no further packet is whole
-pub all_idle : {S V : Type 0} (step : S → ℕ × S) (serve : Step V) (lock : Lock) (ring other : List RingKey) (side middle later : Sides S V) (now count most : ℕ) (wire between wire_then : Line) (left left_then : Option ℕ)
+pub all_idle : {S V : Type 0} (step : S → ℕ × S) (serve : Step V) (lock : Lock) (ring other : List RingKey) (side middle later : Sides S V) (now count : ℕ) (wire between wire_then : Line) (left left_then : Option ℕ)
     → other ≡ ring → TookSome step serve lock ring side now count wire between left left_then middle → TookBy step serve lock other middle now between wire_then (Ok false) later
-    → TookAll step serve lock ring side now most wire wire_then left left_then None later
-all_idle step serve lock ring other side middle later now count most wire between wire_then left left_then same so_far idle = record {
+    → TookAll step serve lock ring side now wire wire_then left left_then None later
+all_idle step serve lock ring other side middle later now count wire between wire_then left left_then same so_far idle = record {
   packets = so_far.packets;
-  did = λ service. did_then step serve lock ring other (side service) (middle service) (later service) now so_far.packets None same (so_far.did service) (idle.1 service);
+  did = λ service. did_still step serve lock ring other (side service) (middle service) (later service) now so_far.packets same (so_far.did service) (idle.1 service);
   heard = λ from before bytes hears.
       let next = idle.0 from (before ++ so_far.packets) bytes (so_far.heard from before bytes hears) in
       (inl (next.0.0, subst (λ form. Stream (framing_of form) (before ++ so_far.packets) next.0.0 (through from bytes)) so_far.form next.0.1), next.1);
@@ -112,78 +112,64 @@ all_idle step serve lock ring other side middle later now count most wire betwee
 }
 
 -- as many came as there may be
-pub all_most : {S V : Type 0} (step : S → ℕ × S) (serve : Step V) (lock : Lock) (ring : List RingKey) (side later : Sides S V) (now count most : ℕ) (wire wire_then : Line) (left left_then : Option ℕ)
-    → count ≡ most → TookSome step serve lock ring side now count wire wire_then left left_then later
-    → TookAll step serve lock ring side now most wire wire_then left left_then None later
-all_most step serve lock ring side later now count most wire wire_then left left_then same so_far = record {
+pub all_most : {S V : Type 0} (step : S → ℕ × S) (serve : Step V) (lock : Lock) (ring : List RingKey) (side later : Sides S V) (now count : ℕ) (wire wire_then : Line) (left left_then : Option ℕ)
+    → count ≡ packets_max → TookSome step serve lock ring side now count wire wire_then left left_then later
+    → TookAll step serve lock ring side now wire wire_then left left_then None later
+all_most step serve lock ring side later now count wire wire_then left left_then same so_far = record {
   packets = so_far.packets;
   did = so_far.did;
   heard = λ from before bytes hears. (inr (so_far.count_is ∙ same), so_far.heard from before bytes hears);
   left_is = so_far.left_is;
 }
 
-did_stop : {S V : Type 0} (step : S → ℕ × S) (serve : Step V) (lock : Lock) (ring : List RingKey) (side later : Side S V) (due : Due S V)
-    → Did step serve lock ring side due None later → Did step serve lock ring side due (Some ends.Stopped) later
-did_stop step serve lock ring side later due did = record {
-  acts = did.acts;
-  bytes = did.bytes;
-  follows = λ outside talk is stands.
-      let one = did.follows outside talk is stands in
-      record { part = ([], one.part ∙ sym (append-nil did.acts)); stands = one.stands.serves; sends = one.sends };
-  written = did.written;
-}
-
 -- the last packet that may be answered was
-pub all_stopped : {S V : Type 0} (step : S → ℕ × S) (serve : Step V) (lock : Lock) (ring other : List RingKey) (side middle later : Sides S V) (now count most : ℕ) (wire between wire_then : Line) (left left_between left_then : Option ℕ) (end : ConnEnd)
+pub all_stopped : {S V : Type 0} (step : S → ℕ × S) (serve : Step V) (lock : Lock) (ring other : List RingKey) (side middle later : Sides S V) (now count : ℕ) (wire between wire_then : Line) (left left_between left_then : Option ℕ) (end : ConnEnd)
     → other ≡ ring → TookSome step serve lock ring side now count wire between left left_between middle → TookOne step serve lock other middle now between wire_then later
     → wire_then.form ≡ between.form → left_then ≡ counted_down left_between → end ≡ ends.Stopped
-    → TookAll step serve lock ring side now most wire wire_then left left_then (Some end) later
-all_stopped {S} {V} step serve lock ring other side middle later now count most wire between wire_then left left_between left_then end same before one form down is =
+    → TookAll step serve lock ring side now wire wire_then left left_then (Some end) later
+all_stopped {S} {V} step serve lock ring other side middle later now count wire between wire_then left left_between left_then end same before one form down is =
     let so_far : TookSome step serve lock ring side now (count + 1) wire wire_then left left_then later =
     some_more step serve lock ring other side middle later now count wire between wire_then left left_between left_then same before one form down in
-    subst (λ (some : ConnEnd). TookAll step serve lock ring side now most wire wire_then left left_then (Some some) later) (sym is) (record {
+    subst (λ (some : ConnEnd). TookAll step serve lock ring side now wire wire_then left left_then (Some some) later) (sym is) (record {
       packets = so_far.packets;
-      did = λ service. did_stop step serve lock ring (side service) (later service) (λ rules talk. packets_acts rules now so_far.packets talk) (so_far.did service);
+      did = so_far.did;
       heard = so_far.heard;
       left_is = so_far.left_is;
     })
 
 -- an event of a further packet ended the connection
-all_last : {S V : Type 0} (step : S → ℕ × S) (serve : Step V) (lock : Lock) (ring other : List RingKey) (side middle later : Sides S V) (now count : ℕ) (wire between wire_then : Line) (left left_then : Option ℕ) (end : ConnEnd)
-    → other ≡ ring → (so_far : TookSome step serve lock ring side now count wire between left left_then middle) → (last : TookLast step serve lock other middle now end later)
-    → (service : V) → Did step serve lock ring (side service) (λ rules talk. packets_acts rules now (so_far.packets ++ last.packet ∷ []) talk) (Some end) (later service)
-all_last step serve lock ring other side middle later now count wire between wire_then left left_then end same so_far last service =
-    did_more step serve lock ring other (side service) (middle service) (later service) now so_far.packets last.packet (Some end) same (so_far.did service) (last.did service)
-
-pub all_failed : {S V : Type 0} (step : S → ℕ × S) (serve : Step V) (lock : Lock) (ring other : List RingKey) (side middle later : Sides S V) (now count most : ℕ) (wire between wire_then : Line) (left left_then : Option ℕ) (MayAnswer : DeskFault → Type 0) (end : ConnEnd)
-    → other ≡ ring → IsPacketEnd MayAnswer (Some end) → TookSome step serve lock ring side now count wire between left left_then middle → TookBy step serve lock other middle now between wire_then (Err end) later
-    → TookAll step serve lock ring side now most wire wire_then left left_then (Some end) later
-all_failed step serve lock ring other side middle later now count most wire between wire_then left left_then MayAnswer (ends.Frame fault) same can so_far took = record {
+all_last : {S V : Type 0} (step : S → ℕ × S) (serve : Step V) (lock : Lock) (ring other : List RingKey) (side middle later : Sides S V) (now count : ℕ) (wire between : Line) (left left_then : Option ℕ) (end : ConnEnd)
+    → other ≡ ring → TookSome step serve lock ring side now count wire between left left_then middle → TookLast step serve lock other middle now between end later
+    → AllCut step serve lock ring side now wire left left_then end later
+all_last step serve lock ring other side middle later now count wire between left left_then end same so_far last = record {
   packets = so_far.packets;
-  did = λ service. did_then step serve lock ring other (side service) (middle service) (later service) now so_far.packets (Some (ends.Frame fault)) same (so_far.did service) (took.1 service);
+  packet = last.packet;
+  did = λ service. did_then step serve lock ring (side service) (middle service) (later service) (λ rules talk. packets_acts rules now so_far.packets talk) (λ rules talk. packet_acts rules now last.packet talk) (Some end)
+      (so_far.did service) (did_under step serve lock ring other (middle service) (later service) (λ rules talk. packet_acts rules now last.packet talk) (Some end) same (last.did service));
+  next = λ from before bytes hears.
+      subst (λ form. Begins (framing_of form) (before ++ (so_far.packets ++ last.packet ∷ [])) (through from bytes)) so_far.form
+      (subst (λ (all : List (List ℕ)). Begins (framing_of between.form) all (through from bytes)) (append_assoc before so_far.packets (last.packet ∷ []))
+      (last.next from (before ++ so_far.packets) bytes (so_far.heard from before bytes hears)));
+  left_is = so_far.left_is;
+}
+
+pub all_failed : {S V : Type 0} (step : S → ℕ × S) (serve : Step V) (lock : Lock) (ring other : List RingKey) (side middle later : Sides S V) (now count : ℕ) (wire between wire_then : Line) (left left_then : Option ℕ) (MayAnswer : DeskFault → Type 0) (end : ConnEnd)
+    → other ≡ ring → IsPacketEnd MayAnswer (Some end) → TookSome step serve lock ring side now count wire between left left_then middle → TookBy step serve lock other middle now between wire_then (Err end) later
+    → TookAll step serve lock ring side now wire wire_then left left_then (Some end) later
+all_failed step serve lock ring other side middle later now count wire between wire_then left left_then MayAnswer (ends.Frame fault) same can so_far took = record {
+  packets = so_far.packets;
+  did = λ service. did_still step serve lock ring other (side service) (middle service) (later service) now so_far.packets same (so_far.did service) (took.1 service);
   heard = λ from before bytes hears.
       subst (λ form. Faulty (framing_of form) (before ++ so_far.packets) fault (through from bytes)) so_far.form (took.0 from (before ++ so_far.packets) bytes (so_far.heard from before bytes hears));
   left_is = so_far.left_is;
 }
-all_failed step serve lock ring other side middle later now count most wire between wire_then left left_then MayAnswer ends.LinkFault same can so_far last = record {
-  packets = so_far.packets ++ last.packet ∷ [];
-  did = all_last step serve lock ring other side middle later now count wire between wire_then left left_then ends.LinkFault same so_far last;
-  heard = tt;
-  left_is = (so_far.packets, last.packet, refl, so_far.left_is);
-}
-all_failed step serve lock ring other side middle later now count most wire between wire_then left left_then MayAnswer ends.Memory same can so_far last = record {
-  packets = so_far.packets ++ last.packet ∷ [];
-  did = all_last step serve lock ring other side middle later now count wire between wire_then left left_then ends.Memory same so_far last;
-  heard = tt;
-  left_is = (so_far.packets, last.packet, refl, so_far.left_is);
-}
-all_failed step serve lock ring other side middle later now count most wire between wire_then left left_then MayAnswer (ends.Journal fault) same can so_far last = record {
-  packets = so_far.packets ++ last.packet ∷ [];
-  did = all_last step serve lock ring other side middle later now count wire between wire_then left left_then (ends.Journal fault) same so_far last;
-  heard = tt;
-  left_is = (so_far.packets, last.packet, refl, so_far.left_is);
-}
-all_failed step serve lock ring other side middle later now count most wire between wire_then left left_then MayAnswer ends.Ended same can so_far last = absurd can
-all_failed step serve lock ring other side middle later now count most wire between wire_then left left_then MayAnswer ends.Start same can so_far last = absurd can
-all_failed step serve lock ring other side middle later now count most wire between wire_then left left_then MayAnswer ends.TurnsSpent same can so_far last = absurd can
-all_failed step serve lock ring other side middle later now count most wire between wire_then left left_then MayAnswer ends.Stopped same can so_far last = absurd can
+all_failed step serve lock ring other side middle later now count wire between wire_then left left_then MayAnswer ends.LinkFault same can so_far last =
+    all_last step serve lock ring other side middle later now count wire between left left_then ends.LinkFault same so_far last
+all_failed step serve lock ring other side middle later now count wire between wire_then left left_then MayAnswer ends.Memory same can so_far last =
+    all_last step serve lock ring other side middle later now count wire between left left_then ends.Memory same so_far last
+all_failed step serve lock ring other side middle later now count wire between wire_then left left_then MayAnswer (ends.Journal fault) same can so_far last =
+    all_last step serve lock ring other side middle later now count wire between left left_then (ends.Journal fault) same so_far last
+all_failed step serve lock ring other side middle later now count wire between wire_then left left_then MayAnswer ends.Ended same can so_far last = absurd can
+all_failed step serve lock ring other side middle later now count wire between wire_then left left_then MayAnswer ends.Start same can so_far last = absurd can
+all_failed step serve lock ring other side middle later now count wire between wire_then left left_then MayAnswer ends.TurnsSpent same can so_far last = absurd can
+all_failed step serve lock ring other side middle later now count wire between wire_then left left_then MayAnswer ends.Stopped same can so_far last = absurd can

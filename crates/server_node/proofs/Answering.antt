@@ -12,11 +12,12 @@ use Rattle.server_core.specs.Packets.{effects_in}
 use Rattle.server_core.specs.declared.desk.Heard.{Heard}
 use Rattle.server_core.specs.declared.desk.Heard.TheVariants.{Judged, NotOpened}
 use Rattle.server_core.specs.declared.desk.Reply.{Reply}
+use Rattle.server_core.specs.declared.desk.DeskFault.{DeskFault}
+use Rattle.server_core.specs.declared.desk.DeskFault.TheVariants as faults
 use Rattle.server_rules.specs.Server.{Server}
-use Rattle.tl_codec.specs.declared.fault.FrameFault.{FrameFault}
 use Rattle.transport.specs.Wires.{Hears, Line}
-use Rattle.server_node.specs.Coming.{CameBy, FailsNext, HeardLast, IsNext, IsSameDesk, NextBy, NoneCame, SameOut, SaysBy, SaysJudged, SaysNothing, SaysUnknown, Sides, TellsNext, came_by}
-use Rattle.server_node.specs.Doing.{Did, Due, Serves, Side, StandsBy}
+use Rattle.server_node.specs.Coming.{CameBy, FailsNext, HasNext, HeardLast, IsNext, IsSameDesk, NextBy, NoneCame, SameOut, SaysBy, SaysJudged, SaysNothing, SaysUnknown, Sides, TellsNext, came_by}
+use Rattle.server_node.specs.Doing.{Did, Due, end_by, Serves, Side, StandsBy}
 use Rattle.server_node.specs.Names.{was_heard, with_name}
 use Rattle.server_node.specs.Steps.{IsSameIn, IsSendEnd, LineTells, Said, going_out}
 use Rattle.server_node.specs.Trace.{Hear, Talk, after_acts, moment_at, rules_of}
@@ -34,7 +35,7 @@ use Rattle.server_node.proofs.Writing.{wrote_nothing}
 abbrev pub sides : {S V : Type 0} → (Server → Type 0) → S → List SessionName → Line → Option Told → Sides S V
 sides desk drawn heard wire told service = record { desk = desk; drawn = drawn; service = service; heard = heard; line = Framed wire; told = told }
 
-hears_same : (wire wire_then : Line) (from : Option CtrState) (packets : List (List ℕ)) (bytes : List ℕ) → IsSameIn wire wire_then → Hears wire from packets bytes → Hears wire_then from packets bytes
+pub hears_same : (wire wire_then : Line) (from : Option CtrState) (packets : List (List ℕ)) (bytes : List ℕ) → IsSameIn wire wire_then → Hears wire from packets bytes → Hears wire_then from packets bytes
 hears_same wire wire_then from packets bytes same hears = record {
   stands = rw (same.0, same.1) hears.stands;
   place = rw (same.1, same.2) hears.place;
@@ -90,7 +91,7 @@ did_unheard step serve lock ring side due end desk drawn heard heard_then wire t
 
 pub came_none : {S V : Type 0} (step : S → ℕ × S) (serve : Step V) (lock : Lock) (ring : List RingKey) (desk desk_then : Server → Type 0) (drawn drawn_then : S) (heard : List SessionName) (wire wire_then : Line) (told : Option Told)
     → IsSameDesk desk drawn desk_then drawn_then → SameOut wire wire_then
-    → NoneCame step serve lock ring (sides desk drawn heard wire told) None (sides desk_then drawn_then heard wire_then told)
+    → NoneCame step serve lock ring (sides desk drawn heard wire told) (sides desk_then drawn_then heard wire_then told)
 came_none step serve lock ring desk desk_then drawn drawn_then heard wire wire_then told same out service = record {
   acts = [];
   bytes = [];
@@ -102,25 +103,12 @@ came_none step serve lock ring desk desk_then drawn drawn_then heard wire wire_t
   written = wrote_nothing told;
 }
 
-pub came_fault : {S V : Type 0} (step : S → ℕ × S) (serve : Step V) (lock : Lock) (ring : List RingKey) (desk desk_then : Server → Type 0) (drawn drawn_then : S) (heard : List SessionName) (wire wire_then : Line) (told : Option Told) (fault : FrameFault)
-    → IsSameDesk desk drawn desk_then drawn_then → SameOut wire wire_then
-    → NoneCame step serve lock ring (sides desk drawn heard wire told) (Some (ends.Frame fault)) (sides desk_then drawn_then heard wire_then told)
-came_fault step serve lock ring desk desk_then drawn drawn_then heard wire wire_then told fault same out service = record {
-  acts = [];
-  bytes = [];
-  follows = λ outside talk is stands. record {
-    part = ([], refl);
-    stands = record { server = same.0 talk.server stands.serves.server; drawn = same.1 ∙ stands.serves.drawn; service = stands.serves.service };
-    sends = λ to text tells. same_tells (Framed wire_then) to talk.sent text (tells_same wire wire_then to talk.sent text out tells);
-  };
-  written = wrote_nothing told;
-}
-
 came_failed : {S V : Type 0} (step : S → ℕ × S) (serve : Step V) (lock : Lock) (ring : List RingKey) (desk desk_then : Server → Type 0) (drawn drawn_then : S) (heard : List SessionName) (wire wire_then : Line) (told : Option Told) (now : ℕ) (end : ConnEnd)
-    → SameOut wire wire_then → FailsNext desk desk_then end
+    → SameOut wire wire_then → FailsNext wire desk desk_then end
     → HeardLast {S = S} {V = V} step serve lock ring (sides desk drawn heard wire told) now wire end (sides desk_then drawn_then heard wire_then told)
 came_failed step serve lock ring desk desk_then drawn drawn_then heard wire wire_then told now end out fails = record {
   packet = fails.packet;
+  next = fails.next;
   did = λ service. did_from step serve lock ring desk drawn heard wire wire_then told service (λ rules talk. Hear now fails.packet ∷ []) (Some end) (sides desk_then drawn_then heard wire_then told service) out
       (did_fail step serve lock ring (sides desk drawn heard wire_then told service) (sides desk_then drawn_then heard wire_then told service) (λ rules talk. Hear now fails.packet ∷ []) fails.fault end
       fails.is refl refl fails.unchanged (λ memory. refl));
@@ -130,7 +118,7 @@ pub hear_failed : {S V : Type 0} (step : S → ℕ × S) (serve : Step V) (lock 
     → SameOut wire wire_then → NextBy step lock ring desk drawn now wire (Err end) desk_then drawn_then wire_then
     → CameBy {S = S} {V = V} step serve lock ring (sides desk drawn heard wire told) now wire wire_then (Err end) (sides desk_then drawn_then heard wire_then told)
 hear_failed step serve lock ring desk desk_then drawn drawn_then heard wire wire_then told now (ends.Frame fault) out next =
-    (next.0, came_fault step serve lock ring desk desk_then drawn drawn_then heard wire wire_then told fault next.1 out)
+    (next.0, came_none step serve lock ring desk desk_then drawn drawn_then heard wire wire_then told next.1 out)
 hear_failed step serve lock ring desk desk_then drawn drawn_then heard wire wire_then told now ends.Memory out next = came_failed step serve lock ring desk desk_then drawn drawn_then heard wire wire_then told now ends.Memory out next
 hear_failed step serve lock ring desk desk_then drawn drawn_then heard wire wire_then told now ends.LinkFault out next = came_failed step serve lock ring desk desk_then drawn drawn_then heard wire wire_then told now ends.LinkFault out next
 hear_failed step serve lock ring desk desk_then drawn drawn_then heard wire wire_then told now ends.Ended out next = came_failed step serve lock ring desk desk_then drawn drawn_then heard wire wire_then told now ends.Ended out next
@@ -138,6 +126,21 @@ hear_failed step serve lock ring desk desk_then drawn drawn_then heard wire wire
 hear_failed step serve lock ring desk desk_then drawn drawn_then heard wire wire_then told now ends.TurnsSpent out next = came_failed step serve lock ring desk desk_then drawn drawn_then heard wire wire_then told now ends.TurnsSpent out next
 hear_failed step serve lock ring desk desk_then drawn drawn_then heard wire wire_then told now ends.Stopped out next = came_failed step serve lock ring desk desk_then drawn drawn_then heard wire wire_then told now ends.Stopped out next
 hear_failed step serve lock ring desk desk_then drawn drawn_then heard wire wire_then told now (ends.Journal fault) out next = came_failed step serve lock ring desk desk_then drawn drawn_then heard wire wire_then told now (ends.Journal fault) out next
+
+fails_by : {S : Type 0} (step : S → ℕ × S) (lock : Lock) (ring : List RingKey) (desk desk_then : Server → Type 0) (drawn drawn_then : S) (now : ℕ) (wire wire_then : Line) (fault : DeskFault)
+    → FailsNext wire desk desk_then (end_by fault) → NextBy step lock ring desk drawn now wire (Err (end_by fault)) desk_then drawn_then wire_then
+fails_by step lock ring desk desk_then drawn drawn_then now wire wire_then faults.Memory fails = fails
+fails_by step lock ring desk desk_then drawn drawn_then now wire wire_then faults.Closed fails = fails
+fails_by step lock ring desk desk_then drawn drawn_then now wire wire_then (faults.Full len) fails = fails
+fails_by step lock ring desk desk_then drawn drawn_then now wire wire_then faults.Disk fails = fails
+
+-- the desk did nothing of the next packet
+pub next_failed : {S : Type 0} (step : S → ℕ × S) (lock : Lock) (ring : List RingKey) (desk desk_then : Server → Type 0) (drawn drawn_then : S) (now : ℕ) (wire wire_then : Line) (packet : List ℕ) (fault : DeskFault) (end : ConnEnd)
+    → end ≡ end_by fault → HasNext wire packet → ((server : Server) → desk server → fault ≡ faults.Memory → desk_then server)
+    → NextBy step lock ring desk drawn now wire (Err end) desk_then drawn_then wire_then
+next_failed step lock ring desk desk_then drawn drawn_then now wire wire_then packet fault end is next unchanged =
+    subst (λ (some : ConnEnd). NextBy step lock ring desk drawn now wire (Err some) desk_then drawn_then wire_then) (sym is)
+    (fails_by step lock ring desk desk_then drawn drawn_then now wire wire_then fault (record { packet = packet; fault = fault; next = next; is = refl; unchanged = unchanged }))
 
 -- ---- a packet
 
@@ -193,6 +196,7 @@ hear_judged {S} {V} step serve lock ring desk desk_then drawn drawn_then heard h
 hear_judged step serve lock ring desk desk_then drawn drawn_then heard heard_then wire between wire_then told told_then now reply key session (Err end) opens out same next was can says =
     last_of step serve lock ring (sides desk drawn heard wire told) (sides desk_then drawn_then heard_then wire_then told_then) now wire wire_then end can (record {
       packet = next.packet;
+      next = λ from packets bytes hears. (next.next from packets bytes hears).0;
       did = λ service. did_unheard step serve lock ring (sides desk drawn heard wire told service) (λ rules talk. Hear now next.packet ∷ []) end desk_then drawn_then (with_name heard (record { key = key; session = session })) heard_then wire_then told_then service can
           (judged_did step serve lock ring desk desk_then drawn drawn_then heard wire between wire_then told told_then now reply key session (Some end) opens out next was can says.said service);
     })
@@ -222,6 +226,7 @@ hear_unknown {S} {V} step serve lock ring desk desk_then drawn drawn_then heard 
 hear_unknown step serve lock ring desk desk_then drawn drawn_then heard heard_then wire between wire_then told told_then now reply id (Err end) opens one out same next was can says =
     last_of step serve lock ring (sides desk drawn heard wire told) (sides desk_then drawn_then heard_then wire_then told_then) now wire wire_then end can (record {
       packet = next.packet;
+      next = λ from packets bytes hears. (next.next from packets bytes hears).0;
       did = unknown_did step serve lock ring desk desk_then drawn drawn_then heard heard_then wire between wire_then told told_then now reply id (Some end) opens one out next was can says.same says.said;
     })
 

@@ -1,12 +1,12 @@
 -- What events do one after the other.
-use Rattle.std.proofs.Common.{◌≡◌, ◌+◌, zero, suc, arith, ℕ, List, [], ◌∷◌, ◌++◌, Option, Some, None, refl, sym, ap, subst, ◌∙◌, append_assoc}
+use Rattle.std.proofs.Common.{◌≡◌, ◌+◌, zero, suc, arith, ℕ, List, [], ◌∷◌, ◌++◌, Option, Some, None, refl, sym, ap, subst, ◌∙◌, append-nil, append_assoc}
 use Rattle.auth_keys.specs.declared.ring.RingKey.{RingKey}
 use Rattle.envelope.specs.Packet.{Lock}
 use Rattle.mt_edge.specs.Links.{Told}
 use Rattle.regs_service.specs.Served.{Step}
-use Rattle.server_node.specs.Doing.{Did, Due, IsPart, Side, StandsBy, then_due}
+use Rattle.server_node.specs.Doing.{Did, DidThen, Due, FollowedThenBy, IsPart, Side, StandsBy, then_due}
 use Rattle.server_node.specs.Steps.{SentBy}
-use Rattle.server_node.specs.Trace.{Act, Rules, Run, Talk, Tick, after_acts, rules_of, runs, work_acts}
+use Rattle.server_node.specs.Trace.{Act, Rules, Run, Talk, Tick, after_acts, packet_acts, packets_acts, rules_of, runs, work_acts}
 use Rattle.server_node.specs.Writes.{WrittenBy, Wrote, WroteBy, WroteFront}
 use Rattle.server_node.specs.declared.conn.ConnEnd.{ConnEnd}
 use Rattle.server_node.specs.declared.conn.ConnEnd.TheVariants as ends
@@ -84,22 +84,25 @@ did_both {S} {V} step serve lock ring side middle later first second end before 
   written = written_both end before.bytes next.bytes side.told middle.told later.told before.written next.written;
 }
 
--- the events of the first part, which ended the connection
-pub did_first : {S V : Type 0} (step : S → ℕ × S) (serve : Step V) (lock : Lock) (ring : List RingKey) (side later : Side S V) (first second : Due S V) (end : ConnEnd)
-    → Did step serve lock ring side first (Some end) later → Did step serve lock ring side (then_due first second) (Some end) later
-did_first {S} {V} step serve lock ring side later first second end before = record {
-  acts = before.acts;
-  bytes = before.bytes;
+-- the events of a part that went on, and then those of another
+pub did_then : {S V : Type 0} (step : S → ℕ × S) (serve : Step V) (lock : Lock) (ring : List RingKey) (side middle later : Side S V) (first second : Due S V) (end : Option ConnEnd)
+    → Did step serve lock ring side first None middle → Did step serve lock ring middle second end later → DidThen step serve lock ring side first second end later
+did_then {S} {V} step serve lock ring side middle later first second end before next = record {
+  acts = next.acts;
+  bytes = before.bytes ++ next.bytes;
   follows = λ outside talk is stands.
       let rules : Rules S V = rules_of step serve outside in
       let one = before.follows outside talk is stands in
-      let more : List Act = second rules (after_acts rules talk (first rules talk)) in
-      record {
-        part = (one.part.0 ++ more, ap (λ (some : List Act). some ++ more) one.part.1 ∙ append_assoc before.acts one.part.0 more);
-        stands = one.stands;
-        sends = one.sends;
-      };
-  written = before.written;
+      let between : Talk S V = after_acts rules talk before.acts in
+      let two = next.follows outside between is one.stands in
+      subst (λ (acts : List Act). FollowedThenBy rules side second end later acts next.acts (before.bytes ++ next.bytes) talk) (sym one.part) (record {
+        part = two.part;
+        stands = two.stands;
+        sends = λ to text tells.
+            subst (λ (all : List ℕ). SentBy end later.line to (after_acts rules between next.acts).sent all) (append_assoc text before.bytes next.bytes)
+            (two.sends to (text ++ before.bytes) (one.sends to text tells));
+      });
+  written = written_both end before.bytes next.bytes side.told middle.told later.told before.written next.written;
 }
 
 -- the same events, told otherwise
@@ -141,3 +144,16 @@ did_more {S} {V} step serve lock ring other side middle later now count end same
     (λ rules talk. ap (λ acts. Tick now ∷ acts) (runs_more now count))
     (did_both step serve lock ring side middle later (λ rules talk. work_acts now count) (λ rules talk. Run now ∷ []) end before
     (did_under step serve lock ring other middle later (λ rules talk. Run now ∷ []) end same next))
+
+-- ---- packets
+
+pub packets_more : {S V : Type 0} (rules : Rules S V) (now : ℕ) (front : List (List ℕ)) (packet : List ℕ) (talk : Talk S V)
+    → packets_acts rules now front talk ++ packet_acts rules now packet (after_acts rules talk (packets_acts rules now front talk)) ≡ packets_acts rules now (front ++ packet ∷ []) talk
+packets_more rules now [] packet talk = sym (append-nil (packet_acts rules now packet talk))
+packets_more {S} {V} rules now (one ∷ others) packet talk =
+    let acts : List Act = packet_acts rules now one talk in
+    let then_talk : Talk S V = after_acts rules talk acts in
+    append_assoc acts (packets_acts rules now others then_talk) (packet_acts rules now packet (after_acts rules talk (acts ++ packets_acts rules now others then_talk)))
+    ∙ ap (λ (more : List Act). acts ++ more)
+    (ap (λ (last : Talk S V). packets_acts rules now others then_talk ++ packet_acts rules now packet last) (acts_both rules talk acts (packets_acts rules now others then_talk))
+    ∙ packets_more rules now others packet then_talk)

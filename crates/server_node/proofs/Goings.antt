@@ -2,7 +2,7 @@
 use Rattle.std.proofs.Common.{◌≡◌, ◌≢◌, ℕ, zero, suc, List, ◌++◌, Option, Some, None, IfSome, IsSomeAnd, Ok, Err, refl, sym, ap, subst, ◌∙◌, append_assoc, arith}
 use Rattle.mt_edge.specs.Links.{Told}
 use Rattle.server_core.specs.declared.desk.DeskFault.{DeskFault}
-use Rattle.server_node.specs.Doing.{IsEventEnd, IsFeedEnd, IsPacketEnd, IsPieceEnd, stop_by}
+use Rattle.server_node.specs.Doing.{IsEventEnd, IsFeedEnd, IsPacketEnd, IsPacketsEnd, IsPieceEnd, stop_by}
 use Rattle.server_node.specs.Record.{Answered, IsFewer, Stops, counted_down}
 use Rattle.server_node.specs.Writes.{CountsBy, Goes, GoesOn, OnlyWrites}
 use Rattle.server_node.specs.declared.conn.ConnEnd.{ConnEnd}
@@ -76,16 +76,27 @@ event_is_packet_end MayAnswer (Some ends.Start) can = absurd can
 event_is_packet_end MayAnswer (Some ends.TurnsSpent) can = absurd can
 event_is_packet_end MayAnswer (Some ends.Stopped) can = absurd can
 
-pub packet_is_piece_end : (MayAnswer : DeskFault → Type 0) (end : Option ConnEnd) → IsPacketEnd MayAnswer end → IsPieceEnd MayAnswer end
-packet_is_piece_end MayAnswer None can = tt
-packet_is_piece_end MayAnswer (Some ends.LinkFault) can = tt
-packet_is_piece_end MayAnswer (Some ends.Memory) can = tt
-packet_is_piece_end MayAnswer (Some (ends.Journal fault)) can = can
-packet_is_piece_end MayAnswer (Some (ends.Frame fault)) can = tt
-packet_is_piece_end MayAnswer (Some ends.Ended) can = absurd can
-packet_is_piece_end MayAnswer (Some ends.Start) can = absurd can
-packet_is_piece_end MayAnswer (Some ends.TurnsSpent) can = absurd can
-packet_is_piece_end MayAnswer (Some ends.Stopped) can = absurd can
+pub packet_is_packets_end : (MayAnswer : DeskFault → Type 0) (end : Option ConnEnd) → IsPacketEnd MayAnswer end → IsPacketsEnd MayAnswer end
+packet_is_packets_end MayAnswer None can = tt
+packet_is_packets_end MayAnswer (Some ends.LinkFault) can = tt
+packet_is_packets_end MayAnswer (Some ends.Memory) can = tt
+packet_is_packets_end MayAnswer (Some (ends.Journal fault)) can = can
+packet_is_packets_end MayAnswer (Some (ends.Frame fault)) can = tt
+packet_is_packets_end MayAnswer (Some ends.Ended) can = absurd can
+packet_is_packets_end MayAnswer (Some ends.Start) can = absurd can
+packet_is_packets_end MayAnswer (Some ends.TurnsSpent) can = absurd can
+packet_is_packets_end MayAnswer (Some ends.Stopped) can = absurd can
+
+pub packets_is_piece_end : (MayAnswer : DeskFault → Type 0) (end : Option ConnEnd) → IsPacketsEnd MayAnswer end → IsPieceEnd MayAnswer end
+packets_is_piece_end MayAnswer None can = tt
+packets_is_piece_end MayAnswer (Some ends.LinkFault) can = tt
+packets_is_piece_end MayAnswer (Some ends.Memory) can = tt
+packets_is_piece_end MayAnswer (Some (ends.Journal fault)) can = can
+packets_is_piece_end MayAnswer (Some (ends.Frame fault)) can = tt
+packets_is_piece_end MayAnswer (Some ends.Stopped) can = tt
+packets_is_piece_end MayAnswer (Some ends.Ended) can = absurd can
+packets_is_piece_end MayAnswer (Some ends.Start) can = absurd can
+packets_is_piece_end MayAnswer (Some ends.TurnsSpent) can = absurd can
 
 -- ---- packets that are left
 
@@ -134,7 +145,7 @@ pub none_answered : (left : Option ℕ) → left ≢ Some 0 → Answered None le
 none_answered left some = record { fewer = same_fewer left; stops = some }
 
 pub event_is_piece_end : (MayAnswer : DeskFault → Type 0) (end : Option ConnEnd) → IsEventEnd MayAnswer end → IsPieceEnd MayAnswer end
-event_is_piece_end MayAnswer end can = packet_is_piece_end MayAnswer end (event_is_packet_end MayAnswer end can)
+event_is_piece_end MayAnswer end can = packets_is_piece_end MayAnswer end (packet_is_packets_end MayAnswer end (event_is_packet_end MayAnswer end can))
 
 pub feed_is_piece_end : (MayAnswer : DeskFault → Type 0) (end : Option ConnEnd) → IsFeedEnd end → IsPieceEnd MayAnswer end
 feed_is_piece_end MayAnswer None can = tt

@@ -1,12 +1,15 @@
 pub mod AllPackets
 pub mod Answering
-pub mod Becoming
 pub mod Doings
 pub mod Events
 pub mod Going
 pub mod Goings
 pub mod Hearing
+pub mod Lines
 pub mod Packets
+pub mod Pieces
+pub mod Reading
 pub mod Serving
+pub mod Starting
 pub mod Turning
 pub mod Writing

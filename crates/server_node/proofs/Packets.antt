@@ -82,7 +82,7 @@ took_first step serve lock ring other side middle later now wire between wire_th
 }
 
 last_by : {S V : Type 0} (step : S → ℕ × S) (serve : Step V) (lock : Lock) (ring : List RingKey) (side later : Sides S V) (now : ℕ) (wire wire_then : Line) (MayAnswer : DeskFault → Type 0) (end : ConnEnd)
-    → IsEventEnd MayAnswer (Some end) → TookLast step serve lock ring side now end later → TookBy step serve lock ring side now wire wire_then (Err end) later
+    → IsEventEnd MayAnswer (Some end) → TookLast step serve lock ring side now wire end later → TookBy step serve lock ring side now wire wire_then (Err end) later
 last_by step serve lock ring side later now wire wire_then MayAnswer ends.LinkFault can last = last
 last_by step serve lock ring side later now wire wire_then MayAnswer ends.Memory can last = last
 last_by step serve lock ring side later now wire wire_then MayAnswer (ends.Journal fault) can last = last
@@ -99,14 +99,16 @@ pub attach_failed : {S V : Type 0} (step : S → ℕ × S) (serve : Step V) (loc
 attach_failed step serve lock ring other side middle later now wire between wire_then name MayAnswer end same can heard attached =
     last_by step serve lock ring side later now wire wire_then MayAnswer end can (record {
       packet = heard.packet;
+      next = λ from packets bytes hears. (heard.next from packets bytes hears).0;
       did = first_did step serve lock ring other side middle later now wire between name (Some end) same heard attached;
     })
 
 -- the packet's own event ended the connection
 heard_last : {S V : Type 0} (step : S → ℕ × S) (serve : Step V) (lock : Lock) (ring : List RingKey) (side later : Sides S V) (now : ℕ) (wire : Line) (end : ConnEnd)
-    → HeardLast step serve lock ring side now wire end later → TookLast step serve lock ring side now end later
+    → HeardLast step serve lock ring side now wire end later → TookLast step serve lock ring side now wire end later
 heard_last {S} {V} step serve lock ring side later now wire end last = record {
   packet = last.packet;
+  next = last.next;
   did = λ service. did_longer step serve lock ring (side service) (later service) (λ rules talk. Hear now last.packet ∷ []) (λ rules talk. first_acts now talk (rules.outside.reading (moment_at talk now) last.packet))
       (λ rules talk. packet_acts rules now last.packet talk) end (λ rules talk. refl) (last.did service);
 }

@@ -1,91 +1,78 @@
--- The turns of a connection, one after the other.
-use Rattle.std.proofs.Common.{◌≡◌, ℕ, List, [], ◌∷◌, ◌++◌, Option, Some, None, refl, sym, ap, subst, ◌∙◌, append-nil, append_assoc}
+-- The turns of a connection, one after the other, and how it closes.
+use Rattle.std.proofs.Common.{◌≡◌, ◌<◌, ◌+◌, ℕ, List, [], ◌∷◌, ◌++◌, length, Option, Some, None, IfSome, IsSomeAnd, inl, refl, sym, ap, subst, ◌∙◌, append-nil, length-append, arith}
 use Rattle.auth_keys.specs.declared.ring.RingKey.{RingKey}
 use Rattle.envelope.specs.Packet.{Lock}
 use Rattle.mt_edge.specs.Links.{Told}
 use Rattle.regs_service.specs.Served.{Step}
 use Rattle.server_rules.specs.Server.{Server}
-use Rattle.server_node.specs.Coming.{TookPiece, TookTurn}
-use Rattle.server_node.specs.Doing.{Became, Side, Stands, StandsBy, then_due}
-use Rattle.server_node.specs.Served.{LeavesBy, Served}
-use Rattle.server_node.specs.Trace.{Act, Rules, Talk, Turn, after_acts, rules_of, turn_acts, turns_acts}
+use Rattle.server_node.specs.Connection.{Gave, Passed, Place, ServerTrace, Sight, Spent, Unbegun, began, turns_from}
+use Rattle.server_node.specs.Doing.{Side, StandsBy}
+use Rattle.server_node.specs.Record.{counted, turns_max}
+use Rattle.server_node.specs.Served.{Begins, LeavesBy}
+use Rattle.server_node.specs.Trace.{IsOutside, Outside, Rules, Talk, rules_of}
+use Rattle.server_node.specs.Turns.{TookTurn, TurnDone, TurnEnded, TurnsSoFar}
 use Rattle.server_node.specs.declared.conn.ConnEnd.{ConnEnd}
 use Rattle.server_node.specs.declared.conn.ConnEnd.TheVariants as ends
 use Rattle.server_node.specs.declared.heard.SessionName.{SessionName}
-use Rattle.server_node.specs.declared.line.Line.{Line}
 use Rattle.server_node.specs.declared.line.Line.TheVariants.{Raw}
-use Rattle.server_node.proofs.Becoming.{became_as, became_both, turns_more}
-use Rattle.server_node.proofs.Doings.{acts_both}
+use Rattle.server_node.proofs.Lines.{text_of}
 
--- a piece is a turn
-pub turn_of : {S V : Type 0} (step : S → ℕ × S) (serve : Step V) (lock : Lock) (ring : List RingKey) (side later : Side S V) (now : ℕ) (end : Option ConnEnd)
-    → TookPiece step serve lock ring side now end later → TookTurn step serve lock ring side end later
-turn_of step serve lock ring side later now end took =
-    let turn : Turn = record { now = now; packets = took.packets; runs = took.runs } in
+-- ---- no turn yet
+
+passed_none : {S V : Type 0} (talk : Talk S V) (told : Option Told) → IfSome told (λ last. IsSomeAnd told (λ before. Passed [] (began talk) before last))
+passed_none talk None = tt
+passed_none talk (Some told) = record { written = sym (append-nil told.written); came = sym (append-nil told.came); reads = sym (append-nil told.reads) }
+
+gave_none : (given : Option (List ℕ)) → Gave [] given given
+gave_none None = tt
+gave_none (Some given) = sym (append-nil given)
+
+counted_none : (left : Option ℕ) → left ≡ counted 0 left
+counted_none None = refl
+counted_none (Some left) = ap (λ (n : ℕ). Some n) (omega arith)
+
+pub turns_none : {S V : Type 0} (rules : Rules S V) (talk : Talk S V) (desk : Server → Type 0) (drawn : S) (service : V) (heard : List SessionName) (wire : List ℕ) (now : Sight)
+    → heard ≡ [] → wire ≡ [] → Begins desk drawn service talk
+    → TurnsSoFar rules talk now 0 (record { desk = desk; drawn = drawn; service = service; heard = heard; line = Raw wire; told = now.told }) now
+turns_none rules talk desk drawn service heard wire now none empty begins = record {
+  turns = [];
+  bytes = [];
+  count_is = refl;
+  are = tt;
+  stands = record {
+    talk = record {
+      serves = record { server = begins.server; drawn = begins.draw; service = begins.served };
+      heard = none ∙ sym begins.heard;
+      quiet = none;
+    };
+    line = record { wire_is = empty; awaited = record { few = omega arith; not_plain = refl }; none = refl; unsent = begins.sent; unwritten = refl };
+  };
+  seen = record { told = passed_none talk now.told; moments = gave_none now.given; left = counted_none now.left };
+  few = omega arith;
+}
+
+-- ---- a turn more
+
+pub turn_more : {S V : Type 0} (step : S → ℕ × S) (serve : Step V) (lock : Lock) (ring other : List RingKey) (outside : Outside) (talk : Talk S V) (first : Sight) (count : ℕ) (side later : Side S V) (now after : Sight)
+    → other ≡ ring → count < turns_max → IsOutside lock ring outside → TurnsSoFar (rules_of step serve outside) talk first count side now
+    → TookTurn step serve lock other side later now after None
+    → TurnsSoFar (rules_of step serve outside) talk first (count + 1) later after
+turn_more {S} {V} step serve lock ring other outside talk first count side later now after same less is so_far took =
+    let rules : Rules S V = rules_of step serve outside in
+    let here : Place S V = turns_from rules (began talk) so_far.turns in
+    let turn : TurnDone rules here so_far.bytes later first after =
+    took outside here so_far.bytes first (subst (λ (keys : List RingKey). IsOutside lock keys outside) (sym same) is) so_far.stands (omega (arith, so_far.few, less)) so_far.seen in
     record {
-      turns = turn ∷ [];
-      became = became_as step serve lock ring side later (λ rules talk. turn_acts rules turn talk) (λ rules talk. turns_acts rules (turn ∷ []) talk) end
-          (λ rules talk. sym (append-nil (turn_acts rules turn talk))) took.became;
+      turns = turn.turn ∷ so_far.turns;
+      bytes = so_far.bytes ++ turn.more;
+      count_is = omega (arith, so_far.count_is);
+      are = (so_far.are, turn.is);
+      stands = turn.stands;
+      seen = turn.seen;
+      few = omega (arith, so_far.few, turn.is.size.1, length-append here.came turn.turn.piece);
     }
 
--- a read ended the connection
-none_came : {S V : Type 0} (step : S → ℕ × S) (serve : Step V) (lock : Lock) (ring : List RingKey) (side later : Side S V) (end : ConnEnd)
-    → ((talk : Talk S V) → Stands side talk → StandsBy (Some end) later talk) → TookTurn step serve lock ring side (Some end) later
-none_came step serve lock ring side later end stays = record {
-  turns = [];
-  became = record { acts = []; part = λ outside talk is stands. ([], refl); stands = λ outside talk is stands. stays talk stands };
-}
-
-pub turn_ended : {S V : Type 0} (step : S → ℕ × S) (serve : Step V) (lock : Lock) (ring : List RingKey) (side : Side S V) (line : Line) (told : Option Told)
-    → TookTurn step serve lock ring side (Some ends.Ended) (record side { line = line; told = told })
-turn_ended step serve lock ring side line told = none_came step serve lock ring side (record side { line = line; told = told }) ends.Ended
-    (λ talk stands. record { server = stands.serves.server; drawn = stands.serves.drawn; service = stands.serves.service })
-
-pub turn_failed : {S V : Type 0} (step : S → ℕ × S) (serve : Step V) (lock : Lock) (ring : List RingKey) (side : Side S V) (line : Line) (told : Option Told)
-    → TookTurn step serve lock ring side (Some ends.LinkFault) (record side { line = line; told = told })
-turn_failed step serve lock ring side line told = none_came step serve lock ring side (record side { line = line; told = told }) ends.LinkFault
-    (λ talk stands. record { server = stands.serves.server; drawn = stands.serves.drawn; service = stands.serves.service })
-
--- what the link told doesn't matter
-pub turn_told : {S V : Type 0} (step : S → ℕ × S) (serve : Step V) (lock : Lock) (ring : List RingKey) (side later : Side S V) (told : Option Told) (end : Option ConnEnd)
-    → TookTurn step serve lock ring (record side { told = told }) end later → TookTurn step serve lock ring side end later
-turn_told step serve lock ring side later told end took = record {
-  turns = took.turns;
-  became = record {
-    acts = took.became.acts;
-    part = λ outside talk is stands. took.became.part outside talk is (record { serves = record { server = stands.serves.server; drawn = stands.serves.drawn; service = stands.serves.service }; heard = stands.heard; quiet = stands.quiet });
-    stands = λ outside talk is stands. took.became.stands outside talk is (record { serves = record { server = stands.serves.server; drawn = stands.serves.drawn; service = stands.serves.service }; heard = stands.heard; quiet = stands.quiet });
-  };
-}
-
--- ---- all turns
-
-turns_both : {S V : Type 0} (rules : Rules S V) (front back : List Turn) (talk : Talk S V)
-    → turns_acts rules front talk ++ turns_acts rules back (after_acts rules talk (turns_acts rules front talk)) ≡ turns_acts rules (front ++ back) talk
-turns_both rules front [] talk = append-nil (turns_acts rules front talk) ∙ ap (λ (turns : List Turn). turns_acts rules turns talk) (sym (append-nil front))
-turns_both {S} {V} rules front (turn ∷ turns) talk =
-    let acts : List Act = turns_acts rules front talk in
-    let between : Talk S V = after_acts rules talk acts in
-    sym (append_assoc acts (turn_acts rules turn between) (turns_acts rules turns (after_acts rules between (turn_acts rules turn between))))
-    ∙ ap (λ (last : Talk S V). (acts ++ turn_acts rules turn between) ++ turns_acts rules turns last) (sym (acts_both rules talk acts (turn_acts rules turn between)))
-    ∙ ap (λ (some : List Act). some ++ turns_acts rules turns (after_acts rules talk some)) (turns_more rules front turn talk)
-    ∙ turns_both rules (front ++ turn ∷ []) turns talk
-    ∙ ap (λ (all : List Turn). turns_acts rules all talk) (append_assoc front (turn ∷ []) turns)
-
-pub turn_none : {S V : Type 0} (step : S → ℕ × S) (serve : Step V) (lock : Lock) (ring : List RingKey) (side : Side S V) → TookTurn step serve lock ring side None side
-turn_none step serve lock ring side = record { turns = []; became = record { acts = []; part = λ outside talk is stands. refl; stands = λ outside talk is stands. stands } }
-
-pub turn_both : {S V : Type 0} (step : S → ℕ × S) (serve : Step V) (lock : Lock) (ring other : List RingKey) (side middle later : Side S V) (end : Option ConnEnd)
-    → other ≡ ring → TookTurn step serve lock ring side None middle → TookTurn step serve lock other middle end later → TookTurn step serve lock ring side end later
-turn_both step serve lock ring other side middle later end same before next = record {
-  turns = before.turns ++ next.turns;
-  became = became_as step serve lock ring side later (then_due (λ rules talk. turns_acts rules before.turns talk) (λ rules talk. turns_acts rules next.turns talk)) (λ rules talk. turns_acts rules (before.turns ++ next.turns) talk) end
-      (λ rules talk. turns_both rules before.turns next.turns talk)
-      (became_both step serve lock ring side middle later (λ rules talk. turns_acts rules before.turns talk) (λ rules talk. turns_acts rules next.turns talk) end before.became
-      (subst (λ (keys : List RingKey). Became step serve lock keys middle (λ rules talk. turns_acts rules next.turns talk) end later) same next.became));
-}
-
--- ---- the connection
+-- ---- how it closes
 
 leaves_by : {S V : Type 0} (end : ConnEnd) (side : Side S V) (talk : Talk S V) → StandsBy (Some end) side talk → LeavesBy end side.desk side.drawn side.service talk
 leaves_by ends.LinkFault side talk stands = record { server = stands.server; draw = stands.drawn; served = stands.service }
@@ -97,44 +84,64 @@ leaves_by ends.Stopped side talk stands = record { server = stands.server; draw 
 leaves_by (ends.Journal fault) side talk stands = tt
 leaves_by ends.Memory side talk stands = stands
 
-pub served_by : {S V : Type 0} (step : S → ℕ × S) (serve : Step V) (lock : Lock) (ring : List RingKey) (desk : Server → Type 0) (drawn : S) (service : V) (told : Option Told) (later : Side S V) (end : ConnEnd)
-    → TookTurn step serve lock ring (record { desk = desk; drawn = drawn; service = service; heard = []; line = Raw []; told = told }) (Some end) later
-    → Served step serve lock ring end desk drawn service later.desk later.drawn later.service
-served_by step serve lock ring desk drawn service told later end took = record {
-  turns = took.turns;
-  acts = took.became.acts;
-  part = λ outside talk is begins. took.became.part outside talk is (record { serves = record { server = begins.server; drawn = begins.draw; service = begins.served }; heard = sym begins.heard; quiet = refl });
-  leaves = λ outside talk is begins. leaves_by end later (after_acts (rules_of step serve outside) talk took.became.acts)
-      (took.became.stands outside talk is (record { serves = record { server = begins.server; drawn = begins.draw; service = begins.served }; heard = sym begins.heard; quiet = refl }));
-}
+pub turns_ended : {S V : Type 0} (step : S → ℕ × S) (serve : Step V) (lock : Lock) (ring other : List RingKey) (outside : Outside) (talk : Talk S V) (first : Sight) (count : ℕ) (side later : Side S V) (now after : Sight) (end : ConnEnd)
+    → other ≡ ring → count < turns_max → IsOutside lock ring outside → TurnsSoFar (rules_of step serve outside) talk first count side now
+    → TookTurn step serve lock other side later now after (Some end)
+    → ServerTrace (rules_of step serve outside) talk first end later.desk later.drawn later.service after
+turns_ended {S} {V} step serve lock ring other outside talk first count side later now after end same less is so_far took =
+    let rules : Rules S V = rules_of step serve outside in
+    let here : Place S V = turns_from rules (began talk) so_far.turns in
+    let turn : TurnEnded rules here so_far.bytes end later first after =
+    took outside here so_far.bytes first (subst (λ (keys : List RingKey). IsOutside lock keys outside) (sym same) is) so_far.stands (omega (arith, so_far.few, less)) so_far.seen in
+    record {
+      turns = so_far.turns;
+      close = turn.close;
+      bytes = so_far.bytes ++ turn.more;
+      are = so_far.are;
+      closed = turn.is;
+      behind = turn.behind (length so_far.turns) (omega (arith, so_far.count_is, less));
+      ended = turn.ended;
+      leaves = leaves_by end later _ turn.leaves;
+      owes = turn.owes;
+      shows = turn.shows;
+      moments = turn.moments;
+      left = turn.left;
+    }
 
--- as many pieces were read as there may be
-pub turn_spent : {S V : Type 0} (step : S → ℕ × S) (serve : Step V) (lock : Lock) (ring : List RingKey) (side later : Side S V)
-    → TookTurn step serve lock ring side None later → TookTurn step serve lock ring side (Some ends.TurnsSpent) later
-turn_spent step serve lock ring side later took = record {
-  turns = took.turns;
-  became = record {
-    acts = took.became.acts;
-    part = λ outside talk is stands. ([], took.became.part outside talk is stands ∙ sym (append-nil took.became.acts));
-    stands = λ outside talk is stands. (took.became.stands outside talk is stands).serves;
-  };
-}
+-- it gave as many pieces as it may
+pub turns_spent : {S V : Type 0} (rules : Rules S V) (talk : Talk S V) (first : Sight) (count : ℕ) (side : Side S V) (now : Sight)
+    → count ≡ turns_max → TurnsSoFar rules talk first count side now → ServerTrace rules talk first ends.TurnsSpent side.desk side.drawn side.service now
+turns_spent {S} {V} rules talk first count side now most so_far =
+    let here : Place S V = turns_from rules (began talk) so_far.turns in
+    record {
+      turns = so_far.turns;
+      close = Spent;
+      bytes = so_far.bytes;
+      are = so_far.are;
+      closed = tt;
+      behind = so_far.count_is ∙ most;
+      ended = refl;
+      leaves = leaves_by ends.TurnsSpent side here.talk so_far.stands.talk.serves;
+      owes = text_of side.line here.came here.packets here.talk.sent so_far.bytes so_far.stands.line;
+      shows = so_far.seen.told;
+      moments = so_far.seen.moments;
+      left = so_far.seen.left;
+    }
 
 -- nothing was read for want of memory
-pub served_nothing : {S V : Type 0} (step : S → ℕ × S) (serve : Step V) (lock : Lock) (ring : List RingKey) (desk : Server → Type 0) (drawn : S) (service : V)
-    → Served step serve lock ring ends.Memory desk drawn service desk drawn service
-served_nothing step serve lock ring desk drawn service = record {
+pub trace_unbegun : {S V : Type 0} (rules : Rules S V) (talk : Talk S V) (desk : Server → Type 0) (drawn : S) (service : V) (now : Sight) → Begins desk drawn service talk
+    → ServerTrace rules talk now ends.Memory desk drawn service now
+trace_unbegun rules talk desk drawn service now begins = record {
   turns = [];
-  acts = [];
-  part = λ outside talk is begins. ([], refl);
-  leaves = λ outside talk is begins. (begins.server, begins.served);
+  close = Unbegun;
+  bytes = [];
+  are = tt;
+  closed = tt;
+  behind = refl;
+  ended = refl;
+  leaves = (begins.server, begins.served);
+  owes = record { front = []; rest = talk.sent; whole = refl; text = inl (refl, refl) };
+  shows = passed_none talk now.told;
+  moments = gave_none now.given;
+  left = counted_none now.left;
 }
-
--- no turn yet
-pub turn_start : {S V : Type 0} (step : S → ℕ × S) (serve : Step V) (lock : Lock) (ring : List RingKey) (desk : Server → Type 0) (drawn : S) (service : V) (heard : List SessionName) (wire : List ℕ) (told : Option Told)
-    → heard ≡ [] → wire ≡ []
-    → TookTurn step serve lock ring (record { desk = desk; drawn = drawn; service = service; heard = []; line = Raw []; told = told }) None (record { desk = desk; drawn = drawn; service = service; heard = heard; line = Raw wire; told = told })
-turn_start step serve lock ring desk drawn service heard wire told none empty =
-    subst (λ (names : List SessionName). TookTurn step serve lock ring (record { desk = desk; drawn = drawn; service = service; heard = []; line = Raw []; told = told }) None (record { desk = desk; drawn = drawn; service = service; heard = names; line = Raw wire; told = told })) (sym none)
-    (subst (λ (bytes : List ℕ). TookTurn step serve lock ring (record { desk = desk; drawn = drawn; service = service; heard = []; line = Raw []; told = told }) None (record { desk = desk; drawn = drawn; service = service; heard = []; line = Raw bytes; told = told })) (sym empty)
-    (turn_none step serve lock ring (record { desk = desk; drawn = drawn; service = service; heard = []; line = Raw []; told = told })))

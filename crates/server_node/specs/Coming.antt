@@ -1,5 +1,5 @@
 -- What comes over a line, and what a desk and a link make of it: scaffolding of proofs, and no promise.
-use Rattle.std.specs.Prelude.{◌≡◌, ◌⊎◌, ◌-◌, ⊤, length, ℕ, max, not, Bool, true, false, IfOk, OnOk, List, [], ◌∷◌, ◌++◌, Option, Some, None, Result, Ok, Err}
+use Rattle.std.specs.Prelude.{◌≡◌, ◌⊎◌, ⊤, length, ℕ, max, not, Bool, true, false, IfOk, OnOk, List, [], ◌∷◌, ◌++◌, Option, Some, None, Result, Ok, Err}
 use Rattle.auth_keys.specs.declared.ring.RingKey.{RingKey}
 use Rattle.cipher_modes.specs.CounterMode.{CtrState}
 use Rattle.envelope.specs.Packet.{Lock}
@@ -8,7 +8,8 @@ use Rattle.regs_service.specs.Served.{Step}
 use Rattle.tl_codec.specs.declared.fault.FrameFault.{FrameFault}
 use Rattle.transport.specs.Directions.{through}
 use Rattle.transport.specs.Forms.{framing_of}
-use Rattle.transport.specs.Wires.{Hears, Line}
+use Rattle.transport.specs.Starts.{IsAwaited}
+use Rattle.transport.specs.Wires.{HasStarted, Hears, Line}
 use Rattle.mt_edge.specs.Links.{Told}
 use Rattle.envelope.specs.Opening.{IsRefused, Opens}
 use Rattle.envelope.specs.declared.parts.Dir.TheVariants.{Up}
@@ -27,14 +28,16 @@ use Rattle.server_core.specs.declared.desk.Reply.{Reply}
 use Rattle.server_rules.specs.Answer.{after_packet}
 use Rattle.server_rules.specs.Server.{Server}
 use Rattle.standing.specs.Says.{Keys, setting_of}
-use Rattle.server_node.specs.Doing.{Became, Did, Side, Stands, end_by}
+use Rattle.server_node.specs.Connection.{IsUnnamed}
+use Rattle.server_node.specs.Doing.{Did, DidThen, Side, Stands, end_by}
 use Rattle.server_node.specs.Names.{was_heard, with_name}
+use Rattle.server_node.specs.Record.{counted}
 use Rattle.server_node.specs.Steps.{Said, going_out}
 use Rattle.server_node.specs.Writes.{end_in, unknown_key}
 use Rattle.server_node.specs.declared.heard.SessionName.{SessionName}
 use Rattle.server_node.specs.declared.line.Line.{Line as Ends}
 use Rattle.server_node.specs.declared.line.Line.TheVariants.{Raw, Framed}
-use Rattle.server_node.specs.Trace.{Act, Attach, Hear, IsOutside, Outside, Talk, Turn, first_acts, moment_at, packet_acts, packets_acts, turn_acts, turns_acts}
+use Rattle.server_node.specs.Trace.{Act, Attach, Hear, IsOutside, Outside, Talk, first_acts, moment_at, packet_acts, packets_acts}
 use Rattle.server_node.specs.declared.conn.ConnEnd.{ConnEnd}
 use Rattle.server_node.specs.declared.conn.ConnEnd.TheVariants as ends
 use Rattle.server_node.specs.declared.taking.Came.{Came}
@@ -45,6 +48,12 @@ abbrev pub IsNext : Line → List ℕ → Line → Type 0
 IsNext wire packet wire_then =
     (from : Option CtrState) (packets : List (List ℕ)) (bytes : List ℕ) → Hears wire from packets bytes
     → Begins (framing_of wire.form) (packets ++ packet ∷ []) (through from bytes) × Hears wire_then from (packets ++ packet ∷ []) bytes
+
+-- a packet comes next
+abbrev pub HasNext : Line → List ℕ → Type 0
+HasNext wire packet =
+    (from : Option CtrState) (packets : List (List ℕ)) (bytes : List ℕ) → Hears wire from packets bytes
+    → Begins (framing_of wire.form) (packets ++ packet ∷ []) (through from bytes)
 
 -- no further packet is whole
 abbrev pub IsIdle : Line → Line → Type 0
@@ -78,8 +87,9 @@ pub record TellsNext {S : Type 0} (step : S → ℕ × S) (lock : Lock) (ring : 
   pub tells : Tells step lock ring desk desk_then drawn drawn_then now packet reply
 
 -- nothing came of the next packet
-pub record FailsNext (desk desk_then : Server → Type 0) (end : ConnEnd) : Type 0 where
+pub record FailsNext (wire : Line) (desk desk_then : Server → Type 0) (end : ConnEnd) : Type 0 where
   pub packet : List ℕ
+  pub next : HasNext wire packet
   pub fault : DeskFault
   pub is : end ≡ end_by fault
   pub unchanged : (server : Server) → desk server → fault ≡ faults.Memory → desk_then server
@@ -91,7 +101,7 @@ abbrev pub NextBy : {S : Type 0} → (S → ℕ × S) → Lock → List RingKey 
 NextBy step lock ring desk drawn now wire (Ok (Some reply)) desk_then drawn_then wire_then = TellsNext step lock ring desk drawn now wire reply desk_then drawn_then wire_then
 NextBy step lock ring desk drawn now wire (Ok None) desk_then drawn_then wire_then = IsIdle wire wire_then × IsSameDesk desk drawn desk_then drawn_then
 NextBy step lock ring desk drawn now wire (Err (ends.Frame fault)) desk_then drawn_then wire_then = IsFaulty wire fault × IsSameDesk desk drawn desk_then drawn_then
-NextBy step lock ring desk drawn now wire (Err end) desk_then drawn_then wire_then = FailsNext desk desk_then end
+NextBy step lock ring desk drawn now wire (Err end) desk_then drawn_then wire_then = FailsNext wire desk desk_then end
 
 -- ---- what is sent of it
 
@@ -126,8 +136,8 @@ abbrev pub Sides : Type 0 → Type 0 → Type 1
 Sides S V = V → Side S V
 
 -- no event came
-abbrev pub NoneCame : {S V : Type 0} → (S → ℕ × S) → Step V → Lock → List RingKey → Sides S V → Option ConnEnd → Sides S V → Type 0
-NoneCame {S} {V} step serve lock ring side end later = (service : V) → Did step serve lock ring (side service) (λ rules talk. []) end (later service)
+abbrev pub NoneCame : {S V : Type 0} → (S → ℕ × S) → Step V → Lock → List RingKey → Sides S V → Sides S V → Type 0
+NoneCame {S} {V} step serve lock ring side later = (service : V) → Did step serve lock ring (side service) (λ rules talk. []) None (later service)
 
 -- A packet came, and these events follow directly.
 pub record HeardOne {S V : Type 0} (step : S → ℕ × S) (serve : Step V) (lock : Lock) (ring : List RingKey) (side : Sides S V) (now : ℕ) (wire wire_then : Line) (end : Option ConnEnd) (acts : List Act) (later : Sides S V) : Type 0 where
@@ -140,14 +150,15 @@ pub record HeardOne {S V : Type 0} (step : S → ℕ × S) (serve : Step V) (loc
 -- A packet came whose event ended the connection.
 pub record HeardLast {S V : Type 0} (step : S → ℕ × S) (serve : Step V) (lock : Lock) (ring : List RingKey) (side : Sides S V) (now : ℕ) (wire : Line) (end : ConnEnd) (later : Sides S V) : Type 0 where
   pub packet : List ℕ
+  pub next : HasNext wire packet
   pub did : (service : V) → Did step serve lock ring (side service) (λ rules talk. Hear now packet ∷ []) (Some end) (later service)
 
 -- what came next
 abbrev pub CameBy : {S V : Type 0} → (S → ℕ × S) → Step V → Lock → List RingKey → Sides S V → ℕ → Line → Line → Result Came ConnEnd → Sides S V → Type 0
-CameBy step serve lock ring side now wire wire_then (Ok Nothing) later = IsIdle wire wire_then × NoneCame step serve lock ring side None later
+CameBy step serve lock ring side now wire wire_then (Ok Nothing) later = IsIdle wire wire_then × NoneCame step serve lock ring side later
 CameBy step serve lock ring side now wire wire_then (Ok Packet) later = HeardOne step serve lock ring side now wire wire_then None [] later
 CameBy step serve lock ring side now wire wire_then (Ok (First name)) later = HeardOne step serve lock ring side now wire wire_then None (Attach now name ∷ []) later
-CameBy step serve lock ring side now wire wire_then (Err (ends.Frame fault)) later = IsFaulty wire fault × NoneCame step serve lock ring side (Some (ends.Frame fault)) later
+CameBy step serve lock ring side now wire wire_then (Err (ends.Frame fault)) later = IsFaulty wire fault × NoneCame step serve lock ring side later
 CameBy step serve lock ring side now wire wire_then (Err end) later = HeardLast step serve lock ring side now wire end later
 
 -- ---- with the attach that follows a session's first packet
@@ -157,46 +168,54 @@ pub record TookOne {S V : Type 0} (step : S → ℕ × S) (serve : Step V) (lock
   pub next : IsNext wire packet wire_then
   pub did : (service : V) → Did step serve lock ring (side service) (λ rules talk. packet_acts rules now packet talk) None (later service)
 
-pub record TookLast {S V : Type 0} (step : S → ℕ × S) (serve : Step V) (lock : Lock) (ring : List RingKey) (side : Sides S V) (now : ℕ) (end : ConnEnd) (later : Sides S V) : Type 0 where
+pub record TookLast {S V : Type 0} (step : S → ℕ × S) (serve : Step V) (lock : Lock) (ring : List RingKey) (side : Sides S V) (now : ℕ) (wire : Line) (end : ConnEnd) (later : Sides S V) : Type 0 where
   pub packet : List ℕ
+  pub next : HasNext wire packet
   pub did : (service : V) → Did step serve lock ring (side service) (λ rules talk. packet_acts rules now packet talk) (Some end) (later service)
 
 abbrev pub TookBy : {S V : Type 0} → (S → ℕ × S) → Step V → Lock → List RingKey → Sides S V → ℕ → Line → Line → Result Bool ConnEnd → Sides S V → Type 0
 TookBy step serve lock ring side now wire wire_then (Ok true) later = TookOne step serve lock ring side now wire wire_then later
-TookBy step serve lock ring side now wire wire_then (Ok false) later = IsIdle wire wire_then × NoneCame step serve lock ring side None later
-TookBy step serve lock ring side now wire wire_then (Err (ends.Frame fault)) later = IsFaulty wire fault × NoneCame step serve lock ring side (Some (ends.Frame fault)) later
-TookBy step serve lock ring side now wire wire_then (Err end) later = TookLast step serve lock ring side now end later
+TookBy step serve lock ring side now wire wire_then (Ok false) later = IsIdle wire wire_then × NoneCame step serve lock ring side later
+TookBy step serve lock ring side now wire wire_then (Err (ends.Frame fault)) later = IsFaulty wire fault × NoneCame step serve lock ring side later
+TookBy step serve lock ring side now wire wire_then (Err end) later = TookLast step serve lock ring side now wire end later
 
 -- ---- all packets that are whole
 
--- so many packets fewer may be answered
-abbrev pub counted : ℕ → Option ℕ → Option ℕ
-counted count None = None
-counted count (Some left) = Some (left - count)
+-- more packets than one connection has bytes: pieces of 65,536 bytes, 1,000,000 of them
+abbrev pub packets_max : ℕ
+packets_max = 65536000001
 
 -- what the packets were of the stream, by how it ended
-abbrev pub HeardAll : Option ConnEnd → Line → ℕ → List (List ℕ) → Line → Type 0
-HeardAll None wire most packets wire_then =
+abbrev pub HeardAll : Option ConnEnd → Line → List (List ℕ) → Line → Type 0
+HeardAll None wire packets wire_then =
     (from : Option CtrState) (before : List (List ℕ)) (bytes : List ℕ) → Hears wire from before bytes
-    → (((rest : List ℕ) × Stream (framing_of wire.form) (before ++ packets) rest (through from bytes)) ⊎ (length packets ≡ most)) × Hears wire_then from (before ++ packets) bytes
-HeardAll (Some (ends.Frame fault)) wire most packets wire_then =
+    → (((rest : List ℕ) × Stream (framing_of wire.form) (before ++ packets) rest (through from bytes)) ⊎ (length packets ≡ packets_max)) × Hears wire_then from (before ++ packets) bytes
+HeardAll (Some (ends.Frame fault)) wire packets wire_then =
     (from : Option CtrState) (before : List (List ℕ)) (bytes : List ℕ) → Hears wire from before bytes → Faulty (framing_of wire.form) (before ++ packets) fault (through from bytes)
-HeardAll (Some ends.Stopped) wire most packets wire_then =
+HeardAll (Some ends.Stopped) wire packets wire_then =
     (from : Option CtrState) (before : List (List ℕ)) (bytes : List ℕ) → Hears wire from before bytes → Hears wire_then from (before ++ packets) bytes
-HeardAll (Some end) wire most packets wire_then = ⊤
+HeardAll (Some end) wire packets wire_then = ⊤
 
--- All of them were answered, but the last one, where an event of it ended the connection.
-abbrev pub LeftBy : Option ConnEnd → List (List ℕ) → Option ℕ → Option ℕ → Type 0
-LeftBy None packets left left_then = left_then ≡ counted (length packets) left
-LeftBy (Some (ends.Frame fault)) packets left left_then = left_then ≡ counted (length packets) left
-LeftBy (Some ends.Stopped) packets left left_then = left_then ≡ counted (length packets) left
-LeftBy (Some end) packets left left_then = (front : List (List ℕ)) × (last : List ℕ) × (packets ≡ front ++ last ∷ []) × (left_then ≡ counted (length front) left)
-
-pub record TookAll {S V : Type 0} (step : S → ℕ × S) (serve : Step V) (lock : Lock) (ring : List RingKey) (side : Sides S V) (now most : ℕ) (wire wire_then : Line) (left left_then : Option ℕ) (end : Option ConnEnd) (later : Sides S V) : Type 0 where
+-- they came and were answered
+pub record AllCame {S V : Type 0} (step : S → ℕ × S) (serve : Step V) (lock : Lock) (ring : List RingKey) (side : Sides S V) (now : ℕ) (wire wire_then : Line) (left left_then : Option ℕ) (end : Option ConnEnd) (later : Sides S V) : Type 0 where
   pub packets : List (List ℕ)
-  pub did : (service : V) → Did step serve lock ring (side service) (λ rules talk. packets_acts rules now packets talk) end (later service)
-  pub heard : HeardAll end wire most packets wire_then
-  pub left_is : LeftBy end packets left left_then
+  pub did : (service : V) → Did step serve lock ring (side service) (λ rules talk. packets_acts rules now packets talk) None (later service)
+  pub heard : HeardAll end wire packets wire_then
+  pub left_is : left_then ≡ counted (length packets) left
+
+-- these were answered, and an event of the next one ended the connection
+pub record AllCut {S V : Type 0} (step : S → ℕ × S) (serve : Step V) (lock : Lock) (ring : List RingKey) (side : Sides S V) (now : ℕ) (wire : Line) (left left_then : Option ℕ) (end : ConnEnd) (later : Sides S V) : Type 0 where
+  pub packets : List (List ℕ)
+  pub packet : List ℕ
+  pub did : (service : V) → DidThen step serve lock ring (side service) (λ rules talk. packets_acts rules now packets talk) (λ rules talk. packet_acts rules now packet talk) (Some end) (later service)
+  pub next : (from : Option CtrState) (before : List (List ℕ)) (bytes : List ℕ) → Hears wire from before bytes → Begins (framing_of wire.form) (before ++ (packets ++ packet ∷ [])) (through from bytes)
+  pub left_is : left_then ≡ counted (length packets) left
+
+abbrev pub TookAll : {S V : Type 0} → (S → ℕ × S) → Step V → Lock → List RingKey → Sides S V → ℕ → Line → Line → Option ℕ → Option ℕ → Option ConnEnd → Sides S V → Type 0
+TookAll step serve lock ring side now wire wire_then left left_then None later = AllCame step serve lock ring side now wire wire_then left left_then None later
+TookAll step serve lock ring side now wire wire_then left left_then (Some (ends.Frame fault)) later = AllCame step serve lock ring side now wire wire_then left left_then (Some (ends.Frame fault)) later
+TookAll step serve lock ring side now wire wire_then left left_then (Some ends.Stopped) later = AllCame step serve lock ring side now wire wire_then left left_then (Some ends.Stopped) later
+TookAll step serve lock ring side now wire wire_then left left_then (Some end) later = AllCut step serve lock ring side now wire left left_then end later
 
 -- so many came, and the connection goes on
 pub record TookSome {S V : Type 0} (step : S → ℕ × S) (serve : Step V) (lock : Lock) (ring : List RingKey) (side : Sides S V) (now count : ℕ) (wire wire_then : Line) (left left_then : Option ℕ) (later : Sides S V) : Type 0 where
@@ -209,31 +228,40 @@ pub record TookSome {S V : Type 0} (step : S → ℕ × S) (serve : Step V) (loc
 
 -- ---- a piece
 
--- A piece came at this moment: packets, a tick and runs, or a front of these events where the connection ended.
-pub record TookPiece {S V : Type 0} (step : S → ℕ × S) (serve : Step V) (lock : Lock) (ring : List RingKey) (side : Side S V) (now : ℕ) (end : Option ConnEnd) (later : Side S V) : Type 0 where
-  pub packets : List (List ℕ)
-  pub runs : ℕ
-  pub became : Became step serve lock ring side (λ rules talk. turn_acts rules (record { now = now; packets = packets; runs = runs }) talk) end later
+-- what a line becomes by it
+abbrev pub Fed : Ends → List ℕ → Ends → Type 0
+Fed (Raw wire) piece (Raw other) = (other ≡ wire ++ piece) × IsAwaited (wire ++ piece)
+Fed (Raw wire) piece (Framed other) = HasStarted other (wire ++ piece)
+Fed (Framed wire) piece (Raw other) = ⊥
+Fed (Framed wire) piece (Framed other) =
+    ((from : Option CtrState) (packets : List (List ℕ)) (bytes : List ℕ) → Hears wire from packets bytes → Hears other from packets (bytes ++ piece))
+    × SameOut wire other
 
--- the packets of a piece alone
-pub record TookWhole {S V : Type 0} (step : S → ℕ × S) (serve : Step V) (lock : Lock) (ring : List RingKey) (side : Side S V) (now : ℕ) (end : Option ConnEnd) (later : Side S V) : Type 0 where
-  pub packets : List (List ℕ)
-  pub became : Became step serve lock ring side (λ rules talk. packets_acts rules now packets talk) end later
+-- it ends the connection where the first 64 bytes name no form
+abbrev pub Unfed : Ends → List ℕ → ConnEnd → Type 0
+Unfed (Raw wire) piece ends.Start = IsUnnamed (wire ++ piece)
+Unfed (Framed wire) piece ends.Start = ⊥
+Unfed line piece end = ⊤
+
+-- no packet is whole where the form isn't known
+pub record WholeRaw {S V : Type 0} (step : S → ℕ × S) (serve : Step V) (lock : Lock) (ring : List RingKey) (side : Sides S V) (wire : List ℕ) (line_then : Ends) (left left_then : Option ℕ) (end : Option ConnEnd) (later : Sides S V) : Type 0 where
+  pub goes_on : end ≡ None
+  pub did : (service : V) → Did step serve lock ring (side service) (λ rules talk. []) None (later service)
+  pub line : line_then ≡ Raw wire
+  pub left_is : left_then ≡ left
+
+pub record WholeFramed {S V : Type 0} (step : S → ℕ × S) (serve : Step V) (lock : Lock) (ring : List RingKey) (side : Sides S V) (now : ℕ) (wire : Line) (line_then : Ends) (left left_then : Option ℕ) (end : Option ConnEnd) (later : Sides S V) : Type 0 where
+  pub wire_then : Line
+  pub line : line_then ≡ Framed wire_then
+  pub form : wire_then.form ≡ wire.form
+  pub took : TookAll step serve lock ring side now wire wire_then left left_then end later
+
+-- the packets of a piece
+abbrev pub TookWhole : {S V : Type 0} → (S → ℕ × S) → Step V → Lock → List RingKey → Sides S V → ℕ → Ends → Ends → Option ℕ → Option ℕ → Option ConnEnd → Sides S V → Type 0
+TookWhole step serve lock ring side now (Raw wire) line_then left left_then end later = WholeRaw step serve lock ring side wire line_then left left_then end later
+TookWhole step serve lock ring side now (Framed wire) line_then left left_then end later = WholeFramed step serve lock ring side now wire line_then left left_then end later
 
 -- the line that a piece left, where the connection goes on
 abbrev pub line_in : Result Ends ConnEnd → Ends
 line_in (Ok line) = line
 line_in (Err end) = Raw []
-
--- a form that is known stays known
-abbrev pub FeedsTo : Ends → Ends → Type 0
-FeedsTo (Raw wire) after = ⊤
-FeedsTo (Framed wire) (Raw other) = ⊥
-FeedsTo (Framed wire) (Framed other) = ⊤
-
--- ---- a turn
-
--- A turn came: no piece, where the connection ended by a read, or the events of one.
-pub record TookTurn {S V : Type 0} (step : S → ℕ × S) (serve : Step V) (lock : Lock) (ring : List RingKey) (side : Side S V) (end : Option ConnEnd) (later : Side S V) : Type 0 where
-  pub turns : List Turn
-  pub became : Became step serve lock ring side (λ rules talk. turns_acts rules turns talk) end later

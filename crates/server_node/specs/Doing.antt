@@ -1,5 +1,5 @@
 -- What the events of a connection do, over a desk, a line and a link: scaffolding of proofs, and no promise.
-use Rattle.std.specs.Prelude.{◌≡◌, ◌≢◌, ◌⊎◌, ℕ, List, ◌++◌, zero, suc, Option, Some, None, Result, Ok, Err, ⊤}
+use Rattle.std.specs.Prelude.{◌≡◌, ◌≢◌, ℕ, List, ◌++◌, zero, suc, Option, Some, None, Result, Ok, Err, ⊤}
 use Rattle.auth_keys.specs.declared.ring.RingKey.{RingKey}
 use Rattle.cipher_modes.specs.CounterMode.{CtrState}
 use Rattle.envelope.specs.Packet.{Lock}
@@ -8,6 +8,7 @@ use Rattle.regs_service.specs.Served.{Step}
 use Rattle.server_rules.specs.Server.{Server}
 use Rattle.server_core.specs.declared.desk.DeskFault.{DeskFault}
 use Rattle.server_core.specs.declared.desk.DeskFault.TheVariants as faults
+use Rattle.server_node.specs.Connection.{IsIdle}
 use Rattle.server_node.specs.Steps.{IsQuiet, LineTells, SentBy}
 use Rattle.server_node.specs.Trace.{rules_of, Act, IsOutside, Outside, Rules, Talk, after_acts, work_acts}
 use Rattle.server_node.specs.Writes.{WrittenBy}
@@ -51,7 +52,7 @@ StandsBy (Some ends.Start) side talk = Serves side talk
 StandsBy (Some ends.TurnsSpent) side talk = Serves side talk
 StandsBy (Some ends.Stopped) side talk = Serves side talk
 
--- all these events came, or a front of them where the connection ended
+-- all these events came, or a front of them where one of them ended the connection
 abbrev pub IsPart : Option ConnEnd → List Act → List Act → Type 0
 IsPart None whole acts = whole ≡ acts
 IsPart (Some end) whole acts = (rest : List Act) × (whole ≡ acts ++ rest)
@@ -76,22 +77,31 @@ pub record Did {S V : Type 0} (step : S → ℕ × S) (serve : Step V) (lock : L
       → Followed (rules_of step serve outside) side due end later acts bytes talk
   pub written : WrittenBy end bytes side.told later.told
 
+-- Behind some events, of others that follow them all came, or a front where the connection ended.
+pub record FollowedThenBy {S V : Type 0} (rules : Rules S V) (side : Side S V) (second : Due S V) (end : Option ConnEnd) (later : Side S V) (first acts : List Act) (bytes : List ℕ) (talk : Talk S V) : Type 0 where
+  pub part : IsPart end (second rules (after_acts rules talk first)) acts
+  pub stands : StandsBy end later (after_acts rules (after_acts rules talk first) acts)
+  pub sends : (to : Option CtrState) (text : List ℕ) → LineTells side.line to talk.sent text → SentBy end later.line to (after_acts rules (after_acts rules talk first) acts).sent (text ++ bytes)
+
+pub record DidThen {S V : Type 0} (step : S → ℕ × S) (serve : Step V) (lock : Lock) (ring : List RingKey) (side : Side S V) (first second : Due S V) (end : Option ConnEnd) (later : Side S V) : Type 0 where
+  pub acts : List Act
+  pub bytes : List ℕ
+  pub follows : (outside : Outside) (talk : Talk S V) → IsOutside lock ring outside → Stands side talk
+      → FollowedThenBy (rules_of step serve outside) side second end later (first (rules_of step serve outside) talk) acts bytes talk
+  pub written : WrittenBy end bytes side.told later.told
+
 -- ---- work
 
--- the most runs after a piece
-abbrev pub runs_max : ℕ
-runs_max = 1048576
-
--- no job is ready then, or as many ran as there may be
-abbrev pub IsAll : Option ConnEnd → ℕ → ℕ → Type 0
-IsAll None ready count = (ready ≡ 0) ⊎ (count ≡ runs_max)
-IsAll (Some end) ready count = ⊤
+-- where it goes on, no job is ready then, or as many ran as there may be
+abbrev pub IsIdleBy : Option ConnEnd → ℕ → (Server → Type 0) → Type 0
+IsIdleBy None count desk = (server : Server) → desk server → IsIdle count server
+IsIdleBy (Some end) count desk = ⊤
 
 -- A tick came, and so many runs.
-pub record Worked {S V : Type 0} (step : S → ℕ × S) (serve : Step V) (lock : Lock) (ring : List RingKey) (side : Side S V) (now ready : ℕ) (end : Option ConnEnd) (later : Side S V) : Type 0 where
+pub record Worked {S V : Type 0} (step : S → ℕ × S) (serve : Step V) (lock : Lock) (ring : List RingKey) (side : Side S V) (now : ℕ) (end : Option ConnEnd) (later : Side S V) : Type 0 where
   pub count : ℕ
   pub did : Did step serve lock ring side (λ rules talk. work_acts now count) end later
-  pub all : IsAll end ready count
+  pub idle : IsIdleBy end count later.desk
 
 -- ---- how events end a connection
 
@@ -126,6 +136,17 @@ IsPacketEnd MayAnswer (Some ends.Ended) = ⊥
 IsPacketEnd MayAnswer (Some ends.Start) = ⊥
 IsPacketEnd MayAnswer (Some ends.TurnsSpent) = ⊥
 IsPacketEnd MayAnswer (Some ends.Stopped) = ⊥
+
+abbrev pub IsPacketsEnd : (DeskFault → Type 0) → Option ConnEnd → Type 0
+IsPacketsEnd MayAnswer None = ⊤
+IsPacketsEnd MayAnswer (Some ends.LinkFault) = ⊤
+IsPacketsEnd MayAnswer (Some ends.Memory) = ⊤
+IsPacketsEnd MayAnswer (Some (ends.Journal fault)) = MayAnswer fault × (fault ≢ faults.Memory)
+IsPacketsEnd MayAnswer (Some (ends.Frame fault)) = ⊤
+IsPacketsEnd MayAnswer (Some ends.Stopped) = ⊤
+IsPacketsEnd MayAnswer (Some ends.Ended) = ⊥
+IsPacketsEnd MayAnswer (Some ends.Start) = ⊥
+IsPacketsEnd MayAnswer (Some ends.TurnsSpent) = ⊥
 
 abbrev pub IsPieceEnd : (DeskFault → Type 0) → Option ConnEnd → Type 0
 IsPieceEnd MayAnswer None = ⊤
@@ -168,11 +189,3 @@ abbrev pub stop_by : Option ℕ → Result Unit ConnEnd
 stop_by None = Ok tt
 stop_by (Some zero) = Err ends.Stopped
 stop_by (Some (suc left)) = Ok tt
-
--- ---- events alone
-
--- These events came, for whatever this stood for.
-pub record Became {S V : Type 0} (step : S → ℕ × S) (serve : Step V) (lock : Lock) (ring : List RingKey) (side : Side S V) (due : Due S V) (end : Option ConnEnd) (later : Side S V) : Type 0 where
-  pub acts : List Act
-  pub part : (outside : Outside) (talk : Talk S V) → IsOutside lock ring outside → Stands side talk → IsPart end (due (rules_of step serve outside) talk) acts
-  pub stands : (outside : Outside) (talk : Talk S V) → IsOutside lock ring outside → Stands side talk → StandsBy end later (after_acts (rules_of step serve outside) talk acts)

@@ -3,6 +3,8 @@ pub mod Writes
 pub mod Record
 pub mod Steps
 pub mod Trace
+pub mod Served
+pub mod Connection
 pub mod Doing
 pub mod Coming
-pub mod Served
+pub mod Turns

@@ -74,6 +74,11 @@ abbrev pub counted_down : Option ℕ → Option ℕ
 counted_down None = None
 counted_down (Some left) = Some (left - 1)
 
+-- so many packets fewer
+abbrev pub counted : ℕ → Option ℕ → Option ℕ
+counted count None = None
+counted count (Some left) = Some (left - count)
+
 abbrev pub IsFewer : Option ℕ → Option ℕ → Type 0
 IsFewer None after = after ≡ None
 IsFewer (Some left) None = ⊥

@@ -136,19 +136,3 @@ runs now (suc count) = Run now ∷ runs now count
 -- When no whole packet is left there is a tick, and then the first ready job runs, so many times.
 abbrev pub work_acts : ℕ → ℕ → List Act
 work_acts now count = Tick now ∷ runs now count
-
--- ---- the events of a connection
-
--- a turn: a moment, packets, and how many jobs run then; that these are of a piece that was read isn't said
-pub record Turn : Type 0 where
-  pub now : ℕ
-  pub packets : List (List ℕ)
-  pub runs : ℕ
-
--- its packets come, and then there is a tick, and the first ready job runs, so many times
-abbrev pub turn_acts : {S V : Type 0} → Rules S V → Turn → Talk S V → List Act
-turn_acts rules turn talk = packets_acts rules turn.now turn.packets talk ++ work_acts turn.now turn.runs
-
-abbrev pub turns_acts : {S V : Type 0} → Rules S V → List Turn → Talk S V → List Act
-turns_acts rules [] talk = []
-turns_acts rules (turn ∷ turns) talk = turn_acts rules turn talk ++ turns_acts rules turns (after_acts rules talk (turn_acts rules turn talk))

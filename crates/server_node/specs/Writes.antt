@@ -43,7 +43,7 @@ WroteBy (Some ends.Memory) bytes before after = Wrote bytes before after
 abbrev pub WrittenBy : Option ConnEnd → List ℕ → Option Told → Option Told → Type 0
 WrittenBy end bytes before after = IfSome after (λ last. IsSomeAnd before (λ first. WroteBy end bytes first last))
 
--- the count of the link's faults: one call failed exactly where the connection ended by that
+-- the count of the link's faults: one more, or still its last value, where the connection ended by that; else the same
 abbrev pub CountsBy : Option ConnEnd → ℕ → ℕ → Type 0
 CountsBy (Some ends.LinkFault) before after = after ≡ one_more before
 CountsBy None before after = after ≡ before
@@ -65,7 +65,7 @@ abbrev pub GoesOn : Option ConnEnd → Option Told → Option Told → Type 0
 GoesOn None before after = IsSome before → IsSome after
 GoesOn (Some end) before after = Unit {0}
 
--- What a link is after writes: it is in its place, one call failed exactly where the connection ended by that, and it goes on
+-- What a link is after writes: it is in its place, its count tells of a fault where the connection ended by that, and it goes on
 -- telling unless a call failed, and through the first one that fails.
 pub record Goes (end : Option ConnEnd) (place faults : ℕ) (told : Option Told) (place_then faults_then : ℕ) (told_then : Option Told) : Type 0 where
   pub same_place : place_then ≡ place

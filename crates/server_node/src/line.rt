@@ -1,7 +1,7 @@
 //! A server's end of a connection.
 
-ghost use Rattle.std.specs.Prelude.{IfOk};
-ghost use Rattle.server_node.specs.Coming.{FeedsTo};
+ghost use Rattle.std.specs.Prelude.{IfErr, IfOk};
+ghost use Rattle.server_node.specs.Coming.{Fed, Unfed};
 ghost use Rattle.server_node.specs.Doing.{IsFeedEnd};
 ghost use Rattle.server_node.specs.Writes.{end_in};
 
@@ -25,7 +25,8 @@ pub(crate) enum Line {
 ///
 /// `Start`: the first 64 bytes name no form. `Memory`.
 pub(crate) fn feed(line: Line, alloc: Global, piece: &[u8]) -> Result<Line, ConnEnd>
-    ensures fed { IfOk result (λ after. FeedsTo line after) }
+    ensures fed { IfOk result (λ after. Fed line piece.now after) }
+    ensures unfed { IfErr result (λ end. Unfed line piece.now end) }
     ensures ends { IsFeedEnd (end_in result) }
 {
     match line {

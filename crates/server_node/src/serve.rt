@@ -1,12 +1,15 @@
 //! A server's connection.
 
-ghost use Rattle.std.specs.Prelude.{◌≡◌, ◌≢◌, ◌<◌, IfSome, IsSome, IsSomeAnd, length};
+ghost use Rattle.std.specs.Prelude.{◌≡◌, ◌≢◌, IfSome, IsSome, IsSomeAnd, length};
 ghost use Rattle.server_core.specs.declared.desk.DeskFault.{DeskFault};
 ghost use Rattle.server_core.specs.declared.desk.DeskFault.TheVariants as faults;
-ghost use Rattle.server_node.specs.Coming.{TookPiece, TookTurn, TookWhole, line_in};
-ghost use Rattle.server_node.specs.Doing.{IsPieceEnd, IsTurnEnd};
+ghost use Rattle.server_node.specs.Coming.{TookWhole, line_in};
+ghost use Rattle.server_node.specs.Connection.{ServerTrace, Sight};
+ghost use Rattle.server_node.specs.Doing.{IsPacketsEnd, IsPieceEnd, IsTurnEnd};
 ghost use Rattle.server_node.specs.Record.{Answered, ReadTo, Turned};
-ghost use Rattle.server_node.specs.Served.{Served};
+ghost use Rattle.server_node.specs.Served.{Begins};
+ghost use Rattle.server_node.specs.Trace.{IsOutside, Outside, Talk, rules_of};
+ghost use Rattle.server_node.specs.Turns.{TookPiece, TookTurn};
 ghost use Rattle.server_node.specs.Writes.{CountsBy, Goes, end_in};
 
 use crate::conn::{Conn, ConnEnd};
@@ -28,9 +31,6 @@ const PIECE_BYTES: usize = 65_536;
 /// The most pieces that one connection gives.
 const TURNS_MAX: u32 = 1_000_000;
 
-/// The most bytes of a start.
-const START_BYTES: usize = 64;
-
 // The packets that are whole come, where the form of the connection is known.
 #[tactic(auto, using(crate::proofs::Goings::goes_none, crate::proofs::Goings::none_answered))]
 fn take_whole<L: Link, K: Desk, V: Service>(
@@ -42,27 +42,27 @@ fn take_whole<L: Link, K: Desk, V: Service>(
     heard: &mut HeardSessions,
     text: &mut Octets,
     left: &mut Option<u64>,
-    most: usize,
 ) -> Result<(), ConnEnd>
     requires some { left.old ≢ Some 0 }
-    ensures took { (service : V) → TookWhole K.D.step V.step K.S.lock (K.keys desk.old)
-        (record { desk = K.StandsFor desk.old; drawn = K.drawn desk.old; service = service; heard = heard.old; line = line.old; told = L.told link.old }) now (end_in result)
-        (record { desk = K.StandsFor desk.new; drawn = K.drawn desk.new; service = service; heard = heard.new; line = line.new; told = L.told link.new }) }
+    ensures took { TookWhole K.D.step V.step K.S.lock (K.keys desk.old)
+        (λ (service : V). record { desk = K.StandsFor desk.old; drawn = K.drawn desk.old; service = service; heard = heard.old; line = line.old; told = L.told link.old })
+        now line.old line.new left.old left.new (end_in result)
+        (λ (service : V). record { desk = K.StandsFor desk.new; drawn = K.drawn desk.new; service = service; heard = heard.new; line = line.new; told = L.told link.new }) }
     ensures goes { Goes (end_in result) (L.place link.old) (L.faults link.old) (L.told link.old) (L.place link.new) (L.faults link.new) (L.told link.new) }
-    ensures ends { IsPieceEnd K.MayAnswer (end_in result) }
+    ensures ends { IsPacketsEnd K.MayAnswer (end_in result) }
     ensures left { Answered (end_in result) left.old left.new }
     ensures same_keys { K.keys desk.new ≡ K.keys desk.old }
 {
     match line {
         Line::Raw(_) => Ok(()),
         Line::Framed(wire) => {
-            take_packets::<L, K, V>(alloc, desk, now, wire, link, heard, text, left, most)
+            take_packets::<L, K, V>(alloc, desk, now, wire, link, heard, text, left)
         }
     }
 }
 
 // All that a piece brings.
-#[tactic(auto, using(crate::proofs::Goings::goes_both, crate::proofs::Goings::feed_goes, crate::proofs::Goings::feed_is_piece_end, crate::proofs::Goings::feed_answered, crate::proofs::Goings::event_is_piece_end, crate::proofs::Goings::answered_then))]
+#[tactic(auto, using(crate::proofs::Goings::goes_both, crate::proofs::Goings::feed_goes, crate::proofs::Goings::feed_is_piece_end, crate::proofs::Goings::packets_is_piece_end, crate::proofs::Goings::feed_answered, crate::proofs::Goings::event_is_piece_end, crate::proofs::Goings::answered_then))]
 fn take_piece<L: Link, K: Desk, V: Service>(
     alloc: Global,
     line: Line,
@@ -76,9 +76,10 @@ fn take_piece<L: Link, K: Desk, V: Service>(
     left: &mut Option<u64>,
 ) -> Result<Line, ConnEnd>
     requires some { left.old ≢ Some 0 }
-    ensures took { TookPiece K.D.step V.step K.S.lock (K.keys desk.old)
-        (record { desk = K.StandsFor desk.old; drawn = K.drawn desk.old; service = service.old; heard = heard.old; line = line; told = L.told link.old }) now (end_in result)
-        (record { desk = K.StandsFor desk.new; drawn = K.drawn desk.new; service = service.new; heard = heard.new; line = line_in result; told = L.told link.new }) }
+    ensures took { TookPiece K.D.step V.step K.S.lock (K.keys desk.old) piece.now now
+        (record { desk = K.StandsFor desk.old; drawn = K.drawn desk.old; service = service.old; heard = heard.old; line = line; told = L.told link.old })
+        (record { desk = K.StandsFor desk.new; drawn = K.drawn desk.new; service = service.new; heard = heard.new; line = line_in result; told = L.told link.new })
+        left.old left.new (end_in result) }
     ensures goes { Goes (end_in result) (L.place link.old) (L.faults link.old) (L.told link.old) (L.place link.new) (L.faults link.new) (L.told link.new) }
     ensures ends { IsPieceEnd K.MayAnswer (end_in result) }
     ensures left { Answered (end_in result) left.old left.new }
@@ -88,10 +89,7 @@ fn take_piece<L: Link, K: Desk, V: Service>(
         Ok(line) => line,
         Err(end) => return Err(end),
     };
-    let most = piece.len().saturating_add(START_BYTES);
-    if let Err(end) = take_whole::<L, K, V>(
-        alloc, &mut line, now, desk, link, heard, text, left, most,
-    ) {
+    if let Err(end) = take_whole::<L, K, V>(alloc, &mut line, now, desk, link, heard, text, left) {
         return Err(end);
     }
     match work_all(alloc, desk, service, now, &mut line, link, heard, text) {
@@ -114,11 +112,12 @@ fn take_turn<L: Link, K: Desk, V: Service, C: Clock>(
     text: &mut Octets,
     left: &mut Option<u64>,
 ) -> Result<Line, ConnEnd>
-    requires room { 0 < length into.old }
+    requires room { length into.old ≡ 65536 }
     requires some { left.old ≢ Some 0 }
     ensures took { TookTurn K.D.step V.step K.S.lock (K.keys desk.old)
-        (record { desk = K.StandsFor desk.old; drawn = K.drawn desk.old; service = service.old; heard = heard.old; line = line; told = L.told link.old }) (end_in result)
-        (record { desk = K.StandsFor desk.new; drawn = K.drawn desk.new; service = service.new; heard = heard.new; line = line_in result; told = L.told link.new }) }
+        (record { desk = K.StandsFor desk.old; drawn = K.drawn desk.old; service = service.old; heard = heard.old; line = line; told = L.told link.old })
+        (record { desk = K.StandsFor desk.new; drawn = K.drawn desk.new; service = service.new; heard = heard.new; line = line_in result; told = L.told link.new })
+        (record { told = L.told link.old; given = C.given clock.old; left = left.old }) (record { told = L.told link.new; given = C.given clock.new; left = left.new }) (end_in result) }
     ensures turned { IfSome (L.told link.new) (λ after. IsSomeAnd (L.told link.old) (λ before. Turned (end_in result) (length into.new) before after)) }
     ensures same_place { L.place link.new ≡ L.place link.old }
     ensures counted { CountsBy (end_in result) (L.faults link.old) (L.faults link.new) }
@@ -153,7 +152,9 @@ fn take_turns<L: Link, K: Desk, V: Service, C: Clock>(
 ) -> ConnEnd
     requires room { length into.old ≡ 65536 }
     requires some { left.old ≢ Some 0 }
-    ensures served { Served K.D.step V.step K.S.lock (K.keys desk.old) result (K.StandsFor desk.old) (K.drawn desk.old) service.old (K.StandsFor desk.new) (K.drawn desk.new) service.new }
+    ensures trace { (outside : Outside) (talk : Talk K.D V) → IsOutside K.S.lock (K.keys desk.old) outside → Begins (K.StandsFor desk.old) (K.drawn desk.old) service.old talk
+        → ServerTrace (rules_of K.D.step V.step outside) talk (record { told = L.told link.old; given = C.given clock.old; left = left.old }) result
+        (K.StandsFor desk.new) (K.drawn desk.new) service.new (record { told = L.told link.new; given = C.given clock.new; left = left.new }) }
     ensures record { IfSome (L.told link.new) (λ after. IsSomeAnd (L.told link.old) (λ before. ReadTo result before after)) }
     ensures same_place { L.place link.new ≡ L.place link.old }
     ensures counted { CountsBy (Some result) (L.faults link.old) (L.faults link.new) }
@@ -176,9 +177,10 @@ fn take_turns<L: Link, K: Desk, V: Service, C: Clock>(
     ConnEnd::TurnsSpent
 }
 
-/// Serves one connection: hands its packets to a desk and writes what comes of them, until it ends. It gives the link back;
-/// that it isn't closed no clause says, nor that the events are those of the bytes that came. `left` counts the packets that are still to be answered, where they are counted; it
-/// isn't 0 at the start.
+/// Serves one connection: hands its packets to a desk and writes what comes of them, until it ends. What it reads, does and
+/// writes is the trace of a server (`specs/Connection.antt`), up to the end and its cause. It gives the link back; that it
+/// isn't closed no clause says. `left` counts the packets that are still to be answered, where they are counted; it isn't 0
+/// at the start.
 pub fn serve_one<L: Link, K: Desk, V: Service, C: Clock>(
     alloc: Global,
     conn: Conn<L>,
@@ -188,13 +190,15 @@ pub fn serve_one<L: Link, K: Desk, V: Service, C: Clock>(
     left: &mut Option<u64>,
 ) -> (L, ConnEnd)
     requires some { left.old ≢ Some 0 }
-    // Its events are those of some turns, or a front of them; the desk, the draw and the service are then what the rules give
-    // by them, but the draw where memory ran out, and all of it after another fault of the desk.
-    ensures served { Served K.D.step V.step K.S.lock (K.keys desk.old) result.1 (K.StandsFor desk.old) (K.drawn desk.old) service.old (K.StandsFor desk.new) (K.drawn desk.new) service.new }
+    // What it did is the trace of a server: its turns, one a piece that was read, and how it closed behind them. By these the
+    // server, the draw and the service, the bytes written, the reads, the moments and the count are what they are.
+    ensures trace { (outside : Outside) (talk : Talk K.D V) → IsOutside K.S.lock (K.keys desk.old) outside → Begins (K.StandsFor desk.old) (K.drawn desk.old) service.old talk
+        → ServerTrace (rules_of K.D.step V.step outside) talk (record { told = L.told conn; given = C.given clock.old; left = left.old }) result.1
+        (K.StandsFor desk.new) (K.drawn desk.new) service.new (record { told = L.told result.0; given = C.given clock.new; left = left.new }) }
     // What was read: pieces, each into 65,536 bytes of room, and the read that ended it, if one did.
     ensures record { IfSome (L.told result.0) (λ after. IsSomeAnd (L.told conn) (λ before. ReadTo result.1 before after)) }
     ensures same_place { L.place result.0 ≡ L.place conn }
-    // One call of the link failed exactly where it ended by that, and no other did.
+    // The count of the link's faults is one more, or still its last value, exactly where it ended by that; else it is the same.
     ensures counted { CountsBy (Some result.1) (L.faults conn) (L.faults result.0) }
     ensures first_fault { IsSome (L.told conn) → L.faults conn ≡ 0 → IsSome (L.told result.0) }
     // None is left exactly where it ended by that.

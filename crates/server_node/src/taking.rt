@@ -2,7 +2,7 @@
 
 ghost use Rattle.std.specs.Prelude.{◌≡◌, ◌≢◌, ◌∷◌, [], IfErr};
 ghost use Rattle.server_node.specs.Coming.{CameBy, NextBy, SameOut, SaysBy, TookAll, TookBy, came_by};
-ghost use Rattle.server_node.specs.Doing.{Did, IsEventEnd, IsPacketEnd, IsPieceEnd, end_by, stop_by};
+ghost use Rattle.server_node.specs.Doing.{Did, IsEventEnd, IsPacketEnd, IsPacketsEnd, end_by, stop_by};
 ghost use Rattle.server_node.specs.Record.{Answered, counted_down};
 ghost use Rattle.server_node.specs.Steps.{IsSameIn, IsSendEnd};
 ghost use Rattle.server_node.specs.Trace.{Attach};
@@ -223,12 +223,15 @@ fn count_down(left: &mut Option<u64>) -> Result<(), ConnEnd>
     }
 }
 
+/// More packets than one connection has bytes: pieces of 65,536 bytes, 1,000,000 of them.
+const PACKETS_MAX: u64 = 65_536_000_001;
+
 /// The packets that are whole come, one after the other.
 ///
 /// # Errors
 ///
 /// Why the connection ends.
-#[tactic(auto, using(crate::proofs::Goings::goes_both, crate::proofs::Goings::one_fewer, crate::proofs::Goings::still_left, crate::proofs::Goings::packet_is_piece_end))]
+#[tactic(auto, using(crate::proofs::Goings::goes_both, crate::proofs::Goings::one_fewer, crate::proofs::Goings::still_left, crate::proofs::Goings::packet_is_packets_end))]
 pub(crate) fn take_packets<L: Link, K: Desk, V: Service>(
     alloc: Global,
     desk: &mut K,
@@ -238,19 +241,19 @@ pub(crate) fn take_packets<L: Link, K: Desk, V: Service>(
     heard: &mut HeardSessions,
     text: &mut Octets,
     left: &mut Option<u64>,
-    most: usize,
 ) -> Result<(), ConnEnd>
     requires some { left.old ≢ Some 0 }
     ensures took { TookAll K.D.step V.step K.S.lock (K.keys desk.old)
         (λ (service : V). record { desk = K.StandsFor desk.old; drawn = K.drawn desk.old; service = service; heard = heard.old; line = Line.Framed wire.old; told = L.told link.old })
-        now most wire.old wire.new left.old left.new (end_in result)
+        now wire.old wire.new left.old left.new (end_in result)
         (λ (service : V). record { desk = K.StandsFor desk.new; drawn = K.drawn desk.new; service = service; heard = heard.new; line = Line.Framed wire.new; told = L.told link.new }) }
     ensures goes { Goes (end_in result) (L.place link.old) (L.faults link.old) (L.told link.old) (L.place link.new) (L.faults link.new) (L.told link.new) }
-    ensures ends { IsPieceEnd K.MayAnswer (end_in result) }
+    ensures ends { IsPacketsEnd K.MayAnswer (end_in result) }
     ensures left { Answered (end_in result) left.old left.new }
+    ensures same_form { wire.new.form ≡ wire.old.form }
     ensures same_keys { K.keys desk.new ≡ K.keys desk.old }
 {
-    'packets: for _count in 0..most {
+    'packets: for _count in 0..PACKETS_MAX {
         match take_packet::<L, K, V>(alloc, desk, now, wire, link, heard, text) {
             Ok(true) => {}
             Ok(false) => return Ok(()),

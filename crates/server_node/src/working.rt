@@ -96,7 +96,7 @@ pub(crate) fn work_all<L: Link, K: Desk, V: Service>(
 ) -> Result<(), ConnEnd>
     ensures worked { Worked K.D.step V.step K.S.lock (K.keys desk.old)
         (record { desk = K.StandsFor desk.old; drawn = K.drawn desk.old; service = service.old; heard = heard.now; line = line.old; told = L.told link.old })
-        now (K.ready_jobs desk.new) (end_in result)
+        now (end_in result)
         (record { desk = K.StandsFor desk.new; drawn = K.drawn desk.new; service = service.new; heard = heard.now; line = line.new; told = L.told link.new }) }
     ensures goes { Goes (end_in result) (L.place link.old) (L.faults link.old) (L.told link.old) (L.place link.new) (L.faults link.new) (L.told link.new) }
     ensures ends { IsEventEnd K.MayAnswer (end_in result) }

@@ -23,6 +23,8 @@ mod servers;
 #[cfg(test)]
 mod sessions;
 #[cfg(test)]
+mod stepped;
+#[cfg(test)]
 mod submits;
 #[cfg(test)]
 mod talks;

@@ -34,7 +34,7 @@ use Rattle.world_rules.specs.World.{Packet, Seat, World, changed_from_0, lives}
 use Rattle.world_rules.specs.Ends.{acts, flushes, seat_changed, sent_up}
 use Rattle.world_rules.specs.Premises.{drawn_for_session, names_drawn, sessions_drawn}
 use Rattle.world_servers.specs.Worlds.{StandsIn as AreServersIn}
-use Rattle.world_law.specs.Standing.{AreSeated, HasMoves, IsBagged, IsDown, IsKeyOf, IsSeated, WorldStands, key_at}
+use Rattle.world_law.specs.Standing.{AreSeated, MovesOn, IsBagged, IsDown, IsKeyOf, IsSeated, WorldStands, key_at}
 use Rattle.world_law.proofs.Lists.{all_append, map_all}
 use Rattle.world_law.proofs.Places.{changed_other, changed_there}
 use Rattle.world_law.proofs.Counting.{AreFresh, count, count_append}
@@ -162,9 +162,10 @@ module _ {S V : Type 0} (known : Moving) (still : Still) (servers : ServersStill
 
     -- it does something, and no packet is made
     pub by_leads : (client : Client) (draw : S) → client.key ≡ seat.client.key → Leads place w (λ later. StandsAs later place client)
-        → HasMoves (record world { seats = seat_changed (suc place) client world.seats; draw = draw })
+        → MovesOn w (record world { seats = seat_changed (suc place) client world.seats; draw = draw })
     by_leads client draw key l = (
-      after_all w l.moves,
+      l.moves,
+      l.lawful,
       goes_on l.moves l.lawful l.own (with_client client) (keep_keys client key) draw world.bag (seats_on l.moves l.lawful l.own client l.gives)
           (bag_on l.moves l.lawful l.own (with_client client) (keep_keys client key)),
     )
@@ -179,27 +180,27 @@ module _ {S V : Type 0} (known : Moving) (still : Still) (servers : ServersStill
           (acts_so.submits w place seat.client body earlier (none_of (submit_fault body earlier seat.client) is) stands))
           (λ is. stays place w (λ later. StandsAs later place seat.client) stands)
 
-      pub submitted_so : (setting : Setting S V) (body : List ℕ) (earlier : Option CallNo) → HasMoves (acts setting (suc place) seat (wishes.Submit body earlier) world)
+      pub submitted_so : (setting : Setting S V) (body : List ℕ) (earlier : Option CallNo) → MovesOn w (acts setting (suc place) seat (wishes.Submit body earlier) world)
       submitted_so setting body earlier = by_leads (unless_fault body earlier seat.client) world.draw (submits_same body earlier seat.client).0 (submit_leads body earlier)
 
-      pub attached_so : (setting : Setting S V) → HasMoves (acts setting (suc place) seat wishes.Attach world)
+      pub attached_so : (setting : Setting S V) → MovesOn w (acts setting (suc place) seat wishes.Attach world)
       attached_so setting = by_leads (attached seat.client) world.draw refl (stays place w (λ later. StandsAs later place (attached seat.client)) (acts_so.attached w place seat.client stands))
 
-      pub ticked_so : (setting : Setting S V) → HasMoves (acts setting (suc place) seat wishes.Tick world)
+      pub ticked_so : (setting : Setting S V) → MovesOn w (acts setting (suc place) seat wishes.Tick world)
       ticked_so setting = by_leads (ticked seat.client) world.draw refl (stays place w (λ later. StandsAs later place (ticked seat.client)) (acts_so.ticked w place seat.client stands))
 
-      pub pinged_so : (setting : Setting S V) (id : ℕ) → HasMoves (acts setting (suc place) seat (wishes.Ping id) world)
+      pub pinged_so : (setting : Setting S V) (id : ℕ) → MovesOn w (acts setting (suc place) seat (wishes.Ping id) world)
       pinged_so setting id = by_leads (pinged id seat.client) world.draw refl (stays place w (λ later. StandsAs later place (pinged id seat.client)) (acts_so.pinged w place id seat.client stands))
 
-      pub asked_so : (setting : Setting S V) (number : ℕ) → HasMoves (acts setting (suc place) seat (wishes.AskSalts number) world)
+      pub asked_so : (setting : Setting S V) (number : ℕ) → MovesOn w (acts setting (suc place) seat (wishes.AskSalts number) world)
       asked_so setting number =
           by_leads (salts_asked number seat.client) world.draw refl (stays place w (λ later. StandsAs later place (salts_asked number seat.client)) (acts_so.salts_asked w place number seat.client stands))
 
-      pub dropped_so : (setting : Setting S V) (call : CallNo) → HasMoves (acts setting (suc place) seat (wishes.Drop call) world)
+      pub dropped_so : (setting : Setting S V) (call : CallNo) → MovesOn w (acts setting (suc place) seat (wishes.Drop call) world)
       dropped_so setting call =
           by_leads (dropped call seat.client) world.draw (drops_same call seat.client).0 (stays place w (λ later. StandsAs later place (dropped call seat.client)) (acts_so.dropped w place call seat.client stands))
 
-      pub ended_so : (setting : Setting S V) → HasMoves (acts setting (suc place) seat wishes.End world)
+      pub ended_so : (setting : Setting S V) → MovesOn w (acts setting (suc place) seat wishes.End world)
       ended_so setting =
           by_leads (ended seat.client) world.draw refl
           (moves_once place w (λ later. StandsAs later place (ended seat.client)) (Own (End place)) (acts_so.ends_lawfully w place seat.client stands) refl (acts_so.ends w place seat.client stands))
@@ -216,7 +217,7 @@ module _ {S V : Type 0} (known : Moving) (still : Still) (servers : ServersStill
           new_session w world behind word h.seats fresh
           (omega (arith, own, one, count_append word (flat_map sessions_drawn behind.seats) rest, count_append word (flat_map sessions_drawn world.seats) rest))
 
-      pub renewed_so : (setting : Setting S V) → AreFresh (names_drawn (acts setting (suc place) seat wishes.Renew world)) → HasMoves (acts setting (suc place) seat wishes.Renew world)
+      pub renewed_so : (setting : Setting S V) → AreFresh (names_drawn (acts setting (suc place) seat wishes.Renew world)) → MovesOn w (acts setting (suc place) seat wishes.Renew world)
       renewed_so setting fresh =
           let word : ℕ = word_after setting.step 0 world.draw in
           let new = renewed_new setting fresh in
@@ -246,7 +247,7 @@ module _ {S V : Type 0} (known : Moving) (still : Still) (servers : ServersStill
       takes_leads now (Some envelope) down = take_leads now envelope (down envelope refl)
 
       pub heard_so : (setting : Setting S V) (now : ℕ) (opened : Option Envelope) → ((envelope : Envelope) → opened ≡ Some envelope → IsDown w envelope)
-          → HasMoves (acts setting (suc place) seat (wishes.Take now opened) world)
+          → MovesOn w (acts setting (suc place) seat (wishes.Take now opened) world)
       heard_so setting now opened down = by_leads (takes now opened seat.client) world.draw (takes_same now opened seat.client).0 (takes_leads now opened down)
 
     -- ---- it flushes
@@ -272,14 +273,15 @@ module _ {S V : Type 0} (known : Moving) (still : Still) (servers : ServersStill
             tt,
           )
 
-      pub flushed_so : HasMoves (flushes setting (suc place) seat world)
+      pub flushed_so : MovesOn w (flushes setting (suc place) seat world)
       flushed_so =
           let now : ℕ = moment_of seat.clock in
           let l = flushes_so w (at_client setting) place now seat.client world.draw h.reached stands in
           let done = flush (at_client setting) now seat.client world.draw in
           let same = flush_same (at_client setting) seat.client now world.draw in
           let keep = keep_keys done.client same.0.0 in (
-            after_all w l.moves,
+            l.moves,
+            l.lawful,
             goes_on l.moves l.lawful l.own (with_client done.client) keep done.draw (world.bag ++ sent_up done.answer) (seats_on l.moves l.lawful l.own done.client l.gives.0)
                 (all_append (IsBagged (after_all w l.moves) (with_client done.client)) world.bag (sent_up done.answer) (bag_on l.moves l.lawful l.own (with_client done.client) keep)
                 (now_bagged (after_all w l.moves) done.client done.answer l.gives.0 same.0.0 same.0.1 same.1 l.gives.1)),

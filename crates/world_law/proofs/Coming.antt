@@ -1,5 +1,5 @@
 -- A packet comes to a client, in a world.
-use Rattle.std.proofs.Common.{◌≡◌, ℕ, zero, suc, List, Option, Some, None, refl, ap, subst, ◌∙◌}
+use Rattle.std.proofs.Common.{◌≡◌, ℕ, zero, suc, List, [], Option, Some, None, refl, ap, subst, ◌∙◌}
 use Rattle.std.specs.Prelude.{slice_get}
 use Rattle.std.specs.List.{Contains}
 use Rattle.std.proofs.lemmas.Bool.{cond_both}
@@ -16,8 +16,8 @@ use Rattle.world_rules.specs.Setting.{Setting}
 use Rattle.world_rules.specs.World.{Packet, Seat, World, bytes_of, counted, owner, seat_now}
 use Rattle.world_rules.specs.Ends.{acts, comes_down, comes_to_owner, seated, with_seat}
 use Rattle.world_rules.specs.Premises.{IsSealed, OpensOnly}
-use Rattle.world_law.specs.Standing.{HasMoves, IsBagged, IsDown, IsThere, WorldStands}
-use Rattle.world_law.specs.Made.{AreLawfulPackets, IsSealedPacket}
+use Rattle.world_law.specs.Standing.{MovesOn, IsBagged, IsDown, IsThere, WorldStands}
+use Rattle.world_packets.specs.Lawful.{AreLawfulPackets, IsSealedPacket}
 use Rattle.world_law.proofs.Lists.{each_of}
 use Rattle.world_law.proofs.Known.{Moving, Still}
 use Rattle.world_law.proofs.Provenance.{foreign_made, given_made}
@@ -32,28 +32,28 @@ module _ {S V : Type 0} (known : Moving) (still : Still) (servers : ServersStill
       (subst (λ (d : Dir). IsThere w world.seats d packet.envelope) way (each_of (IsBagged w world.seats) world.bag h.bag packet among))
 
   came_down : (place : ℕ) (bytes : List ℕ) (seat : Seat) → slice_get world.seats place ≡ Some seat
-      → ((envelope : Envelope) → setting.opens (seat_now seat) Down bytes ≡ Some envelope → IsDown w envelope) → HasMoves (comes_down setting (suc place) bytes seat world)
+      → ((envelope : Envelope) → setting.opens (seat_now seat) Down bytes ≡ Some envelope → IsDown w envelope) → MovesOn w (comes_down setting (suc place) bytes seat world)
   came_down place bytes seat is down =
-      cond_both seat.client.has_ended world (acts setting (suc place) seat (wishes.Take (moment_of seat.clock) (setting.opens (seat_now seat) Down bytes)) world) HasMoves
-      (λ over. (w, h)) (λ on. heard_so known still servers w world h place seat is acts_so setting (moment_of seat.clock) (setting.opens (seat_now seat) Down bytes) down)
+      cond_both seat.client.has_ended world (acts setting (suc place) seat (wishes.Take (moment_of seat.clock) (setting.opens (seat_now seat) Down bytes)) world) (MovesOn w)
+      (λ over. ([], tt, h)) (λ on. heard_so known still servers w world h place seat is acts_so setting (moment_of seat.clock) (setting.opens (seat_now seat) Down bytes) down)
 
   at_seat : (place : ℕ) (bytes : List ℕ) (found : Option Seat) → slice_get world.seats place ≡ found
-      → ((seat : Seat) (envelope : Envelope) → found ≡ Some seat → setting.opens (seat_now seat) Down bytes ≡ Some envelope → IsDown w envelope) → HasMoves (seated found (comes_down setting (suc place) bytes) world)
-  at_seat place bytes None is down = (w, h)
+      → ((seat : Seat) (envelope : Envelope) → found ≡ Some seat → setting.opens (seat_now seat) Down bytes ≡ Some envelope → IsDown w envelope) → MovesOn w (seated found (comes_down setting (suc place) bytes) world)
+  at_seat place bytes None is down = ([], tt, h)
   at_seat place bytes (Some seat) is down = came_down place bytes seat is (λ envelope. down seat envelope refl)
 
   pub at_number : (number : ℕ) (bytes : List ℕ) → ((seat : Seat) (envelope : Envelope) → counted number world.seats ≡ Some seat → setting.opens (seat_now seat) Down bytes ≡ Some envelope → IsDown w envelope)
-      → HasMoves (with_seat number (comes_down setting number bytes) world)
-  at_number zero bytes down = (w, h)
+      → MovesOn w (with_seat number (comes_down setting number bytes) world)
+  at_number zero bytes down = ([], tt, h)
   at_number (suc place) bytes down = at_seat place bytes (slice_get world.seats place) refl down
 
   to_owner : (bytes : List ℕ) (number : Option ℕ) → ((seat : Seat) (envelope : Envelope) → setting.opens (seat_now seat) Down bytes ≡ Some envelope → IsDown w envelope)
-      → HasMoves (comes_to_owner setting bytes number world)
-  to_owner bytes None down = (w, h)
+      → MovesOn w (comes_to_owner setting bytes number world)
+  to_owner bytes None down = ([], tt, h)
   to_owner bytes (Some number) down = at_number number bytes (λ seat envelope is. down seat envelope)
 
   -- one that is given
-  pub given_down : (packet : Packet) → Contains world.bag packet → packet.dir ≡ Down → HasMoves (comes_to_owner setting (bytes_of setting packet) (owner packet.envelope.session world.seats) world)
+  pub given_down : (packet : Packet) → Contains world.bag packet → packet.dir ≡ Down → MovesOn w (comes_to_owner setting (bytes_of setting packet) (owner packet.envelope.session world.seats) world)
   given_down packet among way =
       to_owner (bytes_of setting packet) (owner packet.envelope.session world.seats)
       (λ seat envelope is. in_bag packet Down envelope among way
@@ -62,7 +62,7 @@ module _ {S V : Type 0} (known : Moving) (still : Still) (servers : ServersStill
 
   -- foreign bytes
   pub foreign_down : (client : ℕ) (bytes : List ℕ) → ((seat : Seat) → counted client world.seats ≡ Some seat → OpensOnly setting world (seat_now seat) Down bytes)
-      → HasMoves (with_seat client (comes_down setting client bytes) world)
+      → MovesOn w (with_seat client (comes_down setting client bytes) world)
   foreign_down client bytes only =
       at_number client bytes
       (λ seat envelope at is.

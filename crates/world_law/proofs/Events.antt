@@ -1,5 +1,5 @@
 -- Any event, in a world.
-use Rattle.std.proofs.Common.{◌≡◌, ℕ, zero, suc, List, Option, Some, None, refl, ap, ◌∙◌, length, arith, ◌≤◌}
+use Rattle.std.proofs.Common.{◌≡◌, ℕ, zero, suc, List, [], Option, Some, None, refl, ap, ◌∙◌, length, arith, ◌≤◌}
 use Rattle.std.specs.List.{Contains}
 use Rattle.auth_keys.specs.declared.ring.RingKey.{RingKey}
 use Rattle.envelope.specs.declared.parts.Dir.{Dir}
@@ -23,8 +23,9 @@ use Rattle.world_rules.specs.Ends.{arrives, comes_up, goes, seated, serves}
 use Rattle.world_rules.specs.Premises.{Fresh, IsByNoChance, IsSealed, OpensOnly}
 use Rattle.world_rules.specs.Run.{after, present_name, works}
 use Rattle.world_servers.specs.Servers.{IsPacketUp}
-use Rattle.world_law.specs.Standing.{HasMoves, IsKeyOf, IsThere, WorldStands}
-use Rattle.world_law.specs.Made.{AreLawfulPackets, IsSealedPacket, IsShort}
+use Rattle.world_law.specs.Standing.{MovesOn, IsKeyOf, IsThere, WorldStands}
+use Rattle.world_packets.specs.Lawful.{AreLawfulPackets, IsSealedPacket}
+use Rattle.world_law.specs.Made.{IsShort}
 use Rattle.world_law.proofs.Acting.{IsOfClients}
 use Rattle.world_law.proofs.Lists.{each_of}
 use Rattle.world_law.proofs.Places.{get_there}
@@ -69,7 +70,7 @@ module _ {S V : Type 0} (laws : Laws S V) (lock : Lock) (ring : List RingKey) (s
       let there : IsThere w world.seats Up envelope = in_bag laws.moving laws.still laws.servers laws.acts lock ring setting seals so w world h sealed packet Up envelope among way same in
       ((laws.judged w.ups envelope short.lawful (let below = short.body in omega (arith, below)) there.0, there.1), record { key = short.lawful.key; session = short.lawful.session; number = short.lawful.number; bytes = short.lawful.bytes })
 
-  given_up : (packet : Packet) → Contains world.bag packet → packet.dir ≡ Up → Fresh (comes_up setting (bytes_of setting packet) world) → Says (comes_up setting (bytes_of setting packet) world) → HasMoves (comes_up setting (bytes_of setting packet) world)
+  given_up : (packet : Packet) → Contains world.bag packet → packet.dir ≡ Up → Fresh (comes_up setting (bytes_of setting packet) world) → Says (comes_up setting (bytes_of setting packet) world) → MovesOn w (comes_up setting (bytes_of setting packet) world)
   given_up packet among way fresh plain =
       came_up laws.moving laws.still laws.alone laws.serves laws.order laws.read lock ring seals setting w world h (bytes_of setting packet)
       (λ envelope is.
@@ -77,15 +78,15 @@ module _ {S V : Type 0} (laws : Laws S V) (lock : Lock) (ring : List RingKey) (s
       (ap (λ (d : Dir). setting.opens (server_now world) d (bytes_of setting packet)) way ∙ is) in
       judged_up (server_now world) (bytes_of setting packet) packet envelope is among way same) fresh plain
 
-  went : (packet : Packet) (dir : Dir) → Contains world.bag packet → packet.dir ≡ dir → Fresh (goes setting packet dir world) → Says (goes setting packet dir world) → HasMoves (goes setting packet dir world)
+  went : (packet : Packet) (dir : Dir) → Contains world.bag packet → packet.dir ≡ dir → Fresh (goes setting packet dir world) → Says (goes setting packet dir world) → MovesOn w (goes setting packet dir world)
   went packet Up among way fresh plain = given_up packet among way fresh plain
   went packet Down among way fresh plain = given_down laws.moving laws.still laws.servers laws.acts lock ring setting seals so w world h sealed packet among way
 
-  arrived : (found : Option Packet) → ((packet : Packet) → found ≡ Some packet → Contains world.bag packet) → Fresh (arrives setting found world) → Says (arrives setting found world) → HasMoves (arrives setting found world)
-  arrived None among fresh plain = (w, h)
+  arrived : (found : Option Packet) → ((packet : Packet) → found ≡ Some packet → Contains world.bag packet) → Fresh (arrives setting found world) → Says (arrives setting found world) → MovesOn w (arrives setting found world)
+  arrived None among fresh plain = ([], tt, h)
   arrived (Some packet) among fresh plain = went packet packet.dir (among packet refl) refl fresh plain
 
-  foreign_up : (bytes : List ℕ) → OpensOnly setting world (server_now world) Up bytes → Fresh (comes_up setting bytes world) → Says (comes_up setting bytes world) → HasMoves (comes_up setting bytes world)
+  foreign_up : (bytes : List ℕ) → OpensOnly setting world (server_now world) Up bytes → Fresh (comes_up setting bytes world) → Says (comes_up setting bytes world) → MovesOn w (comes_up setting bytes world)
   foreign_up bytes only fresh plain =
       came_up laws.moving laws.still laws.alone laws.serves laws.order laws.read lock ring seals setting w world h bytes
       (λ envelope is.
@@ -94,20 +95,20 @@ module _ {S V : Type 0} (laws : Laws S V) (lock : Lock) (ring : List RingKey) (s
 
   -- ---- the server does something
 
-  sat : (found : Option Seat) (act : Seat → World S V → World S V) → ((seat : Seat) → Fresh (act seat world) → Says (act seat world) → HasMoves (act seat world)) → Fresh (seated found act world) → Says (seated found act world) → HasMoves (seated found act world)
-  sat None act each fresh plain = (w, h)
+  sat : (found : Option Seat) (act : Seat → World S V → World S V) → ((seat : Seat) → Fresh (act seat world) → Says (act seat world) → MovesOn w (act seat world)) → Fresh (seated found act world) → Says (seated found act world) → MovesOn w (seated found act world)
+  sat None act each fresh plain = ([], tt, h)
   sat (Some seat) act each fresh plain = each seat fresh plain
 
-  worked_at : (place : ℕ) → Fresh (works setting place world) → Says (works setting place world) → HasMoves (works setting place world)
-  worked_at zero fresh plain = (w, h)
+  worked_at : (place : ℕ) → Fresh (works setting place world) → Says (works setting place world) → MovesOn w (works setting place world)
+  worked_at zero fresh plain = ([], tt, h)
   worked_at (suc place) fresh plain = worked laws.moving laws.still laws.alone laws.serves laws.order laws.read lock ring seals setting w world h place fresh plain
 
   -- ---- any event
 
-  by_client : (event : Event) → IsOfClients event → Fresh (after setting world event) → HasMoves (after setting world event)
+  by_client : (event : Event) → IsOfClients event → Fresh (after setting world event) → MovesOn w (after setting world event)
   by_client event of fresh = by_themselves laws.moving laws.still laws.servers laws.acts laws.flushes setting w world h event of (fresh.some, fresh.apart)
 
-  pub goes_on : (event : Event) → IsByNoChance setting world event → Fresh (after setting world event) → Says (after setting world event) → HasMoves (after setting world event)
+  pub goes_on : (event : Event) → IsByNoChance setting world event → Fresh (after setting world event) → Says (after setting world event) → MovesOn w (after setting world event)
   goes_on line.Client chance fresh plain = by_client line.Client tt fresh
   goes_on line.ClientTemp chance fresh plain = by_client line.ClientTemp tt fresh
   goes_on (line.ClockAll moment) chance fresh plain = by_client (line.ClockAll moment) tt fresh

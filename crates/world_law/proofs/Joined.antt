@@ -19,7 +19,7 @@ use Rattle.world_rules.specs.Setting.{Setting}
 use Rattle.world_rules.specs.World.{Seat, World, changed_at, changed_from_0, lives}
 use Rattle.world_rules.specs.Premises.{drawn_for_session, names_drawn, sessions_drawn}
 use Rattle.world_rules.specs.Run.{joins, set}
-use Rattle.world_law.specs.Standing.{AreSeated, HasMoves, IsKeyOf, IsSeated, WorldStands}
+use Rattle.world_law.specs.Standing.{AreSeated, MovesOn, IsKeyOf, IsSeated, WorldStands}
 use Rattle.world_law.proofs.Lists.{map_all}
 use Rattle.world_law.proofs.Places.{changed_other, changed_there, get_map, get_past, get_pushed}
 use Rattle.world_law.proofs.Counting.{AreFresh, count, count_append}
@@ -63,7 +63,7 @@ module _ {S V : Type 0} (known : Moving) (still : Still) (servers : ServersStill
           | inr other ↦ ap (λ (f : Option Seat). option_map (λ (s : Seat). s.client.key) f) other.1 ∙ is
         ]
 
-    joined : StandsAs (after w (Own (NewClient place word))) place new → HasMoves behind
+    joined : StandsAs (after w (Own (NewClient place word))) place new → MovesOn w behind
     joined stands =
         let list : List Move = Own (NewClient place word) ∷ [] in
         let lawful : AreLawful w list = (acts_so.joins_lawfully w place key word nobody is_new, tt) in
@@ -77,16 +77,17 @@ module _ {S V : Type 0} (known : Moving) (still : Still) (servers : ServersStill
               subst (λ (f : Option Seat). IsSeated (after_all w list) i f) (sym other.1)
               (still_seated known still servers w world h place list lawful own i other.0 (slice_get world.seats i) (h.seats i))
         ] in (
-          after_all w list,
+          list,
+          lawful,
           goes_on known still servers w world h place list lawful own behind.seats keep behind.draw world.bag seated
               (bag_still w (after_all w list) world.seats behind.seats (known.extends w list lawful) keep h.seats (λ c s. known.owned w list c s lawful) world.bag h.bag),
         )
 
-  pub joined_so : (key : ℕ) → AreFresh (names_drawn (joins setting key None world)) → HasMoves (joins setting key None world)
+  pub joined_so : (key : ℕ) → AreFresh (names_drawn (joins setting key None world)) → MovesOn w (joins setting key None world)
   joined_so key fresh = joined key None fresh (acts_so.joins w place key word h.reached nobody (is_new key None fresh))
 
   pub joined_temporary : (key perm expires : ℕ) → AreFresh (names_drawn (joins setting key (Some (temporary_of perm expires)) world))
-      → HasMoves (joins setting key (Some (temporary_of perm expires)) world)
+      → MovesOn w (joins setting key (Some (temporary_of perm expires)) world)
   joined_temporary key perm expires fresh =
       joined key (Some (temporary_of perm expires)) fresh
       (acts_so.joins_so w place key word perm expires h.reached nobody (is_new key (Some (temporary_of perm expires)) fresh))
@@ -153,11 +154,11 @@ one_set moment (suc place) seats = record {
   ];
 }
 
-pub all_clocks : {S V : Type 0} (known : Moving) (w : Moved) (world : World S V) → WorldStands w world → (moment : ℕ) → HasMoves (record world { clock = moment; seats = map (set moment) world.seats })
-all_clocks known w world h moment = (w, same_there known w world h moment moment (map (set moment) world.seats) (all_set moment world.seats))
+pub all_clocks : {S V : Type 0} (known : Moving) (w : Moved) (world : World S V) → WorldStands w world → (moment : ℕ) → MovesOn w (record world { clock = moment; seats = map (set moment) world.seats })
+all_clocks known w world h moment = ([], tt, same_there known w world h moment moment (map (set moment) world.seats) (all_set moment world.seats))
 
-pub server_clock : {S V : Type 0} (known : Moving) (w : Moved) (world : World S V) → WorldStands w world → (moment : ℕ) → HasMoves (record world { clock = moment })
-server_clock known w world h moment = (w, same_there known w world h moment moment world.seats (none_set moment world.seats))
+pub server_clock : {S V : Type 0} (known : Moving) (w : Moved) (world : World S V) → WorldStands w world → (moment : ℕ) → MovesOn w (record world { clock = moment })
+server_clock known w world h moment = ([], tt, same_there known w world h moment moment world.seats (none_set moment world.seats))
 
-pub client_clock : {S V : Type 0} (known : Moving) (w : Moved) (world : World S V) → WorldStands w world → (client moment : ℕ) → HasMoves (record world { seats = changed_at client (set moment) world.seats })
-client_clock known w world h client moment = (w, same_there known w world h moment world.clock (changed_at client (set moment) world.seats) (one_set moment client world.seats))
+pub client_clock : {S V : Type 0} (known : Moving) (w : Moved) (world : World S V) → WorldStands w world → (client moment : ℕ) → MovesOn w (record world { seats = changed_at client (set moment) world.seats })
+client_clock known w world h client moment = ([], tt, same_there known w world h moment world.clock (changed_at client (set moment) world.seats) (one_set moment client world.seats))

@@ -9,7 +9,8 @@ use Rattle.envelope.specs.Packet.{Lock}
 use Rattle.world_rules.specs.Setting.{Setting}
 use Rattle.world_rules.specs.World.{Packet, World, bytes_of}
 use Rattle.world_rules.specs.Premises.{IsSealed, OpensOnly}
-use Rattle.world_law.specs.Made.{AreLawfulPackets, IsOfPacket, IsSealedPacket, IsShort}
+use Rattle.world_packets.specs.Lawful.{AreLawfulPackets, IsSealedPacket}
+use Rattle.world_law.specs.Made.{IsOfPacket, IsShort}
 use Rattle.world_law.proofs.Lists.{each_of}
 
 module _ {S V : Type 0} (lock : Lock) (ring : List RingKey) (setting : Setting S V) (seals : OpensWhatItSealed lock) (so : IsSealed lock ring setting) where

@@ -10,7 +10,8 @@ use Rattle.envelope.specs.Packet.{Lock}
 use Rattle.sched_text.specs.declared.event.Event.{Event}
 use Rattle.sched_text.specs.declared.event.Event.TheVariants as line
 use Rattle.server_laws.specs.Order.{AreOrdered}
-use Rattle.session_moves.specs.World.{start}
+use Rattle.session_moves.specs.World.{World as Moved, start}
+use Rattle.session_moves.specs.Reached.{after_all}
 use Rattle.world_rules.specs.Setting.{Setting}
 use Rattle.world_rules.specs.World.{Seat, World, begins, counted, seat_now, server_now}
 use Rattle.world_rules.specs.Premises.{Fresh, IsByNoChance, IsSealed, NoChance, OpensOnly, names_drawn}
@@ -18,8 +19,8 @@ use Rattle.world_rules.specs.Refusals.{ForeignOpens, NoClient, Refusal, by_clien
 use Rattle.world_rules.specs.Refusals as refusals
 use Rattle.world_rules.specs.Run.{after, is_in_the_way, step, step_any}
 use Rattle.world_law.specs.Small.{Fits}
-use Rattle.world_law.specs.Standing.{HasMoves, WorldStands}
-use Rattle.world_law.specs.Made.{AreLawfulPackets, IsSealedPacket}
+use Rattle.world_law.specs.Standing.{HasMoves, MovesOn, WorldStands}
+use Rattle.world_packets.specs.Lawful.{AreLawfulPackets, IsSealedPacket}
 use Rattle.world_law.proofs.Counting.{fewer_fresh}
 use Rattle.world_law.proofs.Growing.{Speaks}
 use Rattle.world_law.proofs.Names.{names_stay}
@@ -86,6 +87,10 @@ module _ {S V : Type 0} (setting : Setting S V) (world : World S V) where
 
 -- ---- runs
 
+-- where moves lead on, they lead there
+led_on : {S V : Type 0} (w : Moved) (world : World S V) → MovesOn w world → HasMoves world
+led_on w world on = (after_all w on.0, on.2)
+
 module _ {S V : Type 0} (laws : Laws S V) (k : Speaks S) (lock : Lock) (ring : List RingKey) (setting : Setting S V) (seals : OpensWhatItSealed lock) (so : IsSealed lock ring setting) (fits : Fits setting) where
   abbrev Keeps : World S V → Type 0
   Keeps world = IsServed setting world
@@ -139,7 +144,9 @@ module _ {S V : Type 0} (laws : Laws S V) (k : Speaks S) (lock : Lock) (ring : L
     next_moves world event h sealed fresh behind chance =
         elim (steps world event) [
           | inl same ↦ subst HasMoves (sym same) h
-          | inr on ↦ subst HasMoves (sym on) (goes_on laws lock ring setting seals so h.0 world h.1 sealed event (chance on) (subst Fresh on fresh) (subst SealedIn on behind, fits))
+          | inr on ↦ subst HasMoves (sym on)
+              (led_on h.0 (after setting world event)
+              (goes_on laws lock ring setting seals so h.0 world h.1 sealed event (chance on) (subst Fresh on fresh) (subst SealedIn on behind, fits)))
         ]
 
   any_steps : Steps (step_any setting)
@@ -173,8 +180,9 @@ module _ {S V : Type 0} (laws : Laws S V) (k : Speaks S) (lock : Lock) (ring : L
       elim (cases_Bool (is_some (refusal setting world event))) [
         | inl is ↦ rw is h
         | inr fine ↦
-            rw fine (goes_on laws lock ring setting seals so h.0 world h.1 sealed event (no_chance setting world event fine)
-            (subst (λ (b : Bool). Fresh (if b then world else after setting world event)) fine fresh) (subst (λ (b : Bool). SealedIn (if b then world else after setting world event)) fine behind, fits))
+            rw fine (led_on h.0 (after setting world event)
+            (goes_on laws lock ring setting seals so h.0 world h.1 sealed event (no_chance setting world event fine)
+            (subst (λ (b : Bool). Fresh (if b then world else after setting world event)) fine fresh) (subst (λ (b : Bool). SealedIn (if b then world else after setting world event)) fine behind, fits)))
       ]
 
   pub run_all : (world : World S V) (events : List Event) → HasMoves world → Keeps world → Fresh (fold (step setting) world events) → SealedIn (fold (step setting) world events)

@@ -33,8 +33,8 @@ use Rattle.world_servers.specs.Sending.{WentOut}
 use Rattle.world_servers.specs.Servers.{IsPacketUp}
 use Rattle.world_servers.specs.Worlds.{HasServed, StandsIn as AreServersIn}
 use Rattle.world_law.specs.Small.{Fits}
-use Rattle.world_law.specs.Made.{AreLawfulPackets, IsSealedPacket}
-use Rattle.world_law.specs.Standing.{HasMoves, IsBagged, IsKeyOf, IsSeated, IsThere, WorldStands, key_at}
+use Rattle.world_packets.specs.Lawful.{AreLawfulPackets, IsSealedPacket}
+use Rattle.world_law.specs.Standing.{MovesOn, IsBagged, IsKeyOf, IsSeated, IsThere, WorldStands, key_at}
 use Rattle.world_law.proofs.Lists.{all_append, each_of, map_all}
 use Rattle.world_law.proofs.Known.{Moving, Still}
 use Rattle.world_law.proofs.Nobody.{nobody_by_servers}
@@ -163,35 +163,35 @@ module _ {S V : Type 0} (known : Moving) (still : Still) (alone : Themselves S) 
     leads : HasSmallEnvelope event → AreLawfulPackets lock ring setting (serves setting event world) × Fits setting → (l : Leads w (λ later. HasServed later world (serves setting event world)))
         → ((P : ℕ → ℕ → Type 0) → AllByRecursion (λ (session : Session). P session.number session.key) (lives world)
         → ((n k : ℕ) → IsKeyOf w world.seats n k → P n k)
-        → AllByRecursion (λ (session : Session). P session.number session.key) (lives (serves setting event world))) → HasMoves (serves setting event world)
-    leads fit lawful l names = (after_all w l.moves, by_leads fit lawful l names)
+        → AllByRecursion (λ (session : Session). P session.number session.key) (lives (serves setting event world))) → MovesOn w (serves setting event world)
+    leads fit lawful l names = (l.moves, l.lawful, by_leads fit lawful l names)
 
-  pub ticked : Fresh (serves setting (Tick world.clock) world) → Says (serves setting (Tick world.clock) world) → HasMoves (serves setting (Tick world.clock) world)
+  pub ticked : Fresh (serves setting (Tick world.clock) world) → Says (serves setting (Tick world.clock) world) → MovesOn w (serves setting (Tick world.clock) world)
   ticked fresh plain =
       leads (Tick world.clock) tt plain (serving.tick w setting world world.clock h.reached h.server h.ordered plain.1.words h.kept fresh) (λ P all keys. tick_named P alone setting world all world.clock)
 
-  pub worked : (place : ℕ) → Fresh (serves setting (Work world.clock place) world) → Says (serves setting (Work world.clock place) world) → HasMoves (serves setting (Work world.clock place) world)
+  pub worked : (place : ℕ) → Fresh (serves setting (Work world.clock place) world) → Says (serves setting (Work world.clock place) world) → MovesOn w (serves setting (Work world.clock place) world)
   worked place fresh plain =
       leads (Work world.clock place) tt plain (serving.work w setting world world.clock place h.reached h.server h.ordered plain.1.words plain.1.replies h.kept fresh)
       (λ P all keys. work_named P alone setting world all world.clock place)
 
-  pub attached : (name : Name) → Fresh (serves setting (Attach world.clock name) world) → Says (serves setting (Attach world.clock name) world) → HasMoves (serves setting (Attach world.clock name) world)
+  pub attached : (name : Name) → Fresh (serves setting (Attach world.clock name) world) → Says (serves setting (Attach world.clock name) world) → MovesOn w (serves setting (Attach world.clock name) world)
   attached name fresh plain =
       leads (Attach world.clock name) tt plain (serving.attach w setting world world.clock name h.reached h.server h.ordered plain.1.words h.kept fresh)
       (λ P all keys. attach_named P alone setting world all world.clock name)
 
-  pub lost : (name : Name) → Says (serves setting (Loss name) world) → HasMoves (serves setting (Loss name) world)
+  pub lost : (name : Name) → Says (serves setting (Loss name) world) → MovesOn w (serves setting (Loss name) world)
   lost name plain = leads (Loss name) tt plain (serving.loss w setting world name h.server) (λ P all keys. loss_named P alone setting world all name)
 
-  pub restarted : Says (record (serves setting Restart world) { start = suc world.start }) → HasMoves (record (serves setting Restart world) { start = suc world.start })
+  pub restarted : Says (record (serves setting Restart world) { start = suc world.start }) → MovesOn w (record (serves setting Restart world) { start = suc world.start })
   restarted plain =
       let l = serving.restart w setting world h.reached h.server in
       let s = by_leads Restart tt plain l (λ P all keys. restart_named P alone setting world all) in
-      (after_all w l.moves, record { reached = s.reached; seats = s.seats; server = s.server; ordered = s.ordered; keys = s.keys; bag = s.bag; kept = s.kept })
+      (l.moves, l.lawful, record { reached = s.reached; seats = s.seats; server = s.server; ordered = s.ordered; keys = s.keys; bag = s.bag; kept = s.kept })
 
   -- ---- a packet
 
-  pub unopened : Says (serves setting (Comes world.clock None) world) → HasMoves (serves setting (Comes world.clock None) world)
+  pub unopened : Says (serves setting (Comes world.clock None) world) → MovesOn w (serves setting (Comes world.clock None) world)
   unopened plain =
       leads (Comes world.clock None) tt plain (record { moves = []; lawful = tt; own = λ j d below. absurd (omega arith); gives = serving.unopened w setting world world.clock h.server })
       (λ P all keys. unopened_named P alone setting world all world.clock)
@@ -206,7 +206,7 @@ module _ {S V : Type 0} (known : Moving) (still : Still) (alone : Themselves S) 
 
   pub opened : (envelope : Envelope) → (IsPacketUp w.ups (as_heard envelope) × IsKeyOf w world.seats envelope.session envelope.key) × IsSmallEnvelope (as_heard envelope)
       → Fresh (serves setting (Comes world.clock (Some (as_heard envelope))) world) → Says (serves setting (Comes world.clock (Some (as_heard envelope))) world)
-      → HasMoves (serves setting (Comes world.clock (Some (as_heard envelope))) world)
+      → MovesOn w (serves setting (Comes world.clock (Some (as_heard envelope))) world)
   opened envelope its fresh plain =
       leads (Comes world.clock (Some (as_heard envelope))) its.1 plain
       (serving.packet w setting world world.clock (as_heard envelope) h.reached h.server h.ordered plain.1.words its.1 h.kept fresh its.0.0
@@ -215,10 +215,10 @@ module _ {S V : Type 0} (known : Moving) (still : Still) (alone : Themselves S) 
 
   by_opening : (found : Option Envelope) → ((envelope : Envelope) → found ≡ Some envelope → (IsPacketUp w.ups (as_heard envelope) × IsKeyOf w world.seats envelope.session envelope.key) × IsSmallEnvelope (as_heard envelope))
       → Fresh (serves setting (Comes world.clock (option_map as_heard found)) world) → Says (serves setting (Comes world.clock (option_map as_heard found)) world)
-      → HasMoves (serves setting (Comes world.clock (option_map as_heard found)) world)
+      → MovesOn w (serves setting (Comes world.clock (option_map as_heard found)) world)
   by_opening None so fresh plain = unopened plain
   by_opening (Some envelope) so fresh plain = opened envelope (so envelope refl) fresh plain
 
   pub came_up : (bytes : List ℕ) → ((envelope : Envelope) → setting.opens (server_now world) Up bytes ≡ Some envelope → (IsPacketUp w.ups (as_heard envelope) × IsKeyOf w world.seats envelope.session envelope.key) × IsSmallEnvelope (as_heard envelope))
-      → Fresh (comes_up setting bytes world) → Says (comes_up setting bytes world) → HasMoves (comes_up setting bytes world)
+      → Fresh (comes_up setting bytes world) → Says (comes_up setting bytes world) → MovesOn w (comes_up setting bytes world)
   came_up bytes so fresh plain = by_opening (setting.opens (server_now world) Up bytes) so fresh plain

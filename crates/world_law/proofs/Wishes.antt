@@ -1,5 +1,5 @@
 -- The events that clients have by themselves, in a world.
-use Rattle.std.proofs.Common.{◌≡◌, ℕ, zero, suc, Option, Some, None, refl}
+use Rattle.std.proofs.Common.{◌≡◌, ℕ, zero, suc, [], Option, Some, None, refl}
 use Rattle.std.specs.Prelude.{option_map, slice_get}
 use Rattle.sched_text.specs.declared.event.Event.{Event}
 use Rattle.sched_text.specs.declared.event.Event.TheVariants as line
@@ -12,7 +12,7 @@ use Rattle.world_rules.specs.Premises.{names_drawn}
 use Rattle.world_rules.specs.Refusals.{call_numbered}
 use Rattle.world_rules.specs.Run.{after, wishes_so}
 use Rattle.world_law.proofs.Acting.{IsOfClients}
-use Rattle.world_law.specs.Standing.{HasMoves, WorldStands}
+use Rattle.world_law.specs.Standing.{MovesOn, WorldStands}
 use Rattle.world_law.proofs.Counting.{AreFresh}
 use Rattle.world_law.proofs.Known.{Moving, Still}
 use Rattle.world_law.proofs.Clients.{Acts, Flushes, ServersStill, asked_so, attached_so, dropped_so, ended_so, flushed_so, pinged_so, renewed_so, submitted_so, ticked_so}
@@ -21,29 +21,29 @@ use Rattle.world_law.proofs.Joined.{all_clocks, client_clock, joined_so, joined_
 module _ {S V : Type 0} (known : Moving) (still : Still) (servers : ServersStill S V) (acts_so : Acts) (flushes_so : Flushes S) (setting : Setting S V) (w : Moved) (world : World S V)
     (h : WorldStands w world) where
   -- the client of a number does so, where there is one
-  pub sat : (found : Option Seat) (act : Seat → World S V → World S V) → ((seat : Seat) → found ≡ Some seat → HasMoves (act seat world)) → HasMoves (seated found act world)
-  sat None act so = (w, h)
+  pub sat : (found : Option Seat) (act : Seat → World S V → World S V) → ((seat : Seat) → found ≡ Some seat → MovesOn w (act seat world)) → MovesOn w (seated found act world)
+  sat None act so = ([], tt, h)
   sat (Some seat) act so = so seat refl
 
-  wished : (number : ℕ) (wish : wishes.Event) → ((place : ℕ) (seat : Seat) → slice_get world.seats place ≡ Some seat → HasMoves (acts setting (suc place) seat wish world))
-      → HasMoves (wishes_so setting number wish world)
-  wished zero wish so = (w, h)
+  wished : (number : ℕ) (wish : wishes.Event) → ((place : ℕ) (seat : Seat) → slice_get world.seats place ≡ Some seat → MovesOn w (acts setting (suc place) seat wish world))
+      → MovesOn w (wishes_so setting number wish world)
+  wished zero wish so = ([], tt, h)
   wished (suc place) wish so = sat (slice_get world.seats place) (λ seat. acts setting (suc place) seat wish) (so place)
 
   renewed_by : (place : ℕ) (found : Option Seat) → slice_get world.seats place ≡ found → AreFresh (names_drawn (seated found (λ seat. acts setting (suc place) seat wishes.Renew) world))
-      → HasMoves (seated found (λ seat. acts setting (suc place) seat wishes.Renew) world)
-  renewed_by place None is fresh = (w, h)
+      → MovesOn w (seated found (λ seat. acts setting (suc place) seat wishes.Renew) world)
+  renewed_by place None is fresh = ([], tt, h)
   renewed_by place (Some seat) is fresh = renewed_so known still servers w world h place seat is acts_so setting fresh
 
-  renewed_at : (number : ℕ) → AreFresh (names_drawn (wishes_so setting number wishes.Renew world)) → HasMoves (wishes_so setting number wishes.Renew world)
-  renewed_at zero fresh = (w, h)
+  renewed_at : (number : ℕ) → AreFresh (names_drawn (wishes_so setting number wishes.Renew world)) → MovesOn w (wishes_so setting number wishes.Renew world)
+  renewed_at zero fresh = ([], tt, h)
   renewed_at (suc place) fresh = renewed_by place (slice_get world.seats place) refl fresh
 
-  flushed_at : (number : ℕ) → HasMoves (with_seat number (flushes setting number) world)
-  flushed_at zero = (w, h)
+  flushed_at : (number : ℕ) → MovesOn w (with_seat number (flushes setting number) world)
+  flushed_at zero = ([], tt, h)
   flushed_at (suc place) = sat (slice_get world.seats place) (flushes setting (suc place)) (λ seat is. flushed_so known still servers w world h place seat is flushes_so setting)
 
-  pub by_themselves : (event : Event) → IsOfClients event → AreFresh (names_drawn (after setting world event)) → HasMoves (after setting world event)
+  pub by_themselves : (event : Event) → IsOfClients event → AreFresh (names_drawn (after setting world event)) → MovesOn w (after setting world event)
   by_themselves line.Client of fresh = joined_so known still servers acts_so setting w world h setting.keys.permanent fresh
   by_themselves line.ClientTemp of fresh = joined_temporary known still servers acts_so setting w world h setting.keys.temporary setting.keys.permanent setting.keys.expires fresh
   by_themselves (line.ClockAll moment) of fresh = all_clocks known w world h moment

@@ -10,7 +10,8 @@ use Rattle.server_sizes.specs.Small.{AreSmall as AreKeptSmall}
 use Rattle.session_moves.specs.Table.Status.{Unmade}
 use Rattle.session_moves.specs.World as moves
 use Rattle.session_moves.specs.World.{Owns}
-use Rattle.session_moves.specs.Reached.{Reached}
+use Rattle.session_moves.specs.Move.{Move}
+use Rattle.session_moves.specs.Reached.{AreLawful, Reached, after_all}
 use Rattle.world_moves.specs.Clients.{IsNobody, StandsAs}
 use Rattle.world_moves.specs.Packets.{packet_items}
 use Rattle.world_moves.specs.Sent.{IsPacketSent}
@@ -75,6 +76,10 @@ pub record WorldStands {S V : Type 0} (w : moves.World) (world : World S V) : Ty
   pub bag : AllByRecursion (IsBagged w world.seats) world.bag
   -- keys, session numbers, unique numbers, salts, judged numbers and codes, and numbers of replied calls and jobs fit
   pub kept : AreKeptSmall world.server.sessions world.server.jobs
+
+-- from a world of the law on, some list of lawful moves leads to where this world stands
+abbrev pub MovesOn : {S V : Type 0} → moves.World → World S V → Type 0
+MovesOn w world = (list : List Move) × AreLawful w list × WorldStands (after_all w list) world
 
 -- some list of lawful moves leads to where the world stands
 abbrev pub HasMoves : {S V : Type 0} → World S V → Type 0

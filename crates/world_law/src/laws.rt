@@ -14,12 +14,14 @@ ghost use Rattle.session_moves.specs.World.{World as Moved, start as empty};
 ghost use Rattle.sched_text.specs.declared.event.Event.{Event};
 ghost use Rattle.world_rules.specs.Setting.{Setting};
 ghost use Rattle.world_rules.specs.World.{Packet, World, begins, bytes_of};
-ghost use Rattle.world_rules.specs.Premises.{Fresh, IsByNoChance, IsSealed, NoChance, OpensOnly, names_drawn};
+ghost use Rattle.world_rules.specs.Premises.{Fresh, IsByNoChance, IsOfBytes, IsSealed, IsSound, NoChance, OpensOnly, names_drawn};
 ghost use Rattle.world_rules.specs.Once.{Once, ran_in};
 ghost use Rattle.world_rules.specs.Run.{after, run_of, run_of_any};
-ghost use Rattle.world_law.specs.Made.{AreLawfulPackets, IsOfPacket, IsSealedPacket, IsShort};
+ghost use Rattle.packet_parts.specs.Sizes.{KeepsSizes};
+ghost use Rattle.world_packets.specs.Lawful.{AreLawfulPackets, IsSealedPacket};
+ghost use Rattle.world_law.specs.Made.{IsOfPacket, IsShort};
 ghost use Rattle.world_law.specs.Small.{Fits};
-ghost use Rattle.world_law.specs.Standing.{HasMoves, WorldStands};
+ghost use Rattle.world_law.specs.Standing.{HasMoves, MovesOn, WorldStands};
 ghost use Rattle.world_law.specs.Words.{AreDrawn, HavePlaces, given_step};
 
 use draws::{Draw, StepDraw};
@@ -31,6 +33,7 @@ use world_moves::laws::{
     clients_flush, clients_hear, clients_join, clients_renew_and_end, clients_submit,
     others_stand_still, wishes_are_no_moves,
 };
+use world_packets::laws::packets_of_worlds_are_lawful;
 use world_servers::laws::{
     events_of_worlds_are_moves, packets_are_read_as_they_went_out, packets_of_worlds_are_moves,
     packets_sent_are_up, servers_stand_still,
@@ -72,23 +75,23 @@ pub fn worlds_only_grow<D: Draw, V>()
     server_laws::laws::sessions_speak_for_themselves::<D>();
 }
 
-/// Where a world stands in some world that lawful moves lead to, so does the world behind each event, and so some list of
-/// lawful moves leads to where the world of a schedule stands, with its clients, sessions, jobs, packets and entries. The premises: a seal that opens what it sealed, foreign
-/// bytes that open by no chance (a schedule refuses those that open), words that aren't 0 and differ; words that are drawn
-/// have 64 bits and replies of the service are whole words and short; and one on sizes, which isn't shown of the rules: each
-/// packet is one that may be sealed.
+/// Where a world stands in some world that lawful moves lead to, each event is a list of lawful moves from there on, behind
+/// which the world behind the event stands; and so some list of lawful moves leads to where the world of a schedule stands,
+/// with its clients, sessions, jobs, packets and entries. The premises: a seal that opens what it sealed and keeps sizes,
+/// foreign bytes that open by no chance (a schedule refuses those that open), words that aren't 0 and differ; keys that are in
+/// the ring, words of 64 bits, replies of the service that are whole words of bytes and short, binding messages of bytes
+/// (`IsSound`); and bodies of calls that are bytes. Each packet may be sealed then.
 pub fn worlds_are_moves<D: Draw, V>()
     ensures begins { (setting : Setting D V) (draw : D) → WorldStands empty (begins setting draw) }
     ensures event { (lock : Lock) (ring : List RingKey) (setting : Setting D V) (w : Moved) (world : World D V) (event : Event) → OpensWhatItSealed lock
         → IsSealed lock ring setting → Fits setting → WorldStands w world → AreLawfulPackets lock ring setting world → IsByNoChance setting world event
-        → Fresh (after setting world event) → AreLawfulPackets lock ring setting (after setting world event) → HasMoves (after setting world event) }
-    ensures schedule { (lock : Lock) (ring : List RingKey) (setting : Setting D V) (draw : D) (events : List Event) → OpensWhatItSealed lock
-        → IsSealed lock ring setting → Fits setting → Fresh (run_of setting draw events) → AreLawfulPackets lock ring setting (run_of setting draw events)
+        → Fresh (after setting world event) → AreLawfulPackets lock ring setting (after setting world event) → MovesOn w (after setting world event) }
+    ensures schedule { (lock : Lock) (ring : List RingKey) (setting : Setting D V) (draw : D) (events : List Event) → OpensWhatItSealed lock → KeepsSizes lock
+        → IsSealed lock ring setting → IsSound ring setting → All IsOfBytes events → Fresh (run_of setting draw events)
         → HasMoves (run_of setting draw events) }
-    ensures any { (lock : Lock) (ring : List RingKey) (setting : Setting D V) (draw : D) (events : List Event) → OpensWhatItSealed lock
-        → IsSealed lock ring setting → Fits setting → NoChance setting (begins setting draw) events → Fresh (run_of_any setting draw events)
-        → AreLawfulPackets lock ring setting (run_of_any setting draw events)
-        → HasMoves (run_of_any setting draw events) }
+    ensures any { (lock : Lock) (ring : List RingKey) (setting : Setting D V) (draw : D) (events : List Event) → OpensWhatItSealed lock → KeepsSizes lock
+        → IsSealed lock ring setting → IsSound ring setting → All IsOfBytes events → NoChance setting (begins setting draw) events
+        → Fresh (run_of_any setting draw events) → HasMoves (run_of_any setting draw events) }
 {
     moves_go_on();
     moves_leave();
@@ -112,18 +115,18 @@ pub fn worlds_are_moves<D: Draw, V>()
     server_laws::laws::servers_stay_in_order::<D, V>();
     server_laws::laws::sessions_speak::<D>();
     server_laws::laws::sessions_speak_for_themselves::<D>();
+    packets_of_worlds_are_lawful::<D, V>();
 }
 
 /// Each call executes at most once, as its client sent it, and what is told of it is so: over every schedule, under the
 /// premises of `worlds_are_moves`, and wherever a world stands in a world of the law.
 pub fn calls_execute_once<D: Draw, V>()
-    ensures schedule { (lock : Lock) (ring : List RingKey) (setting : Setting D V) (draw : D) (events : List Event) → OpensWhatItSealed lock
-        → IsSealed lock ring setting → Fits setting → Fresh (run_of setting draw events) → AreLawfulPackets lock ring setting (run_of setting draw events)
+    ensures schedule { (lock : Lock) (ring : List RingKey) (setting : Setting D V) (draw : D) (events : List Event) → OpensWhatItSealed lock → KeepsSizes lock
+        → IsSealed lock ring setting → IsSound ring setting → All IsOfBytes events → Fresh (run_of setting draw events)
         → Once setting (run_of setting draw events) }
-    ensures any { (lock : Lock) (ring : List RingKey) (setting : Setting D V) (draw : D) (events : List Event) → OpensWhatItSealed lock
-        → IsSealed lock ring setting → Fits setting → NoChance setting (begins setting draw) events → Fresh (run_of_any setting draw events)
-        → AreLawfulPackets lock ring setting (run_of_any setting draw events)
-        → Once setting (run_of_any setting draw events) }
+    ensures any { (lock : Lock) (ring : List RingKey) (setting : Setting D V) (draw : D) (events : List Event) → OpensWhatItSealed lock → KeepsSizes lock
+        → IsSealed lock ring setting → IsSound ring setting → All IsOfBytes events → NoChance setting (begins setting draw) events
+        → Fresh (run_of_any setting draw events) → Once setting (run_of_any setting draw events) }
     ensures standing { (setting : Setting D V) (w : Moved) (world : World D V) → WorldStands w world
         → ((start : ℕ) → Served setting.serve setting.fresh (ran_in start world.entries)) → Once setting world }
 {
@@ -172,11 +175,11 @@ pub fn step_words_keep_names_fresh<V>()
 /// stands in the end is below 2^64.
 pub fn calls_execute_once_by_steps<V>()
     ensures schedule { (lock : Lock) (ring : List RingKey) (setting : Setting ℕ V) (given : ℕ) (events : List Event) → setting.step ≡ given_step
-        → OpensWhatItSealed lock → IsSealed lock ring setting → Fits setting → AreLawfulPackets lock ring setting (run_of setting given events)
+        → OpensWhatItSealed lock → KeepsSizes lock → IsSealed lock ring setting → IsSound ring setting → All IsOfBytes events
         → (run_of setting given events).draw < 2 ^ 64 → Once setting (run_of setting given events) }
     ensures any { (lock : Lock) (ring : List RingKey) (setting : Setting ℕ V) (given : ℕ) (events : List Event) → setting.step ≡ given_step
-        → OpensWhatItSealed lock → IsSealed lock ring setting → Fits setting → NoChance setting (begins setting given) events
-        → AreLawfulPackets lock ring setting (run_of_any setting given events)
+        → OpensWhatItSealed lock → KeepsSizes lock → IsSealed lock ring setting → IsSound ring setting → All IsOfBytes events
+        → NoChance setting (begins setting given) events
         → (run_of_any setting given events).draw < 2 ^ 64 → Once setting (run_of_any setting given events) }
 {
     step_words_keep_names_fresh::<V>();

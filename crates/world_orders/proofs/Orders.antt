@@ -11,14 +11,14 @@ use Rattle.world_rules.specs.Setting.{Setting}
 use Rattle.world_rules.specs.World.{Seat, World, begins}
 use Rattle.world_rules.specs.Once.{InOrder, Once}
 use Rattle.world_rules.specs.Premises.{Fresh}
-use Rattle.world_rules.specs.Run.{after, set, step}
-use Rattle.world_law.specs.Made.{AreLawfulPackets}
+use Rattle.world_rules.specs.Run.{after, set}
+use Rattle.world_packets.specs.Lawful.{AreLawfulPackets}
 use Rattle.world_law.specs.Standing.{HasMoves, WorldStands}
 use Rattle.world_orders.specs.Keeping.{KeepsOrder, WaitingInOrder}
 use Rattle.world_orders.proofs.Seats.{changed-go, more-go, set-go, set-later, stand-still}
 use Rattle.world_orders.proofs.Walking.{Walk, walked}
 use Rattle.world_orders.proofs.Keeping.{Ends, go}
-use Rattle.world_orders.proofs.Runs.{IsAny, IsOrdered, Known, any-opened, fresh-back, its-steps, next-both, next-ordered, sealed-back}
+use Rattle.world_orders.proofs.Runs.{IsAny, IsOrdered, Known, Steps, any-opened, fresh-back, next-both, next-ordered, sealed-back}
 use Rattle.world_orders.proofs.Ordering.{clients-order, server-order}
 
 -- behind an event, where calls are executed once and those that wait are in order
@@ -52,31 +52,26 @@ fold-last : {S V : Type 0} (f : World S V → Event → World S V) (world : Worl
 fold-last f world [] event = refl
 fold-last f world (first ∷ prefix) event = fold-last f (f world first) prefix event
 
-module _ {S V : Type 0} (lock : Lock) (ring : List RingKey) (setting : Setting S V) (known : Known S V lock ring setting KeepsOrder) (ends : Ends S V setting) (begin : World S V)
-    (here : (prefix : List Event) → Fresh (fold (step setting) begin prefix) → AreLawfulPackets lock ring setting (fold (step setting) begin prefix)
-    → Once setting (fold (step setting) begin prefix) × WaitingInOrder (fold (step setting) begin prefix)) where
+module _ {S V : Type 0} (lock : Lock) (ring : List RingKey) (setting : Setting S V) (known : Known S V lock ring setting KeepsOrder) (ends : Ends S V setting) (next : World S V → Event → World S V)
+    (begin : World S V) (here : (prefix : List Event) → HasMoves (fold next begin prefix) × KeepsOrder (fold next begin prefix)
+    → Once setting (fold next begin prefix) × WaitingInOrder (fold next begin prefix)) where
   abbrev IsHere : World S V → Type 0
-  IsHere world = Once setting world × WaitingInOrder world
+  IsHere world = HasMoves world × KeepsOrder world → Once setting world × WaitingInOrder world
 
-  at-prefix : (prefix : List Event) (world : World S V) → fold (step setting) begin prefix ≡ world → Fresh world → AreLawfulPackets lock ring setting world → IsHere world
-  at-prefix prefix world is fresh sealed = subst IsHere is (here prefix (subst Fresh (sym is) fresh) (subst (AreLawfulPackets lock ring setting) (sym is) sealed))
-
-  pub ordered-run : (events prefix : List Event) (world : World S V) → fold (step setting) begin prefix ≡ world → HasMoves world × KeepsOrder world → IsOrdered world → InOrder world
-      → Fresh (fold (step setting) world events) → AreLawfulPackets lock ring setting (fold (step setting) world events) → InOrder (fold (step setting) world events)
-  ordered-run [] prefix world is both ordered order fresh sealed = order
-  ordered-run (event ∷ events) prefix world is both ordered order fresh sealed =
-      let next = step setting in
+  pub ordered-run : (events prefix : List Event) (world : World S V) → fold next begin prefix ≡ world → Steps lock ring setting KeepsOrder known next world events
+      → HasMoves world × KeepsOrder world → IsOrdered world → InOrder world
+      → Fresh (fold next world events) → AreLawfulPackets lock ring setting (fold next world events) → InOrder (fold next world events)
+  ordered-run [] prefix world is steps both ordered order fresh sealed = order
+  ordered-run (event ∷ events) prefix world is steps both ordered order fresh sealed =
       let behind = next world event in
-      let steps = its-steps lock ring setting KeepsOrder known world (event ∷ events) in
       let ordered_on = next-ordered lock ring setting KeepsOrder known next world event steps.0 ordered in
-      let fresh_here = fresh-back lock ring setting KeepsOrder known next world (event ∷ events) steps ordered fresh in
       let fresh_on = fresh-back lock ring setting KeepsOrder known next behind events steps.1 ordered_on fresh in
       let sealed_here = sealed-back lock ring setting KeepsOrder known next world (event ∷ events) steps sealed in
       let sealed_on = sealed-back lock ring setting KeepsOrder known next behind events steps.1 sealed in
       let is_on : fold next begin (prefix ++ event ∷ []) ≡ behind = fold-last next begin prefix event ∙ ap (λ (world : World S V). next world event) is in
-      let now = at-prefix prefix world is fresh_here sealed_here in
-      let on = at-prefix (prefix ++ event ∷ []) behind is_on fresh_on sealed_on in
       let both_on = next-both lock ring setting KeepsOrder known next world event steps.0 sealed_here fresh_on sealed_on both in
+      let now = subst IsHere is (here prefix) both in
+      let on = subst IsHere is_on (here (prefix ++ event ∷ [])) both_on in
       let order_on : InOrder behind =
       elim steps.0 [
         | inl same ↦ subst InOrder (sym same) order
@@ -85,4 +80,4 @@ module _ {S V : Type 0} (lock : Lock) (ring : List RingKey) (setting : Setting S
             (walked setting world (InOrderThen setting) IsAny (order-walk setting ends both.0.0 world both.0.1 both.1 now.0 order) event (any-opened setting world event)
             (subst (Once setting) acts.0 on.0) (subst WaitingInOrder acts.0 on.1))
       ] in
-      ordered-run events (prefix ++ event ∷ []) behind is_on both_on ordered_on order_on fresh sealed
+      ordered-run events (prefix ++ event ∷ []) behind is_on steps.1 both_on ordered_on order_on fresh sealed

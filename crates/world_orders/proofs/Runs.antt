@@ -20,8 +20,8 @@ use Rattle.world_rules.specs.Premises.{Fresh, IsByNoChance, IsSealed, NoChance, 
 use Rattle.world_rules.specs.Refusals.{ForeignOpens, Refusal, opened, refusal, unless}
 use Rattle.world_rules.specs.Refusals as refusals
 use Rattle.world_rules.specs.Run.{after, is_in_the_way, step, step_any}
-use Rattle.world_law.specs.Made.{AreLawfulPackets, IsOfPacket, IsSealedPacket, IsShort}
-use Rattle.world_law.specs.Small.{Fits}
+use Rattle.world_packets.specs.Lawful.{AreLawfulPackets, IsSealedPacket}
+use Rattle.world_law.specs.Made.{IsOfPacket, IsShort}
 use Rattle.world_law.specs.Standing.{HasMoves, WorldStands}
 use Rattle.world_orders.specs.Keeping.{ArePacketsFor, KeepsOrder}
 use Rattle.world_orders.proofs.Lists.{each_of, get-there, none-some}

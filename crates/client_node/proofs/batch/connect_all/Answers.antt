@@ -4,6 +4,7 @@ use Rattle.client_node.specs.Trace.{ClientTrace, after_all}
 use Rattle.client_node.specs.declared.plan.Batch.{Batch}
 use Rattle.client_node.proofs.Connecting.{none_lost, not_link_lost, one_more_lost, still_tells}
 use Rattle.client_node.proofs.Conversing.{lost_more, none_so_far, traced}
+use Rattle.client_node.proofs.Undecided.{lost_undecided}
 use Rattle.client_node.proofs.batch.connect_all.Goals as goal
 
 pub lost-init : goal.lost-init
@@ -14,7 +15,7 @@ lost-init g c =
       room = c.requires.room;
       lost = none_lost c.args.plan.now.port (g.N.Net.calls c.args.net.now);
       tells = λ is none few. is;
-      so_far = λ course reading read_so stands.
+      so_far = λ course reading read_so stands some.
           none_so_far (rules_of g.D.Draw.step g.S.Seal.lock (g.S.Seal.keys c.args.seal.now) reading) c.args.plan.now course
           (g.N.Net.calls c.args.net.now) (g.C.Clock.given c.args.clock.now) c.args.client c.args.draw.now stands;
     }
@@ -22,13 +23,13 @@ lost-init g c =
 pub returns-then-not-is_lost-clause-trace : goal.returns-then-not-is_lost-clause-trace
 returns-then-not-is_lost-clause-trace g c course reading read_so stands some =
     let rules_so = rules_of g.D.Draw.step g.S.Seal.lock (g.S.Seal.keys c.args.seal.now) reading in
-    let before = c.lost.invariant.so_far course reading read_so stands in
+    let before = c.lost.invariant.so_far course reading read_so stands some in
     subst (λ (end : Batch). ClientTrace rules_so c.args.plan.now course end (g.N.Net.calls c.args.net.now) (g.N.Net.calls c.connect-next.new.net) (g.C.Clock.given c.args.clock.now) (g.C.Clock.given c.connect-next.new.clock) c.connect-next.result.0 c.connect-next.new.draw)
     (sym c.batch_of.ensures)
     (traced rules_so c.args.plan.now course c.lost._count (g.N.Net.calls c.args.net.now) (g.N.Net.calls c.lost.net) (g.N.Net.calls c.connect-next.new.net)
     (g.C.Clock.given c.args.clock.now) (g.C.Clock.given c.lost.clock) (g.C.Clock.given c.connect-next.new.clock) c.lost.client c.connect-next.result.0 c.lost.draw c.connect-next.new.draw c.connect-next.result.1
     some (omega (arith, c.lost-test.true)) (not_link_lost c.connect-next.result.1 (c.is_lost.ensures.other c.if-not-is_lost.true) _)
-    before (c.connect-next.ensures.tried (after_all rules_so c.args.plan.now course before.attempts) reading read_so before.stands))
+    before (c.connect-next.ensures.tried (after_all rules_so c.args.plan.now course before.attempts) reading read_so before.stands (lost_undecided rules_so c.args.plan.now course before.attempts some before.lost)))
 
 pub lost-preserved : goal.lost-preserved
 lost-preserved g c =
@@ -42,21 +43,21 @@ lost-preserved g c =
       tells = still_tells (g.N.Net.calls c.args.net.now) (g.N.Net.calls c.lost.net) (g.N.Net.calls c.connect-next.new.net)
           (g.N.Net.faults c.args.net.now) (g.N.Net.faults c.lost.net) (g.N.Net.faults c.connect-next.new.net)
           c.lost.invariant.tells c.connect-next.ensures.first_fault c.connect-next.ensures.counted;
-      so_far = λ course reading read_so stands.
-          let before = c.lost.invariant.so_far course reading read_so stands in
+      so_far = λ course reading read_so stands some.
+          let before = c.lost.invariant.so_far course reading read_so stands some in
           let rules_so = rules_of g.D.Draw.step g.S.Seal.lock (g.S.Seal.keys c.args.seal.now) reading in
           lost_more rules_so c.args.plan.now course c.lost._count (g.N.Net.calls c.args.net.now) (g.N.Net.calls c.lost.net) (g.N.Net.calls c.connect-next.new.net)
           (g.C.Clock.given c.args.clock.now) (g.C.Clock.given c.lost.clock) (g.C.Clock.given c.connect-next.new.clock) c.lost.client c.connect-next.result.0 c.lost.draw c.connect-next.new.draw c.connect-next.result.1
-          same before (c.connect-next.ensures.tried (after_all rules_so c.args.plan.now course before.attempts) reading read_so before.stands);
+          same before (c.connect-next.ensures.tried (after_all rules_so c.args.plan.now course before.attempts) reading read_so before.stands (lost_undecided rules_so c.args.plan.now course before.attempts some before.lost));
     }
 
 pub returns-clause-trace : goal.returns-clause-trace
 returns-clause-trace g c course reading read_so stands some =
     let rules_so = rules_of g.D.Draw.step g.S.Seal.lock (g.S.Seal.keys c.args.seal.now) reading in
-    let before = c.lost.invariant.so_far course reading read_so stands in
+    let before = c.lost.invariant.so_far course reading read_so stands some in
     subst (λ (end : Batch). ClientTrace rules_so c.args.plan.now course end (g.N.Net.calls c.args.net.now) (g.N.Net.calls c.connect-client.new.net) (g.C.Clock.given c.args.clock.now) (g.C.Clock.given c.connect-client.new.clock) c.connect-client.result.0 c.connect-client.new.draw)
     (sym c.batch_of-2.ensures)
     (traced rules_so c.args.plan.now course c.lost._count (g.N.Net.calls c.args.net.now) (g.N.Net.calls c.lost.net) (g.N.Net.calls c.connect-client.new.net)
     (g.C.Clock.given c.args.clock.now) (g.C.Clock.given c.lost.clock) (g.C.Clock.given c.connect-client.new.clock) c.lost.client c.connect-client.result.0 c.lost.draw c.connect-client.new.draw c.connect-client.result.1
     some (omega (arith, c.lost-test.false, c.lost.auto._count-end)) (λ lost. omega (arith, c.lost-test.false, c.lost.auto._count-end))
-    before (c.connect-client.ensures.tried (after_all rules_so c.args.plan.now course before.attempts) reading read_so before.stands))
+    before (c.connect-client.ensures.tried (after_all rules_so c.args.plan.now course before.attempts) reading read_so before.stands (lost_undecided rules_so c.args.plan.now course before.attempts some before.lost)))

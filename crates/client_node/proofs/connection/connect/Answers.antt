@@ -7,10 +7,10 @@ use Rattle.client_node.proofs.Conversing.{tried}
 use Rattle.client_node.proofs.connection.connect.Goals as goal
 
 pub returns-in-Link-clause-tried : goal.returns-in-Link-clause-tried
-returns-in-Link-clause-tried g c course reading read_so stands =
+returns-in-Link-clause-tried g c course reading read_so stands some =
     let rules = rules_of g.D.Draw.step g.S.Seal.lock (g.S.Seal.keys c.args.seal.now) reading in
     let first = seen (g.N.L.Link.told c.in-Link.link) (g.N.L.Link.faults c.in-Link.link) in
-    let conversed = c.talk-client.ensures.conversed course reading read_so stands in
+    let conversed = c.talk-client.ensures.conversed course reading read_so stands some in
     tried rules c.args.plan.now course (g.N.Net.calls c.args.net.now) (g.N.Net.calls c.connect.new.self) (g.N.Net.calls c.done.new.self)
     (g.N.L.Link.place c.close.new.self) (g.N.L.Link.told c.in-Link.link) (g.N.L.Link.told c.close.new.self) (g.N.L.Link.faults c.in-Link.link) (g.N.L.Link.faults c.close.new.self)
     (g.C.Clock.given c.args.clock.now) (g.C.Clock.given c.talk-client.new.clock) c.talk-client.result.1 c.talk-client.result.0 c.talk-client.new.draw

@@ -20,17 +20,17 @@ returns-in-Packet-clause-flow g c =
     c.flush.new.client c.flush.new.draw c.send_packet.new.wire (seen (g.L.Link.told c.send_packet.new.link) (g.L.Link.faults c.send_packet.new.link))
     (λ course stands. subst (λ (bytes : List ℕ). FlushedAs setting g.S.Seal.lock (g.S.Seal.keys c.args.seal.now) c.args.now course (answers.Packet bytes) c.flush.new.client c.flush.new.draw)
     (sym c.as_slice.ensures.value) (c.in-Packet.ensures.flushes course stands))
-    c.is_decided-is_decided.ensures c.send_packet.ensures.told c.send_packet.ensures.counted c.send_packet.ensures.tells c.send_packet.ensures.unchanged_on_memory)
+    c.is_decided-is_decided.ensures.stands c.send_packet.ensures.told c.send_packet.ensures.counted c.send_packet.ensures.tells c.send_packet.ensures.unchanged_on_memory c.send_packet.ensures.same_in.0)
 
 pub returns-then-is_decided-clause-flow : goal.returns-then-is_decided-clause-flow
 returns-then-is_decided-clause-flow g c =
     flush_nothing (setting_of g.D.Draw.step (g.S.Seal.keys c.args.seal.now)) g.S.Seal.lock (g.S.Seal.keys c.args.seal.now) c.args.now c.args.client.now c.args.draw.now c.args.wire.now (seen (g.L.Link.told c.args.link.now) (g.L.Link.faults c.args.link.now))
-    true c.flush.new.client c.flush.new.draw c.in-Nothing.ensures.flushes (λ whole stands. sym c.if-is_decided.true ∙ c.is_decided.ensures whole stands)
+    true c.flush.new.client c.flush.new.draw c.in-Nothing.ensures.flushes (λ whole stands. sym c.if-is_decided.true ∙ c.is_decided.ensures.stands whole stands)
 
 pub returns-else-is_decided-clause-flow : goal.returns-else-is_decided-clause-flow
 returns-else-is_decided-clause-flow g c =
     flush_nothing (setting_of g.D.Draw.step (g.S.Seal.keys c.args.seal.now)) g.S.Seal.lock (g.S.Seal.keys c.args.seal.now) c.args.now c.args.client.now c.args.draw.now c.args.wire.now (seen (g.L.Link.told c.args.link.now) (g.L.Link.faults c.args.link.now))
-    false c.flush.new.client c.flush.new.draw c.in-Nothing.ensures.flushes (λ whole stands. sym c.if-is_decided.false ∙ c.is_decided.ensures whole stands)
+    false c.flush.new.client c.flush.new.draw c.in-Nothing.ensures.flushes (λ whole stands. sym c.if-is_decided.false ∙ c.is_decided.ensures.stands whole stands)
 
 pub returns-in-Spent-clause-flow : goal.returns-in-Spent-clause-flow
 returns-in-Spent-clause-flow g c =
@@ -41,7 +41,7 @@ pub returns-in-Packet-clause-decided : goal.returns-in-Packet-clause-decided
 returns-in-Packet-clause-decided g c =
     subst (λ result. DecidedBy result c.flush.new.client) (sym c.end_of.ensures)
     (ended_decided c.is_decided-is_decided.result c.send_packet.result (g.L.Link.faults c.args.link.now) (g.L.Link.faults c.send_packet.new.link) c.flush.new.client
-    c.send_packet.ensures.counted c.is_decided-is_decided.ensures)
+    c.send_packet.ensures.counted c.is_decided-is_decided.ensures.told)
 
 pub send_packet-requires : goal.send_packet-requires
 send_packet-requires g c =

@@ -11,7 +11,7 @@ pub returns-else-is_decided-clause-took : goal.returns-else-is_decided-clause-to
 returns-else-is_decided-clause-took g c reading course reads stands =
     packet_goes g.D.Draw.step reading c.args.now course c.args.packet.now c.args.client c.hear-client.result.0 c.renew.result c.args.draw.now c.renew.new.draw c.is_decided.result stands
     (rw c.in-Ok.is at (c.hear-client.ensures.hears course.client (reading (max course.client.now c.args.now) c.args.packet.now) stands.client (reads (max course.client.now c.args.now) c.args.packet.now)))
-    c.is_decided.ensures c.if-is_decided.false c.renew.ensures.renews
+    c.is_decided.ensures.stands c.if-is_decided.false c.renew.ensures.renews
 
 pub returns-else-is_decided-clause-keys : goal.returns-else-is_decided-clause-keys
 returns-else-is_decided-clause-keys g c ring has = c.renew.ensures.keys ring (c.hear-client.ensures.keys ring has)

@@ -1,6 +1,6 @@
-use Rattle.std.proofs.Common.{◌≡◌, IsSome, length}
+use Rattle.std.proofs.Common.{◌≡◌, IsSome, false, length}
 use Rattle.transport.specs.Starts.{Opening}
-use Rattle.client_node.specs.Course.{Course, Reading}
+use Rattle.client_node.specs.Course.{Course, Reading, is_decided}
 use Rattle.client_node.specs.Runs.{HasOpened, TurnsSoFar}
 use Rattle.client_node.specs.Standing.{HasKeys, IsReading, StandsAs, count_of}
 use Rattle.client_node.specs.Talks.{began, piece_bytes, rules_of}
@@ -17,7 +17,7 @@ invariant-turns g l = record {
   faults : g.L.Link.faults l.link ≡ g.L.Link.faults l.fn.link;
   place : g.L.Link.place l.link ≡ g.L.Link.place l.fn.link;
   so_far : (course : Course g.row.D.Denot) (reading : Reading) (opening : Opening) → IsReading g.S.Seal.lock (g.S.Seal.keys l.seal) reading
-      → StandsAs l.fn.client l.fn.draw course → HasOpened l.fn.wire opening
+      → StandsAs l.fn.client l.fn.draw course → is_decided course.client ≡ false → HasOpened l.fn.wire opening
       → TurnsSoFar (rules_of g.D.Draw.step g.S.Seal.lock (g.S.Seal.keys l.seal) reading) opening (began l.fn.first course) l._count l.now l.client l.draw l.wire
       (seen (g.L.Link.told l.link) (g.L.Link.faults l.link)) (g.C.Clock.given l.clock) (seen (g.L.Link.told l.fn.link) (g.L.Link.faults l.fn.link)) (g.C.Clock.given l.fn.clock);
 }

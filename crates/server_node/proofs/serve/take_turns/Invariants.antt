@@ -1,16 +1,19 @@
-use Rattle.std.proofs.Common.{◌≡◌, ◌≢◌, [], IsSome, None, Some, length}
-use Rattle.server_node.specs.Coming.{TookTurn}
+use Rattle.std.proofs.Common.{◌≡◌, ◌≢◌, IsSome, Some, length}
 use Rattle.server_node.specs.Record.{IsFewer}
-use Rattle.server_node.specs.declared.line.Line.TheVariants.{Raw}
+use Rattle.server_node.specs.Served.{Begins}
+use Rattle.server_node.specs.Trace.{IsOutside, Outside, Talk, rules_of}
+use Rattle.server_node.specs.Turns.{TurnsSoFar}
 use Rattle.server_node.proofs.Turning.{AreRead}
 use Rattle.server_node.proofs.serve.take_turns.Given as goal
 
--- so many pieces were read, no call of the link failed, and a packet may still be answered
+-- so many turns came, no call of the link failed, and a packet may still be answered
 abbrev pub invariant-turns : goal.invariant-turns
 invariant-turns g l = record {
-  took : TookTurn g.K.D.Draw.step g.V.Service.step g.K.S.Seal.lock (g.K.Desk.keys l.fn.desk)
-      (record { desk = g.K.Desk.StandsFor l.fn.desk; drawn = g.K.Desk.drawn l.fn.desk; service = l.fn.service; heard = []; line = Raw []; told = g.L.Link.told l.fn.link }) None
-      (record { desk = g.K.Desk.StandsFor l.desk; drawn = g.K.Desk.drawn l.desk; service = l.service; heard = l.heard; line = l.line; told = g.L.Link.told l.link });
+  so_far : (outside : Outside) (talk : Talk _ _) → IsOutside g.K.S.Seal.lock (g.K.Desk.keys l.fn.desk) outside
+      → Begins (g.K.Desk.StandsFor l.fn.desk) (g.K.Desk.drawn l.fn.desk) l.fn.service talk
+      → TurnsSoFar (rules_of g.K.D.Draw.step g.V.Service.step outside) talk (record { told = g.L.Link.told l.fn.link; given = g.C.Clock.given l.fn.clock; left = l.fn.left }) l._count
+      (record { desk = g.K.Desk.StandsFor l.desk; drawn = g.K.Desk.drawn l.desk; service = l.service; heard = l.heard; line = l.line; told = g.L.Link.told l.link })
+      (record { told = g.L.Link.told l.link; given = g.C.Clock.given l.clock; left = l.left });
   room : length l.into ≡ 65536;
   read : AreRead l._count (g.L.Link.told l.fn.link) (g.L.Link.told l.link);
   place : g.L.Link.place l.link ≡ g.L.Link.place l.fn.link;

@@ -1,4 +1,5 @@
 use Rattle.std.proofs.Common.{refl}
+use Rattle.server_node.proofs.Answering.{next_failed}
 use Rattle.server_node.proofs.taking.take_next.Goals as goal
 
 pub returns-in-Ok-clause-next : goal.returns-in-Ok-clause-next
@@ -14,3 +15,10 @@ returns-in-Ok-clause-next g c = record {
     given = λ keys server envelope of stands opens. c.in-Ok.ensures.given keys server envelope of stands opens;
   };
 }
+
+pub returns-in-Err-clause-next : goal.returns-in-Err-clause-next
+returns-in-Err-clause-next g c =
+    next_failed g.K.D.Draw.step g.K.S.Seal.lock (g.K.Desk.keys c.args.desk.now) (g.K.Desk.StandsFor c.args.desk.now) (g.K.Desk.StandsFor c.on_packet.new.self) (g.K.Desk.drawn c.args.desk.now) (g.K.Desk.drawn c.on_packet.new.self)
+    c.args.now c.args.wire.now _ c.in-Packet.packet.now c.in-Err.fault _ c.end_of.ensures
+    (λ from packets bytes hears. ((c.in-Packet.ensures.answers from packets bytes hears).packet c.in-Packet.packet.now).0 refl)
+    (λ server stands memory. c.in-Err.ensures.unchanged_on_memory server stands memory)

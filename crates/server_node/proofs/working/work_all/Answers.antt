@@ -4,7 +4,7 @@ use Rattle.server_node.proofs.Goings.{alike_both, goes_both}
 use Rattle.server_node.proofs.working.work_all.Goals as goal
 
 pub returns-in-Err-clause-worked : goal.returns-in-Err-clause-worked
-returns-in-Err-clause-worked g c = record { count = 0; did = c.in-Err.ensures.did c.args.service.now; all = tt }
+returns-in-Err-clause-worked g c = record { count = 0; did = c.in-Err.ensures.did c.args.service.now; idle = tt }
 
 pub runs-init : goal.runs-init
 runs-init g c = record {
@@ -20,7 +20,7 @@ returns-in-Err-run_first-clause-worked g c =
     record {
       count = c.runs._count + 1;
       did = did_more g.K.D.Draw.step g.V.Service.step g.K.S.Seal.lock (g.K.Desk.keys c.args.desk.now) (g.K.Desk.keys c.runs.desk) _ _ _ c.args.now c.runs._count (Some c.in-Err-run_first.end) so_far.same_keys so_far.did c.in-Err-run_first.ensures.did;
-      all = tt;
+      idle = tt;
     }
 
 pub runs-preserved : goal.runs-preserved

@@ -28,7 +28,7 @@ returns-clause-event g c = λ lock ring setting w world event seals so fits h se
     lock ring setting seals so w world h sealed event chance fresh (behind, fits)
 
 pub returns-clause-schedule : goal.returns-clause-schedule
-returns-clause-schedule g c = λ lock ring setting draw events seals so fits fresh sealed.
+returns-clause-schedule g c = λ lock ring setting draw events seals sizes so sound bytes fresh.
     run_all
     (record {
       moving = record { reached = c.moves_go_on.ensures.reached; extends = c.moves_only_add.ensures; owned = c.clients_and_bodies_last.ensures.owned; one_owner = c.names_are_apart.ensures.one_owner; clients = c.moves_leave.ensures.clients; calls = c.moves_leave.ensures.calls; submitted = c.moves_leave.ensures.submitted; other_clients = c.moves_leave.ensures.other_clients; other_calls = c.moves_leave.ensures.other_calls };
@@ -43,11 +43,12 @@ returns-clause-schedule g c = λ lock ring setting draw events seals so fits fre
       order = λ setting course event. c.servers_stay_in_order.ensures.event (at_server setting) setting.serve setting.fresh course event;
     })
     (record { own = c.sessions_speak.ensures.own; others = c.sessions_speak.ensures.others })
-    lock ring setting seals so fits (begins setting draw) events (start, begun setting draw c.servers_stay_in_order.ensures.fresh)
-    (begins_served setting (λ course event. c.servers_stay_in_order.ensures.event (at_server setting) setting.serve setting.fresh course event) c.servers_stay_in_order.ensures.fresh draw) fresh sealed
+    lock ring setting seals so (record { words = sound.words; replies = sound.replies }) (begins setting draw) events (start, begun setting draw c.servers_stay_in_order.ensures.fresh)
+    (begins_served setting (λ course event. c.servers_stay_in_order.ensures.event (at_server setting) setting.serve setting.fresh course event) c.servers_stay_in_order.ensures.fresh draw) fresh
+    (c.packets_of_worlds_are_lawful.ensures.schedule lock ring setting draw events sizes so sound bytes)
 
 pub returns-clause-any : goal.returns-clause-any
-returns-clause-any g c = λ lock ring setting draw events seals so fits chance fresh sealed.
+returns-clause-any g c = λ lock ring setting draw events seals sizes so sound bytes chance fresh.
     run_any
     (record {
       moving = record { reached = c.moves_go_on.ensures.reached; extends = c.moves_only_add.ensures; owned = c.clients_and_bodies_last.ensures.owned; one_owner = c.names_are_apart.ensures.one_owner; clients = c.moves_leave.ensures.clients; calls = c.moves_leave.ensures.calls; submitted = c.moves_leave.ensures.submitted; other_clients = c.moves_leave.ensures.other_clients; other_calls = c.moves_leave.ensures.other_calls };
@@ -62,5 +63,6 @@ returns-clause-any g c = λ lock ring setting draw events seals so fits chance f
       order = λ setting course event. c.servers_stay_in_order.ensures.event (at_server setting) setting.serve setting.fresh course event;
     })
     (record { own = c.sessions_speak.ensures.own; others = c.sessions_speak.ensures.others })
-    lock ring setting seals so fits (begins setting draw) events (start, begun setting draw c.servers_stay_in_order.ensures.fresh)
-    (begins_served setting (λ course event. c.servers_stay_in_order.ensures.event (at_server setting) setting.serve setting.fresh course event) c.servers_stay_in_order.ensures.fresh draw) chance fresh sealed
+    lock ring setting seals so (record { words = sound.words; replies = sound.replies }) (begins setting draw) events (start, begun setting draw c.servers_stay_in_order.ensures.fresh)
+    (begins_served setting (λ course event. c.servers_stay_in_order.ensures.event (at_server setting) setting.serve setting.fresh course event) c.servers_stay_in_order.ensures.fresh draw) chance fresh
+    (c.packets_of_worlds_are_lawful.ensures.any lock ring setting draw events sizes so sound bytes)

@@ -1,6 +1,6 @@
 use Rattle.world_rules.specs.Premises.{names_drawn}
 use Rattle.world_rules.specs.Run.{after}
-use Rattle.world_law.specs.Made.{IsSealedPacket}
+use Rattle.world_packets.specs.Lawful.{IsSealedPacket}
 use Rattle.world_law.proofs.Counting.{fewer_fresh}
 use Rattle.world_law.proofs.Names.{names_stay}
 use Rattle.world_law.proofs.Bags.{packets_stay}

@@ -5,7 +5,7 @@ use Rattle.envelope.specs.Packet.{Lock}
 use Rattle.server_rules.specs.Event.{Entry}
 use Rattle.world_rules.specs.Setting.{Setting, at_client, at_server}
 use Rattle.world_rules.specs.World.{World, begins}
-use Rattle.world_rules.specs.Premises.{IsSealed}
+use Rattle.world_rules.specs.Premises.{IsSealed, IsSound}
 use Rattle.world_rules.specs.Run.{step, step_any}
 use Rattle.world_law.specs.Small.{Fits}
 use Rattle.world_orders.specs.Keeping.{KeepsOrder}
@@ -33,14 +33,16 @@ module _ (g : Rattle.world_orders.proofs.laws.worlds_keep_order.Given.Over) (c :
     short = λ now dir bytes envelope opened. c.what_opens_was_made.ensures.short lock ring setting now dir bytes envelope seals so opened;
   }
 
-  known : (lock : Lock) (ring : List RingKey) (setting : Setting g.row.D.Denot g.row.V.Denot) → OpensWhatItSealed lock → IsSealed lock ring setting → Fits setting
+  known : (lock : Lock) (ring : List RingKey) (setting : Setting g.row.D.Denot g.row.V.Denot) → OpensWhatItSealed lock → IsSealed lock ring setting → IsSound ring setting
       → Known g.row.D.Denot g.row.V.Denot lock ring setting KeepsOrder
-  known lock ring setting seals so fits = record {
+  known lock ring setting seals so sound = record {
     ordered = event-ordered setting (c.servers_stay_in_order.ensures.event (at_server setting) setting.serve setting.fresh);
     words = c.worlds_only_grow.ensures.words setting;
     packets = c.worlds_only_grow.ensures.packets lock ring setting;
     moves = λ world event moves sealed chance fresh behind.
-        c.worlds_are_moves.ensures.event lock ring setting moves.0 world event seals so fits moves.1 sealed chance fresh behind;
+        let fits : Fits setting = record { words = sound.words; replies = sound.replies } in
+        let on = c.worlds_are_moves.ensures.event lock ring setting moves.0 world event seals so fits moves.1 sealed chance fresh behind in
+        (_, on.2);
     kept = λ world event moves sealed later chance kept. event-kept lock ring setting (opens lock ring setting seals so) (ends setting) world event moves sealed chance kept;
   }
 
@@ -55,13 +57,15 @@ returns-clause-event g c = λ lock ring setting world event seals so moves seale
     event-kept lock ring setting (opens g c lock ring setting seals so) (ends g c setting) world event moves sealed chance kept
 
 pub returns-clause-schedule : goal.returns-clause-schedule
-returns-clause-schedule g c = λ lock ring setting draw events seals so fits fresh sealed.
-    let k = known g c lock ring setting seals so fits in
+returns-clause-schedule g c = λ lock ring setting draw events seals sizes so sound bytes fresh.
+    let k = known g c lock ring setting seals so sound in
     (all-kept lock ring setting KeepsOrder k (step setting) (begins setting draw) events (its-steps lock ring setting KeepsOrder k (begins setting draw) events)
-    ((_, c.worlds_are_moves.ensures.begins setting draw), begun g c setting draw) c.servers_stay_in_order.ensures.fresh fresh sealed).1
+    ((_, c.worlds_are_moves.ensures.begins setting draw), begun g c setting draw) c.servers_stay_in_order.ensures.fresh fresh
+    (c.packets_of_worlds_are_lawful.ensures.schedule lock ring setting draw events sizes so sound bytes)).1
 
 pub returns-clause-any : goal.returns-clause-any
-returns-clause-any g c = λ lock ring setting draw events seals so fits chance fresh sealed.
-    let k = known g c lock ring setting seals so fits in
+returns-clause-any g c = λ lock ring setting draw events seals sizes so sound bytes chance fresh.
+    let k = known g c lock ring setting seals so sound in
     (all-kept lock ring setting KeepsOrder k (step_any setting) (begins setting draw) events (any-steps lock ring setting KeepsOrder k (begins setting draw) events chance)
-    ((_, c.worlds_are_moves.ensures.begins setting draw), begun g c setting draw) c.servers_stay_in_order.ensures.fresh fresh sealed).1
+    ((_, c.worlds_are_moves.ensures.begins setting draw), begun g c setting draw) c.servers_stay_in_order.ensures.fresh fresh
+    (c.packets_of_worlds_are_lawful.ensures.any lock ring setting draw events sizes so sound bytes)).1

@@ -1,0 +1,9 @@
+pub mod Spelled
+pub mod Lists
+pub mod Calls
+pub mod Counters
+pub mod Filled
+pub mod Fills
+pub mod Flushed
+pub mod Taken
+pub mod Events

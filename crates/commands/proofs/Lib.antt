@@ -1,0 +1,5 @@
+mod Numbers
+mod Ids
+mod Takings
+mod Sayings
+mod Written

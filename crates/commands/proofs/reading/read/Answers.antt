@@ -1,0 +1,108 @@
+use Rattle.std.proofs.Common.{◌≡◌, ◌∙◌, ap, sym, rules, codes, string_bytes, Some}
+use Rattle.commands.proofs.Numbers.{passed_on}
+use Rattle.commands.proofs.Sayings.{begins, asked, refused-sim, refused-load, refused-serve, refused-call, refused-help}
+use Rattle.commands.proofs.reading.read.Goals as goal
+
+pub returns-in-Some-page_of-clause-said : goal.returns-in-Some-page_of-clause-said
+returns-in-Some-page_of-clause-said c = record {
+  first = begins string_bytes c.args.words.now c.in-Some.first.now c.in-Some.ensures.value ∙ ap Some (sym c.as_str.ensures.value ∙ c.in-Some-page_of.ensures.found);
+  means = sym (asked string_bytes c.args.words.now _ c.asks_help.ensures) ∙ c.if-asks_help.true;
+}
+
+pub returns-in-None-clause-refused : goal.returns-in-None-clause-refused
+returns-in-None-clause-refused c = λ _. refused-help _ _
+    (begins string_bytes c.args.words.now c.in-Some.first.now c.in-Some.ensures.value)
+    (sym (asked string_bytes c.args.words.now _ c.asks_help.ensures) ∙ c.if-asks_help.true)
+    (λ page e. c.in-None.ensures.none page (c.as_str.ensures.value ∙ e))
+
+pub returns-in_err-told_sim-in-sim-clause-refused : goal.returns-in_err-told_sim-in-sim-clause-refused
+returns-in_err-told_sim-in-sim-clause-refused c =
+    let word : c.as_str-2.result.now ≡ codes "sim" = search rules in
+    passed_on c.from_residual.result _ _ c.from_residual.ensures.1 (λ fault. refused-sim _
+    (begins string_bytes c.args.words.now c.in-Some.first.now c.in-Some.ensures.value ∙ ap Some (sym c.as_str-2.ensures.value ∙ word))
+    (sym (asked string_bytes c.args.words.now _ c.asks_help.ensures) ∙ c.if-asks_help.false)
+    (c.in_err-told_sim-in-sim.ensures.refused fault))
+
+pub returns-in_ok-told_sim-in-sim-clause-said : goal.returns-in_ok-told_sim-in-sim-clause-said
+returns-in_ok-told_sim-in-sim-clause-said c =
+    let word : c.as_str-2.result.now ≡ codes "sim" = search rules in
+    let told = c.in_ok-told_sim-in-sim.ensures.found in
+    record {
+      first = begins string_bytes c.args.words.now c.in-Some.first.now c.in-Some.ensures.value ∙ ap Some (sym c.as_str-2.ensures.value ∙ word);
+      means = (
+        record {
+          plain = sym (asked string_bytes c.args.words.now _ c.asks_help.ensures) ∙ c.if-asks_help.false;
+          taken = told.taken;
+        },
+        told.tells,
+      );
+    }
+
+pub returns-in_err-told_load-in-load-clause-refused : goal.returns-in_err-told_load-in-load-clause-refused
+returns-in_err-told_load-in-load-clause-refused c =
+    let word : c.as_str-2.result.now ≡ codes "load" = search rules in
+    passed_on c.from_residual-in_err-told_load-in-load.result _ _ c.from_residual-in_err-told_load-in-load.ensures.1 (λ fault. refused-load _
+    (begins string_bytes c.args.words.now c.in-Some.first.now c.in-Some.ensures.value ∙ ap Some (sym c.as_str-2.ensures.value ∙ word))
+    (sym (asked string_bytes c.args.words.now _ c.asks_help.ensures) ∙ c.if-asks_help.false)
+    (c.in_err-told_load-in-load.ensures.refused fault))
+
+pub returns-in_ok-told_load-in-load-clause-said : goal.returns-in_ok-told_load-in-load-clause-said
+returns-in_ok-told_load-in-load-clause-said c =
+    let word : c.as_str-2.result.now ≡ codes "load" = search rules in
+    let told = c.in_ok-told_load-in-load.ensures.found in
+    record {
+      first = begins string_bytes c.args.words.now c.in-Some.first.now c.in-Some.ensures.value ∙ ap Some (sym c.as_str-2.ensures.value ∙ word);
+      means = (
+        record {
+          plain = sym (asked string_bytes c.args.words.now _ c.asks_help.ensures) ∙ c.if-asks_help.false;
+          taken = told.taken;
+        },
+        told.tells,
+      );
+    }
+
+pub returns-in_err-told_serve-in-serve-clause-refused : goal.returns-in_err-told_serve-in-serve-clause-refused
+returns-in_err-told_serve-in-serve-clause-refused c =
+    let word : c.as_str-2.result.now ≡ codes "serve" = search rules in
+    passed_on c.from_residual-in_err-told_serve-in-serve.result _ _ c.from_residual-in_err-told_serve-in-serve.ensures.1 (λ fault. refused-serve _
+    (begins string_bytes c.args.words.now c.in-Some.first.now c.in-Some.ensures.value ∙ ap Some (sym c.as_str-2.ensures.value ∙ word))
+    (sym (asked string_bytes c.args.words.now _ c.asks_help.ensures) ∙ c.if-asks_help.false)
+    (c.in_err-told_serve-in-serve.ensures.refused fault))
+
+pub returns-in_ok-told_serve-in-serve-clause-said : goal.returns-in_ok-told_serve-in-serve-clause-said
+returns-in_ok-told_serve-in-serve-clause-said c =
+    let word : c.as_str-2.result.now ≡ codes "serve" = search rules in
+    let told = c.in_ok-told_serve-in-serve.ensures.found in
+    record {
+      first = begins string_bytes c.args.words.now c.in-Some.first.now c.in-Some.ensures.value ∙ ap Some (sym c.as_str-2.ensures.value ∙ word);
+      means = (
+        record {
+          plain = sym (asked string_bytes c.args.words.now _ c.asks_help.ensures) ∙ c.if-asks_help.false;
+          taken = told.taken;
+        },
+        told.tells,
+      );
+    }
+
+pub returns-in_err-told_call-in-call-clause-refused : goal.returns-in_err-told_call-in-call-clause-refused
+returns-in_err-told_call-in-call-clause-refused c =
+    let word : c.as_str-2.result.now ≡ codes "call" = search rules in
+    passed_on c.from_residual-in_err-told_call-in-call.result _ _ c.from_residual-in_err-told_call-in-call.ensures.1 (λ fault. refused-call _
+    (begins string_bytes c.args.words.now c.in-Some.first.now c.in-Some.ensures.value ∙ ap Some (sym c.as_str-2.ensures.value ∙ word))
+    (sym (asked string_bytes c.args.words.now _ c.asks_help.ensures) ∙ c.if-asks_help.false)
+    (c.in_err-told_call-in-call.ensures.refused fault))
+
+pub returns-in_ok-told_call-in-call-clause-said : goal.returns-in_ok-told_call-in-call-clause-said
+returns-in_ok-told_call-in-call-clause-said c =
+    let word : c.as_str-2.result.now ≡ codes "call" = search rules in
+    let told = c.in_ok-told_call-in-call.ensures.found in
+    record {
+      first = begins string_bytes c.args.words.now c.in-Some.first.now c.in-Some.ensures.value ∙ ap Some (sym c.as_str-2.ensures.value ∙ word);
+      means = (
+        record {
+          plain = sym (asked string_bytes c.args.words.now _ c.asks_help.ensures) ∙ c.if-asks_help.false;
+          taken = told.taken;
+        },
+        told.tells,
+      );
+    }

@@ -1,0 +1,116 @@
+//! What words may say, and why they may say nothing.
+
+ghost use Rattle.std.specs.Prelude.{◌≡◌};
+
+use crate::page::Page;
+use octets::Memory;
+use std::marker::Model;
+use thiserror::Error;
+use transport::Form;
+
+/// The name of a file. Contracts see its bytes.
+#[derive(Debug, Drop)]
+pub struct FileName<'a> {
+    text: &'a str,
+}
+
+impl<'a> Model for FileName<'a> {
+    ghost use Rattle.std.specs.Prelude.{ℕ, List};
+
+    ghost Value = { List ℕ };
+
+    ghost view = { λ name. name.text.now };
+}
+
+impl<'a> FileName<'a> {
+    /// The file of this name.
+    pub(crate) fn new(text: &'a str) -> FileName<'a>
+        ensures { result ≡ text.entry.now }
+    {
+        FileName { text }
+    }
+
+    /// The name.
+    pub fn as_str(&self) -> &'a str
+        ensures { result.now ≡ self.now }
+    {
+        self.text
+    }
+}
+
+/// A command.
+#[derive(Debug, Drop)]
+pub enum Command<'a> {
+    /// `sim`: play a schedule.
+    Sim {
+        /// `--wire`: add the line on all packets.
+        wire: bool,
+    },
+    /// `load`: play the schedule of so many calls.
+    Load {
+        /// How many, from 1 to 10,000.
+        calls: u32,
+    },
+    /// `serve`: serve connections.
+    Serve(ServeOptions<'a>),
+    /// `call`: run a batch of calls.
+    Call(CallOptions<'a>),
+    /// `--help` among the words: print a page of help.
+    Help(Page),
+    /// `--version`: print the version.
+    Version,
+}
+
+/// What `serve` is told.
+#[derive(Debug, Drop)]
+pub struct ServeOptions<'a> {
+    /// `--keys`: the file of keys.
+    pub keys: FileName<'a>,
+    /// `--port`: the port to listen on, from 1.
+    pub port: u16,
+    /// `--conns`: how many connections to serve, from 1 to 1,000.
+    pub conns: u32,
+    /// `--stop-after`: after how many packets to stop, from 1 to 1,000,000,000.
+    pub stop_after: Option<u64>,
+}
+
+/// What `call` is told.
+#[derive(Debug, Drop)]
+pub struct CallOptions<'a> {
+    /// `--keys`: the file of keys.
+    pub keys: FileName<'a>,
+    /// `--key`: the identifier of the key.
+    pub key: u64,
+    /// `--port`: the port to connect to, from 1.
+    pub port: u16,
+    /// `--form`: how packets are framed.
+    pub form: Form,
+    /// `--obfuscate`: whether connections are obfuscated; never with full frames.
+    pub obfuscate: bool,
+    /// `--retries`: how many connections may be lost, at most 1,000; 0 where it is left out.
+    pub retries: u32,
+    /// `--perm`: the identifier of the permanent key behind a temporary one.
+    pub perm: Option<u64>,
+}
+
+/// Why words say no command.
+#[derive(Clone, Copy, Debug, PartialEq, Eq, Error)]
+pub enum WordsFault {
+    /// The words say no command.
+    #[error("words refused")]
+    Refused,
+    /// Memory ran out.
+    #[error("out of memory")]
+    Memory,
+}
+
+impl From<Memory> for WordsFault {
+    ghost use Rattle.std.specs.Prelude.{◌≡◌};
+    ghost use Rattle.commands.specs.declared.command.WordsFault.TheVariants.{Memory};
+
+    ghost from_gives = { λ _ fault. fault ≡ Memory };
+
+    fn from(_memory: Memory) -> WordsFault {
+        WordsFault::Memory
+    }
+}

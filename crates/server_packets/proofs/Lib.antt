@@ -1,0 +1,13 @@
+pub mod Lists
+pub mod Names
+pub mod Kept
+pub mod Unsaid
+pub mod Steps
+pub mod Counts
+pub mod Saying
+pub mod Owing
+pub mod Bodies
+pub mod Heard
+pub mod Sending
+pub mod Ending
+pub mod Events

@@ -1,0 +1,10 @@
+pub mod Steps
+pub mod Owners
+pub mod Counted
+pub mod Keeping
+pub mod Step
+pub mod Send
+pub mod Serve
+pub mod ServeNames
+pub mod Give
+pub mod GiveEnds

@@ -1,0 +1,4 @@
+pub mod Keys
+pub mod Worlds
+pub mod Told
+pub mod Drawn
