@@ -1,0 +1,11 @@
+pub mod Lists
+pub mod Seats
+pub mod Walking
+pub mod Keeping
+pub mod Runs
+pub mod Reading
+pub mod Named
+pub mod Pairs
+pub mod Waiting
+pub mod Ordering
+pub mod Orders

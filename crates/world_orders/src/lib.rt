@@ -1,0 +1,4 @@
+//! Laws of the order of calls over every schedule of a world of servers and clients. `specs/Keeping.antt` says what is kept.
+#![tactic(auto)]
+
+pub mod laws;
