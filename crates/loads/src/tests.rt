@@ -2,12 +2,18 @@
 
 use crate::load;
 use auth_keys::Ring;
-use envelope::MtSeal;
+use envelope::{MtSeal, Seal};
 use octets::Octets;
 use regs_service::Regs;
 use std::alloc::Global;
 use std::test::*;
 use worlds::World;
+
+/// The identifier of the key `00` to `ff`: bytes 12 to 19 of its SHA-1, by Python's hashlib.
+const PERMANENT: u64 = 14_474_384_091_129_631_026;
+
+/// That of the key `ff` to `00`, likewise.
+const TEMPORARY: u64 = 1_390_049_393_749_643_670;
 
 // The ring of the permanent key and the temporary one.
 fn ring(alloc: Global) -> Result<Ring, Fail> {
@@ -27,7 +33,11 @@ fn ring(alloc: Global) -> Result<Ring, Fail> {
 }
 
 fn summary(alloc: Global, calls: u32) -> Result<Octets, Fail> {
-    let world: World<MtSeal, Regs> = World::new(alloc, MtSeal::new(ring(alloc)?));
+    let seal = MtSeal::new(ring(alloc)?);
+    if !seal.has(PERMANENT) || !seal.has(TEMPORARY) {
+        return Err(Fail::new("no key"));
+    }
+    let world: World<MtSeal, Regs> = World::new(alloc, seal);
     let mut text = Octets::new(alloc);
     load(alloc, world, calls)?.summary(alloc, &mut text)?;
     Ok(text)
