@@ -1,14 +1,13 @@
 -- Each event of a world keeps the order of calls.
-use Rattle.std.proofs.Common.{◌≡◌, ◌∙◌, zero, suc, ℕ, Bool, true, false, cond, Option, Some, None, List, [], ◌∷◌, ◌++◌, map, refl, sym, ap, subst}
+use Rattle.std.proofs.Common.{◌≡◌, ◌∙◌, zero, suc, ℕ, Option, Some, None, List, [], ◌∷◌, ◌++◌, map, refl, sym, ap, subst}
 use Rattle.std.specs.Prelude.{option_map, slice_get, IfSome}
-use Rattle.std.specs.List.{AllByRecursion, Contains}
+use Rattle.std.specs.List.{AllByRecursion}
 use Rattle.std.proofs.lemmas.List.{append-nil}
-use Rattle.envelope.specs.declared.parts.Dir.{Dir}
 use Rattle.envelope.specs.declared.parts.Dir.TheVariants.{Up, Down}
 use Rattle.envelope.specs.declared.parts.Envelope.{Envelope}
 use Rattle.msg_ids.specs.Moments.{moment_of}
 use Rattle.call_table.specs.Table.{Call}
-use Rattle.server_rules.specs.Event.{Entry, Sent}
+use Rattle.server_rules.specs.Event.{Entry}
 use Rattle.server_rules.specs.Events.{Course, Event as ServerEvent, Packet as Comes, Restart, after_event}
 use Rattle.client_rules.specs.Client.{Asked, Binding, Bound, Client, Held, Needed, Refused, Temporary, calls_of}
 use Rattle.client_rules.specs.Events.{Run, made, step}
@@ -21,14 +20,14 @@ use Rattle.server_orders.specs.After.{AreInTurn, IsEventFor, IsPacketFor, Pair}
 use Rattle.client_orders.specs.Behind.{KeepsTurn, Last}
 use Rattle.client_orders.specs.Going.{IsAnswerFrom, IsAskedBy, IsPacketFrom, IsReady}
 use Rattle.world_rules.specs.Setting.{Setting, as_heard, at_client, at_server}
-use Rattle.world_rules.specs.World.{Entered, Packet, Seat, World, changed_at, counted, server_now}
+use Rattle.world_rules.specs.World.{Entered, Seat, World, changed_at, counted, server_now}
 use Rattle.world_rules.specs.Ends.{acts, comes_up, course_in, flushed_at, flushes, seat_changed, sent_down, sent_up, serves}
-use Rattle.world_rules.specs.Run.{after, joins, set}
+use Rattle.world_rules.specs.Run.{joins, set}
 use Rattle.world_law.specs.Standing.{AreSeated, IsSeated, WorldStands}
-use Rattle.world_orders.specs.Keeping.{ArePacketsFor, AreTurning, IsFromSeat, IsServedInTurn, IsUpFrom, KeepsOrder, entries_in}
+use Rattle.world_orders.specs.Keeping.{ArePacketsFor, AreTurning, IsUpFrom, KeepsOrder, entries_in}
 use Rattle.world_orders.proofs.Lists.{all-append, all-at, all-front, all-map, map-append, map-back, none-some, some-same}
 use Rattle.world_orders.proofs.Seats.{GoOn, IsLater, bag-later, changed-at, changed-go, changed-turning, more-go, set-go, set-later, set-turning}
-use Rattle.world_orders.proofs.Walking.{IsQuiet, Walk}
+use Rattle.world_orders.proofs.Walking.{Walk}
 
 -- what is known of each end
 pub record Ends (S V : Type 0) (setting : Setting S V) : Type 0 where

@@ -1,13 +1,13 @@
 -- The names of calls in a world of the law on moves.
-use Rattle.std.proofs.Common.{◌≡◌, ◌∙◌, ◌<◌, zero, suc, ℕ, Option, Some, None, List, [], ◌∷◌, refl, sym, ap, subst, arith, inl, inr}
-use Rattle.std.specs.Prelude.{◌⊎◌, ⊤, slice_get}
+use Rattle.std.proofs.Common.{◌≡◌, ◌∙◌, ◌<◌, ℕ, Option, Some, None, List, [], ◌∷◌, refl, sym, ap, subst, arith, inl, inr}
+use Rattle.std.specs.Prelude.{slice_get}
 use Rattle.std.specs.List.{Contains}
 use Rattle.session_moves.specs.Table as moves
-use Rattle.session_moves.specs.World.{World as Moved, IsName, no_call}
+use Rattle.session_moves.specs.World.{World as Moved, IsName}
 use Rattle.session_moves.specs.Reached.{Reached}
 use Rattle.call_table.specs.Table.{Call, Name}
 use Rattle.client_rules.specs.Client.{Client, calls_of}
-use Rattle.world_moves.specs.Clients.{AreNamesThere, IsCallThere, IsNameThere, StandsAs, StandsThere}
+use Rattle.world_moves.specs.Clients.{AreNamesThere, IsCallThere, StandsAs, StandsThere}
 use Rattle.world_rules.specs.World.{Seat, World}
 use Rattle.world_law.specs.Standing.{IsSeated, WorldStands}
 use Rattle.world_orders.proofs.Lists.{first_or, here, later, none-some, some-same}

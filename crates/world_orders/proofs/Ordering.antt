@@ -1,14 +1,13 @@
 -- Each event of a world keeps calls in order.
-use Rattle.std.proofs.Common.{◌≡◌, ◌∙◌, ◌<◌, ◌≤◌, ◌-◌, ◌+◌, ◌==◌, zero, suc, ℕ, Bool, true, false, cond, Option, Some, None, List, [], ◌∷◌, ◌++◌, length, map, le-leb, ltb-false, refl, sym, ap, subst, arith, inl, inr}
-use Rattle.std.specs.Prelude.{◌⊎◌, ◌&&◌, ◌||◌, not, nat_le, nat_lt, option_map, slice_get}
+use Rattle.std.proofs.Common.{◌≡◌, ◌∙◌, ◌<◌, ◌-◌, ◌==◌, zero, suc, ℕ, Bool, true, false, cond, Option, Some, None, List, [], ◌∷◌, ◌++◌, length, map, le-leb, ltb-false, refl, sym, ap, subst, arith, inl, inr}
+use Rattle.std.specs.Prelude.{◌⊎◌, ◌&&◌, ◌||◌, not, nat_le, nat_lt, slice_get}
 use Rattle.std.specs.List.{AllByRecursion, Contains, list_any, filter}
 use Rattle.std.proofs.lemmas.Bool.{cases_Bool}
 use Rattle.client_rules.specs.Asking.{begins}
 use Rattle.byteorder.specs.Endian.{little_number}
 use Rattle.service_tl.specs.Schema.{rpc_error, rpc_answer_dropped_running}
 use Rattle.envelope.specs.declared.parts.Dir.{Dir}
-use Rattle.envelope.specs.declared.parts.Dir.TheVariants.{Up, Down}
-use Rattle.inbox.specs.Kinds.{constructor_of}
+use Rattle.envelope.specs.declared.parts.Dir.TheVariants.{Up}
 use Rattle.server_rules.specs.Server.{is_good as is_kept_good}
 use Rattle.server_rules.specs.Server.{Name as SessionName}
 use Rattle.call_table.specs.declared.call.CallNo.{CallNo}
@@ -24,7 +23,7 @@ use Rattle.world_rules.specs.World.{Entered, Packet, Seat, World, counted}
 use Rattle.world_rules.specs.Once.{InOrder, IsCallOf, IsEarlierCall, Once, RanWell, earlier_of, entries_of, is_entry_under}
 use Rattle.world_law.specs.Made.{IsShort}
 use Rattle.world_law.specs.Standing.{IsBagged, IsThere, WorldStands}
-use Rattle.world_orders.specs.Keeping.{AreTurning, ArePacketsFor, KeepsOrder, WaitingInOrder, entries_in}
+use Rattle.world_orders.specs.Keeping.{AreTurning, ArePacketsFor, KeepsOrder, WaitingInOrder}
 use Rattle.world_orders.proofs.Lists.{all-at, all-weaker, each_of, first_or, here, later, none-some, some-same}
 use Rattle.world_orders.proofs.Reading.{true-false}
 use Rattle.world_orders.proofs.Seats.{GoOn, IsLater}

@@ -1,6 +1,5 @@
 -- Calls are in order behind each event of a schedule.
-use Rattle.std.proofs.Common.{◌≡◌, ◌∙◌, ℕ, List, [], ◌∷◌, ◌++◌, ◌+◌, length, length-append, arith, fold, map, refl, sym, ap, subst, inl, inr}
-use Rattle.std.specs.Prelude.{◌⊎◌}
+use Rattle.std.proofs.Common.{◌≡◌, ◌∙◌, List, [], ◌∷◌, ◌++◌, length, length-append, arith, fold, refl, sym, ap, subst, inl, inr}
 use Rattle.auth_keys.specs.declared.ring.RingKey.{RingKey}
 use Rattle.envelope.specs.Packet.{Lock}
 use Rattle.msg_ids.specs.Moments.{moment_of}
@@ -8,10 +7,10 @@ use Rattle.sched_text.specs.declared.event.Event.{Event}
 use Rattle.client_rules.specs.Events as wishes
 use Rattle.session_moves.specs.World.{World as Moved}
 use Rattle.world_rules.specs.Setting.{Setting}
-use Rattle.world_rules.specs.World.{Seat, World, begins}
+use Rattle.world_rules.specs.World.{World, begins}
 use Rattle.world_rules.specs.Once.{InOrder, Once}
 use Rattle.world_rules.specs.Premises.{Fresh}
-use Rattle.world_rules.specs.Run.{after, set}
+use Rattle.world_rules.specs.Run.{set}
 use Rattle.world_packets.specs.Lawful.{AreLawfulPackets}
 use Rattle.world_law.specs.Standing.{HasMoves, WorldStands}
 use Rattle.world_orders.specs.Keeping.{KeepsOrder, WaitingInOrder}

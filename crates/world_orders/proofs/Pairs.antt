@@ -1,17 +1,16 @@
 -- Packets are for the pair of a name and the number for which its message waits.
-use Rattle.std.proofs.Common.{◌≡◌, ◌∙◌, ◌<◌, ◌^◌, ◌≤◌, ◌==◌, zero, suc, ℕ, Bool, true, false, Option, Some, None, List, [], ◌∷◌, length, eq-eqb, refl, sym, ap, subst, arith, inl, inr}
-use Rattle.std.specs.Prelude.{◌⊎◌, slice_get}
-use Rattle.std.specs.List.{AllByRecursion, Contains}
+use Rattle.std.proofs.Common.{◌≡◌, ◌∙◌, ◌<◌, ◌^◌, ◌≤◌, ℕ, true, false, Option, Some, None, List, [], ◌∷◌, length, eq-eqb, refl, sym, ap, subst, arith, inl, inr}
+use Rattle.std.specs.Prelude.{slice_get}
+use Rattle.std.specs.List.{AllByRecursion}
 use Rattle.std.proofs.lemmas.Bool.{cases_Bool}
 use Rattle.tl_codec.specs.Standard.{bytes_max}
-use Rattle.octets.specs.Bytes.{IsBytes}
 use Rattle.service_tl.specs.declared.item.Item.{Item}
 use Rattle.service_tl.specs.declared.item.Item.TheVariants.{AuthBindTempAuthKey, InvokeAfterMsg, RpcDropAnswer}
 use Rattle.service_tl.specs.declared.lists.Message.{Message}
 use Rattle.service_tl.specs.Items.{spelling_of}
 use Rattle.containers.specs.Container.{begins_container}
 use Rattle.envelope.specs.declared.parts.Dir.{Dir}
-use Rattle.envelope.specs.declared.parts.Dir.TheVariants.{Up, Down}
+use Rattle.envelope.specs.declared.parts.Dir.TheVariants.{Up}
 use Rattle.envelope.specs.declared.parts.Envelope.{Envelope}
 use Rattle.inbox.specs.Kinds.{item_told}
 use Rattle.inbox.specs.Judging.{judge, unfolded}
@@ -20,19 +19,19 @@ use Rattle.server_rules.specs.Answer.{message_in, messages_judged}
 use Rattle.server_rules.specs.Server.{Session, remembered}
 use Rattle.server_lives.specs.Lives.{request_of}
 use Rattle.call_table.specs.Table.{Call, Name}
-use Rattle.client_rules.specs.Client.{Client, calls_of}
+use Rattle.client_rules.specs.Client.{calls_of}
 use Rattle.client_rules.specs.Filling.{body_behind}
 use Rattle.session_moves.specs.Table as moves
 use Rattle.session_moves.specs.World.{World as Moved, IsName}
 use Rattle.world_moves.specs.Sent.{Asks, IsPacketSent, IsSent, WasSent}
 use Rattle.world_servers.specs.Servers.{IsPacketUp, IsUp}
 use Rattle.server_orders.specs.After.{IsFor, IsPacketFor, Pair, awaited, is_among, is_aside, is_query}
-use Rattle.client_orders.specs.Going.{IsFrom, IsOfCall, IsPacketFrom}
+use Rattle.client_orders.specs.Going.{IsFrom, IsPacketFrom}
 use Rattle.world_rules.specs.Setting.{as_heard}
 use Rattle.world_rules.specs.World.{Packet, Seat, World}
 use Rattle.world_law.specs.Made.{IsShort}
 use Rattle.world_law.specs.Standing.{IsBagged, IsThere, WorldStands}
-use Rattle.world_orders.specs.Keeping.{ArePacketsFor, IsFromSeat, IsUpFrom, KeepsOrder}
+use Rattle.world_orders.specs.Keeping.{ArePacketsFor, IsUpFrom, KeepsOrder}
 use Rattle.world_orders.proofs.Lists.{all-weaker}
 use Rattle.world_orders.proofs.Named.{Apart, call-there, one-name}
 use Rattle.world_orders.proofs.Reading.{Bytes-laws, container-was, lone-was, not-both, true-false, uncontained, wrapped-item}

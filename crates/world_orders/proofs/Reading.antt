@@ -1,14 +1,14 @@
 -- What a server reads of a client's packet is what the client put there.
-use Rattle.std.proofs.Common.{◌≡◌, ◌≤◌, ◌<◌, ◌+◌, ◌^◌, ◌==◌, ◌&&◌, not, ℕ, Bool, true, false, List, [], ◌∷◌, ◌++◌, length, length-append, Option, None, Some, Result, Ok, Err, inl, inr, refl, sym, ap, subst, ◌∙◌, arith, drop, take}
-use Rattle.std.specs.Prelude.{◌⊎◌, IsTrue, nat_le}
+use Rattle.std.proofs.Common.{◌≡◌, ◌≤◌, ◌<◌, ◌+◌, ◌^◌, ◌==◌, ◌&&◌, ℕ, Bool, true, false, List, [], ◌∷◌, ◌++◌, length, length-append, Option, None, Some, Result, Ok, Err, inl, inr, refl, sym, ap, subst, ◌∙◌, arith, drop, take}
+use Rattle.std.specs.Prelude.{IsTrue, nat_le}
 use Rattle.std.specs.List.{AllByRecursion, flat_map}
 use Rattle.std.proofs.lemmas.Bool.{cases_Bool, eqb-true, le-leb}
-use Rattle.std.proofs.lemmas.List.{append-nil, take_at, drop_at, length-drop}
+use Rattle.std.proofs.lemmas.List.{take_at, drop_at, length-drop}
 use Rattle.byteorder.specs.Endian.{little_bytes, little_number}
 use Rattle.byteorder.specs.Numbers.{little_number-reads_back}
 use Rattle.octets.specs.Bytes.{IsBytes}
 use Rattle.tl_codec.specs.Standard.{bytes_max}
-use Rattle.tl_codec.specs.Spelling.{Form, Int, Long, Bytes, Longs, Of, Reads, Spells, spelling}
+use Rattle.tl_codec.specs.Spelling.{Int, Long, Bytes, Longs, spelling}
 use Rattle.service_tl.specs.declared.lists.Message.{Message}
 use Rattle.service_tl.specs.declared.item.Item.{Item}
 use Rattle.service_tl.specs.declared.item.Item.TheVariants.{AuthBindTempAuthKey, DestroySession, GetFutureSalts, InvokeAfterMsg, MsgResendReq, MsgsAck, MsgsStateInfo, MsgsStateReq, Ping, RpcDropAnswer}
@@ -24,7 +24,6 @@ use Rattle.inbox.specs.declared.judged.Verdict.TheVariants.{Accepted, Again, Not
 use Rattle.inbox.specs.Kinds.{inner_messages, item_told, parts_among}
 use Rattle.inbox.specs.Judging.{unfolded}
 use Rattle.client_rules.specs.Asking.{begins_service, is_refused}
-use Rattle.client_rules.specs.Filling.{body_behind}
 use Rattle.world_moves.specs.Sent.{Asks, IsSaidAside}
 
 -- ---- how a body begins

@@ -1,5 +1,5 @@
 -- All events of a schedule, one after the other.
-use Rattle.std.proofs.Common.{◌≡◌, ◌∙◌, ℕ, zero, suc, Bool, true, false, not, Option, Some, None, List, [], ◌∷◌, fold, if◌then◌else◌, inl, inr, refl, sym, ap, subst}
+use Rattle.std.proofs.Common.{◌≡◌, ◌∙◌, ℕ, zero, suc, false, not, Option, Some, None, List, [], ◌∷◌, fold, inl, inr, refl, sym, ap, subst}
 use Rattle.std.specs.Prelude.{◌⊎◌, is_some}
 use Rattle.std.specs.List.{AllByRecursion, Contains}
 use Rattle.std.proofs.lemmas.Bool.{cases_Bool}
@@ -7,7 +7,6 @@ use Rattle.auth_keys.specs.declared.ring.RingKey.{RingKey}
 use Rattle.envelope.specs.declared.parts.Dir.{Dir}
 use Rattle.envelope.specs.declared.parts.Dir.TheVariants.{Up, Down}
 use Rattle.envelope.specs.declared.parts.Envelope.{Envelope}
-use Rattle.envelope.specs.Lawful.{OpensWhatItSealed}
 use Rattle.envelope.specs.Packet.{Lock}
 use Rattle.sched_text.specs.declared.event.Event.{Event}
 use Rattle.sched_text.specs.declared.event.Event.TheVariants as line
@@ -16,17 +15,17 @@ use Rattle.server_rules.specs.Events.{Course, Event as ServerEvent, Packet as Co
 use Rattle.server_orders.specs.After.{IsPacketFor, Pair}
 use Rattle.world_rules.specs.Setting.{Setting, as_heard, at_server}
 use Rattle.world_rules.specs.World.{Packet, Seat, World, bytes_of, counted, seat_now, server_now}
-use Rattle.world_rules.specs.Premises.{Fresh, IsByNoChance, IsSealed, NoChance, OpensOnly}
+use Rattle.world_rules.specs.Premises.{Fresh, IsByNoChance, NoChance, OpensOnly}
 use Rattle.world_rules.specs.Refusals.{ForeignOpens, Refusal, opened, refusal, unless}
 use Rattle.world_rules.specs.Refusals as refusals
 use Rattle.world_rules.specs.Run.{after, is_in_the_way, step, step_any}
 use Rattle.world_packets.specs.Lawful.{AreLawfulPackets, IsSealedPacket}
 use Rattle.world_law.specs.Made.{IsOfPacket, IsShort}
-use Rattle.world_law.specs.Standing.{HasMoves, WorldStands}
+use Rattle.world_law.specs.Standing.{HasMoves}
 use Rattle.world_orders.specs.Keeping.{ArePacketsFor, KeepsOrder}
 use Rattle.world_orders.proofs.Lists.{each_of, get-there, none-some}
 use Rattle.world_orders.proofs.Keeping.{Ends, Opened, walk}
-use Rattle.world_orders.proofs.Walking.{AreOpened, Walk, walked}
+use Rattle.world_orders.proofs.Walking.{AreOpened, walked}
 
 -- ---- what opens at the server
 

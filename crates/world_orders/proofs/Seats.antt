@@ -1,15 +1,15 @@
 -- Clients go on in their places.
-use Rattle.std.proofs.Common.{◌≡◌, ◌∙◌, zero, suc, ℕ, Option, Some, None, List, [], ◌∷◌, ◌++◌, map, refl, sym, ap, subst}
+use Rattle.std.proofs.Common.{◌≡◌, zero, suc, ℕ, Some, List, [], ◌∷◌, ◌++◌, map, refl, ap, subst}
 use Rattle.std.specs.Prelude.{slice_get}
 use Rattle.std.specs.List.{AllByRecursion}
 use Rattle.envelope.specs.declared.parts.Envelope.{Envelope}
 use Rattle.call_table.specs.Table.{Call}
-use Rattle.client_rules.specs.Client.{Client, calls_of}
+use Rattle.client_rules.specs.Client.{calls_of}
 use Rattle.client_orders.specs.Behind.{KeepsTurn, Last}
 use Rattle.client_orders.specs.Going.{IsPacketFrom}
 use Rattle.world_rules.specs.World.{Packet, Seat, changed_at, changed_from_0, counted}
 use Rattle.world_rules.specs.Run.{set}
-use Rattle.world_orders.specs.Keeping.{AreTurning, IsFromSeat, IsUpFrom}
+use Rattle.world_orders.specs.Keeping.{AreTurning, IsUpFrom}
 use Rattle.world_orders.proofs.Lists.{all-weaker, get-append, none-some, some-same}
 
 -- a seat at a later moment: its client keeps its key and its calls

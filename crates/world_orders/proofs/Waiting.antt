@@ -1,8 +1,8 @@
 -- Calls that went behind a number run behind the earlier call.
-use Rattle.std.proofs.Common.{◌≡◌, ◌∙◌, ◌<◌, ◌≤◌, ◌-◌, ◌+◌, ◌==◌, zero, suc, ℕ, Bool, true, false, Option, Some, None, List, [], ◌∷◌, ◌++◌, length, map, eq-eqb, refl, sym, ap, subst, arith, inl, inr}
-use Rattle.std.specs.Prelude.{◌⊎◌, ◌&&◌, ◌≢◌, not, slice_get}
-use Rattle.std.specs.List.{AllByRecursion, Contains, list_any, filter}
-use Rattle.std.proofs.lemmas.Bool.{cases_Bool, and_parts, eqb-true}
+use Rattle.std.proofs.Common.{◌≡◌, ◌∙◌, ◌<◌, ◌≤◌, ◌-◌, ◌==◌, zero, suc, ℕ, Bool, true, Option, Some, None, List, [], ◌∷◌, ◌++◌, length, map, refl, sym, ap, subst, arith, inl, inr}
+use Rattle.std.specs.Prelude.{◌&&◌, not}
+use Rattle.std.specs.List.{Contains, list_any, filter}
+use Rattle.std.proofs.lemmas.Bool.{cases_Bool, and_parts}
 use Rattle.tl_codec.specs.Standard.{bytes_max}
 use Rattle.service_tl.specs.Schema.{rpc_error, rpc_answer_dropped_running}
 use Rattle.envelope.specs.declared.parts.Envelope.{Envelope}
@@ -19,7 +19,7 @@ use Rattle.world_servers.specs.Servers.{IsPacketUp}
 use Rattle.server_orders.specs.After.{HasRun, Pair, is_run, is_run_well}
 use Rattle.client_orders.specs.Behind.{GoesBehind, HasName, IsBehind, IsInTurn, KeepsTurn, WentBehind}
 use Rattle.world_rules.specs.Setting.{Setting, as_heard}
-use Rattle.world_rules.specs.World.{Entered, Seat, World, counted}
+use Rattle.world_rules.specs.World.{Entered, Seat, World}
 use Rattle.world_rules.specs.Once.{IsCallOf, IsEarlierCall, Once, RanWell, earlier_of, entries_under, is_entry_under, older_names}
 use Rattle.world_law.specs.Standing.{WorldStands}
 use Rattle.world_orders.specs.Keeping.{KeepsOrder, WaitingInOrder, entries_in}

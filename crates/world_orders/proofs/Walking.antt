@@ -1,24 +1,21 @@
 -- What holds behind each event of a world.
-use Rattle.std.proofs.Common.{◌≡◌, ◌∙◌, zero, suc, ℕ, Bool, true, false, cond, Option, Some, None, List, refl, sym, ap, subst}
+use Rattle.std.proofs.Common.{◌≡◌, zero, suc, ℕ, Option, Some, None, List, refl}
 use Rattle.std.specs.Prelude.{map, option_map}
-use Rattle.std.specs.List.{Contains}
 use Rattle.std.proofs.lemmas.Bool.{cond_both}
 use Rattle.envelope.specs.declared.parts.Dir.{Dir}
 use Rattle.envelope.specs.declared.parts.Dir.TheVariants.{Up, Down}
-use Rattle.envelope.specs.declared.parts.Envelope.{Envelope}
 use Rattle.msg_ids.specs.Moments.{moment_of}
 use Rattle.sched_text.specs.declared.event.Event.{Event}
 use Rattle.sched_text.specs.declared.event.Event.TheVariants as line
-use Rattle.server_rules.specs.Events.{Attach, Event as ServerEvent, Loss, Packet as Comes, Restart, Tick, Work}
+use Rattle.server_rules.specs.Events.{Attach, Event as ServerEvent, Loss, Tick, Work}
 use Rattle.client_rules.specs.Client.{Temporary, temporary_of}
 use Rattle.client_rules.specs.Events as wishes
 use Rattle.server_orders.specs.After.{IsEventFor, Pair}
 use Rattle.world_rules.specs.Setting.{Setting}
-use Rattle.world_rules.specs.World.{Packet, Seat, World, bytes_of, changed_at, counted, owner, seat_now, server_now}
+use Rattle.world_rules.specs.World.{Packet, Seat, World, bytes_of, changed_at, counted, owner, seat_now}
 use Rattle.world_rules.specs.Ends.{acts, arrives, comes_down, comes_to_owner, comes_up, flushes, goes, seated, serves, with_seat}
 use Rattle.world_rules.specs.Run.{after, joins, present_name, set, wishes_so, works}
 use Rattle.world_rules.specs.Refusals.{call_numbered}
-use Rattle.world_orders.proofs.Lists.{get-there, none-some}
 
 -- no packet's event
 abbrev pub IsQuiet : ServerEvent → Type 0

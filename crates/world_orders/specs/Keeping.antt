@@ -1,5 +1,5 @@
 -- What a world keeps of the order of calls.
-use Rattle.std.specs.Prelude.{◌≡◌, ℕ, true, Option, None, Some, List, [], ◌∷◌, ◌++◌, map, slice_get}
+use Rattle.std.specs.Prelude.{◌≡◌, ℕ, true, Some, List, ◌∷◌, ◌++◌, map, slice_get}
 use Rattle.std.specs.List.{AllByRecursion, Contains, list_any}
 use Rattle.envelope.specs.declared.parts.Dir.TheVariants.{Up}
 use Rattle.server_rules.specs.Event.{Entry}

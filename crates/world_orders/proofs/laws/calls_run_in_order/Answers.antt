@@ -3,7 +3,6 @@ use Rattle.auth_keys.specs.declared.ring.RingKey.{RingKey}
 use Rattle.envelope.specs.Lawful.{OpensWhatItSealed}
 use Rattle.envelope.specs.Packet.{Lock}
 use Rattle.regs_service.specs.Served.{Served}
-use Rattle.server_rules.specs.Event.{Entry}
 use Rattle.world_rules.specs.Setting.{Setting, at_client, at_server}
 use Rattle.world_rules.specs.World.{World, begins}
 use Rattle.world_rules.specs.Premises.{IsSealed, IsSound}

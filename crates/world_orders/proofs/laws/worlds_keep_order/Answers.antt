@@ -2,9 +2,8 @@ use Rattle.std.proofs.Common.{List}
 use Rattle.auth_keys.specs.declared.ring.RingKey.{RingKey}
 use Rattle.envelope.specs.Lawful.{OpensWhatItSealed}
 use Rattle.envelope.specs.Packet.{Lock}
-use Rattle.server_rules.specs.Event.{Entry}
 use Rattle.world_rules.specs.Setting.{Setting, at_client, at_server}
-use Rattle.world_rules.specs.World.{World, begins}
+use Rattle.world_rules.specs.World.{begins}
 use Rattle.world_rules.specs.Premises.{IsSealed, IsSound}
 use Rattle.world_rules.specs.Run.{step, step_any}
 use Rattle.world_law.specs.Small.{Fits}
