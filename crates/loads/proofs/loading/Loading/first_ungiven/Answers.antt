@@ -26,4 +26,4 @@ returns-clause-first g c =
     (λ sealing settling is stands.
       c.first_ungiven.ensures.first settling.given stands.given
       ∙ ap (λ (n : ℕ). first_ungiven 1 n settling.given)
-        (c.packets-count.ensures ∙ packets-of (world_setting draws serve fresh (keys inside.world.host.server.seal) sealing) inside.world settling.world stands.world))
+        (c.packets-count.ensures.kept ∙ packets-of (world_setting draws serve fresh (keys inside.world.host.server.seal) sealing) inside.world settling.world stands.world))
