@@ -28,6 +28,7 @@ did_zero step serve lock ring side = record {
   bytes = [];
   follows = λ outside talk is stands. record { part = refl; stands = stands; sends = λ to text tells. same_tells side.line to talk.sent text tells };
   written = wrote_nothing side.told;
+  cut = tt;
 }
 
 counted_zero : (left : Option ℕ) → left ≡ counted 0 left

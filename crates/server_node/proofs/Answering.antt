@@ -27,6 +27,7 @@ use Rattle.server_node.specs.declared.conn.ConnEnd.TheVariants as ends
 use Rattle.server_node.specs.declared.heard.SessionName.{SessionName}
 use Rattle.server_node.specs.declared.line.Line.TheVariants.{Framed}
 use Rattle.server_node.specs.declared.taking.Came.{Came}
+use Rattle.server_node.proofs.Cuts.{cut_from}
 use Rattle.server_node.proofs.Events.{did_event, did_fail, same_tells}
 use Rattle.server_node.proofs.Hearing.{OneRefusal, did_drop, did_unknown, first_judged, heard_judged, none_first, refused_read, tells_same}
 use Rattle.server_node.proofs.Writing.{wrote_nothing}
@@ -56,6 +57,9 @@ did_from step serve lock ring desk drawn heard wire between told service due end
       let one = did.follows outside talk is (record { serves = record { server = stands.serves.server; drawn = stands.serves.drawn; service = stands.serves.service }; heard = stands.heard; quiet = tt }) in
       record { part = one.part; stands = one.stands; sends = λ to text tells. one.sends to text (tells_same wire between to talk.sent text same tells) };
   written = did.written;
+  cut = cut_from end step serve lock ring (sides desk drawn heard between told service) (sides desk drawn heard wire told service) later.line later.told did.acts did.bytes refl
+      (λ talk stands. record { serves = record { server = stands.serves.server; drawn = stands.serves.drawn; service = stands.serves.service }; heard = stands.heard; quiet = tt })
+      (λ to packets text tells. tells_same wire between to packets text same tells) did.cut;
 }
 
 -- the sessions that were heard don't matter any more
@@ -85,6 +89,7 @@ did_unheard step serve lock ring side due end desk drawn heard heard_then wire t
         sends = one.sends;
       };
   written = did.written;
+  cut = did.cut;
 }
 
 -- ---- no packet
@@ -101,6 +106,7 @@ came_none step serve lock ring desk desk_then drawn drawn_then heard wire wire_t
     sends = λ to text tells. same_tells (Framed wire_then) to talk.sent text (tells_same wire wire_then to talk.sent text out tells);
   };
   written = wrote_nothing told;
+  cut = tt;
 }
 
 came_failed : {S V : Type 0} (step : S → ℕ × S) (serve : Step V) (lock : Lock) (ring : List RingKey) (desk desk_then : Server → Type 0) (drawn drawn_then : S) (heard : List SessionName) (wire wire_then : Line) (told : Option Told) (now : ℕ) (end : ConnEnd)
@@ -157,13 +163,13 @@ last_of step serve lock ring side later now wire wire_then (ends.Journal fault) 
 
 -- a session that was heard
 judged_did : {S V : Type 0} (step : S → ℕ × S) (serve : Step V) (lock : Lock) (ring : List RingKey) (desk desk_then : Server → Type 0) (drawn drawn_then : S) (heard : List SessionName) (wire between wire_then : Line) (told told_then : Option Told) (now : ℕ) (reply : Reply) (key session : ℕ) (end : Option ConnEnd)
-    → OpensWhatItSealed lock → SameOut wire between → (next : TellsNext step lock ring desk drawn now wire reply desk_then drawn_then between) → reply.heard ≡ Judged key session → IsSendEnd end
+    → OpensWhatItSealed lock → SameOut wire between → IsSameIn between wire_then → (next : TellsNext step lock ring desk drawn now wire reply desk_then drawn_then between) → reply.heard ≡ Judged key session → IsSendEnd end
     → Said (Framed between) (with_name heard (record { key = key; session = session })) told (going_out (with_name heard (record { key = key; session = session })) reply.out.outs) end (Framed wire_then) told_then
     → (service : V) → Did step serve lock ring (sides desk drawn heard wire told service) (λ rules talk. Hear now next.packet ∷ []) end (sides desk_then drawn_then (with_name heard (record { key = key; session = session })) wire_then told_then service)
-judged_did step serve lock ring desk desk_then drawn drawn_then heard wire between wire_then told told_then now reply key session end opens out next was can said service =
+judged_did step serve lock ring desk desk_then drawn drawn_then heard wire between wire_then told told_then now reply key session end opens out same next was can said service =
     did_from step serve lock ring desk drawn heard wire between told service (λ rules talk. Hear now next.packet ∷ []) end (sides desk_then drawn_then (with_name heard (record { key = key; session = session })) wire_then told_then service) out
     (did_event step serve lock ring (sides desk drawn heard between told service) (sides desk_then drawn_then (with_name heard (record { key = key; session = session })) wire_then told_then service) (Hear now next.packet) end (effects_in reply)
-    opens can said (λ quiet. (tt, tt))
+    opens can same said (λ quiet. (tt, tt))
     (heard_judged step serve lock ring (sides desk drawn heard between told service) (sides desk_then drawn_then (with_name heard (record { key = key; session = session })) wire_then told_then service) now next.packet reply key session
     opens next.tells was refl refl))
 
@@ -175,13 +181,13 @@ judged_ok : {S V : Type 0} (step : S → ℕ × S) (serve : Step V) (lock : Lock
 judged_ok step serve lock ring desk desk_then drawn drawn_then heard wire between wire_then told told_then now reply key session true opens out same next was first said = record {
   packet = next.packet;
   next = next_on wire between wire_then next.packet same next.next;
-  did = judged_did step serve lock ring desk desk_then drawn drawn_then heard wire between wire_then told told_then now reply key session None opens out next was tt said;
+  did = judged_did step serve lock ring desk desk_then drawn drawn_then heard wire between wire_then told told_then now reply key session None opens out same next was tt said;
   first = λ service. first_judged step lock ring (sides desk drawn heard wire told service) (sides desk_then drawn_then (with_name heard (record { key = key; session = session })) wire_then told_then service) now next.packet reply key session true opens next.tells was first;
 }
 judged_ok step serve lock ring desk desk_then drawn drawn_then heard wire between wire_then told told_then now reply key session false opens out same next was first said = record {
   packet = next.packet;
   next = next_on wire between wire_then next.packet same next.next;
-  did = judged_did step serve lock ring desk desk_then drawn drawn_then heard wire between wire_then told told_then now reply key session None opens out next was tt said;
+  did = judged_did step serve lock ring desk desk_then drawn drawn_then heard wire between wire_then told told_then now reply key session None opens out same next was tt said;
   first = λ service. first_judged step lock ring (sides desk drawn heard wire told service) (sides desk_then drawn_then (with_name heard (record { key = key; session = session })) wire_then told_then service) now next.packet reply key session false opens next.tells was first;
 }
 
@@ -198,18 +204,18 @@ hear_judged step serve lock ring desk desk_then drawn drawn_then heard heard_the
       packet = next.packet;
       next = λ from packets bytes hears. (next.next from packets bytes hears).0;
       did = λ service. did_unheard step serve lock ring (sides desk drawn heard wire told service) (λ rules talk. Hear now next.packet ∷ []) end desk_then drawn_then (with_name heard (record { key = key; session = session })) heard_then wire_then told_then service can
-          (judged_did step serve lock ring desk desk_then drawn drawn_then heard wire between wire_then told told_then now reply key session (Some end) opens out next was can says.said service);
+          (judged_did step serve lock ring desk desk_then drawn drawn_then heard wire between wire_then told told_then now reply key session (Some end) opens out same next was can says.said service);
     })
 
 -- an unknown key
 unknown_did : {S V : Type 0} (step : S → ℕ × S) (serve : Step V) (lock : Lock) (ring : List RingKey) (desk desk_then : Server → Type 0) (drawn drawn_then : S) (heard heard_then : List SessionName) (wire between wire_then : Line) (told told_then : Option Told) (now : ℕ) (reply : Reply) (id : ℕ) (end : Option ConnEnd)
-    → OpensWhatItSealed lock → OneRefusal lock → SameOut wire between → (next : TellsNext step lock ring desk drawn now wire reply desk_then drawn_then between) → reply.heard ≡ NotOpened (refusals.NoKey id) → IsSendEnd end
+    → OpensWhatItSealed lock → OneRefusal lock → SameOut wire between → IsSameIn between wire_then → (next : TellsNext step lock ring desk drawn now wire reply desk_then drawn_then between) → reply.heard ≡ NotOpened (refusals.NoKey id) → IsSendEnd end
     → heard_then ≡ heard → Said (Framed between) heard told (unknown_key ∷ []) end (Framed wire_then) told_then
     → (service : V) → Did step serve lock ring (sides desk drawn heard wire told service) (λ rules talk. Hear now next.packet ∷ []) end (sides desk_then drawn_then heard_then wire_then told_then service)
-unknown_did step serve lock ring desk desk_then drawn drawn_then heard heard_then wire between wire_then told told_then now reply id end opens one out next was can same said service =
+unknown_did step serve lock ring desk desk_then drawn drawn_then heard heard_then wire between wire_then told told_then now reply id end opens one out alike next was can same said service =
     did_from step serve lock ring desk drawn heard wire between told service (λ rules talk. Hear now next.packet ∷ []) end (sides desk_then drawn_then heard_then wire_then told_then service) out
     (did_unknown step serve lock ring (sides desk drawn heard between told service) (sides desk_then drawn_then heard_then wire_then told_then service) between wire_then now next.packet reply id end
-    opens one can refl refl next.tells was same refl said)
+    opens one can refl refl next.tells was same refl alike said)
 
 hear_unknown : {S V : Type 0} (step : S → ℕ × S) (serve : Step V) (lock : Lock) (ring : List RingKey) (desk desk_then : Server → Type 0) (drawn drawn_then : S) (heard heard_then : List SessionName) (wire between wire_then : Line) (told told_then : Option Told) (now : ℕ) (reply : Reply) (id : ℕ) (result : Result Came ConnEnd)
     → OpensWhatItSealed lock → OneRefusal lock → SameOut wire between → IsSameIn between wire_then → TellsNext step lock ring desk drawn now wire reply desk_then drawn_then between → reply.heard ≡ NotOpened (refusals.NoKey id)
@@ -219,7 +225,7 @@ hear_unknown {S} {V} step serve lock ring desk desk_then drawn drawn_then heard 
     subst (λ (some : Came). CameBy {S = S} {V = V} step serve lock ring (sides desk drawn heard wire told) now wire wire_then (Ok some) (sides desk_then drawn_then heard_then wire_then told_then)) (sym says.came) (record {
       packet = next.packet;
       next = next_on wire between wire_then next.packet same next.next;
-      did = unknown_did step serve lock ring desk desk_then drawn drawn_then heard heard_then wire between wire_then told told_then now reply id None opens one out next was tt says.same says.said;
+      did = unknown_did step serve lock ring desk desk_then drawn drawn_then heard heard_then wire between wire_then told told_then now reply id None opens one out same next was tt says.same says.said;
       first = λ service outside talk is stands. none_first now talk (outside.reading (moment_at talk now) next.packet) (refusals.NoKey id)
           (refused_read step lock ring (sides desk drawn heard wire told service) (sides desk_then drawn_then heard_then wire_then told_then service) now next.packet reply (refusals.NoKey id) opens one next.tells was outside talk is stands);
     })
@@ -227,7 +233,7 @@ hear_unknown step serve lock ring desk desk_then drawn drawn_then heard heard_th
     last_of step serve lock ring (sides desk drawn heard wire told) (sides desk_then drawn_then heard_then wire_then told_then) now wire wire_then end can (record {
       packet = next.packet;
       next = λ from packets bytes hears. (next.next from packets bytes hears).0;
-      did = unknown_did step serve lock ring desk desk_then drawn drawn_then heard heard_then wire between wire_then told told_then now reply id (Some end) opens one out next was can says.same says.said;
+      did = unknown_did step serve lock ring desk desk_then drawn drawn_then heard heard_then wire between wire_then told told_then now reply id (Some end) opens one out same next was can says.same says.said;
     })
 
 -- another packet that doesn't open

@@ -1,15 +1,16 @@
 -- What events do one after the other.
-use Rattle.std.proofs.Common.{◌≡◌, ◌+◌, zero, suc, arith, ℕ, List, [], ◌∷◌, ◌++◌, Option, Some, None, refl, sym, ap, subst, ◌∙◌, append-nil, append_assoc}
+use Rattle.std.proofs.Common.{◌≡◌, ◌+◌, zero, suc, arith, ℕ, List, [], ◌∷◌, ◌++◌, Option, Some, None, IfSome, IsSomeAnd, refl, sym, ap, subst, ◌∙◌, append-nil, append_assoc}
 use Rattle.auth_keys.specs.declared.ring.RingKey.{RingKey}
 use Rattle.envelope.specs.Packet.{Lock}
 use Rattle.mt_edge.specs.Links.{Told}
 use Rattle.regs_service.specs.Served.{Step}
-use Rattle.server_node.specs.Doing.{Did, DidThen, Due, FollowedThenBy, IsPart, Side, StandsBy, then_due}
-use Rattle.server_node.specs.Steps.{SentBy}
+use Rattle.server_node.specs.Doing.{CutBy, Did, DidThen, Due, FollowedThenBy, IsPart, Side, StandsBy, at_once, then_due}
+use Rattle.server_node.specs.Steps.{LineFrames, SentBy}
 use Rattle.server_node.specs.Trace.{Act, Rules, Run, Talk, Tick, after_acts, packet_acts, packets_acts, rules_of, runs, work_acts}
 use Rattle.server_node.specs.Writes.{WrittenBy, Wrote, WroteBy, WroteFront}
 use Rattle.server_node.specs.declared.conn.ConnEnd.{ConnEnd}
 use Rattle.server_node.specs.declared.conn.ConnEnd.TheVariants as ends
+use Rattle.server_node.specs.declared.line.Line.{Line}
 
 -- ---- what is written
 
@@ -22,12 +23,13 @@ wrote_both one other first middle last before after =
       reads = after.reads ∙ before.reads;
     }
 
-wrote_front : (one other : List ℕ) (first middle last : Told) → Wrote one first middle → WroteFront other middle last → WroteFront (one ++ other) first last
+wrote_front : (one other : List ℕ) (first middle last : Told) → Wrote one first middle → WroteFront [] other middle last → WroteFront [] (one ++ other) first last
 wrote_front one other first middle last before after =
     record {
       front = one ++ after.front;
       rest = after.rest;
-      whole = ap (λ bytes. one ++ bytes) after.whole ∙ sym (append_assoc one after.front after.rest);
+      cut = ap (λ bytes. one ++ bytes) after.cut ∙ sym (append_assoc one after.front after.rest);
+      some = after.some;
       wrote = wrote_both one after.front first middle last before after.wrote;
     }
 
@@ -60,6 +62,81 @@ part_both None whole acts more done same part = ap (λ (some : List Act). some +
 part_both (Some end) whole acts more done same (rest, part) =
     (rest, ap (λ (some : List Act). some ++ more) same ∙ ap (λ (some : List Act). acts ++ some) part ∙ sym (append_assoc acts done rest))
 
+-- a write failed in the second of two parts
+fails_behind : (one whole rest : List ℕ) (first middle last : Told) → Wrote one first middle → WroteFront whole rest middle last → WroteFront (one ++ whole) rest first last
+fails_behind one whole rest first middle last before after =
+    record {
+      front = after.front;
+      rest = after.rest;
+      cut = after.cut;
+      some = after.some;
+      wrote = subst (λ (bytes : List ℕ). Wrote bytes first last) (sym (append_assoc one whole after.front)) (wrote_both one (whole ++ after.front) first middle last before after.wrote);
+    }
+
+told_behind : (one whole rest : List ℕ) (first middle last : Option Told) → WrittenBy None one first middle
+    → IfSome last (λ ended. IsSomeAnd middle (λ begun. WroteFront whole rest begun ended))
+    → IfSome last (λ ended. IsSomeAnd first (λ begun. WroteFront (one ++ whole) rest begun ended))
+told_behind one whole rest first middle None before after = tt
+told_behind one whole rest first None (Some last) before after = absurd after
+told_behind one whole rest None (Some middle) (Some last) before after = absurd before
+told_behind one whole rest (Some first) (Some middle) (Some last) before after = fails_behind one whole rest first middle last before after
+
+cut_both : {S V : Type 0} (end : Option ConnEnd) (step : S → ℕ × S) (serve : Step V) (lock : Lock) (ring : List RingKey) (side middle : Side S V) (line : Line) (told : Option Told) (first : Due S V) (acts : List Act) (bytes : List ℕ)
+    → (before : Did step serve lock ring side first None middle) → CutBy end step serve lock ring middle line told at_once acts bytes
+    → CutBy end step serve lock ring side line told at_once (before.acts ++ acts) (before.bytes ++ bytes)
+cut_both {S} {V} (Some ends.LinkFault) step serve lock ring side middle line told first acts bytes before cut = record {
+  earlier = before.acts ++ cut.earlier;
+  last = cut.last;
+  whole = before.bytes ++ cut.whole;
+  rest = cut.rest;
+  are = ap (λ (some : List Act). before.acts ++ some) cut.are ∙ sym (append_assoc before.acts cut.earlier (cut.last ∷ []));
+  all = ap (λ (some : List ℕ). before.bytes ++ some) cut.all ∙ sym (append_assoc before.bytes cut.whole cut.rest);
+  frames = λ outside talk is stands to text tells.
+      let rules : Rules S V = rules_of step serve outside in
+      let one = before.follows outside talk is stands in
+      let between : Talk S V = after_acts rules talk before.acts in
+      subst (λ (last : Talk S V). LineFrames line to last.sent (text ++ (before.bytes ++ cut.whole))) (sym (acts_both rules talk before.acts cut.earlier))
+      (subst (λ (all : List ℕ). LineFrames line to (after_acts rules between cut.earlier).sent all) (append_assoc text before.bytes cut.whole)
+      (cut.frames outside between is one.stands to (text ++ before.bytes) (one.sends to text tells)));
+  fails = told_behind before.bytes cut.whole cut.rest side.told middle.told told before.written cut.fails;
+}
+cut_both None step serve lock ring side middle line told first acts bytes before cut = tt
+cut_both (Some ends.Ended) step serve lock ring side middle line told first acts bytes before cut = tt
+cut_both (Some (ends.Frame fault)) step serve lock ring side middle line told first acts bytes before cut = tt
+cut_both (Some ends.Start) step serve lock ring side middle line told first acts bytes before cut = tt
+cut_both (Some ends.TurnsSpent) step serve lock ring side middle line told first acts bytes before cut = tt
+cut_both (Some ends.Stopped) step serve lock ring side middle line told first acts bytes before cut = tt
+cut_both (Some (ends.Journal fault)) step serve lock ring side middle line told first acts bytes before cut = tt
+cut_both (Some ends.Memory) step serve lock ring side middle line told first acts bytes before cut = tt
+
+cut_then : {S V : Type 0} (end : Option ConnEnd) (step : S → ℕ × S) (serve : Step V) (lock : Lock) (ring : List RingKey) (side middle : Side S V) (line : Line) (told : Option Told) (first : Due S V) (acts : List Act) (bytes : List ℕ)
+    → (before : Did step serve lock ring side first None middle) → CutBy end step serve lock ring middle line told at_once acts bytes
+    → CutBy end step serve lock ring side line told first acts (before.bytes ++ bytes)
+cut_then {S} {V} (Some ends.LinkFault) step serve lock ring side middle line told first acts bytes before cut = record {
+  earlier = cut.earlier;
+  last = cut.last;
+  whole = before.bytes ++ cut.whole;
+  rest = cut.rest;
+  are = cut.are;
+  all = ap (λ (some : List ℕ). before.bytes ++ some) cut.all ∙ sym (append_assoc before.bytes cut.whole cut.rest);
+  frames = λ outside talk is stands to text tells.
+      let rules : Rules S V = rules_of step serve outside in
+      let one = before.follows outside talk is stands in
+      let between : Talk S V = after_acts rules talk before.acts in
+      subst (λ (done : List Act). LineFrames line to (after_acts rules (after_acts rules talk done) cut.earlier).sent (text ++ (before.bytes ++ cut.whole))) (sym one.part)
+      (subst (λ (all : List ℕ). LineFrames line to (after_acts rules between cut.earlier).sent all) (append_assoc text before.bytes cut.whole)
+      (cut.frames outside between is one.stands to (text ++ before.bytes) (one.sends to text tells)));
+  fails = told_behind before.bytes cut.whole cut.rest side.told middle.told told before.written cut.fails;
+}
+cut_then None step serve lock ring side middle line told first acts bytes before cut = tt
+cut_then (Some ends.Ended) step serve lock ring side middle line told first acts bytes before cut = tt
+cut_then (Some (ends.Frame fault)) step serve lock ring side middle line told first acts bytes before cut = tt
+cut_then (Some ends.Start) step serve lock ring side middle line told first acts bytes before cut = tt
+cut_then (Some ends.TurnsSpent) step serve lock ring side middle line told first acts bytes before cut = tt
+cut_then (Some ends.Stopped) step serve lock ring side middle line told first acts bytes before cut = tt
+cut_then (Some (ends.Journal fault)) step serve lock ring side middle line told first acts bytes before cut = tt
+cut_then (Some ends.Memory) step serve lock ring side middle line told first acts bytes before cut = tt
+
 -- the events of two parts, of which the first went on
 pub did_both : {S V : Type 0} (step : S → ℕ × S) (serve : Step V) (lock : Lock) (ring : List RingKey) (side middle later : Side S V) (first second : Due S V) (end : Option ConnEnd)
     → Did step serve lock ring side first None middle → Did step serve lock ring middle second end later → Did step serve lock ring side (then_due first second) end later
@@ -82,6 +159,7 @@ did_both {S} {V} step serve lock ring side middle later first second end before 
             (two.sends to (text ++ before.bytes) (one.sends to text tells)));
       };
   written = written_both end before.bytes next.bytes side.told middle.told later.told before.written next.written;
+  cut = cut_both end step serve lock ring side middle later.line later.told first next.acts next.bytes before next.cut;
 }
 
 -- the events of a part that went on, and then those of another
@@ -103,6 +181,7 @@ did_then {S} {V} step serve lock ring side middle later first second end before 
             (two.sends to (text ++ before.bytes) (one.sends to text tells));
       });
   written = written_both end before.bytes next.bytes side.told middle.told later.told before.written next.written;
+  cut = cut_then end step serve lock ring side middle later.line later.told first next.acts next.bytes before next.cut;
 }
 
 -- the same events, told otherwise
@@ -120,6 +199,7 @@ did_as step serve lock ring side later due other end same did = record {
         sends = one.sends;
       };
   written = did.written;
+  cut = did.cut;
 }
 
 -- the keys of its ring are the same

@@ -30,6 +30,7 @@ use Rattle.server_node.specs.declared.conn.ConnEnd.TheVariants as ends
 use Rattle.server_node.specs.declared.heard.SessionName.{SessionName}
 use Rattle.server_node.specs.declared.line.Line.{Line}
 use Rattle.server_node.specs.declared.line.Line.TheVariants as lines
+use Rattle.server_node.proofs.Cuts.{cut_one}
 use Rattle.server_node.proofs.Goings.{event_is_packet_end}
 use Rattle.server_node.proofs.Writing.{wrote_nothing}
 
@@ -104,11 +105,11 @@ part_whole (Some end) acts = ([], sym (append-nil acts))
 
 pub did_event : {S V : Type 0} (step : S → ℕ × S) (serve : Step V) (lock : Lock) (ring : List RingKey) (side later : Side S V) (act : Act) (end : Option ConnEnd) (effects : Effects)
     → OpensWhatItSealed lock → IsSendEnd end
-    → Said side.line later.heard side.told (going_out later.heard effects.out.outs) end later.line later.told
+    → HearsAlike side.line later.line → Said side.line later.heard side.told (going_out later.heard effects.out.outs) end later.line later.told
     → (IsQuiet side.line side.heard → IsQuiet side.line later.heard × IsQuiet later.line later.heard)
     → ((outside : Outside) (talk : Talk S V) → IsOutside lock ring outside → Stands side talk → Answers (rules_of step serve outside) talk act lock ring effects later)
     → Did step serve lock ring side (λ rules talk. act ∷ []) end later
-did_event {S} {V} step serve lock ring side later act end effects opens can said quiet answers = record {
+did_event {S} {V} step serve lock ring side later act end effects opens can alike said quiet answers = record {
   acts = act ∷ [];
   bytes = said.bytes;
   follows = λ outside talk is stands.
@@ -132,6 +133,7 @@ did_event {S} {V} step serve lock ring side later act end effects opens can said
             (said.sends to talk.sent text still.0 tells));
       };
   written = said.written;
+  cut = cut_one end step serve lock ring side later.line later.told act said.bytes alike said.written;
 }
 
 -- ---- a fault of the desk
@@ -160,6 +162,7 @@ fault_ends step serve lock ring side later due fault line told = record {
     sends = λ to text tells. subst (λ some. LineTells some to talk.sent (text ++ [])) (sym line) (same_tells side.line to talk.sent text tells);
   };
   written = subst (λ some. WrittenBy None [] side.told some) (sym told) (wrote_nothing side.told);
+  cut = tt;
 }
 
 memory_ends : {S V : Type 0} (step : S → ℕ × S) (serve : Step V) (lock : Lock) (ring : List RingKey) (side later : Side S V) (due : Due S V)
@@ -175,6 +178,7 @@ memory_ends step serve lock ring side later due line told unchanged same = recor
     sends = λ to text tells. subst (λ some. LineFront some to talk.sent (text ++ [])) (sym line) (front_all side.line to talk.sent text tells);
   };
   written = subst (λ some. WrittenBy None [] side.told some) (sym told) (wrote_nothing side.told);
+  cut = tt;
 }
 
 -- nothing came of the event, and where memory ran out the desk stands for what it stood for
@@ -236,7 +240,7 @@ pub did_tick : {S V : Type 0} (step : S → ℕ × S) (serve : Step V) (lock : L
     → ((keys : Keys) (server : Server) → side.desk server → Does later.desk lock ring later.drawn effects (after_tick (setting_of (max server.now now) step keys) server side.drawn))
     → Did step serve lock ring side (λ rules talk. Tick now ∷ []) end later
 did_tick step serve lock ring side later now end effects opens can said alike heard service given =
-    did_event step serve lock ring side later (Tick now) end effects opens can said (quiet_still side.line later.line side.heard later.heard heard alike)
+    did_event step serve lock ring side later (Tick now) end effects opens can alike said (quiet_still side.line later.line side.heard later.heard heard alike)
     (λ outside talk is stands. record {
       answer = after_tick (setting_of (max talk.server.now now) step outside.keys) talk.server talk.draw;
       start = talk;
@@ -256,7 +260,7 @@ pub did_attach : {S V : Type 0} (step : S → ℕ × S) (serve : Step V) (lock :
     → Does later.desk lock ring later.drawn effects (after_attach (setting_of (max server.now now) step keys) (record { key = name.key; session = name.session }) server side.drawn))
     → Did step serve lock ring side (λ rules talk. Attach now name ∷ []) end later
 did_attach step serve lock ring side later now name end effects opens can said alike heard service given =
-    did_event step serve lock ring side later (Attach now name) end effects opens can said (quiet_still side.line later.line side.heard later.heard heard alike)
+    did_event step serve lock ring side later (Attach now name) end effects opens can alike said (quiet_still side.line later.line side.heard later.heard heard alike)
     (λ outside talk is stands. record {
       answer = after_attach (setting_of (max talk.server.now now) step outside.keys) (record { key = name.key; session = name.session }) talk.server talk.draw;
       start = talk;
@@ -278,7 +282,7 @@ pub did_run : {S V : Type 0} (step : S → ℕ × S) (serve : Step V) (lock : Lo
     → later.service ≡ (after_work (setting_of (max server.now now) step keys) 0 serve side.service server side.drawn).1)
     → Did step serve lock ring side (λ rules talk. Run now ∷ []) end later
 did_run {S} {V} step serve lock ring side later now end effects opens can said alike heard given served =
-    did_event step serve lock ring side later (Run now) end effects opens can said (quiet_still side.line later.line side.heard later.heard heard alike)
+    did_event step serve lock ring side later (Run now) end effects opens can alike said (quiet_still side.line later.line side.heard later.heard heard alike)
     (λ outside talk is stands.
     let worked : V → S → Answer S × V = λ service draw. after_work (setting_of (max talk.server.now now) step outside.keys) 0 serve service talk.server draw in
     record {

@@ -24,7 +24,7 @@ use Rattle.server_node.specs.Coming.{SameOut}
 use Rattle.server_node.specs.Coming as coming
 use Rattle.server_node.specs.Doing.{Did, IsPart, Serves, Side, Stands, StandsBy}
 use Rattle.server_node.specs.Names.{was_heard, with_name}
-use Rattle.server_node.specs.Steps.{IsQuiet, IsSendEnd, LineTells, Said, SentBy}
+use Rattle.server_node.specs.Steps.{HearsAlike, IsQuiet, IsSendEnd, LineTells, Said, SentBy}
 use Rattle.server_node.specs.Trace.{Act, Attach, Hear, IsOutside, IsRead, Outside, Rules, Talk, after_act, first_acts, hears_as, moment_at, name_in, rules_of}
 use Rattle.server_node.specs.Writes.{WrittenBy, unknown_key}
 use Rattle.server_node.specs.declared.conn.ConnEnd.{ConnEnd}
@@ -32,6 +32,7 @@ use Rattle.server_node.specs.declared.conn.ConnEnd.TheVariants as ends
 use Rattle.server_node.specs.declared.heard.SessionName.{SessionName}
 use Rattle.server_node.specs.declared.line.Line as lines
 use Rattle.server_node.specs.declared.line.Line.TheVariants.{Framed}
+use Rattle.server_node.proofs.Cuts.{cut_one}
 use Rattle.server_node.proofs.Events.{Answers, same_tells}
 use Rattle.server_node.proofs.Writing.{wrote_nothing}
 
@@ -159,9 +160,9 @@ pub did_unknown : {S V : Type 0} (step : S → ℕ × S) (serve : Step V) (lock 
     → OpensWhatItSealed lock → OneRefusal lock → IsSendEnd end → side.line ≡ Framed wire → later.line ≡ Framed wire_then
     → coming.Tells step lock ring side.desk later.desk side.drawn later.drawn now packet reply → reply.heard ≡ NotOpened (refusals.NoKey id)
     → later.heard ≡ side.heard → later.service ≡ side.service
-    → Said (Framed wire) side.heard side.told (unknown_key ∷ []) end (Framed wire_then) later.told
+    → HearsAlike side.line later.line → Said (Framed wire) side.heard side.told (unknown_key ∷ []) end (Framed wire_then) later.told
     → Did step serve lock ring side (λ rules talk. Hear now packet ∷ []) end later
-did_unknown {S} {V} step serve lock ring side later wire wire_then now packet reply id end opens one can line line_then told was heard service said = record {
+did_unknown {S} {V} step serve lock ring side later wire wire_then now packet reply id end opens one can line line_then told was heard service alike said = record {
   acts = Hear now packet ∷ [];
   bytes = said.bytes;
   follows = λ outside talk is stands.
@@ -182,6 +183,7 @@ did_unknown {S} {V} step serve lock ring side later wire wire_then now packet re
             (said.sends to talk.sent text tt (subst (λ some. LineTells some to talk.sent text) line tells)));
       };
   written = said.written;
+  cut = cut_one end step serve lock ring side later.line later.told (Hear now packet) said.bytes alike said.written;
 }
 
 drops : {S V : Type 0} (rules : Rules S V) (moment : ℕ) (refusal : Refusal) (talk : Talk S V) → ((id : ℕ) → refusal ≢ refusals.NoKey id)
@@ -219,4 +221,5 @@ did_drop {S} {V} step serve lock ring side later now packet reply refusal opens 
             subst (λ (last : Talk S V). LineTells later.line to last.sent (text ++ [])) (sym after) (same_tells later.line to talk.sent text (tell to talk.sent text tells));
       };
   written = subst (λ some. WrittenBy None [] side.told some) (sym same) (wrote_nothing side.told);
+  cut = tt;
 }

@@ -1,5 +1,7 @@
 pub mod AllPackets
 pub mod Answering
+pub mod Breaking
+pub mod Cuts
 pub mod Doings
 pub mod Events
 pub mod Going

@@ -30,6 +30,7 @@ did_where step serve lock ring side later due other end same did = record {
         sends = one.sends;
       };
   written = did.written;
+  cut = did.cut;
 }
 
 -- the connection ended, and more events would have been due
@@ -48,6 +49,7 @@ did_longer step serve lock ring side later due more other end same did = record 
         sends = one.sends;
       };
   written = did.written;
+  cut = did.cut;
 }
 
 -- no attach follows

@@ -11,20 +11,22 @@ use Rattle.transport.specs.Directions.{through}
 use Rattle.transport.specs.Forms.{framing_of}
 use Rattle.transport.specs.Wires.{Line}
 use Rattle.server_node.specs.Coming.{AllCame, AllCut, Fed, Sides, TookAll, TookWhole, Unfed}
-use Rattle.server_node.specs.Connection.{AreWhole, EndsHeard, EndsUnfed, Heard, Hearing, IsCut, IsText, IsUnnamed, OwesBy, Place, Turn, Unfed as UnfedAt, Working, gets, hears, turned}
-use Rattle.server_node.specs.Doing.{Did, Due, IsEventEnd, IsFeedEnd, IsPacketsEnd, IsPart, Side, Stands, StandsBy, Worked}
+use Rattle.server_node.specs.Connection.{AreWhole, BreaksIn, EndsHeard, EndsUnfed, Heard, Hearing, IsCut, IsText, IsUnnamed, OwesBy, Passed, Place, Turn, Unfed as UnfedAt, Working, gets, hears, turned}
+use Rattle.server_node.specs.Doing.{Did, Due, IsEventEnd, IsFeedEnd, IsPacketsEnd, IsPart, Side, Stands, StandsBy, Worked, at_once}
 use Rattle.server_node.specs.Record.{counted}
 use Rattle.server_node.specs.Steps.{HearsAlike, IsQuiet, LineTells, SentBy}
 use Rattle.server_node.specs.Trace.{Act, IsOutside, Outside, Rules, Talk, after_acts, packet_acts, packets_acts, rules_of, work_acts}
 use Rattle.server_node.specs.Turns.{IsFramed, IsLine, IsRaw, PieceDone, PieceEnded, StandsAt, TookPiece, came_max}
-use Rattle.server_node.specs.Writes.{WrittenBy}
+use Rattle.server_node.specs.Writes.{WrittenBy, Wrote}
 use Rattle.server_node.specs.declared.conn.ConnEnd.{ConnEnd}
 use Rattle.server_node.specs.declared.conn.ConnEnd.TheVariants as ends
 use Rattle.server_node.specs.declared.heard.SessionName.{SessionName}
 use Rattle.server_node.specs.declared.line.Line.{Line as Ends}
 use Rattle.server_node.specs.declared.line.Line.TheVariants.{Raw, Framed}
+use Rattle.server_node.proofs.Breaking.{breaks_in}
 use Rattle.server_node.proofs.Doings.{written_both}
-use Rattle.server_node.proofs.Lines.{alike_form, faulty_by, fed_line, first_by, line_alike, owes_text, owes_then, text_of, text_on, text_then, whole_by}
+use Rattle.server_node.proofs.Lines.{SameForm, alike_form, faulty_by, fed_line, first_by, line_alike, owes_text, owes_then, text_of, text_on, text_then, whole_by}
+use Rattle.server_node.proofs.Reading.{passed_at, passed_wrote, told_as, told_both}
 use Rattle.server_node.proofs.Writing.{wrote_nothing}
 
 -- ---- the count
@@ -233,6 +235,7 @@ piece_unfed step serve lock ring side piece now left end line can none outside p
       leaves = stands_line end side line place.talk (unfed_stands end side place.talk can stands.talk);
       owes = owes_text end (place.came ++ piece) place.talk.sent (bytes ++ []) (subst (λ (all : List ℕ). IsText (place.came ++ piece) place.talk.sent all) (sym (append-nil bytes)) text);
       shows = λ first last shows. shows;
+      breaks = λ told passed. tt;
       written = wrote_none end side.told can;
       left = before;
     }
@@ -265,6 +268,7 @@ piece_heard {S} {V} step serve lock ring side later piece now wire wire_then end
           (done_sends step serve lock ring side later (λ rules talk. packets_acts rules now packets talk) outside here.talk is stands.talk did to bytes
           (subst (λ (some : Ends). LineTells some to here.talk.sent bytes) (sym line_is) tells))));
       shows = λ one last shows. shows;
+      breaks = λ told passed. tt;
       written = writes side.told later.told did.bytes did.written;
       left = left_both place.packets packets first left left_then before after;
     }
@@ -316,6 +320,10 @@ piece_hearing {S} {V} step serve lock ring side later piece now wire wire_then M
           (λ to tells. subst (λ (some : Ends). SentBy (Some end) some to last.sent (bytes ++ did.bytes)) line_then
           (one.sends to bytes (subst (λ (some : Ends). LineTells some to here.talk.sent bytes) (sym line_is) tells)));
       shows = λ one last shows. shows;
+      breaks = λ told passed. breaks_in end step serve lock ring (side service) (later service).line (later service).told (λ rules talk. packets_acts rules now cut.packets talk) did.acts did.bytes outside here.talk there here.packets bytes told
+          is stands.talk refl
+          (subst (λ (some : Ends). SameForm some (later service).line) (sym line_is) (subst (λ (some : Ends). SameForm (Framed wire) some) (sym line_then) form)) stands.line
+          (told_as (Passed bytes here) (Passed bytes there) (passed_at bytes here there refl refl) told (side service).told passed) did.cut;
       written = did.written;
       left = left_both place.packets cut.packets first left left_then before cut.left_is;
     }
@@ -328,7 +336,8 @@ pub piece_working : {S V : Type 0} (step : S → ℕ × S) (serve : Step V) (loc
 piece_working {S} {V} step serve lock ring other side middle later piece now MayAnswer end line outside place bytes first left_then can same is whole alike worked =
     let rules : Rules S V = rules_of step serve outside in
     let did = subst (λ (keys : List RingKey). Did step serve lock keys middle (λ rules talk. work_acts now worked.count) (Some end) later) same worked.did in
-    let there : Place S V = hears rules now whole.packets (gets piece now place) in
+    let here : Place S V = gets piece now place in
+    let there : Place S V = hears rules now whole.packets here in
     let turn : Turn = record { piece = piece; now = now; packets = whole.packets; runs = worked.count } in
     let one = did.follows outside there.talk is whole.stands.talk in
     let last : Talk S V = after_acts rules there.talk did.acts in
@@ -346,6 +355,12 @@ piece_working {S} {V} step serve lock ring other side middle later piece now May
           (owes_then end middle.line later.line there.came there.packets there.talk.sent last.sent (bytes ++ whole.more) ((bytes ++ whole.more) ++ did.bytes) (alike_form middle.line later.line alike) whole.stands.line
           (λ to tells. one.sends to (bytes ++ whole.more) tells));
       shows = λ one last shows. shows;
+      breaks = λ told passed. subst (λ (all : List ℕ). BreaksIn end rules there did.acts all told later.told) (append_assoc bytes whole.more did.bytes)
+          (breaks_in end step serve lock ring middle later.line later.told at_once did.acts did.bytes outside there.talk there there.packets (bytes ++ whole.more) told
+          is whole.stands.talk refl (alike_form middle.line later.line alike) whole.stands.line
+          (told_both (Passed bytes here) (Wrote whole.more) (Passed (bytes ++ whole.more) there)
+          (λ one two three before after. passed_at (bytes ++ whole.more) here there refl refl one three (passed_wrote bytes whole.more here one two three before after)) told side.told middle.told passed whole.written)
+          did.cut);
       written = written_both (Some end) whole.more did.bytes side.told middle.told later.told whole.written did.written;
       left = whole.left;
     }

@@ -7,12 +7,12 @@ use Rattle.mt_edge.specs.declared.link_read.LinkRead.{LinkRead}
 use Rattle.mt_edge.specs.declared.source.Got.{Got}
 use Rattle.mt_edge.specs.declared.source.Got.TheVariants as got
 use Rattle.regs_service.specs.Served.{Step}
-use Rattle.server_node.specs.Connection.{Gave, IsNoPiece, IsPieceSize, IsText, Passed, PassedBy, PassedFront, Place, ShowsClose, Sight, Turn, Unread, closes, end_of_read, gets, reads, turned}
+use Rattle.server_node.specs.Connection.{Gave, IsNoPiece, IsPieceSize, BreaksBy, IsText, Passed, PassedBy, Place, ShowsClose, Sight, Turn, Unread, closes, end_of_read, gets, reads, turned}
 use Rattle.server_node.specs.Doing.{Side, Stands, StandsBy}
 use Rattle.server_node.specs.Record.{piece_bytes}
 use Rattle.server_node.specs.Trace.{Rules, Talk, rules_of}
 use Rattle.server_node.specs.Turns.{PieceBy, Seen, StandsAt, TookPiece, TookTurn, TurnBy}
-use Rattle.server_node.specs.Writes.{WrittenBy, Wrote, WroteBy, WroteFront}
+use Rattle.server_node.specs.Writes.{WrittenBy, Wrote, WroteBy}
 use Rattle.server_node.specs.declared.conn.ConnEnd.{ConnEnd}
 use Rattle.server_node.specs.declared.conn.ConnEnd.TheVariants as ends
 use Rattle.server_node.specs.declared.line.Line.{Line as Ends}
@@ -70,23 +70,15 @@ passed_missed bytes place got.Failed buffer none room first middle last before r
       ∙ ap (λ (size : ℕ). first.reads ++ (place.reads ++ record { room = size; answer = got.Failed } ∷ [])) room;
 }
 
-passed_wrote : {S V : Type 0} (bytes more : List ℕ) (place : Place S V) (first middle last : Told) → Passed bytes place first middle → Wrote more middle last → Passed (bytes ++ more) place first last
+pub passed_wrote : {S V : Type 0} (bytes more : List ℕ) (place : Place S V) (first middle last : Told) → Passed bytes place first middle → Wrote more middle last → Passed (bytes ++ more) place first last
 passed_wrote bytes more place first middle last before wrote = record {
   written = wrote.written ∙ ap (λ (all : List ℕ). all ++ more) before.written ∙ append_assoc first.written bytes more;
   came = wrote.came ∙ before.came;
   reads = wrote.reads ∙ before.reads;
 }
 
-passed_front : {S V : Type 0} (bytes more : List ℕ) (place : Place S V) (first middle last : Told) → Passed bytes place first middle → WroteFront more middle last → PassedFront (bytes ++ more) place first last
-passed_front bytes more place first middle last before wrote = record {
-  front = bytes ++ wrote.front;
-  rest = wrote.rest;
-  whole = ap (λ (all : List ℕ). bytes ++ all) wrote.whole ∙ sym (append_assoc bytes wrote.front wrote.rest);
-  passed = passed_wrote bytes wrote.front place first middle last before wrote.wrote;
-}
-
 passed_by : {S V : Type 0} (end : ConnEnd) (bytes more : List ℕ) (place : Place S V) (first middle last : Told) → Passed bytes place first middle → WroteBy (Some end) more middle last → PassedBy end (bytes ++ more) place first last
-passed_by ends.LinkFault = passed_front
+passed_by ends.LinkFault = λ bytes more place first middle last before wrote. tt
 passed_by ends.Ended = passed_wrote
 passed_by (ends.Frame fault) = passed_wrote
 passed_by ends.Start = passed_wrote
@@ -96,19 +88,15 @@ passed_by (ends.Journal fault) = passed_wrote
 passed_by ends.Memory = passed_wrote
 
 -- at another place with the same bytes and reads
-passed_at : {S V : Type 0} (bytes : List ℕ) (place other : Place S V) → other.came ≡ place.came → other.reads ≡ place.reads → (first last : Told) → Passed bytes place first last → Passed bytes other first last
+pub passed_at : {S V : Type 0} (bytes : List ℕ) (place other : Place S V) → other.came ≡ place.came → other.reads ≡ place.reads → (first last : Told) → Passed bytes place first last → Passed bytes other first last
 passed_at bytes place other came reads first last passed = record {
   written = passed.written;
   came = passed.came ∙ ap (λ (all : List ℕ). first.came ++ all) (sym came);
   reads = passed.reads ∙ ap (λ (all : List LinkRead). first.reads ++ all) (sym reads);
 }
 
-front_at : {S V : Type 0} (bytes : List ℕ) (place other : Place S V) → other.came ≡ place.came → other.reads ≡ place.reads → (first last : Told) → PassedFront bytes place first last → PassedFront bytes other first last
-front_at bytes place other came reads first last passed =
-    record { front = passed.front; rest = passed.rest; whole = passed.whole; passed = passed_at passed.front place other came reads first last passed.passed }
-
 passed_by_at : {S V : Type 0} (end : ConnEnd) (bytes : List ℕ) (place other : Place S V) → other.came ≡ place.came → other.reads ≡ place.reads → (first last : Told) → PassedBy end bytes place first last → PassedBy end bytes other first last
-passed_by_at ends.LinkFault = front_at
+passed_by_at ends.LinkFault = λ bytes place other same_came same_reads first last passed. tt
 passed_by_at ends.Ended = passed_at
 passed_by_at (ends.Frame fault) = passed_at
 passed_by_at ends.Start = passed_at
@@ -178,6 +166,10 @@ turn_by {S} {V} rules place bytes n buffer now (Some end) side later first here 
           (told_both (Passed bytes (gets (take n buffer) now place)) (WroteBy (Some end) piece.more) (PassedBy end (bytes ++ piece.more) (gets (take n buffer) now place)) (passed_by end bytes piece.more (gets (take n buffer) now place)) first.told told later.told
           (told_both (Passed bytes place) (ReadsOver (got.Bytes n) buffer) (Passed bytes (gets (take n buffer) now place)) (passed_read bytes place n buffer now room within.1) first.told here.told told seen.told read)
           (subst (λ (some : Option Told). WrittenBy (Some end) piece.more some later.told) same piece.written))));
+      breaks = subst (λ (some : Option Told). BreaksBy rules piece.close place (bytes ++ piece.more) first.told some) (sym same_then)
+          (piece.breaks first.told
+          (subst (λ (some : Option Told). IfSome some (λ last. IsSomeAnd first.told (λ before. Passed bytes (gets (take n buffer) now place) before last))) (sym same)
+          (told_both (Passed bytes place) (ReadsOver (got.Bytes n) buffer) (Passed bytes (gets (take n buffer) now place)) (passed_read bytes place n buffer now room within.1) first.told here.told told seen.told read)));
       moments = subst (λ (moments : List ℕ). Gave moments first.given after.given) (sym piece.moments) (gave_more place.moments now first.given here.given after.given seen.moments gave);
       left = piece.left;
     }
@@ -214,6 +206,7 @@ turn_missed step serve lock ring answer buffer side line told given left none ro
       owes = owes_text (end_of_read answer) place.came place.talk.sent (bytes ++ []) (subst (λ (all : List ℕ). IsText place.came place.talk.sent all) (sym same) (text_of side.line place.came place.packets place.talk.sent bytes stands.line));
       shows = subst (λ (all : List ℕ). IfSome told (λ last. IsSomeAnd first.told (λ before. Passed all (reads answer place) before last))) (sym same)
           (told_both (Passed bytes place) (ReadsOver answer buffer) (Passed bytes (reads answer place)) (passed_missed bytes place answer buffer none room) first.told side.told told seen.told read);
+      breaks = tt;
       moments = seen.moments;
       left = seen.left;
     }

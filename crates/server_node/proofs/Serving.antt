@@ -104,6 +104,7 @@ turns_ended {S} {V} step serve lock ring other outside talk first count side lat
       leaves = leaves_by end later _ turn.leaves;
       owes = turn.owes;
       shows = turn.shows;
+      breaks = turn.breaks;
       moments = turn.moments;
       left = turn.left;
     }
@@ -124,6 +125,7 @@ turns_spent {S} {V} rules talk first count side now most so_far =
       leaves = leaves_by ends.TurnsSpent side here.talk so_far.stands.talk.serves;
       owes = text_of side.line here.came here.packets here.talk.sent so_far.bytes so_far.stands.line;
       shows = so_far.seen.told;
+      breaks = tt;
       moments = so_far.seen.moments;
       left = so_far.seen.left;
     }
@@ -142,6 +144,7 @@ trace_unbegun rules talk desk drawn service now begins = record {
   leaves = (begins.server, begins.served);
   owes = record { front = []; rest = talk.sent; whole = refl; text = inl (refl, refl) };
   shows = passed_none talk now.told;
+  breaks = tt;
   moments = gave_none now.given;
   left = counted_none now.left;
 }

@@ -1,5 +1,5 @@
 -- A piece that is written bit by bit.
-use Rattle.std.proofs.Common.{◌≡◌, ℕ, List, [], ◌∷◌, ◌++◌, Option, Some, None, IfSome, IsSomeAnd, take, drop, length, ◌-◌, refl, sym, ap, subst, ◌∙◌, append_assoc, append-nil, arith}
+use Rattle.std.proofs.Common.{◌≡◌, ◌≢◌, ℕ, List, [], ◌∷◌, ◌++◌, Option, Some, None, IfSome, IsSomeAnd, take, drop, length, ◌-◌, refl, sym, ap, subst, ◌∙◌, append_assoc, append-nil, arith}
 use Rattle.std.proofs.lemmas.List.{length-drop, take-append-drop}
 use Rattle.std.proofs.Math.Seq.{take-length}
 use Rattle.mt_edge.specs.Links.{Told, WritesOver}
@@ -49,12 +49,13 @@ all_written piece front [] first last whole none wrote =
 all_written piece front (byte ∷ rest) first last whole none wrote = absurd (omega (arith, none))
 
 -- a write failed
-front_failed : (piece front rest : List ℕ) (first middle last : Told) → piece ≡ front ++ rest → Wrote front first middle → WritesOver Failed rest middle last → WroteFront piece first last
-front_failed piece front rest first middle last whole before after =
+front_failed : (piece front rest : List ℕ) (first middle last : Told) → piece ≡ front ++ rest → rest ≢ [] → Wrote front first middle → WritesOver Failed rest middle last → WroteFront [] piece first last
+front_failed piece front rest first middle last whole some before after =
     record {
       front = front;
       rest = rest;
-      whole = whole;
+      cut = whole;
+      some = some;
       wrote = record {
         written = after.written ∙ append-nil middle.written ∙ before.written;
         came = after.came ∙ before.came;
@@ -63,14 +64,14 @@ front_failed piece front rest first middle last whole before after =
       };
     }
 
-pub told_failed : (piece front rest : List ℕ) (first middle last : Option Told) → piece ≡ front ++ rest
+pub told_failed : (piece front rest : List ℕ) (first middle last : Option Told) → piece ≡ front ++ rest → rest ≢ []
     → IfSome middle (λ after. IsSomeAnd first (λ before. Wrote front before after))
     → IfSome last (λ after. IsSomeAnd middle (λ before. WritesOver Failed rest before after))
-    → IfSome last (λ after. IsSomeAnd first (λ before. WroteFront piece before after))
-told_failed piece front rest first middle None whole before after = tt
-told_failed piece front rest first None (Some last) whole before after = absurd after
-told_failed piece front rest None (Some middle) (Some last) whole before after = absurd before
-told_failed piece front rest (Some first) (Some middle) (Some last) whole before after = front_failed piece front rest first middle last whole before after
+    → IfSome last (λ after. IsSomeAnd first (λ before. WroteFront [] piece before after))
+told_failed piece front rest first middle None whole some before after = tt
+told_failed piece front rest first None (Some last) whole some before after = absurd after
+told_failed piece front rest None (Some middle) (Some last) whole some before after = absurd before
+told_failed piece front rest (Some first) (Some middle) (Some last) whole some before after = front_failed piece front rest first middle last whole some before after
 
 -- so nothing was read
 pub only_wrote : (bytes : List ℕ) (first last : Option Told)
@@ -81,7 +82,7 @@ only_wrote bytes None (Some last) wrote = absurd wrote
 only_wrote bytes (Some first) (Some last) wrote = record { bytes = bytes; wrote = wrote }
 
 pub only_front : (piece : List ℕ) (first last : Option Told)
-    → IfSome last (λ after. IsSomeAnd first (λ before. WroteFront piece before after))
+    → IfSome last (λ after. IsSomeAnd first (λ before. WroteFront [] piece before after))
     → IfSome last (λ after. IsSomeAnd first (λ before. OnlyWrites before after))
 only_front piece first None wrote = tt
 only_front piece None (Some last) wrote = absurd wrote

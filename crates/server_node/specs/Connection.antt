@@ -1,6 +1,6 @@
 -- A connection to a server, worked out from all that was read over it, the moments that the clock gave and how it ended: the
 -- packets that came, the events, and the bytes that they owe (core.telegram.org/mtproto/mtproto-transports).
-use Rattle.std.specs.Prelude.{◌≡◌, ◌<◌, ◌≤◌, ◌⊎◌, ℕ, List, [], ◌∷◌, ◌++◌, length, Option, IfSome, IsSomeAnd, ⊤}
+use Rattle.std.specs.Prelude.{◌≡◌, ◌≢◌, ◌<◌, ◌≤◌, ◌⊎◌, ℕ, List, [], ◌∷◌, ◌++◌, length, Option, IfSome, IsSomeAnd, ⊤}
 use Rattle.framing.specs.Streams.{Begins, Faulty, Frames, Stream}
 use Rattle.mt_edge.specs.Links.{Told}
 use Rattle.mt_edge.specs.declared.link_read.LinkRead.{LinkRead}
@@ -217,8 +217,7 @@ EndsHeard came packets ends.TurnsSpent = ⊥
 EndsHeard came packets (ends.Journal fault) = ⊥
 EndsHeard came packets ends.Memory = ⊥
 
--- Of these events a front came: a write failed, the desk answered a fault, or memory ran out. That the bytes which a failed write
--- was given are the last event's isn't said.
+-- Of these events a front came: a write of what the last one owes failed, the desk answered a fault, or memory ran out.
 abbrev pub IsCut : ConnEnd → List Act → List Act → Type 0
 IsCut ends.LinkFault whole acts = (rest : List Act) × (whole ≡ acts ++ rest)
 IsCut (ends.Journal fault) whole acts = (rest : List Act) × (whole ≡ acts ++ rest)
@@ -272,16 +271,17 @@ pub record Passed {S V : Type 0} (bytes : List ℕ) (place : Place S V) (before 
   pub came : after.came ≡ before.came ++ place.came
   pub reads : after.reads ≡ before.reads ++ place.reads
 
--- the same, but a front of the bytes alone was written
-pub record PassedFront {S V : Type 0} (bytes : List ℕ) (place : Place S V) (before after : Told) : Type 0 where
+-- the same, but of the last bytes a front alone was written, short of the whole
+pub record PassedFront {S V : Type 0} (whole last : List ℕ) (place : Place S V) (before after : Told) : Type 0 where
   pub front : List ℕ
   pub rest : List ℕ
-  pub whole : bytes ≡ front ++ rest
-  pub passed : Passed front place before after
+  pub cut : last ≡ front ++ rest
+  pub some : rest ≢ []
+  pub passed : Passed (whole ++ front) place before after
 
--- where a write failed a front was written
+-- unless a write failed; what is shown then is told by `BreaksBy`
 abbrev pub PassedBy : {S V : Type 0} → ConnEnd → List ℕ → Place S V → Told → Told → Type 0
-PassedBy ends.LinkFault bytes place before after = PassedFront bytes place before after
+PassedBy ends.LinkFault bytes place before after = ⊤
 PassedBy ends.Ended bytes place before after = Passed bytes place before after
 PassedBy (ends.Frame fault) bytes place before after = Passed bytes place before after
 PassedBy ends.Start bytes place before after = Passed bytes place before after
@@ -298,6 +298,40 @@ ShowsClose (Unfed piece now end) bytes place before after = PassedBy end bytes p
 ShowsClose (Heard piece now packets end) bytes place before after = PassedBy end bytes place before after
 ShowsClose (Hearing piece now packets packet acts end) bytes place before after = PassedBy end bytes place before after
 ShowsClose (Working turn acts end) bytes place before after = PassedBy end bytes place before after
+
+-- Behind a place these events came, and a write of what the last of them owes failed: the frames of all packets that are owed
+-- before it were written, and of its bytes a front, short of the whole.
+pub record BreaksLast {S V : Type 0} (rules : Rules S V) (place : Place S V) (acts : List Act) (bytes : List ℕ) (before after : Option Told) : Type 0 where
+  pub earlier : List Act
+  pub last : Act
+  pub whole : List ℕ
+  pub rest : List ℕ
+  pub are : acts ≡ earlier ++ last ∷ []
+  pub all : bytes ≡ whole ++ rest
+  pub text : IsText place.came (after_acts rules place.talk earlier).sent whole
+  pub fails : IfSome after (λ ended. IsSomeAnd before (λ first. PassedFront whole rest place first ended))
+
+abbrev pub BreaksIn : {S V : Type 0} → ConnEnd → Rules S V → Place S V → List Act → List ℕ → Option Told → Option Told → Type 0
+BreaksIn ends.LinkFault rules place acts bytes before after = BreaksLast rules place acts bytes before after
+BreaksIn ends.Ended rules place acts bytes before after = ⊤
+BreaksIn (ends.Frame fault) rules place acts bytes before after = ⊤
+BreaksIn ends.Start rules place acts bytes before after = ⊤
+BreaksIn ends.TurnsSpent rules place acts bytes before after = ⊤
+BreaksIn ends.Stopped rules place acts bytes before after = ⊤
+BreaksIn (ends.Journal fault) rules place acts bytes before after = ⊤
+BreaksIn ends.Memory rules place acts bytes before after = ⊤
+
+-- what a write that failed leaves
+abbrev pub BreaksBy : {S V : Type 0} → Rules S V → Close → Place S V → List ℕ → Option Told → Option Told → Type 0
+BreaksBy rules Unbegun place bytes before after = ⊤
+BreaksBy rules (Unread answer) place bytes before after = ⊤
+BreaksBy rules Spent place bytes before after = ⊤
+BreaksBy rules (Unfed piece now end) place bytes before after = ⊤
+BreaksBy rules (Heard piece now packets end) place bytes before after = ⊤
+BreaksBy rules (Hearing piece now packets packet acts end) place bytes before after =
+    BreaksIn end rules (hears rules now packets (gets piece now place)) acts bytes before after
+BreaksBy rules (Working turn acts end) place bytes before after =
+    BreaksIn end rules (hears rules turn.now turn.packets (gets turn.piece turn.now place)) acts bytes before after
 
 -- what the clock gave, where it tells
 abbrev pub Gave : List ℕ → Option (List ℕ) → Option (List ℕ) → Type 0
@@ -328,5 +362,6 @@ pub record ServerTrace {S V : Type 0} (rules : Rules S V) (talk : Talk S V) (bef
   pub leaves : LeavesBy end desk drawn service (place_after rules talk turns close).talk
   pub owes : OwesBy end (place_after rules talk turns close).came (place_after rules talk turns close).talk.sent bytes
   pub shows : IfSome after.told (λ last. IsSomeAnd before.told (λ first. ShowsClose close bytes (place_after rules talk turns close) first last))
+  pub breaks : BreaksBy rules close (turns_from rules (began talk) turns) bytes before.told after.told
   pub moments : Gave (place_after rules talk turns close).moments before.given after.given
   pub left : after.left ≡ counted (length (place_after rules talk turns close).packets) before.left

@@ -1,5 +1,5 @@
 -- What the events of a connection do, over a desk, a line and a link: scaffolding of proofs, and no promise.
-use Rattle.std.specs.Prelude.{◌≡◌, ◌≢◌, ℕ, List, ◌++◌, zero, suc, Option, Some, None, Result, Ok, Err, ⊤}
+use Rattle.std.specs.Prelude.{◌≡◌, ◌≢◌, ℕ, List, [], ◌∷◌, ◌++◌, zero, suc, Option, Some, None, IfSome, IsSomeAnd, Result, Ok, Err, ⊤}
 use Rattle.auth_keys.specs.declared.ring.RingKey.{RingKey}
 use Rattle.cipher_modes.specs.CounterMode.{CtrState}
 use Rattle.envelope.specs.Packet.{Lock}
@@ -9,9 +9,9 @@ use Rattle.server_rules.specs.Server.{Server}
 use Rattle.server_core.specs.declared.desk.DeskFault.{DeskFault}
 use Rattle.server_core.specs.declared.desk.DeskFault.TheVariants as faults
 use Rattle.server_node.specs.Connection.{IsIdle}
-use Rattle.server_node.specs.Steps.{IsQuiet, LineTells, SentBy}
+use Rattle.server_node.specs.Steps.{IsQuiet, LineFrames, LineTells, SentBy}
 use Rattle.server_node.specs.Trace.{rules_of, Act, IsOutside, Outside, Rules, Talk, after_acts, work_acts}
-use Rattle.server_node.specs.Writes.{WrittenBy}
+use Rattle.server_node.specs.Writes.{WrittenBy, WroteFront}
 use Rattle.server_node.specs.declared.conn.ConnEnd.{ConnEnd}
 use Rattle.server_node.specs.declared.conn.ConnEnd.TheVariants as ends
 use Rattle.server_node.specs.declared.heard.SessionName.{SessionName}
@@ -64,6 +64,34 @@ Due S V = Rules S V → Talk S V → List Act
 abbrev pub then_due : {S V : Type 0} → Due S V → Due S V → Due S V
 then_due first second rules talk = first rules talk ++ second rules (after_acts rules talk (first rules talk))
 
+-- Behind some events these came, and a write of what the last of them owes failed: all that is owed before it was written, and of
+-- its bytes a front, short of the whole.
+pub record Cut {S V : Type 0} (step : S → ℕ × S) (serve : Step V) (lock : Lock) (ring : List RingKey) (side : Side S V) (line_then : Line) (told_then : Option Told) (first : Due S V) (acts : List Act) (bytes : List ℕ) : Type 0 where
+  pub earlier : List Act
+  pub last : Act
+  pub whole : List ℕ
+  pub rest : List ℕ
+  pub are : acts ≡ earlier ++ last ∷ []
+  pub all : bytes ≡ whole ++ rest
+  pub frames : (outside : Outside) (talk : Talk S V) → IsOutside lock ring outside → Stands side talk → (to : Option CtrState) (text : List ℕ) → LineTells side.line to talk.sent text
+      → LineFrames line_then to (after_acts (rules_of step serve outside) (after_acts (rules_of step serve outside) talk (first (rules_of step serve outside) talk)) earlier).sent (text ++ whole)
+  pub fails : IfSome told_then (λ ended. IsSomeAnd side.told (λ begun. WroteFront whole rest begun ended))
+
+abbrev pub CutBy : {S V : Type 0} → Option ConnEnd → (S → ℕ × S) → Step V → Lock → List RingKey → Side S V → Line → Option Told → Due S V → List Act → List ℕ → Type 0
+CutBy (Some ends.LinkFault) step serve lock ring side line_then told_then first acts bytes = Cut step serve lock ring side line_then told_then first acts bytes
+CutBy None step serve lock ring side line_then told_then first acts bytes = ⊤
+CutBy (Some ends.Ended) step serve lock ring side line_then told_then first acts bytes = ⊤
+CutBy (Some (ends.Frame fault)) step serve lock ring side line_then told_then first acts bytes = ⊤
+CutBy (Some ends.Start) step serve lock ring side line_then told_then first acts bytes = ⊤
+CutBy (Some ends.TurnsSpent) step serve lock ring side line_then told_then first acts bytes = ⊤
+CutBy (Some ends.Stopped) step serve lock ring side line_then told_then first acts bytes = ⊤
+CutBy (Some (ends.Journal fault)) step serve lock ring side line_then told_then first acts bytes = ⊤
+CutBy (Some ends.Memory) step serve lock ring side line_then told_then first acts bytes = ⊤
+
+-- no event came before
+abbrev pub at_once : {S V : Type 0} → Due S V
+at_once rules talk = []
+
 pub record Followed {S V : Type 0} (rules : Rules S V) (side : Side S V) (due : Due S V) (end : Option ConnEnd) (later : Side S V) (acts : List Act) (bytes : List ℕ) (talk : Talk S V) : Type 0 where
   pub part : IsPart end (due rules talk) acts
   pub stands : StandsBy end later (after_acts rules talk acts)
@@ -76,6 +104,7 @@ pub record Did {S V : Type 0} (step : S → ℕ × S) (serve : Step V) (lock : L
   pub follows : (outside : Outside) (talk : Talk S V) → IsOutside lock ring outside → Stands side talk
       → Followed (rules_of step serve outside) side due end later acts bytes talk
   pub written : WrittenBy end bytes side.told later.told
+  pub cut : CutBy end step serve lock ring side later.line later.told at_once acts bytes
 
 -- Behind some events, of others that follow them all came, or a front where the connection ended.
 pub record FollowedThenBy {S V : Type 0} (rules : Rules S V) (side : Side S V) (second : Due S V) (end : Option ConnEnd) (later : Side S V) (first acts : List Act) (bytes : List ℕ) (talk : Talk S V) : Type 0 where
@@ -89,6 +118,7 @@ pub record DidThen {S V : Type 0} (step : S → ℕ × S) (serve : Step V) (lock
   pub follows : (outside : Outside) (talk : Talk S V) → IsOutside lock ring outside → Stands side talk
       → FollowedThenBy (rules_of step serve outside) side second end later (first (rules_of step serve outside) talk) acts bytes talk
   pub written : WrittenBy end bytes side.told later.told
+  pub cut : CutBy end step serve lock ring side later.line later.told first acts bytes
 
 -- ---- work
 

@@ -45,6 +45,11 @@ abbrev pub LineTells : Line → Option CtrState → List (List ℕ) → List ℕ
 LineTells (Raw wire) to packets bytes = (packets ≡ []) × (bytes ≡ [])
 LineTells (Framed wire) to packets bytes = Tells wire to packets bytes
 
+-- they read as frames of these packets in its form
+abbrev pub LineFrames : Line → Option CtrState → List (List ℕ) → List ℕ → Type 0
+LineFrames (Raw wire) to packets bytes = (packets ≡ []) × (bytes ≡ [])
+LineFrames (Framed wire) to packets bytes = Frames (framing_of wire.form) 0 packets (through to bytes)
+
 -- of these packets, a front went out
 pub record IsFront (wire : wires.Line) (to : Option CtrState) (packets : List (List ℕ)) (bytes : List ℕ) : Type 0 where
   pub front : List (List ℕ)

@@ -6,7 +6,7 @@ use Rattle.mt_edge.specs.Links.{Told}
 use Rattle.regs_service.specs.Served.{Step}
 use Rattle.transport.specs.Starts.{IsAwaited, Opening, Starts}
 use Rattle.transport.specs.Wires.{Hears, Line, Tells}
-use Rattle.server_node.specs.Connection.{AreTurns, Close, ClosesBehind, ClosesSo, Gave, IsPieceSize, IsTurn, OwesBy, Passed, PassedBy, Place, ShowsClose, Sight, Turn, began, closes, end_by, gets, turned, turns_from}
+use Rattle.server_node.specs.Connection.{AreTurns, BreaksBy, Close, ClosesBehind, ClosesSo, Gave, IsPieceSize, IsTurn, OwesBy, Passed, PassedBy, Place, ShowsClose, Sight, Turn, began, closes, end_by, gets, turned, turns_from}
 use Rattle.server_node.specs.Doing.{Side, Stands, StandsBy}
 use Rattle.server_node.specs.Record.{counted, piece_bytes, turns_max}
 use Rattle.server_node.specs.Trace.{IsOutside, Outside, Rules, Talk, rules_of}
@@ -69,6 +69,7 @@ pub record PieceEnded {S V : Type 0} (rules : Rules S V) (place : Place S V) (by
   pub reads : (closes rules close place).reads ≡ (gets piece now place).reads
   pub moments : (closes rules close place).moments ≡ (gets piece now place).moments
   pub shows : (before after : Told) → PassedBy end (bytes ++ more) (closes rules close place) before after → ShowsClose close (bytes ++ more) (closes rules close place) before after
+  pub breaks : (before : Option Told) → IfSome told (λ last. IsSomeAnd before (λ first. Passed bytes (gets piece now place) first last)) → BreaksBy rules close place (bytes ++ more) before later.told
   pub written : WrittenBy (Some end) more told later.told
   pub left : left_then ≡ counted (length (closes rules close place).packets) first
 
@@ -108,6 +109,7 @@ pub record TurnEnded {S V : Type 0} (rules : Rules S V) (place : Place S V) (byt
   pub leaves : StandsBy (Some end) later (closes rules close place).talk
   pub owes : OwesBy end (closes rules close place).came (closes rules close place).talk.sent (bytes ++ more)
   pub shows : IfSome after.told (λ last. IsSomeAnd first.told (λ before. ShowsClose close (bytes ++ more) (closes rules close place) before last))
+  pub breaks : BreaksBy rules close place (bytes ++ more) first.told after.told
   pub moments : Gave (closes rules close place).moments first.given after.given
   pub left : after.left ≡ counted (length (closes rules close place).packets) first.left
 

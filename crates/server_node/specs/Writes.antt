@@ -1,5 +1,5 @@
 -- What is written over a link, by how the connection ended then, if it did.
-use Rattle.std.specs.Prelude.{◌≡◌, ℕ, List, [], ◌∷◌, ◌++◌, Option, Some, None, IfSome, IsSome, IsSomeAnd, Result, Ok, Err}
+use Rattle.std.specs.Prelude.{◌≡◌, ◌≢◌, ℕ, List, [], ◌∷◌, ◌++◌, Option, Some, None, IfSome, IsSome, IsSomeAnd, Result, Ok, Err}
 use Rattle.mt_edge.specs.Faults.{one_more}
 use Rattle.mt_edge.specs.Links.{Told}
 use Rattle.server_node.specs.declared.conn.ConnEnd.{ConnEnd}
@@ -21,16 +21,17 @@ pub record Wrote (bytes : List ℕ) (before after : Told) : Type 0 where
   pub left : after.left ≡ before.left
   pub reads : after.reads ≡ before.reads
 
--- a front of these bytes was written
-pub record WroteFront (bytes : List ℕ) (before after : Told) : Type 0 where
+-- all of the first bytes was written, and a front of the last ones, short of the whole
+pub record WroteFront (whole last : List ℕ) (before after : Told) : Type 0 where
   pub front : List ℕ
   pub rest : List ℕ
-  pub whole : bytes ≡ front ++ rest
-  pub wrote : Wrote front before after
+  pub cut : last ≡ front ++ rest
+  pub some : rest ≢ []
+  pub wrote : Wrote (whole ++ front) before after
 
--- a front of them, where a write failed; else all of them
+-- a front of them, short of the whole, where a write failed; else all of them
 abbrev pub WroteBy : Option ConnEnd → List ℕ → Told → Told → Type 0
-WroteBy (Some ends.LinkFault) bytes before after = WroteFront bytes before after
+WroteBy (Some ends.LinkFault) bytes before after = WroteFront [] bytes before after
 WroteBy None bytes before after = Wrote bytes before after
 WroteBy (Some ends.Ended) bytes before after = Wrote bytes before after
 WroteBy (Some (ends.Frame fault)) bytes before after = Wrote bytes before after
