@@ -127,9 +127,9 @@ turn-holds {S} client draw call body turn filling is holds =
     let living : Living = record { number = message.number; seq = message.seq; wrap = None } in
     subst (λ (turn : Turn). Holds client draw (takes_turn call body turn filling)) (sym is)
     (goes-holds client draw message (sends_call call None message) filling
-      (λ one plain. call_changed call (sent one.client.session living one.client.salt) (λ call none. none) (after_message true one.client)
-        (record { key = plain.key; calls = plain.calls }))
-      (λ one. refl) holds)
+    (λ one plain. call_changed call (sent one.client.session living one.client.salt) (λ call none. none) (after_message true one.client)
+    (record { key = plain.key; calls = plain.calls }))
+    (λ one. refl) holds)
 
 pub all_got : {X : Type 0} (P : X → Type 0) (place : ℕ) (xs : List X) → AllByRecursion P xs → IfSome (slice_get xs place) P
 all_got P place [] all = tt

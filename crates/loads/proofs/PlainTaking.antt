@@ -35,7 +35,7 @@ learn_plain outer unique salt client plain =
     either IsPlain (list_any (λ learnt. learnt == unique) client.learnt) client
     (if nat_le learnt_max (length client.learnt) then ended client else with_clock outer (learns unique salt client)) plain
     (either IsPlain (nat_le learnt_max (length client.learnt)) (ended client) (with_clock outer (learns unique salt client))
-      (ended_plain client plain) (learns_plain outer unique salt client plain))
+    (ended_plain client plain) (learns_plain outer unique salt client plain))
 
 -- ---- results and notices
 
@@ -63,7 +63,7 @@ over_plain : (outer : ℕ) (notice : Notice) (client : Client) → IsPlain clien
 over_plain outer notice client plain =
     salt_plain notice.salt (with_notice_clock outer notice.code client)
     (either IsPlain ((notice.code == 16) || (notice.code == 17)) (with_clock outer client) client
-      (record { key = plain.key; calls = plain.calls }) plain)
+    (record { key = plain.key; calls = plain.calls }) plain)
 
 packet_plain : (numbers : List ℕ) (client : Client) → IsPlain client → IsPlain (packet_noticed numbers client)
 packet_plain numbers client plain =
@@ -131,8 +131,8 @@ message_plain : (outer : ℕ) (client : Client) (message : Message) → IsPlain 
 message_plain outer client message plain =
     either IsPlain client.has_ended client (row outer message.number (item_of message.body) (acknowledges message client)) plain
     (row_plain outer message.number (item_of message.body) (acknowledges message client)
-      (either IsPlain (is_odd message.seq) (record client { table = record client.table { acks = acknowledged message.number client.table.acks } }) client
-        (record { key = plain.key; calls = plain.calls }) plain))
+    (either IsPlain (is_odd message.seq) (record client { table = record client.table { acks = acknowledged message.number client.table.acks } }) client
+    (record { key = plain.key; calls = plain.calls }) plain))
 
 take_plain : (now : ℕ) (envelope : Envelope) (client : Client) → IsPlain client → IsPlain (take now envelope client)
 take_plain now envelope client plain =

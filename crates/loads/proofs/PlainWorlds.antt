@@ -76,7 +76,7 @@ flush-keeps : {S V : Type 0} (setting : Setting S V) (client : ℕ) (world : Wor
 flush-keeps setting client world plain =
     with-plain client (flushes setting client) world
     (λ seat is. seat-plain client (flushed_at setting seat world).client world.seats
-      (flush-plain (at_client setting) (moment_of seat.clock) seat.client world.draw is.client) plain) plain
+    (flush-plain (at_client setting) (moment_of seat.clock) seat.client world.draw is.client) plain) plain
 
 -- ---- a packet
 
@@ -86,7 +86,7 @@ down-plain setting number bytes seat world is plain =
     either ArePlain seat.client.has_ended world
     (acts setting number seat (wishes.Take (moment_of seat.clock) (setting.opens (seat_now seat) Down bytes)) world) plain
     (seat-plain number (wishes.takes (moment_of seat.clock) (setting.opens (seat_now seat) Down bytes) seat.client) world.seats
-      (takes_plain (moment_of seat.clock) (setting.opens (seat_now seat) Down bytes) seat.client is.client) plain)
+    (takes_plain (moment_of seat.clock) (setting.opens (seat_now seat) Down bytes) seat.client is.client) plain)
 
 owner-plain : {S V : Type 0} (setting : Setting S V) (bytes : List ℕ) (found : Option ℕ) (world : World S V) → ArePlain world
     → ArePlain (comes_to_owner setting bytes found world)

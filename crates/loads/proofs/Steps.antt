@@ -106,20 +106,20 @@ pub given-next : {S V : Type 0} (setting : Setting S V) (settling : Settling S V
     → first_ungiven 1 (length settling.world.bag) settling.given ≡ Some packet → next_step setting settling ≡ Some (gives setting packet settling)
 given-next setting settling packet first =
     ap (λ (found : Option ℕ). next_by found
-      (if is_some (counted_job 1 settling.world) then Some (does setting (line.Work 1) settling)
-      else if can_flush setting (counted 1 settling.world.seats) settling.world then Some (does setting (line.Flush 1) settling)
-      else None) setting settling) first
+    (if is_some (counted_job 1 settling.world) then Some (does setting (line.Work 1) settling)
+    else if can_flush setting (counted 1 settling.world.seats) settling.world then Some (does setting (line.Flush 1) settling)
+    else None) setting settling) first
 
 by-parts : {S V : Type 0} (setting : Setting S V) (settling : Settling S V) (job flush : Bool) → first_ungiven 1 (length settling.world.bag) settling.given ≡ None
     → is_some (counted_job 1 settling.world) ≡ job → can_flush setting (counted 1 settling.world.seats) settling.world ≡ flush
     → next_step setting settling ≡ (if job then Some (does setting (line.Work 1) settling) else if flush then Some (does setting (line.Flush 1) settling) else None)
 by-parts setting settling job flush none jobs flushes =
     ap (λ (found : Option ℕ). next_by found
-      (if is_some (counted_job 1 settling.world) then Some (does setting (line.Work 1) settling)
-      else if can_flush setting (counted 1 settling.world.seats) settling.world then Some (does setting (line.Flush 1) settling)
-      else None) setting settling) none
+    (if is_some (counted_job 1 settling.world) then Some (does setting (line.Work 1) settling)
+    else if can_flush setting (counted 1 settling.world.seats) settling.world then Some (does setting (line.Flush 1) settling)
+    else None) setting settling) none
     ∙ (ap (λ (b : Bool). if b then Some (does setting (line.Work 1) settling)
-      else if can_flush setting (counted 1 settling.world.seats) settling.world then Some (does setting (line.Flush 1) settling) else None) jobs
+    else if can_flush setting (counted 1 settling.world.seats) settling.world then Some (does setting (line.Flush 1) settling) else None) jobs
     ∙ ap (λ (b : Bool). if job then Some (does setting (line.Work 1) settling) else if b then Some (does setting (line.Flush 1) settling) else None) flushes)
 
 job-by : (there done : Bool) → is_some (unless there (NoJob 1)) ≡ not done → there ≡ done
@@ -174,9 +174,10 @@ flush-goes setting settling after (Err memory) none job plain flushed = tt
 flush-goes setting settling after (Ok true) none job plain flushed =
     (does setting (line.Flush 1) settling, flushed-next setting settling none job (grown setting settling.world (flushed.grew refl)), flushed.stands)
 flush-goes {S} {V} {D} setting settling after (Ok false) none job plain flushed =
-    let same : run.step setting settling.world (line.Flush 1) ≡ settling.world = quiet setting settling.world plain (flushed.stayed refl) in
-    (rests setting settling none job same,
-      subst (λ (one : Settling D V). Stands setting after one) (ap (λ (world : Rules D V). record settling { world = world }) same) flushed.stands)
+    let same : run.step setting settling.world (line.Flush 1) ≡ settling.world = quiet setting settling.world plain (flushed.stayed refl) in (
+      rests setting settling none job same,
+      subst (λ (one : Settling D V). Stands setting after one) (ap (λ (world : Rules D V). record settling { world = world }) same) flushed.stands,
+    )
 
 -- what isn't done leaves all as it was
 pub refused-same : {S V : Type 0} (setting : Setting S V) (settling : Settling S V) (event : Event) → is_some (refusal setting settling.world event) ≡ true

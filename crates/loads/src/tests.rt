@@ -47,9 +47,18 @@ fn summary(alloc: Global, calls: u32) -> Result<Octets, Fail> {
 fn small_loads(rt: HostRuntime) -> Result<(), Fail> {
     let alloc = rt.alloc();
     let rows: [(u32, &[u8]); 3] = [
-        (1, b"calls 1 done 1 refused 0 unknown 0 runs 1 packets 6 bytes 688\n"),
-        (2, b"calls 2 done 2 refused 0 unknown 0 runs 2 packets 10 bytes 1056\n"),
-        (3, b"calls 3 done 3 refused 0 unknown 0 runs 3 packets 14 bytes 1424\n"),
+        (
+            1,
+            b"calls 1 done 1 refused 0 unknown 0 runs 1 packets 6 bytes 688\n",
+        ),
+        (
+            2,
+            b"calls 2 done 2 refused 0 unknown 0 runs 2 packets 10 bytes 1056\n",
+        ),
+        (
+            3,
+            b"calls 3 done 3 refused 0 unknown 0 runs 3 packets 14 bytes 1424\n",
+        ),
     ];
     for (calls, told) in rows {
         assert_eq!(rt; summary(alloc, calls)?.as_slice(), told);

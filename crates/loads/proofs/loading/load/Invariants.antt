@@ -10,7 +10,7 @@ use Rattle.loads.proofs.loading.load.Given as goal
 abbrev pub invariant-loop-before : goal.invariant-loop-before
 invariant-loop-before g l =
     ((sealing : Sealing) (draw : g.row.D.Denot) → let ring = g.S.Seal.keys l.fn.world.host.server.seal in
-      let setting = world_setting g.D.Draw.step g.V.Service.step g.V.Service.fresh_state ring sealing in
-      IsOf g.S.Seal.lock ring setting → WorldStands setting l.fn.world (begins setting draw)
-      → Stands setting l.loading (rounds setting l.before (does setting line.Client (record { world = begins setting draw; given = [] }))))
+    let setting = world_setting g.D.Draw.step g.V.Service.step g.V.Service.fresh_state ring sealing in
+    IsOf g.S.Seal.lock ring setting → WorldStands setting l.fn.world (begins setting draw)
+    → Stands setting l.loading (rounds setting l.before (does setting line.Client (record { world = begins setting draw; given = [] }))))
     × (l.loading.world.host.server.seal ≡ l.fn.world.host.server.seal)

@@ -26,7 +26,7 @@ returns-clause-stands g c =
     let setting = world_setting draws serve fresh ring sealing in
     let gave : Stands setting c.gives.new.self (gives setting c.repeated-packet.result settling) = c.in_ok-gives.ensures.stands sealing settling is stands in
     let packet : c.repeated-packet.result ≡ 1 + (7 * c.args.number) % length settling.world.bag =
-        c.repeated-packet.ensures ∙ ap (λ (n : ℕ). 1 + (7 * c.args.number) % n) (c.packets-count.ensures sealing settling is stands) in
+    c.repeated-packet.ensures ∙ ap (λ (n : ℕ). 1 + (7 * c.args.number) % n) (c.packets-count.ensures sealing settling is stands) in
     of-ring lock draws serve fresh ring (keys c.gives.new.self.world.host.server.seal) c.gives.new.self
     (λ setting settling. OnOk c.settle.result (Stands setting c.settle.new.self (settled setting settling)))
     (ap keys c.in_ok-gives.ensures.same_seal) c.settle.ensures.stands sealing (gives setting (1 + (7 * c.args.number) % length settling.world.bag) settling) is

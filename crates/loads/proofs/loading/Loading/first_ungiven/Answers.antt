@@ -22,8 +22,8 @@ returns-clause-first g c =
     let keys = g.S.Seal.keys in
     let inside = c.self.inside in
     subst (λ (kept : Loading g.row.S.Denot g.row.V.Denot g.row.D.Denot). OfEach lock draws serve fresh (keys kept.world.host.server.seal) kept
-      (λ setting settling. c.first_ungiven.result ≡ first_ungiven 1 (length settling.world.bag) settling.given)) c.self.view_is
+    (λ setting settling. c.first_ungiven.result ≡ first_ungiven 1 (length settling.world.bag) settling.given)) c.self.view_is
     (λ sealing settling is stands.
-      c.first_ungiven.ensures.first settling.given stands.given
-      ∙ ap (λ (n : ℕ). first_ungiven 1 n settling.given)
-        (c.packets-count.ensures.kept ∙ packets-of (world_setting draws serve fresh (keys inside.world.host.server.seal) sealing) inside.world settling.world stands.world))
+    c.first_ungiven.ensures.first settling.given stands.given
+    ∙ ap (λ (n : ℕ). first_ungiven 1 n settling.given)
+    (c.packets-count.ensures.kept ∙ packets-of (world_setting draws serve fresh (keys inside.world.host.server.seal) sealing) inside.world settling.world stands.world))

@@ -27,8 +27,8 @@ returns-clause-flushed g c =
     let first : c.packets-count.result ≡ length settling.world.bag = c.packets-count.ensures sealing settling is stands in
     let stood : Stands setting c.does.new.self (does setting (line.Flush 1) settling) = c.in_ok-does.ensures.stands sealing settling is stands in
     let second : c.packets.result ≡ length (does setting (line.Flush 1) settling).world.bag =
-        of-ring lock draws serve fresh ring (keys c.does.new.self.world.host.server.seal) c.does.new.self (λ setting settling. c.packets.result ≡ length settling.world.bag)
-        (ap keys c.in_ok-does.ensures.same_seal) c.packets.ensures sealing (does setting (line.Flush 1) settling) is stood in
+    of-ring lock draws serve fresh ring (keys c.does.new.self.world.host.server.seal) c.does.new.self (λ setting settling. c.packets.result ≡ length settling.world.bag)
+    (ap keys c.in_ok-does.ensures.same_seal) c.packets.ensures sealing (does setting (line.Flush 1) settling) is stood in
     record {
       grew = λ yes. let less : c.packets-count.result < c.packets.result = ltb-true c.packets-count.result c.packets.result yes in omega (arith, less, first, second);
       stayed = λ no. let most : c.packets.result ≤ c.packets-count.result = ltb-false c.packets-count.result c.packets.result no in omega (arith, most, first, second);

@@ -22,7 +22,7 @@ returns-clause-stands g c =
     let keys = g.S.Seal.keys in
     let inside = c.self.inside in
     subst (λ (kept : Loading g.row.S.Denot g.row.V.Denot g.row.D.Denot). OfEach lock draws serve fresh (keys kept.world.host.server.seal) kept
-      (λ setting settling. OnOk c.does.result (Stands setting c.does.new.self (gives setting c.args.packet settling)))) c.self.view_is
+    (λ setting settling. OnOk c.does.result (Stands setting c.does.new.self (gives setting c.args.packet settling)))) c.self.view_is
     (λ sealing settling is stands.
-      c.does.ensures.stands sealing (record settling { given = settling.given ++ c.args.packet ∷ [] }) is
-      (record { world = stands.world; given = c.in_ok-note.ensures.noted settling.given stands.given; plain = stands.plain }))
+    c.does.ensures.stands sealing (record settling { given = settling.given ++ c.args.packet ∷ [] }) is
+    (record { world = stands.world; given = c.in_ok-note.ensures.noted settling.given stands.given; plain = stands.plain }))

@@ -25,10 +25,11 @@ returns-in-Some-clause-goes g c =
     λ sealing settling is stands.
     let setting = world_setting draws serve fresh ring sealing in
     let Told : Setting g.row.D.Denot g.row.V.Denot → Settling g.row.D.Denot g.row.V.Denot → Type 0 = λ setting settling. Stands setting c.gives.new.self (gives setting c.in-Some.packet settling) in
-    let gave = subst (λ (kept : Loading g.row.S.Denot g.row.V.Denot g.row.D.Denot). OfEach lock draws serve fresh (keys kept.world.host.server.seal) kept Told) c.first_ungiven.ensures.same c.in_ok-gives.ensures.stands in
-    (gives setting c.in-Some.packet settling,
+    let gave = subst (λ (kept : Loading g.row.S.Denot g.row.V.Denot g.row.D.Denot). OfEach lock draws serve fresh (keys kept.world.host.server.seal) kept Told) c.first_ungiven.ensures.same c.in_ok-gives.ensures.stands in (
+      gives setting c.in-Some.packet settling,
       given-next setting settling c.in-Some.packet (sym (c.first_ungiven.ensures.first sealing settling is stands) ∙ c.in-Some.is),
-      gave sealing settling is stands)
+      gave sealing settling is stands,
+    )
 
 pub returns-then-worked-clause-goes : goal.returns-then-worked-clause-goes
 returns-then-worked-clause-goes g c =
@@ -43,10 +44,11 @@ returns-then-worked-clause-goes g c =
     let setting = world_setting draws serve fresh ring sealing in
     let Told : Setting g.row.D.Denot g.row.V.Denot → Settling g.row.D.Denot g.row.V.Denot → Type 0 = λ setting settling. Tried setting settling (line.Work 1) c.in_ok-worked.worked c.tries.new.self in
     let tried = subst (λ (kept : Loading g.row.S.Denot g.row.V.Denot g.row.D.Denot). OfEach lock draws serve fresh (keys kept.world.host.server.seal) kept Told) c.first_ungiven.ensures.same c.in_ok-worked.ensures.tried sealing settling is stands in
-    let none : first_ungiven 1 (length settling.world.bag) settling.given ≡ None = sym (c.first_ungiven.ensures.first sealing settling is stands) ∙ c.in_default.is in
-    (does setting (line.Work 1) settling,
+    let none : first_ungiven 1 (length settling.world.bag) settling.given ≡ None = sym (c.first_ungiven.ensures.first sealing settling is stands) ∙ c.in_default.is in (
+      does setting (line.Work 1) settling,
       worked-next setting settling none (job-told setting settling.world c.in_ok-worked.worked tried.refused ∙ c.if-worked.true),
-      tried.stands)
+      tried.stands,
+    )
 
 pub returns-clause-goes : goal.returns-clause-goes
 returns-clause-goes g c =
@@ -64,8 +66,8 @@ returns-clause-goes g c =
     let none : first_ungiven 1 (length settling.world.bag) settling.given ≡ None = sym (c.first_ungiven.ensures.first sealing settling is stands) ∙ c.in_default.is in
     let same = refused-same setting settling (line.Work 1) (tried.refused ∙ ap not c.if-worked.false) in
     let stood : Stands setting c.tries.new.self settling =
-        subst (λ (one : Settling g.row.D.Denot g.row.V.Denot). Stands setting c.tries.new.self one) same tried.stands in
+    subst (λ (one : Settling g.row.D.Denot g.row.V.Denot). Stands setting c.tries.new.self one) same tried.stands in
     let seal : keys c.tries.new.self.world.host.server.seal ≡ ring = ap keys (c.in_ok-worked.ensures.same_seal ∙ ap (λ (kept : Loading g.row.S.Denot g.row.V.Denot g.row.D.Denot). kept.world.host.server.seal) c.first_ungiven.ensures.same) in
     flush-goes setting settling c.flushes.new.self c.flushes.result none (job-told setting settling.world c.in_ok-worked.worked tried.refused ∙ c.if-worked.false) stands.plain
     (of-ring lock draws serve fresh ring (keys c.tries.new.self.world.host.server.seal) c.tries.new.self
-      (λ setting settling. IfOk c.flushes.result (λ made. Flushed setting settling made c.flushes.new.self)) seal c.flushes.ensures.flushed sealing settling is stood)
+    (λ setting settling. IfOk c.flushes.result (λ made. Flushed setting settling made c.flushes.new.self)) seal c.flushes.ensures.flushed sealing settling is stood)

@@ -22,6 +22,6 @@ returns g c =
     let keys = g.S.Seal.keys in
     let inside = c.self.inside in
     subst (λ (kept : Loading g.row.S.Denot g.row.V.Denot g.row.D.Denot). OfEach lock draws serve fresh (keys kept.world.host.server.seal) kept
-      (λ setting settling. c.packets.result ≡ length settling.world.bag)) c.self.view_is
+    (λ setting settling. c.packets.result ≡ length settling.world.bag)) c.self.view_is
     (λ sealing settling is stands.
-      c.packets.ensures.kept ∙ packets-of (world_setting draws serve fresh (keys inside.world.host.server.seal) sealing) inside.world settling.world stands.world)
+    c.packets.ensures.kept ∙ packets-of (world_setting draws serve fresh (keys inside.world.host.server.seal) sealing) inside.world settling.world stands.world)

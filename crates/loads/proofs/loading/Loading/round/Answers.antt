@@ -35,8 +35,8 @@ returns-clause-stands g c =
     let again = restarts setting number called in
     let called_so : Stands setting c.calls.new.self called = c.in_ok-calls.ensures.stands sealing settling is stands in
     let again_so : Stands setting c.restarts.new.self again = of-ring lock draws serve fresh ring first c.calls.new.self
-        (λ setting settling. Stands setting c.restarts.new.self (restarts setting number settling)) one c.in_ok-restarts.ensures.stands sealing called is called_so in
+    (λ setting settling. Stands setting c.restarts.new.self (restarts setting number settling)) one c.in_ok-restarts.ensures.stands sealing called is called_so in
     let settled_so : Stands setting c.settle.new.self (settled setting again) = of-ring lock draws serve fresh ring second c.restarts.new.self
-        (λ setting settling. Stands setting c.settle.new.self (settled setting settling)) two c.in_ok-settle.ensures.stands sealing again is again_so in
+    (λ setting settling. Stands setting c.settle.new.self (settled setting settling)) two c.in_ok-settle.ensures.stands sealing again is again_so in
     of-ring lock draws serve fresh ring third c.settle.new.self (λ setting settling. OnOk c.repeats.result (Stands setting c.repeats.new.self (repeats setting number settling)))
     three c.repeats.ensures.stands sealing (settled setting again) is settled_so

@@ -36,7 +36,7 @@ returns-else-went-clause-stands g c =
     let so = c.loop-left.invariant.0 sealing settling is stands in
     let seal : keys c.loop-left.self.world.host.server.seal ≡ ring = ap keys c.loop-left.invariant.1 in
     let gone = of-ring lock draws serve fresh ring (keys c.loop-left.self.world.host.server.seal) c.loop-left.self
-        (λ setting settling. Goes setting settling c.in_ok-went.went c.goes_on.new.self) seal c.in_ok-went.ensures.goes sealing so.0 is so.1 in
+    (λ setting settling. Goes setting settling c.in_ok-went.went c.goes_on.new.self) seal c.in_ok-went.ensures.goes sealing so.0 is so.1 in
     let rests = subst (λ (b : Bool). Goes setting so.0 b c.goes_on.new.self) c.if-went.false gone in
     subst (λ (one : Settling g.row.D.Denot g.row.V.Denot). Stands setting c.goes_on.new.self one) (sym (so.2 ∙ rests.0 c.loop-left.left)) rests.1
 
@@ -49,15 +49,16 @@ loop-left-preserved g c =
     let keys = g.S.Seal.keys in
     let old = c.args.self.now in
     let ring = keys old.world.host.server.seal in
-    let seal : keys c.loop-left.self.world.host.server.seal ≡ ring = ap keys c.loop-left.invariant.1 in
-    (λ sealing settling is stands.
-      let setting = world_setting draws serve fresh ring sealing in
-      let so = c.loop-left.invariant.0 sealing settling is stands in
-      let gone = of-ring lock draws serve fresh ring (keys c.loop-left.self.world.host.server.seal) c.loop-left.self
+    let seal : keys c.loop-left.self.world.host.server.seal ≡ ring = ap keys c.loop-left.invariant.1 in (
+      λ sealing settling is stands.
+          let setting = world_setting draws serve fresh ring sealing in
+          let so = c.loop-left.invariant.0 sealing settling is stands in
+          let gone = of-ring lock draws serve fresh ring (keys c.loop-left.self.world.host.server.seal) c.loop-left.self
           (λ setting settling. Goes setting settling c.in_ok-went.went c.goes_on.new.self) seal c.in_ok-went.ensures.goes sealing so.0 is so.1 in
-      let next = subst (λ (b : Bool). Goes setting so.0 b c.goes_on.new.self) c.if-went.true gone in
-      (next.0, next.2, so.2 ∙ went setting so.0 next.0 c.loop-left.left (c.loop-left.left - 1) (omega (arith, c.loop-left-test.true)) next.1),
-    c.in_ok-went.ensures.same_seal ∙ c.loop-left.invariant.1)
+          let next = subst (λ (b : Bool). Goes setting so.0 b c.goes_on.new.self) c.if-went.true gone in
+          (next.0, next.2, so.2 ∙ went setting so.0 next.0 c.loop-left.left (c.loop-left.left - 1) (omega (arith, c.loop-left-test.true)) next.1),
+      c.in_ok-went.ensures.same_seal ∙ c.loop-left.invariant.1,
+    )
 
 pub returns-clause-stands : goal.returns-clause-stands
 returns-clause-stands g c =

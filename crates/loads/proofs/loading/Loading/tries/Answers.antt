@@ -24,8 +24,8 @@ returns-clause-tried g c =
     let before : Loading g.row.S.Denot g.row.V.Denot g.row.D.Denot = record { world = inside.world; given = inside.given } in
     let after : Loading g.row.S.Denot g.row.V.Denot g.row.D.Denot = record { world = c.step.new.self; given = inside.given } in
     subst (λ (kept : Loading g.row.S.Denot g.row.V.Denot g.row.D.Denot). OfEach lock draws serve fresh (keys kept.world.host.server.seal) kept
-      (λ setting settling. IfOk c.answered.result (λ is_done. Tried setting settling c.args.event.now is_done after))) c.self.view_is
+    (λ setting settling. IfOk c.answered.result (λ is_done. Tried setting settling c.args.event.now is_done after))) c.self.view_is
     (λ sealing settling is stands.
-      tried-by (world_setting draws serve fresh (keys inside.world.host.server.seal) sealing) settling c.args.event.now before after c.step.result c.answered.result
-      c.answered.ensures c.requires.of_load stands (c.step.ensures.refused sealing settling.world is stands.world) (c.step.ensures.stands sealing settling.world is stands.world)
-      (c.step.ensures.unchanged sealing settling.world is stands.world) (c.step.ensures.same_draw sealing settling.world is stands.world) refl)
+    tried-by (world_setting draws serve fresh (keys inside.world.host.server.seal) sealing) settling c.args.event.now before after c.step.result c.answered.result
+    c.answered.ensures c.requires.of_load stands (c.step.ensures.refused sealing settling.world is stands.world) (c.step.ensures.stands sealing settling.world is stands.world)
+    (c.step.ensures.unchanged sealing settling.world is stands.world) (c.step.ensures.same_draw sealing settling.world is stands.world) refl)
