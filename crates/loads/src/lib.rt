@@ -7,6 +7,3 @@ mod given;
 mod loading;
 
 pub use loading::load;
-
-#[cfg(test)]
-mod tests;

@@ -1,97 +1,97 @@
 //! The top call.
 
-ghost use Rattle.std.specs.Prelude.{◌≡◌, ◌⊎◌, ◌↔◌, [], Some, Err, ℕ, List, map, codes, string_bytes, IsTrue, IfOk, IfSome};
-ghost use Rattle.mt_edge.specs.Faults.{Rose};
-ghost use Rattle.world_core.specs.declared.schedule.Placed.{Placed};
-ghost use Rattle.world_core.specs.Once.{OnceIn, MessageIdsAreApartIn};
-ghost use Rattle.world_core.specs.World.{run as run_of, events_of};
-ghost use Rattle.mtp_app.specs.Sim.{AreSim, IsLawful, Refused, Reported, Answers, UnlessFault, Writes, WritesFront};
+ghost use Rattle.std.specs.Prelude.{◌≡◌, ℕ, Bool, map, string_bytes, codes};
+ghost use Rattle.commands.specs.Pages.{page_text, version_text};
+ghost use Rattle.commands.specs.Says.{Says};
+ghost use Rattle.commands.specs.declared.command.Command.{Command as Said};
+ghost use Rattle.commands.specs.declared.command.Command.TheVariants as command;
+ghost use Rattle.commands.specs.declared.page.Page.{Page};
+ghost use Rattle.playing.specs.Runs.{LoadRun, SimRun};
+ghost use Rattle.statuses.specs.Outside.{PlainRun};
+ghost use Rattle.statuses.specs.Statuses.{EndsBy};
+ghost use Rattle.statuses.specs.declared.status.Status.TheVariants as status;
+ghost use Rattle.mtp_app.specs.Obeys.{IsRefused, Obeys};
 
-use crate::sim::{Answer, Outcome, Stop, sim};
-use mt_edge::{Sink, Source, WriteFault, write_all};
-use octets::Octets;
+use commands::laws::one_reading;
+use commands::{Command, WordsFault, read, version};
+use mt_edge::{Clock, KeyFiles, Net, Seeded, Sink, Source, Spawner};
+use playing::laws::memory_may_run_out;
+use playing::{run_load, run_sim};
+use statuses::{Answer, Status, tell};
 use std::alloc::Global;
-use world_core::laws;
 
-/// The status where the input can't be read.
-const READ_FAULT: u8 = 3;
-
-/// The status where the output can't be written.
-const WRITE_FAULT: u8 = 4;
-
-/// The status where memory ran out.
-const MEMORY: u8 = 9;
+/// What is written where the words are refused.
+const WORDS_REFUSED: &str = "words refused\n";
 
 /// Runs the program on its words, without its own name, and answers its status.
 ///
-/// The one word `sim` reads a schedule to its end and writes the report of its world. Status 0: the report is
-/// written. 1: the words are refused. 2: the input is refused, with the line and the cause. 3: the input can't be
-/// read. 4: the output can't be written. 9: memory ran out.
-pub fn run<S: Source, O: Sink>(alloc: Global, words: &[String], input: &mut S, out: &mut O) -> u8
-    ensures statuses { (result ≡ 0) ⊎ (result ≡ 1) ⊎ (result ≡ 2) ⊎ (result ≡ 3) ⊎ (result ≡ 4) ⊎ (result ≡ 9) }
-
-    // Status 0 comes where the input was read to its end and spells a lawful schedule; its report is written.
-    ensures read_to_the_end { result ≡ 0 → IfSome (S.left input.old) (λ _. S.left input.new ≡ Some []) }
-    ensures reported { result ≡ 0 → IfSome (S.left input.old) (λ text. (due : List ℕ) × Reported text due × Writes (O.written out.old) (O.written out.new) due) }
-    // In the one world of that schedule each call ran at most once, and no two calls share a message identifier.
-    ensures at_most_once { result ≡ 0 → IfSome (S.left input.old) (λ text. (events : List Placed) × IsLawful text events
-        × OnceIn (run_of (events_of events)) × MessageIdsAreApartIn (run_of (events_of events))) }
-    // Nothing but a fault keeps a lawful schedule from its report.
-    ensures completeness { AreSim (map string_bytes words.now) → IfSome (S.left input.old) (λ text.
-        (events : List Placed) → IsLawful text events → UnlessFault result 0) }
-
-    // Status 1 comes exactly where the words are not the one word `sim`.
-    ensures words_refused { result ≡ 1 → AreSim (map string_bytes words.now) → ⊥ }
-    ensures unread { result ≡ 1 → input.new ≡ input.old }
-    ensures words_told { result ≡ 1 → Writes (O.written out.old) (O.written out.new) (codes "words refused\n") }
-    ensures other_words { (AreSim (map string_bytes words.now) → ⊥) → UnlessFault result 1 }
-
-    // Status 2 comes exactly where the input is refused, and what is written says why.
-    ensures input_refused { result ≡ 2 → IfSome (S.left input.old) (λ text. (due : List ℕ) × Refused text due × Writes (O.written out.old) (O.written out.new) due) }
-    ensures other_input { AreSim (map string_bytes words.now) → IfSome (S.left input.old) (λ text.
-        (due : List ℕ) → Refused text due → UnlessFault result 2) }
-
-    // Statuses 3 and 4 have their causes outside.
-    ensures read_fault { result ≡ 3 → Rose (S.faults input.old) (S.faults input.new) }
-    ensures write_fault { result ≡ 4 → Rose (O.faults out.old) (O.faults out.new) }
-    ensures front_written { result ≡ 4 → WritesFront (map string_bytes words.now) (S.left input.old) (O.written out.old) (O.written out.new) }
-    ensures nothing_written { (result ≡ 3) ⊎ (result ≡ 9) → O.written out.new ≡ O.written out.old }
+/// - `sim [--wire]` reads a schedule to its end and writes the report of its world, with `--wire` also a line on all packets.
+/// - `load N` plays the large schedule of so many calls and writes one line that sums it up.
+/// - `--help`, alone or behind the name of a command, and `--version` write a text.
+///
+/// Status 0: what was to be written is written. 1: the words are refused. 2: the input is refused, with the line and the
+/// cause. 3: the input can't be read. 4: the output can't be written. 9: memory ran out. 10: on the line that is told a
+/// client has something to send and no numbers left for it.
+pub fn run<S: Source, O: Sink, F: KeyFiles, N: Net, P: Spawner, C: Clock, D: Seeded>(
+    alloc: Global,
+    words: &[String],
+    input: &mut S,
+    out: &mut O,
+    files: &mut F,
+    net: &mut N,
+    kids: &mut P,
+    clock: &mut C,
+    draw: &mut D,
+) -> u8
+    ensures sim { (wire : Bool) → Says (map string_bytes words.now) (command.Sim wire) → EndsBy result (SimRun wire
+        (record { told = S.left; faults = S.faults; before = input.old; after = input.new })
+        (record { told = O.written; faults = O.faults; before = out.old; after = out.new })) }
+    ensures load { (calls : ℕ) → Says (map string_bytes words.now) (command.Load calls) → EndsBy result (LoadRun calls
+        (record { told = O.written; faults = O.faults; before = out.old; after = out.new })) }
+    ensures help { (page : Page) → Says (map string_bytes words.now) (command.Help page) → EndsBy result (λ one. PlainRun
+        (record { told = O.written; faults = O.faults; before = out.old; after = out.new }) status.Done (page_text page) one) }
+    ensures version { Says (map string_bytes words.now) command.Version → EndsBy result (λ one. PlainRun
+        (record { told = O.written; faults = O.faults; before = out.old; after = out.new }) status.Done version_text one) }
+    // Words that say no command are refused, and so far those that say `serve` or `call`.
+    ensures refused { ((said : Said) → Says (map string_bytes words.now) said → IsRefused said) → EndsBy result (λ one. PlainRun
+        (record { told = O.written; faults = O.faults; before = out.old; after = out.new }) status.WordsRefused (codes "words refused\n") one) }
+    // Only `sim` reads the input.
+    ensures unread { ((wire : Bool) → Says (map string_bytes words.now) (command.Sim wire) → ⊥) → input.new ≡ input.old }
+    // No command uses the rest of the outside so far.
+    ensures untouched { (files.new ≡ files.old) × (net.new ≡ net.old) × (kids.new ≡ kids.old) × (clock.new ≡ clock.old) × (draw.new ≡ draw.old) }
 {
-    laws::one_reading();
-    laws::at_most_once();
-    laws::message_ids_apart();
-    match answer(alloc, words, input) {
-        Ok(answer) => match write_all(out, answer.text.as_slice()) {
-            Ok(()) => answer.outcome.status(),
-            Err(WriteFault) => WRITE_FAULT,
-        },
-        Err(Stop::ReadFault) => READ_FAULT,
-        Err(Stop::Memory) => MEMORY,
+    one_reading();
+    memory_may_run_out::<S, O>();
+    match read(alloc, words) {
+        Ok(command) => obey(alloc, &command, input, out).number(),
+        Err(WordsFault::Refused) => plain(alloc, Status::WordsRefused, WORDS_REFUSED, out).number(),
+        Err(WordsFault::Memory) => Status::Memory.number(),
     }
 }
 
-/// The answer to the words and the input, before it is written.
-fn answer<S: Source>(alloc: Global, words: &[String], input: &mut S) -> Result<Answer, Stop>
-    ensures answered { IfOk result (λ answer. Answers (map string_bytes words.now) (S.left input.old) answer.outcome answer.text) }
-    ensures to_the_end { IfOk result (λ answer. answer.outcome ≡ Outcome.Finished → IfSome (S.left input.old) (λ _. S.left input.new ≡ Some [])) }
-    ensures unread { IfOk result (λ answer. answer.outcome ≡ Outcome.WordsRefused → input.new ≡ input.old) }
-    ensures read_fault { result ≡ Err Stop.ReadFault → Rose (S.faults input.old) (S.faults input.new) }
+/// Carries out a command.
+fn obey<S: Source, O: Sink>(alloc: Global, command: &Command, input: &mut S, out: &mut O) -> Status
+    ensures { Obeys command.now
+        (record { told = S.left; faults = S.faults; before = input.old; after = input.new })
+        (record { told = O.written; faults = O.faults; before = out.old; after = out.new }) result }
 {
-    if are_sim(words) {
-        return sim(alloc, input);
+    match command {
+        Command::Sim { wire } => run_sim(alloc, *wire, input, out),
+        Command::Load { calls } => run_load(alloc, *calls, out),
+        Command::Help(page) => plain(alloc, Status::Done, page.text(), out),
+        Command::Version => plain(alloc, Status::Done, version(), out),
+        Command::Serve(_) | Command::Call(_) => {
+            plain(alloc, Status::WordsRefused, WORDS_REFUSED, out)
+        }
     }
-    Ok(Answer {
-        outcome: Outcome::WordsRefused,
-        text: Octets::copy(alloc, b"words refused\n")?,
-    })
 }
 
-/// Whether the words are the one word `sim`.
-fn are_sim(words: &[String]) -> bool
-    ensures { IsTrue result ↔ AreSim (map string_bytes words.now) }
+/// Writes a text, and ends by a status.
+fn plain<O: Sink>(alloc: Global, due: Status, text: &str, out: &mut O) -> Status
+    ensures { PlainRun (record { told = O.written; faults = O.faults; before = out.old; after = out.new }) due text.now result }
 {
-    match words {
-        [word] => word.as_str() == "sim",
-        _ => false,
+    match Answer::new(alloc, due, text.as_bytes()) {
+        Ok(answer) => tell(out, &answer),
+        Err(_memory) => Status::Memory,
     }
 }

@@ -1,10 +1,16 @@
-//! The program `mtp`, apart from the real outside: its words, its input, its output and its status.
+//! The program `mtp`, apart from the real outside: its words, its input, its output and its status. What each command
+//! promises is a word of the crate that carries it out (`SimRun`, `LoadRun`); `specs/Obeys.antt` lists them.
 #![tactic(auto)]
 
 mod app;
-mod sim;
 
 pub use app::run;
 
 #[cfg(test)]
+mod once_tests;
+#[cfg(test)]
+mod row_tests;
+#[cfg(test)]
 mod tests;
+#[cfg(test)]
+mod world_tests;

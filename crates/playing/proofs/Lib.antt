@@ -1,0 +1,9 @@
+pub mod KeyBytes
+pub mod KeyTexts
+pub mod Settling
+pub mod Playing
+pub mod Ends
+pub mod Drawing
+pub mod Fresh
+pub mod Bindings
+pub mod Sound

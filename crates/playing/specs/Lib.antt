@@ -1,0 +1,7 @@
+pub mod KeysOfSim
+pub mod Words
+pub mod Worlds
+pub mod Sim
+pub mod Load
+pub mod Runs
+pub mod Inner

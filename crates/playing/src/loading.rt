@@ -1,0 +1,24 @@
+//! The command `load`: the large schedule, and what sums it up.
+
+ghost use Rattle.std.specs.Prelude.{◌≡◌, IfOk};
+ghost use Rattle.statuses.specs.declared.status.Status.TheVariants as status;
+ghost use Rattle.playing.specs.Load.{summary_of};
+
+use crate::sim_world::SimWorld;
+use octets::{Memory, Octets};
+use statuses::{Answer, Status};
+use std::alloc::Global;
+
+/// The line that sums up the world after the schedule of so many calls.
+pub(crate) fn summary(alloc: Global, calls: u32) -> Result<Answer, Memory>
+    ensures status { IfOk result (λ answer. answer.status ≡ status.Done) }
+    ensures text { IfOk result (λ answer. answer.text ≡ summary_of calls) }
+{
+    let world = SimWorld::new(alloc)?.loaded(alloc, calls)?;
+    let mut text = Octets::new(alloc);
+    world.summary(alloc, &mut text)?;
+    Ok(Answer {
+        status: Status::Done,
+        text,
+    })
+}

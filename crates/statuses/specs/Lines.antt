@@ -1,0 +1,14 @@
+-- Lines that tell why an input is refused.
+use Rattle.std.specs.Prelude.{ℕ, codes, decimal, List, ◌++◌}
+
+-- the most bytes of an input
+abbrev pub input_bytes_max : ℕ
+input_bytes_max = 16777216
+
+-- a line that is refused, with its cause
+abbrev pub refusal_line : ℕ → List ℕ → List ℕ
+refusal_line line cause = codes "refused at line " ++ decimal line ++ codes ": " ++ cause ++ codes "\n"
+
+-- an input of more bytes
+abbrev pub too_long : List ℕ
+too_long = codes "input too long\n"

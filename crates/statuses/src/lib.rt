@@ -1,0 +1,12 @@
+//! How a run of the program ends: its status, the text that is due for it, and the words in which contracts speak of what
+//! the run reads and writes (`specs/Outside.antt`).
+#![tactic(auto)]
+
+mod answer;
+mod status;
+
+pub use answer::{Answer, Stop, refusal, tell};
+pub use status::Status;
+
+#[cfg(test)]
+mod tests;
