@@ -1,25 +1,87 @@
 -- What a run promises, by the command that was carried out.
-use Rattle.std.proofs.Common.{◌≡◌, ℕ, refl, subst}
+use Rattle.std.proofs.Common.{◌≡◌, ◌≢◌, ◌⊎◌, ℕ, List, Bool, Option, Some, None, codes, inl, subst, ap, arith}
+use Rattle.clap.specs.Words.{Row}
+use Rattle.calling.specs.Owed.{Around, Files}
+use Rattle.calling.specs.Runs.{CallRun}
+use Rattle.commands.specs.Pages.{page_text, version_text}
+use Rattle.commands.specs.Says.{Says, SaysServe}
+use Rattle.commands.specs.Values.{MayHaveNumber}
+use Rattle.commands.specs.declared.command.CallOptions.{CallOptions}
 use Rattle.commands.specs.declared.command.Command.{Command}
 use Rattle.commands.specs.declared.command.Command.TheVariants as command
-use Rattle.playing.specs.Runs.{LoadRun}
-use Rattle.statuses.specs.Outside.{IsUntouched, Outside}
+use Rattle.commands.specs.declared.command.ServeOptions.{ServeOptions}
+use Rattle.commands.specs.declared.page.Page.{Page}
+use Rattle.playing.specs.Runs.{LoadRun, SimRun}
+use Rattle.serving.specs.Runs.{ServeRun}
+use Rattle.statuses.specs.Outside.{IsUntouched, Outside, PlainRun}
 use Rattle.statuses.specs.Statuses.{EndsBy, number_of}
 use Rattle.statuses.specs.declared.status.Status.{Status}
-use Rattle.mtp_app.specs.Obeys.{Obeys}
+use Rattle.statuses.specs.declared.status.Status.TheVariants as status
+use Rattle.mtp_app.specs.Obeys.{AreOffline, AreWithoutInput, IsApart, IsLawful, IsUnbegun, Obeys, Stays, files_part, moments_of, net_part}
 
-module _ {S O : Type 0} (input : Outside S) (out : Outside O) (n : ℕ) (one : Status) (said : Command) (ends : n ≡ number_of one) (obeyed : Obeys said input out one) where
-  so : (other : Command) → said ≡ other → Obeys other input out one
-  so other same = subst (λ (command : Command). Obeys command input out one) same obeyed
+-- ---- what words say is lawful
+
+abbrev get_some : ℕ → Option ℕ → ℕ
+get_some other None = other
+get_some other (Some number) = number
+
+-- a number that is at least 1 isn't 0
+not-none : (rows : List Row) (o : Option ℕ) → MayHaveNumber (codes "stop-after") 1 1000000000 rows o → o ≡ Some 0 → ⊥
+not-none rows None h e = cc
+not-none rows (Some number) h e = let none : number ≡ 0 = ap (get_some number) e in omega (arith, h.least_or_more)
+
+serve-lawful : (options : ServeOptions) (rows : List Row) → SaysServe rows options → options.stop_after ≢ Some 0
+serve-lawful options rows h e = not-none rows options.stop_after h.stop_after e
+
+pub says-lawful : (words : List (List ℕ)) (said : Command) → Says words said → IsLawful said
+says-lawful words (command.Sim wire) h = tt
+says-lawful words (command.Load calls) h = tt
+says-lawful words (command.Serve options) h = serve-lawful options _ h.means.1
+says-lawful words (command.Call options) h = h.means.1.lawful
+says-lawful words (command.Help page) h = tt
+says-lawful words command.Version h = tt
+
+-- ---- the command was carried out
+
+module _ {S O F N C D : Type 0} (input : Outside S) (out : Outside O) (files : Files F) (around : Around N C D) (n : ℕ) (one : Status) (said : Command) (ends : n ≡ number_of one) (obeyed : Obeys said input out files around one) where
+  so : (other : Command) → said ≡ other → Obeys other input out files around one
+  so other same = subst (λ (command : Command). Obeys command input out files around one) same obeyed
+
+  pub sims : (wire : Bool) → said ≡ command.Sim wire → EndsBy n (SimRun wire input out)
+  sims wire same = (one, ends, so (command.Sim wire) same)
 
   pub loads : (calls : ℕ) → said ≡ command.Load calls → EndsBy n (LoadRun calls out)
-  loads calls same = (one, ends, (so (command.Load calls) same).1)
+  loads calls same = (one, ends, so (command.Load calls) same)
 
--- only `sim` reads
-pub reads-not : {S O : Type 0} (input : Outside S) (out : Outside O) (one : Status) (said : Command) → Obeys said input out one → ((wire : _) → said ≡ command.Sim wire → ⊥) → IsUntouched input
-reads-not input out one (command.Sim wire) h not = absurd (not wire refl)
-reads-not input out one (command.Load calls) h not = h.0
-reads-not input out one (command.Help page) h not = h.0
-reads-not input out one command.Version h not = h.0
-reads-not input out one (command.Serve options) h not = h.0
-reads-not input out one (command.Call options) h not = h.0
+  pub serves : (options : ServeOptions) → said ≡ command.Serve options
+      → EndsBy n (λ one. ServeRun around.step options (files_part files) (net_part around) out (moments_of around) around.draw one ⊎ IsUnbegun out files around one)
+  serves options same = (one, ends, inl (so (command.Serve options) same))
+
+  pub calls : (options : CallOptions) → said ≡ command.Call options → EndsBy n (λ one. CallRun options input out files around one ⊎ IsUnbegun out files around one)
+  calls options same = (one, ends, inl (so (command.Call options) same))
+
+  pub helps : (page : Page) → said ≡ command.Help page → EndsBy n (λ one. PlainRun out status.Done (page_text page) one)
+  helps page same = (one, ends, so (command.Help page) same)
+
+  pub tells-version : said ≡ command.Version → EndsBy n (λ one. PlainRun out status.Done version_text one)
+  tells-version same = (one, ends, so command.Version same)
+
+-- ---- what it leaves alone
+
+pub reads-not : {S F N C D : Type 0} (input : Outside S) (files : Files F) (around : Around N C D) (words : List (List ℕ)) (said : Command) → Says words said → Stays said input files around
+    → AreWithoutInput words → IsUntouched input
+reads-not input files around words (command.Sim wire) says h not = absurd (not.no_sim wire says)
+reads-not input files around words (command.Load calls) says h not = h.0
+reads-not input files around words (command.Serve options) says h not = h
+reads-not input files around words (command.Call options) says h not = absurd (not.no_call options says)
+reads-not input files around words (command.Help page) says h not = h.0
+reads-not input files around words command.Version says h not = h.0
+
+pub stays-apart : {S F N C D : Type 0} (input : Outside S) (files : Files F) (around : Around N C D) (words : List (List ℕ)) (said : Command) → Says words said → Stays said input files around
+    → AreOffline words → IsApart files around
+stays-apart input files around words (command.Sim wire) says h not = h
+stays-apart input files around words (command.Load calls) says h not = h.1
+stays-apart input files around words (command.Serve options) says h not = absurd (not.no_serve options says)
+stays-apart input files around words (command.Call options) says h not = absurd (not.no_call options says)
+stays-apart input files around words (command.Help page) says h not = h.1
+stays-apart input files around words command.Version says h not = h.1

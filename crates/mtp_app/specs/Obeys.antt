@@ -1,22 +1,75 @@
 -- What the program promises, by the command that the words say.
-use Rattle.std.specs.Prelude.{codes, ⊤}
+use Rattle.std.specs.Prelude.{◌≡◌, ◌≢◌, ℕ, Bool, true, List, Some, ⊤}
+use Rattle.calling.specs.Owed.{Around, Files, IsIdle}
+use Rattle.calling.specs.Runs.{CallRun}
 use Rattle.commands.specs.Pages.{page_text, version_text}
+use Rattle.commands.specs.Says.{Says}
+use Rattle.commands.specs.declared.command.CallOptions.{CallOptions}
 use Rattle.commands.specs.declared.command.Command.{Command}
 use Rattle.commands.specs.declared.command.Command.TheVariants as command
+use Rattle.commands.specs.declared.command.ServeOptions.{ServeOptions}
+use Rattle.mt_edge.specs.Files.{FilesTold}
+use Rattle.mt_edge.specs.declared.net_call.NetCall.{NetCall}
 use Rattle.playing.specs.Runs.{LoadRun, SimRun}
+use Rattle.serving.specs.Runs.{Moments, Part, ServeRun}
 use Rattle.statuses.specs.Outside.{IsUntouched, Outside, PlainRun}
 use Rattle.statuses.specs.declared.status.Status.{Status}
 use Rattle.statuses.specs.declared.status.Status.TheVariants as status
+use Rattle.transport.specs.declared.form.Form.TheVariants.{Full}
 
-abbrev pub Obeys : {S O : Type 0} → Command → Outside S → Outside O → Status → Type 0
-Obeys (command.Sim wire) input out one = SimRun wire input out one
-Obeys (command.Load calls) input out one = IsUntouched input × LoadRun calls out one
-Obeys (command.Help page) input out one = IsUntouched input × PlainRun out status.Done (page_text page) one
-Obeys command.Version input out one = IsUntouched input × PlainRun out status.Done version_text one
-Obeys said input out one = IsUntouched input × PlainRun out status.WordsRefused (codes "words refused\n") one
+-- ---- what a run leaves alone
 
--- a command that is refused so far
-abbrev pub IsRefused : Command → Type 0
-IsRefused (command.Serve options) = ⊤
-IsRefused (command.Call options) = ⊤
-IsRefused said = ⊥
+-- the words say neither `sim` nor `call`
+pub record AreWithoutInput (words : List (List ℕ)) : Type 0 where
+  pub no_sim : (wire : Bool) → Says words (command.Sim wire) → ⊥
+  pub no_call : (options : CallOptions) → Says words (command.Call options) → ⊥
+
+-- the words say neither `serve` nor `call`
+pub record AreOffline (words : List (List ℕ)) : Type 0 where
+  pub no_serve : (options : ServeOptions) → Says words (command.Serve options) → ⊥
+  pub no_call : (options : CallOptions) → Says words (command.Call options) → ⊥
+
+-- files, net, clock and drawn words are as they were
+pub record IsApart {F N C D : Type 0} (files : Files F) (around : Around N C D) : Type 0 where
+  pub files_stay : files.after ≡ files.before
+  pub idle : IsIdle around
+
+-- memory ran out while the words were read: nothing is written, and the command wasn't begun
+pub record IsUnbegun {O F N C D : Type 0} (out : Outside O) (files : Files F) (around : Around N C D) (one : Status) : Type 0 where
+  pub said : one ≡ status.Memory
+  pub unwritten : IsUntouched out
+  pub apart : IsApart files around
+
+-- ---- scaffolding, and no promise
+
+-- what the words of a command say of it
+abbrev pub IsLawful : Command → Type 0
+IsLawful (command.Serve options) = options.stop_after ≢ Some 0
+IsLawful (command.Call options) = options.obfuscate ≡ true → options.form ≢ Full
+IsLawful said = ⊤
+
+abbrev pub files_part : {F : Type 0} → Files F → Part FilesTold F
+files_part files = record { told = files.told; faults = files.faults; before = files.before; after = files.after }
+
+abbrev pub net_part : {N C D : Type 0} → Around N C D → Part (List NetCall) N
+net_part around = record { told = around.calls; faults = around.faults; before = around.net; after = around.net_then }
+
+abbrev pub moments_of : {N C D : Type 0} → Around N C D → Moments
+moments_of around = record { before = around.given around.clock; after = around.given around.clock_then }
+
+abbrev pub Obeys : {S O F N C D : Type 0} → Command → Outside S → Outside O → Files F → Around N C D → Status → Type 0
+Obeys (command.Sim wire) input out files around one = SimRun wire input out one
+Obeys (command.Load calls) input out files around one = LoadRun calls out one
+Obeys (command.Serve options) input out files around one = ServeRun around.step options (files_part files) (net_part around) out (moments_of around) around.draw one
+Obeys (command.Call options) input out files around one = CallRun options input out files around one
+Obeys (command.Help page) input out files around one = PlainRun out status.Done (page_text page) one
+Obeys command.Version input out files around one = PlainRun out status.Done version_text one
+
+-- what a command leaves alone
+abbrev pub Stays : {S F N C D : Type 0} → Command → Outside S → Files F → Around N C D → Type 0
+Stays (command.Sim wire) input files around = IsApart files around
+Stays (command.Load calls) input files around = IsUntouched input × IsApart files around
+Stays (command.Serve options) input files around = IsUntouched input
+Stays (command.Call options) input files around = ⊤
+Stays (command.Help page) input files around = IsUntouched input × IsApart files around
+Stays command.Version input files around = IsUntouched input × IsApart files around

@@ -1,22 +1,29 @@
 //! The top call.
 
-ghost use Rattle.std.specs.Prelude.{◌≡◌, ℕ, Bool, map, string_bytes, codes};
+ghost use Rattle.std.specs.Prelude.{◌≡◌, ◌⊎◌, ℕ, Bool, map, string_bytes};
+ghost use Rattle.calling.specs.Runs.{CallRun};
 ghost use Rattle.commands.specs.Pages.{page_text, version_text};
 ghost use Rattle.commands.specs.Says.{Says};
+ghost use Rattle.commands.specs.declared.command.CallOptions.{CallOptions};
 ghost use Rattle.commands.specs.declared.command.Command.{Command as Said};
 ghost use Rattle.commands.specs.declared.command.Command.TheVariants as command;
+ghost use Rattle.commands.specs.declared.command.ServeOptions.{ServeOptions};
 ghost use Rattle.commands.specs.declared.page.Page.{Page};
 ghost use Rattle.playing.specs.Runs.{LoadRun, SimRun};
+ghost use Rattle.serving.specs.Runs.{ServeRun};
+ghost use Rattle.statuses.specs.Lines.{words_refused};
 ghost use Rattle.statuses.specs.Outside.{PlainRun};
 ghost use Rattle.statuses.specs.Statuses.{EndsBy};
 ghost use Rattle.statuses.specs.declared.status.Status.TheVariants as status;
-ghost use Rattle.mtp_app.specs.Obeys.{IsRefused, Obeys};
+ghost use Rattle.mtp_app.specs.Obeys.{AreOffline, AreWithoutInput, IsLawful, IsUnbegun, Obeys, Stays};
 
+use calling::run_call;
 use commands::laws::one_reading;
 use commands::{Command, WordsFault, read, version};
 use mt_edge::{Clock, KeyFiles, Net, Seeded, Sink, Source, Spawner};
 use playing::laws::memory_may_run_out;
 use playing::{run_load, run_sim};
+use serving::run_serve;
 use statuses::{Answer, Status, tell};
 use std::alloc::Global;
 
@@ -27,11 +34,16 @@ const WORDS_REFUSED: &str = "words refused\n";
 ///
 /// - `sim [--wire]` reads a schedule to its end and writes the report of its world, with `--wire` also a line on all packets.
 /// - `load N` plays the large schedule of so many calls and writes one line that sums it up.
+/// - `serve --keys F --port P --conns N [--stop-after K]` serves connections of the net.
+/// - `call --keys F --key ID --port P --form FORM [--obfuscate] [--retries R] [--perm ID]` reads a script and runs it as one
+///   batch over connections of the net.
 /// - `--help`, alone or behind the name of a command, and `--version` write a text.
 ///
 /// Status 0: what was to be written is written. 1: the words are refused. 2: the input is refused, with the line and the
-/// cause. 3: the input can't be read. 4: the output can't be written. 9: memory ran out. 10: on the line that is told a
-/// client has something to send and no numbers left for it.
+/// cause. 3: the input can't be read. 4: the output can't be written. 5: the key file isn't read or is refused, or lacks a
+/// key. 6: each call is decided, and one isn't done. 7: more connections were lost than may be. 8: one connection gave as
+/// many pieces as it may. 9: memory ran out. 10: a client has something to send and no numbers left for it. 11: no
+/// connections can be taken.
 pub fn run<S: Source, O: Sink, F: KeyFiles, N: Net, P: Spawner, C: Clock, D: Seeded>(
     alloc: Global,
     words: &[String],
@@ -48,41 +60,75 @@ pub fn run<S: Source, O: Sink, F: KeyFiles, N: Net, P: Spawner, C: Clock, D: See
         (record { told = O.written; faults = O.faults; before = out.old; after = out.new })) }
     ensures load { (calls : ℕ) → Says (map string_bytes words.now) (command.Load calls) → EndsBy result (LoadRun calls
         (record { told = O.written; faults = O.faults; before = out.old; after = out.new })) }
+    // Memory may run out while the words are read; then the command isn't begun.
+    ensures serve { (options : ServeOptions) → Says (map string_bytes words.now) (command.Serve options) → EndsBy result (λ one. ServeRun D.step options
+        (record { told = F.told; faults = F.faults; before = files.old; after = files.new })
+        (record { told = N.calls; faults = N.faults; before = net.old; after = net.new })
+        (record { told = O.written; faults = O.faults; before = out.old; after = out.new })
+        (record { before = C.given clock.old; after = C.given clock.new }) draw.old one ⊎ IsUnbegun
+        (record { told = O.written; faults = O.faults; before = out.old; after = out.new })
+        (record { told = F.told; faults = F.faults; before = files.old; after = files.new })
+        (record { calls = N.calls; faults = N.faults; given = C.given; step = D.step; net = net.old; net_then = net.new; clock = clock.old; clock_then = clock.new; draw = draw.old; draw_then = draw.new }) one) }
+    ensures call { (options : CallOptions) → Says (map string_bytes words.now) (command.Call options) → EndsBy result (λ one. CallRun options
+        (record { told = S.left; faults = S.faults; before = input.old; after = input.new })
+        (record { told = O.written; faults = O.faults; before = out.old; after = out.new })
+        (record { told = F.told; faults = F.faults; before = files.old; after = files.new })
+        (record { calls = N.calls; faults = N.faults; given = C.given; step = D.step; net = net.old; net_then = net.new; clock = clock.old; clock_then = clock.new; draw = draw.old; draw_then = draw.new }) one ⊎ IsUnbegun
+        (record { told = O.written; faults = O.faults; before = out.old; after = out.new })
+        (record { told = F.told; faults = F.faults; before = files.old; after = files.new })
+        (record { calls = N.calls; faults = N.faults; given = C.given; step = D.step; net = net.old; net_then = net.new; clock = clock.old; clock_then = clock.new; draw = draw.old; draw_then = draw.new }) one) }
     ensures help { (page : Page) → Says (map string_bytes words.now) (command.Help page) → EndsBy result (λ one. PlainRun
         (record { told = O.written; faults = O.faults; before = out.old; after = out.new }) status.Done (page_text page) one) }
     ensures version { Says (map string_bytes words.now) command.Version → EndsBy result (λ one. PlainRun
         (record { told = O.written; faults = O.faults; before = out.old; after = out.new }) status.Done version_text one) }
-    // Words that say no command are refused, and so far those that say `serve` or `call`.
-    ensures refused { ((said : Said) → Says (map string_bytes words.now) said → IsRefused said) → EndsBy result (λ one. PlainRun
-        (record { told = O.written; faults = O.faults; before = out.old; after = out.new }) status.WordsRefused (codes "words refused\n") one) }
-    // Only `sim` reads the input.
-    ensures unread { ((wire : Bool) → Says (map string_bytes words.now) (command.Sim wire) → ⊥) → input.new ≡ input.old }
-    // No command uses the rest of the outside so far.
-    ensures untouched { (files.new ≡ files.old) × (net.new ≡ net.old) × (kids.new ≡ kids.old) × (clock.new ≡ clock.old) × (draw.new ≡ draw.old) }
+    // Words that say no command are refused.
+    ensures refused { ((said : Said) → Says (map string_bytes words.now) said → ⊥) → EndsBy result (λ one. PlainRun
+        (record { told = O.written; faults = O.faults; before = out.old; after = out.new }) status.WordsRefused words_refused one) }
+    // Only `sim` and `call` read the input.
+    ensures unread { AreWithoutInput (map string_bytes words.now) → input.new ≡ input.old }
+    // Only `serve` and `call` use files, the net, the clock or drawn words; no command starts a child.
+    ensures offline { AreOffline (map string_bytes words.now) → (files.new ≡ files.old) × (net.new ≡ net.old) × (clock.new ≡ clock.old) × (draw.new ≡ draw.old) }
+    ensures alone { kids.new ≡ kids.old }
 {
     one_reading();
     memory_may_run_out::<S, O>();
     match read(alloc, words) {
-        Ok(command) => obey(alloc, &command, input, out).number(),
+        Ok(command) => obey(alloc, &command, input, out, files, net, clock, draw).number(),
         Err(WordsFault::Refused) => plain(alloc, Status::WordsRefused, WORDS_REFUSED, out).number(),
         Err(WordsFault::Memory) => Status::Memory.number(),
     }
 }
 
 /// Carries out a command.
-fn obey<S: Source, O: Sink>(alloc: Global, command: &Command, input: &mut S, out: &mut O) -> Status
-    ensures { Obeys command.now
+fn obey<S: Source, O: Sink, F: KeyFiles, N: Net, C: Clock, D: Seeded>(
+    alloc: Global,
+    command: &Command,
+    input: &mut S,
+    out: &mut O,
+    files: &mut F,
+    net: &mut N,
+    clock: &mut C,
+    draw: &mut D,
+) -> Status
+    requires { IsLawful command.now }
+    ensures obeys { Obeys command.now
         (record { told = S.left; faults = S.faults; before = input.old; after = input.new })
-        (record { told = O.written; faults = O.faults; before = out.old; after = out.new }) result }
+        (record { told = O.written; faults = O.faults; before = out.old; after = out.new })
+        (record { told = F.told; faults = F.faults; before = files.old; after = files.new })
+        (record { calls = N.calls; faults = N.faults; given = C.given; step = D.step; net = net.old; net_then = net.new; clock = clock.old; clock_then = clock.new; draw = draw.old; draw_then = draw.new })
+        result }
+    ensures stays { Stays command.now
+        (record { told = S.left; faults = S.faults; before = input.old; after = input.new })
+        (record { told = F.told; faults = F.faults; before = files.old; after = files.new })
+        (record { calls = N.calls; faults = N.faults; given = C.given; step = D.step; net = net.old; net_then = net.new; clock = clock.old; clock_then = clock.new; draw = draw.old; draw_then = draw.new }) }
 {
     match command {
         Command::Sim { wire } => run_sim(alloc, *wire, input, out),
         Command::Load { calls } => run_load(alloc, *calls, out),
+        Command::Serve(options) => run_serve(alloc, options, out, files, net, clock, draw),
+        Command::Call(options) => run_call(alloc, options, input, out, files, net, clock, draw),
         Command::Help(page) => plain(alloc, Status::Done, page.text(), out),
         Command::Version => plain(alloc, Status::Done, version(), out),
-        Command::Serve(_) | Command::Call(_) => {
-            plain(alloc, Status::WordsRefused, WORDS_REFUSED, out)
-        }
     }
 }
 

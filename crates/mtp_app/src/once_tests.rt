@@ -1,71 +1,26 @@
 //! A schedule for each sentence on what became of calls: each would be told otherwise by a server or a client with the fault
 //! that is named beside it.
 
-use crate::row_tests::{all_as_told, plays};
+use crate::row_tests::all_as_told;
 use crate::tests::ran_in;
 use octets::Octets;
 use std::alloc::Global;
 use std::test::Fail;
 
+const EACH_SENTENCE_ON_CALLS: &str = "\
+a call executes at most once: a server that runs what comes again would run it twice | client; call 1 add x 5; flush 1; give 1; give 2; flush 1; give 3; give 3; work 1; give 3; attach 1; flush 1; give 6; give 7 | 0 | call 1 1 done 5; run 1 1 12 5\n\
+each entry was asked for so: a server that mixes sessions would run the one's request for the other | client; client; call 1 add x 5; call 2 add y 7; flush 1; flush 2; give 1; give 2; give 3; give 4; flush 1; flush 2; give 6; give 5; work 1; work 1; give 9; give 10 | 0 | call 1 1 done 5; call 2 1 done 7; run 1 2 12 7; run 1 1 12 5\n\
+a result is that of its call: a client that takes the latest would exchange them | client; call 1 add x 5; flush 1; give 1; give 2; call 1 add x 7; flush 1; give 3; work 1; work 1; give 6; give 5 | 0 | call 1 1 done 5; call 1 2 done 12; run 1 1 12 5; run 1 1 16 12\n\
+a replaced name has no entry: a server that runs what it refused would run it under the first number too | client; call 1 add x 5; flush 1; give 1; give 1; give 2; flush 1; give 4; work 1; give 6 | 0 | call 1 1 done 5; run 1 1 12 5\n\
+a call that is refused has no entry: a client that sends it later all the same would let it run | client; call 1 add x 5; flush 1; give 1; give 2; call 1 hex 00000000; call 1 add x 7 after 2; end 1 | 0 | call 1 1 refused 0; call 1 2 refused 0; call 1 3 refused 0\n\
+unknown where a session was lost: a client that asks the next session would let it run twice | client; call 1 add x 5; flush 1; give 1; give 2; flush 1; give 3; work 1; lose 1; give 3; give 6; give 5 | 0 | call 1 1 unknown session; run 1 1 12 5\n\
+unknown where its client left: a client that sends it again in its next session would let it run twice | client; call 1 add x 5; flush 1; give 1; give 2; flush 1; give 3; work 1; renew 1; flush 1; give 5 | 0 | call 1 1 unknown renewed; run 1 1 12 5\n\
+unknown where its client ended: a client that goes on would learn the result | client; call 1 add x 5; flush 1; give 1; give 2; flush 1; give 3; work 1; end 1; give 5 | 0 | call 1 1 unknown ended; run 1 1 12 5\n\
+what ran in a start has the service's replies: a service that outlives a restart would go on from 5 | client; call 1 add x 5; flush 1; give 1; give 2; flush 1; give 3; work 1; give 5; restart; ping 1; flush 1; give 6; give 7; call 1 add x 7; flush 1; give 8; work 1; give 10 | 0 | call 1 1 done 5; call 1 2 done 7; run 1 1 12 5; run 2 1 36 7\n";
+
 #[test]
 fn each_sentence_on_calls(rt: HostRuntime) -> Result<(), Fail> {
-    let rows = [
-        plays(
-            "a call executes at most once: a server that runs what comes again would run it twice",
-            "client; call 1 add x 5; flush 1; give 1; give 2; flush 1; give 3; give 3; work 1; give 3; attach 1; flush 1; give 6; give 7",
-            0,
-            "call 1 1 done 5; run 1 1 12 5",
-        ),
-        plays(
-            "each entry was asked for so: a server that mixes sessions would run the one's request for the other",
-            "client; client; call 1 add x 5; call 2 add y 7; flush 1; flush 2; give 1; give 2; give 3; give 4; flush 1; flush 2; give 6; give 5; work 1; work 1; give 9; give 10",
-            0,
-            "call 1 1 done 5; call 2 1 done 7; run 1 2 12 7; run 1 1 12 5",
-        ),
-        plays(
-            "a result is that of its call: a client that takes the latest would exchange them",
-            "client; call 1 add x 5; flush 1; give 1; give 2; call 1 add x 7; flush 1; give 3; work 1; work 1; give 6; give 5",
-            0,
-            "call 1 1 done 5; call 1 2 done 12; run 1 1 12 5; run 1 1 16 12",
-        ),
-        plays(
-            "a replaced name has no entry: a server that runs what it refused would run it under the first number too",
-            "client; call 1 add x 5; flush 1; give 1; give 1; give 2; flush 1; give 4; work 1; give 6",
-            0,
-            "call 1 1 done 5; run 1 1 12 5",
-        ),
-        plays(
-            "a call that is refused has no entry: a client that sends it later all the same would let it run",
-            "client; call 1 add x 5; flush 1; give 1; give 2; call 1 hex 00000000; call 1 add x 7 after 2; end 1",
-            0,
-            "call 1 1 refused 0; call 1 2 refused 0; call 1 3 refused 0",
-        ),
-        plays(
-            "unknown where a session was lost: a client that asks the next session would let it run twice",
-            "client; call 1 add x 5; flush 1; give 1; give 2; flush 1; give 3; work 1; lose 1; give 3; give 6; give 5",
-            0,
-            "call 1 1 unknown session; run 1 1 12 5",
-        ),
-        plays(
-            "unknown where its client left: a client that sends it again in its next session would let it run twice",
-            "client; call 1 add x 5; flush 1; give 1; give 2; flush 1; give 3; work 1; renew 1; flush 1; give 5",
-            0,
-            "call 1 1 unknown renewed; run 1 1 12 5",
-        ),
-        plays(
-            "unknown where its client ended: a client that goes on would learn the result",
-            "client; call 1 add x 5; flush 1; give 1; give 2; flush 1; give 3; work 1; end 1; give 5",
-            0,
-            "call 1 1 unknown ended; run 1 1 12 5",
-        ),
-        plays(
-            "what ran in a start has the service's replies: a service that outlives a restart would go on from 5",
-            "client; call 1 add x 5; flush 1; give 1; give 2; flush 1; give 3; work 1; give 5; restart; ping 1; flush 1; give 6; give 7; call 1 add x 7; flush 1; give 8; work 1; give 10",
-            0,
-            "call 1 1 done 5; call 1 2 done 7; run 1 1 12 5; run 2 1 36 7",
-        ),
-    ];
-    all_as_told(&rt, rt.alloc(), &rows)
+    all_as_told(&rt, rt.alloc(), EACH_SENTENCE_ON_CALLS)
 }
 
 /// Room for the report of so many calls, in bytes.

@@ -34,7 +34,7 @@ pub fn run_load<O: Sink>(alloc: Global, calls: u32, out: &mut O) -> Status
     ensures { LoadRun calls (record { told = O.written; faults = O.faults; before = out.old; after = out.new }) result }
 {
     match summary(alloc, calls) {
-        Ok(answer) => tell(out, &answer),
+        Ok(line) => tell(out, &line),
         Err(_memory) => Status::Memory,
     }
 }

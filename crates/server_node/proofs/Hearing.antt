@@ -82,7 +82,7 @@ heard_judged {S} {V} step serve lock ring side later now packet reply key sessio
     let name : SessionName = record { key = key; session = session } in
     let found : IsHeardOf lock ring moment packet (Judged key session) = subst (λ (one : Heard). IsHeardOf lock ring moment packet one) was (told.heard talk.server stands.serves.server) in
     let envelope : Envelope = found.0 in
-    let read : outside.reading moment packet ≡ Ok envelope = opens_to lock ring moment packet (outside.reading moment packet) envelope opens (is.reads moment packet) found.1 in
+    let read : outside.reading moment packet ≡ Ok envelope = opens_to lock ring moment packet (outside.reading moment packet) envelope opens (is.reads moment packet told.bytes) found.1 in
     let named : name_in envelope ≡ name = same_name envelope key session found.2 found.3 in
     record {
       answer = after_packet (setting_of moment step outside.keys) (brought_in envelope) talk.server talk.draw;
@@ -110,7 +110,7 @@ first_judged {S} {V} step lock ring side later now packet reply key session is_f
     let name : SessionName = record { key = key; session = session } in
     let found : IsHeardOf lock ring moment packet (Judged key session) = subst (λ (one : Heard). IsHeardOf lock ring moment packet one) was (told.heard talk.server stands.serves.server) in
     let envelope : Envelope = found.0 in
-    let read : outside.reading moment packet ≡ Ok envelope = opens_to lock ring moment packet (outside.reading moment packet) envelope opens (is.reads moment packet) found.1 in
+    let read : outside.reading moment packet ≡ Ok envelope = opens_to lock ring moment packet (outside.reading moment packet) envelope opens (is.reads moment packet told.bytes) found.1 in
     let named : name_in envelope ≡ name = same_name envelope key session found.2 found.3 in
     ap (λ (one : Result Envelope Refusal). first_acts now talk one) read
     ∙ ap (λ (one : SessionName). if was_heard talk.heard one then [] else Attach now one ∷ []) named
@@ -125,7 +125,7 @@ pub refused_read : {S V : Type 0} (step : S → ℕ × S) (lock : Lock) (ring : 
 refused_read step lock ring side later now packet reply refusal opens one told was outside talk is stands =
     let moment : ℕ = max talk.server.now now in
     let found : IsHeardOf lock ring moment packet (NotOpened refusal) = subst (λ (some : Heard). IsHeardOf lock ring moment packet some) was (told.heard talk.server stands.serves.server) in
-    refused_by lock ring moment packet (outside.reading moment packet) refusal opens one (is.reads moment packet) found
+    refused_by lock ring moment packet (outside.reading moment packet) refusal opens one (is.reads moment packet told.bytes) found
 
 pub none_first : {S V : Type 0} (now : ℕ) (talk : Talk S V) (read : Result Envelope Refusal) (refusal : Refusal) → read ≡ Err refusal → first_acts now talk read ≡ []
 none_first now talk read refusal same = ap (λ (one : Result Envelope Refusal). first_acts now talk one) same

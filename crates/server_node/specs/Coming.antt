@@ -16,6 +16,7 @@ use Rattle.envelope.specs.declared.parts.Dir.TheVariants.{Up}
 use Rattle.envelope.specs.declared.parts.Envelope.{Envelope}
 use Rattle.envelope.specs.declared.refusal.Refusal.{Refusal}
 use Rattle.envelope.specs.declared.refusal.Refusal.TheVariants as refusals
+use Rattle.octets.specs.Bytes.{IsBytes}
 use Rattle.owing.specs.declared.outs.Out.{Out}
 use Rattle.rows.specs.Rings.{AreOf}
 use Rattle.server_core.specs.Desks.{Does, DoesNothing}
@@ -74,6 +75,7 @@ SameOut wire wire_then = (wire_then.form ≡ wire.form) × (wire_then.writing �
 
 -- what it tells then
 pub record Tells {S : Type 0} (step : S → ℕ × S) (lock : Lock) (ring : List RingKey) (desk desk_then : Server → Type 0) (drawn drawn_then : S) (now : ℕ) (packet : List ℕ) (reply : Reply) : Type 0 where
+  pub bytes : IsBytes packet
   pub heard : (server : Server) → desk server → IsHeardOf lock ring (max server.now now) packet reply.heard
   pub refused : (server : Server) (refusal : Refusal) → desk server → IsRefused lock ring (max server.now now) Up packet refusal
       → DoesNothing desk_then drawn drawn_then reply (record server { now = max server.now now })

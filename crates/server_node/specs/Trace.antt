@@ -8,6 +8,7 @@ use Rattle.envelope.specs.declared.refusal.Refusal.{Refusal}
 use Rattle.envelope.specs.declared.refusal.Refusal.TheVariants as refusals
 use Rattle.envelope.specs.Opening.{IsRefused, Opens}
 use Rattle.envelope.specs.Packet.{Lock, Sealed}
+use Rattle.octets.specs.Bytes.{IsBytes}
 use Rattle.owing.specs.Outs.{sealed_envelope}
 use Rattle.regs_service.specs.Served.{Step}
 use Rattle.rows.specs.Rings.{AreOf}
@@ -33,10 +34,10 @@ abbrev pub IsRead : Lock → List RingKey → ℕ → List ℕ → Result Envelo
 IsRead lock ring now packet (Ok envelope) = Opens lock ring now Up packet envelope
 IsRead lock ring now packet (Err refusal) = IsRefused lock ring now Up packet refusal
 
--- it is what this ring says under a lock
+-- it is what this ring says under a lock, of each packet that is a list of bytes
 pub record IsOutside (lock : Lock) (ring : List RingKey) (outside : Outside) : Type 0 where
   pub keys : AreOf ring outside.keys
-  pub reads : (now : ℕ) (packet : List ℕ) → IsRead lock ring now packet (outside.reading now packet)
+  pub reads : (now : ℕ) (packet : List ℕ) → IsBytes packet → IsRead lock ring now packet (outside.reading now packet)
   pub seals : (sent : Sent) (packet : List ℕ) → Sealed lock ring Down (sealed_envelope sent.envelope) sent.padding packet → outside.sealing sent ≡ packet
 
 -- and how words are drawn and calls are served

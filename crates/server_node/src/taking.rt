@@ -1,6 +1,7 @@
 //! What a connection brings.
 
 ghost use Rattle.std.specs.Prelude.{◌≡◌, ◌≢◌, ◌∷◌, [], IfErr};
+ghost use Rattle.octets.specs.Bytes.{IsBytes};
 ghost use Rattle.server_node.specs.Coming.{CameBy, NextBy, SameOut, SaysBy, TookAll, TookBy, came_by};
 ghost use Rattle.server_node.specs.Doing.{Did, IsEventEnd, IsPacketEnd, IsPacketsEnd, end_by, stop_by};
 ghost use Rattle.server_node.specs.Record.{Answered, counted_down};
@@ -71,6 +72,11 @@ enum Came {
     First(SessionName),
 }
 
+// The members of a slice are bytes. Does nothing.
+fn are_bytes(packet: &[u8])
+    ensures { IsBytes packet.now }
+{}
+
 // The desk takes the next packet of the connection, where one is whole.
 #[tactic(auto, using(crate::proofs::Events::fault_is_packet_end))]
 fn take_next<K: Desk>(
@@ -86,10 +92,13 @@ fn take_next<K: Desk>(
     ensures same_keys { K.keys desk.new ≡ K.keys desk.old }
 {
     match wire.next() {
-        Next::Packet(packet) => match desk.on_packet(alloc, now, packet) {
-            Ok(reply) => Ok(Some(reply)),
-            Err(fault) => Err(end_of(fault)),
-        },
+        Next::Packet(packet) => {
+            are_bytes(packet);
+            match desk.on_packet(alloc, now, packet) {
+                Ok(reply) => Ok(Some(reply)),
+                Err(fault) => Err(end_of(fault)),
+            }
+        }
         Next::More => Ok(None),
         Next::Fault(fault) => Err(ConnEnd::Frame(fault)),
     }

@@ -12,3 +12,7 @@ refusal_line line cause = codes "refused at line " ++ decimal line ++ codes ": "
 -- an input of more bytes
 abbrev pub too_long : List ℕ
 too_long = codes "input too long\n"
+
+-- words that say no command
+abbrev pub words_refused : List ℕ
+words_refused = codes "words refused\n"

@@ -9,6 +9,7 @@ use itoa::Buffer;
 use mt_edge::{Sink, WriteFault, write_all};
 use octets::{Memory, Octets};
 use std::alloc::Global;
+use thiserror::Error;
 
 /// A status and the text that is due for it.
 #[derive(Debug, Drop)]
@@ -37,11 +38,13 @@ impl Answer {
 }
 
 /// Why there is no answer.
-#[derive(Clone, Copy, Debug, PartialEq, Eq)]
+#[derive(Clone, Copy, Debug, PartialEq, Eq, Error)]
 pub enum Stop {
     /// A read of the input failed.
+    #[error("a read of the input failed")]
     ReadFault,
     /// Memory ran out.
+    #[error("out of memory")]
     Memory,
 }
 

@@ -3,6 +3,7 @@
 #![tactic(auto)]
 
 mod answer;
+pub mod laws;
 mod status;
 
 pub use answer::{Answer, Stop, refusal, tell};

@@ -1,29 +1,95 @@
-use Rattle.std.proofs.Common.{map, inr, refl, subst}
+use Rattle.std.proofs.Common.{map, inr, refl}
 use Rattle.std.specs.Prelude.{string_bytes}
-use Rattle.commands.specs.Says.{Says}
-use Rattle.commands.specs.declared.command.Command.{Command}
 use Rattle.commands.specs.declared.command.Command.TheVariants as command
 use Rattle.statuses.specs.declared.status.Status.TheVariants as status
-use Rattle.mtp_app.proofs.Obeying.{loads, reads-not}
+use Rattle.mtp_app.proofs.Obeying.{calls, helps, loads, reads-not, says-lawful, serves, sims, stays-apart, tells-version}
 use Rattle.mtp_app.proofs.app.run.Goals as goal
 
 -- ---- a command was carried out
 
+pub obey-requires : goal.obey-requires
+obey-requires g c = says-lawful (map string_bytes c.args.words.now) c.in-Ok.command c.in-Ok.ensures.said
+
+pub returns-in-Ok-clause-sim : goal.returns-in-Ok-clause-sim
+returns-in-Ok-clause-sim g c = λ wire asked.
+    sims
+    (record { told = g.S.Source.left; faults = g.S.Source.faults; before = c.args.input.now; after = c.obey.new.input })
+    (record { told = g.O.Sink.written; faults = g.O.Sink.faults; before = c.args.out.now; after = c.obey.new.out })
+    (record { told = g.F.KeyFiles.told; faults = g.F.KeyFiles.faults; before = c.args.files.now; after = c.obey.new.files })
+    (record { calls = g.N.Net.calls; faults = g.N.Net.faults; given = g.C.Clock.given; step = g.D.Draw.step; net = c.args.net.now; net_then = c.obey.new.net; clock = c.args.clock.now; clock_then = c.obey.new.clock; draw = c.args.draw.now; draw_then = c.obey.new.draw })
+    c.number.result c.obey.result c.in-Ok.command c.number.ensures c.obey.ensures.obeys wire
+    (c.one_reading.ensures (map string_bytes c.args.words.now) c.in-Ok.command (command.Sim wire) c.in-Ok.ensures.said asked)
+
 pub returns-in-Ok-clause-load : goal.returns-in-Ok-clause-load
-returns-in-Ok-clause-load g c = λ calls asked.
+returns-in-Ok-clause-load g c = λ count asked.
     loads
     (record { told = g.S.Source.left; faults = g.S.Source.faults; before = c.args.input.now; after = c.obey.new.input })
     (record { told = g.O.Sink.written; faults = g.O.Sink.faults; before = c.args.out.now; after = c.obey.new.out })
-    c.number.result c.obey.result c.in-Ok.command c.number.ensures c.obey.ensures calls
-    (c.one_reading.ensures (map string_bytes c.args.words.now) c.in-Ok.command (command.Load calls) c.in-Ok.ensures.said asked)
+    (record { told = g.F.KeyFiles.told; faults = g.F.KeyFiles.faults; before = c.args.files.now; after = c.obey.new.files })
+    (record { calls = g.N.Net.calls; faults = g.N.Net.faults; given = g.C.Clock.given; step = g.D.Draw.step; net = c.args.net.now; net_then = c.obey.new.net; clock = c.args.clock.now; clock_then = c.obey.new.clock; draw = c.args.draw.now; draw_then = c.obey.new.draw })
+    c.number.result c.obey.result c.in-Ok.command c.number.ensures c.obey.ensures.obeys count
+    (c.one_reading.ensures (map string_bytes c.args.words.now) c.in-Ok.command (command.Load count) c.in-Ok.ensures.said asked)
+
+pub returns-in-Ok-clause-serve : goal.returns-in-Ok-clause-serve
+returns-in-Ok-clause-serve g c = λ options asked.
+    serves
+    (record { told = g.S.Source.left; faults = g.S.Source.faults; before = c.args.input.now; after = c.obey.new.input })
+    (record { told = g.O.Sink.written; faults = g.O.Sink.faults; before = c.args.out.now; after = c.obey.new.out })
+    (record { told = g.F.KeyFiles.told; faults = g.F.KeyFiles.faults; before = c.args.files.now; after = c.obey.new.files })
+    (record { calls = g.N.Net.calls; faults = g.N.Net.faults; given = g.C.Clock.given; step = g.D.Draw.step; net = c.args.net.now; net_then = c.obey.new.net; clock = c.args.clock.now; clock_then = c.obey.new.clock; draw = c.args.draw.now; draw_then = c.obey.new.draw })
+    c.number.result c.obey.result c.in-Ok.command c.number.ensures c.obey.ensures.obeys options
+    (c.one_reading.ensures (map string_bytes c.args.words.now) c.in-Ok.command (command.Serve options) c.in-Ok.ensures.said asked)
+
+pub returns-in-Ok-clause-call : goal.returns-in-Ok-clause-call
+returns-in-Ok-clause-call g c = λ options asked.
+    calls
+    (record { told = g.S.Source.left; faults = g.S.Source.faults; before = c.args.input.now; after = c.obey.new.input })
+    (record { told = g.O.Sink.written; faults = g.O.Sink.faults; before = c.args.out.now; after = c.obey.new.out })
+    (record { told = g.F.KeyFiles.told; faults = g.F.KeyFiles.faults; before = c.args.files.now; after = c.obey.new.files })
+    (record { calls = g.N.Net.calls; faults = g.N.Net.faults; given = g.C.Clock.given; step = g.D.Draw.step; net = c.args.net.now; net_then = c.obey.new.net; clock = c.args.clock.now; clock_then = c.obey.new.clock; draw = c.args.draw.now; draw_then = c.obey.new.draw })
+    c.number.result c.obey.result c.in-Ok.command c.number.ensures c.obey.ensures.obeys options
+    (c.one_reading.ensures (map string_bytes c.args.words.now) c.in-Ok.command (command.Call options) c.in-Ok.ensures.said asked)
+
+pub returns-in-Ok-clause-help : goal.returns-in-Ok-clause-help
+returns-in-Ok-clause-help g c = λ page asked.
+    helps
+    (record { told = g.S.Source.left; faults = g.S.Source.faults; before = c.args.input.now; after = c.obey.new.input })
+    (record { told = g.O.Sink.written; faults = g.O.Sink.faults; before = c.args.out.now; after = c.obey.new.out })
+    (record { told = g.F.KeyFiles.told; faults = g.F.KeyFiles.faults; before = c.args.files.now; after = c.obey.new.files })
+    (record { calls = g.N.Net.calls; faults = g.N.Net.faults; given = g.C.Clock.given; step = g.D.Draw.step; net = c.args.net.now; net_then = c.obey.new.net; clock = c.args.clock.now; clock_then = c.obey.new.clock; draw = c.args.draw.now; draw_then = c.obey.new.draw })
+    c.number.result c.obey.result c.in-Ok.command c.number.ensures c.obey.ensures.obeys page
+    (c.one_reading.ensures (map string_bytes c.args.words.now) c.in-Ok.command (command.Help page) c.in-Ok.ensures.said asked)
+
+pub returns-in-Ok-clause-version : goal.returns-in-Ok-clause-version
+returns-in-Ok-clause-version g c = λ asked.
+    tells-version
+    (record { told = g.S.Source.left; faults = g.S.Source.faults; before = c.args.input.now; after = c.obey.new.input })
+    (record { told = g.O.Sink.written; faults = g.O.Sink.faults; before = c.args.out.now; after = c.obey.new.out })
+    (record { told = g.F.KeyFiles.told; faults = g.F.KeyFiles.faults; before = c.args.files.now; after = c.obey.new.files })
+    (record { calls = g.N.Net.calls; faults = g.N.Net.faults; given = g.C.Clock.given; step = g.D.Draw.step; net = c.args.net.now; net_then = c.obey.new.net; clock = c.args.clock.now; clock_then = c.obey.new.clock; draw = c.args.draw.now; draw_then = c.obey.new.draw })
+    c.number.result c.obey.result c.in-Ok.command c.number.ensures c.obey.ensures.obeys
+    (c.one_reading.ensures (map string_bytes c.args.words.now) c.in-Ok.command command.Version c.in-Ok.ensures.said asked)
+
+pub returns-in-Ok-clause-refused : goal.returns-in-Ok-clause-refused
+returns-in-Ok-clause-refused g c = λ none. absurd (none c.in-Ok.command c.in-Ok.ensures.said)
 
 pub returns-in-Ok-clause-unread : goal.returns-in-Ok-clause-unread
 returns-in-Ok-clause-unread g c = λ not.
     reads-not
     (record { told = g.S.Source.left; faults = g.S.Source.faults; before = c.args.input.now; after = c.obey.new.input })
-    (record { told = g.O.Sink.written; faults = g.O.Sink.faults; before = c.args.out.now; after = c.obey.new.out })
-    c.obey.result c.in-Ok.command c.obey.ensures
-    (λ wire same. not wire (subst (λ (said : Command). Says (map string_bytes c.args.words.now) said) same c.in-Ok.ensures.said))
+    (record { told = g.F.KeyFiles.told; faults = g.F.KeyFiles.faults; before = c.args.files.now; after = c.obey.new.files })
+    (record { calls = g.N.Net.calls; faults = g.N.Net.faults; given = g.C.Clock.given; step = g.D.Draw.step; net = c.args.net.now; net_then = c.obey.new.net; clock = c.args.clock.now; clock_then = c.obey.new.clock; draw = c.args.draw.now; draw_then = c.obey.new.draw })
+    (map string_bytes c.args.words.now) c.in-Ok.command c.in-Ok.ensures.said c.obey.ensures.stays not
+
+pub returns-in-Ok-clause-offline : goal.returns-in-Ok-clause-offline
+returns-in-Ok-clause-offline g c = λ not.
+    let apart =
+    stays-apart
+    (record { told = g.S.Source.left; faults = g.S.Source.faults; before = c.args.input.now; after = c.obey.new.input })
+    (record { told = g.F.KeyFiles.told; faults = g.F.KeyFiles.faults; before = c.args.files.now; after = c.obey.new.files })
+    (record { calls = g.N.Net.calls; faults = g.N.Net.faults; given = g.C.Clock.given; step = g.D.Draw.step; net = c.args.net.now; net_then = c.obey.new.net; clock = c.args.clock.now; clock_then = c.obey.new.clock; draw = c.args.draw.now; draw_then = c.obey.new.draw })
+    (map string_bytes c.args.words.now) c.in-Ok.command c.in-Ok.ensures.said c.obey.ensures.stays not in
+    (apart.files_stay, apart.idle.offline.net, apart.idle.offline.clock, apart.idle.draw)
 
 -- ---- the words say no command
 
@@ -31,7 +97,13 @@ pub returns-in-Err-Refused-clause-sim : goal.returns-in-Err-Refused-clause-sim
 returns-in-Err-Refused-clause-sim g c = λ wire asked. absurd (c.in-Err-Refused.ensures.refused c.in-Err-Refused.field-0-is (command.Sim wire) asked)
 
 pub returns-in-Err-Refused-clause-load : goal.returns-in-Err-Refused-clause-load
-returns-in-Err-Refused-clause-load g c = λ calls asked. absurd (c.in-Err-Refused.ensures.refused c.in-Err-Refused.field-0-is (command.Load calls) asked)
+returns-in-Err-Refused-clause-load g c = λ count asked. absurd (c.in-Err-Refused.ensures.refused c.in-Err-Refused.field-0-is (command.Load count) asked)
+
+pub returns-in-Err-Refused-clause-serve : goal.returns-in-Err-Refused-clause-serve
+returns-in-Err-Refused-clause-serve g c = λ options asked. absurd (c.in-Err-Refused.ensures.refused c.in-Err-Refused.field-0-is (command.Serve options) asked)
+
+pub returns-in-Err-Refused-clause-call : goal.returns-in-Err-Refused-clause-call
+returns-in-Err-Refused-clause-call g c = λ options asked. absurd (c.in-Err-Refused.ensures.refused c.in-Err-Refused.field-0-is (command.Call options) asked)
 
 pub returns-in-Err-Refused-clause-help : goal.returns-in-Err-Refused-clause-help
 returns-in-Err-Refused-clause-help g c = λ page asked. absurd (c.in-Err-Refused.ensures.refused c.in-Err-Refused.field-0-is (command.Help page) asked)
@@ -45,7 +117,29 @@ pub returns-in-Err-Memory-clause-sim : goal.returns-in-Err-Memory-clause-sim
 returns-in-Err-Memory-clause-sim g c = λ wire asked. (status.Memory, c.number-in-Err-Memory.ensures, c.memory_may_run_out.ensures wire _ _ refl)
 
 pub returns-in-Err-Memory-clause-load : goal.returns-in-Err-Memory-clause-load
-returns-in-Err-Memory-clause-load g c = λ calls asked. (status.Memory, c.number-in-Err-Memory.ensures, inr (refl, refl))
+returns-in-Err-Memory-clause-load g c = λ count asked. (status.Memory, c.number-in-Err-Memory.ensures, inr (refl, refl))
+
+pub returns-in-Err-Memory-clause-serve : goal.returns-in-Err-Memory-clause-serve
+returns-in-Err-Memory-clause-serve g c = λ options asked. (
+  status.Memory,
+  c.number-in-Err-Memory.ensures,
+  inr (record {
+    said = refl;
+    unwritten = refl;
+    apart = record { files_stay = refl; idle = record { offline = record { net = refl; clock = refl }; draw = refl } };
+  }),
+)
+
+pub returns-in-Err-Memory-clause-call : goal.returns-in-Err-Memory-clause-call
+returns-in-Err-Memory-clause-call g c = λ options asked. (
+  status.Memory,
+  c.number-in-Err-Memory.ensures,
+  inr (record {
+    said = refl;
+    unwritten = refl;
+    apart = record { files_stay = refl; idle = record { offline = record { net = refl; clock = refl }; draw = refl } };
+  }),
+)
 
 pub returns-in-Err-Memory-clause-help : goal.returns-in-Err-Memory-clause-help
 returns-in-Err-Memory-clause-help g c = λ page asked. (status.Memory, c.number-in-Err-Memory.ensures, inr (refl, refl))

@@ -10,6 +10,7 @@ returns-in-Ok-clause-next g c = record {
     rw c.in-Packet.is at (c.next.follows.holds-at-none.0 from packets bytes hears),
   );
   tells = record {
+    bytes = c.are_bytes.ensures;
     heard = λ server stands. c.in-Ok.ensures.heard server stands;
     refused = λ server refusal stands is. c.in-Ok.ensures.refused server refusal stands is;
     given = λ keys server envelope of stands opens. c.in-Ok.ensures.given keys server envelope of stands opens;

@@ -1,0 +1,42 @@
+use Rattle.calling.specs.Owed.{Around}
+use Rattle.calling.proofs.BatchLemmas.{ran_from, reads_ring, traced, uses_net}
+use Rattle.calling.proofs.batching.run.Goals as goal
+
+pub returns-clause-ran : goal.returns-clause-ran
+returns-clause-ran g c course stands =
+    let around : Around g.row.N.Denot g.row.C.Denot g.row.D.Denot =
+    record {
+      calls = g.N.Net.calls;
+      faults = g.N.Net.faults;
+      given = g.C.Clock.given;
+      step = g.D.Draw.step;
+      net = c.args.net.now;
+      net_then = c.run_batch-holder.new.net;
+      clock = c.args.clock.now;
+      clock_then = c.run_batch-holder.new.clock;
+      draw = c.args.draw.now;
+      draw_then = c.run_batch-holder.new.draw;
+    } in
+    let end = c.run_batch-holder.result.1 in
+    let kept = c.run_batch-holder.result.0 in
+    let trace = traced c.args.options.now c.args.ring c.new-seal.result course around end kept c.new-seal.ensures (reads_ring c.packets_open_as_worked_out.ensures.of_the_protocol c.args.ring) (λ reading reads. c.run_batch-holder.ensures.trace course reading reads stands) in
+    ran_from c.args.options.now c.args.ring course around end kept trace c.run_batch-holder.ensures.decided
+    (λ all. let none = c.run_batch-holder.ensures.nothing_to_decide course.client stands.client all in (record { net = none.2; clock = none.3 }, none.1))
+    c.told.result c.told.ensures
+
+pub returns-clause-connects : goal.returns-clause-connects
+returns-clause-connects g c =
+    let around : Around g.row.N.Denot g.row.C.Denot g.row.D.Denot =
+    record {
+      calls = g.N.Net.calls;
+      faults = g.N.Net.faults;
+      given = g.C.Clock.given;
+      step = g.D.Draw.step;
+      net = c.args.net.now;
+      net_then = c.run_batch-holder.new.net;
+      clock = c.args.clock.now;
+      clock_then = c.run_batch-holder.new.clock;
+      draw = c.args.draw.now;
+      draw_then = c.run_batch-holder.new.draw;
+    } in
+    uses_net c.args.options.now around c.run_batch-holder.result.1 c.run_batch-holder.ensures.uses c.run_batch-holder.ensures.goes_on

@@ -1,0 +1,62 @@
+use Rattle.std.proofs.Common.{refl, sym}
+use Rattle.calling.specs.Inner.{keys_of}
+use Rattle.calling.specs.Owed.{Around}
+use Rattle.calling.proofs.BatchLemmas.{idle_net}
+use Rattle.calling.proofs.KeyLemmas.{keys_are_there}
+use Rattle.calling.proofs.Steps.{owes_keys, owes_no_key}
+use Rattle.calling.proofs.checking.answer_to_ring.Goals as goal
+
+pub answer_under-requires-clause-keys : goal.answer_under-requires-clause-keys
+answer_under-requires-clause-keys g c =
+    keys_are_there c.args.ring c.args.options.now.key c.args.options.now.perm (keys_of c.in-Some.keys) (sym c.in-Some.ensures.keys)
+
+pub returns-in-Some-clause-owed : goal.returns-in-Some-clause-owed
+returns-in-Some-clause-owed g c =
+    let around : Around g.row.N.Denot g.row.C.Denot g.row.D.Denot =
+    record {
+      calls = g.N.Net.calls;
+      faults = g.N.Net.faults;
+      given = g.C.Clock.given;
+      step = g.D.Draw.step;
+      net = c.args.net.now;
+      net_then = c.answer_under.new.net;
+      clock = c.args.clock.now;
+      clock_then = c.answer_under.new.clock;
+      draw = c.args.draw.now;
+      draw_then = c.answer_under.new.draw;
+    } in
+    owes_keys c.args.options.now c.args.script.now around c.answer_under.result c.args.ring c.in-Some.keys c.in-Some.ensures.keys c.answer_under.ensures.owed
+
+pub returns-in-None-clause-owed : goal.returns-in-None-clause-owed
+returns-in-None-clause-owed g c =
+    let around : Around g.row.N.Denot g.row.C.Denot g.row.D.Denot =
+    record {
+      calls = g.N.Net.calls;
+      faults = g.N.Net.faults;
+      given = g.C.Clock.given;
+      step = g.D.Draw.step;
+      net = c.args.net.now;
+      net_then = c.args.net.now;
+      clock = c.args.clock.now;
+      clock_then = c.args.clock.now;
+      draw = c.args.draw.now;
+      draw_then = c.args.draw.now;
+    } in
+    owes_no_key c.args.options.now c.args.script.now around c.new.result c.args.ring c.in-None.ensures.keys (record { offline = record { net = refl; clock = refl }; draw = refl }) c.new.ensures.status c.new.ensures.text
+
+pub returns-in-None-clause-connects : goal.returns-in-None-clause-connects
+returns-in-None-clause-connects g c =
+    let around : Around g.row.N.Denot g.row.C.Denot g.row.D.Denot =
+    record {
+      calls = g.N.Net.calls;
+      faults = g.N.Net.faults;
+      given = g.C.Clock.given;
+      step = g.D.Draw.step;
+      net = c.args.net.now;
+      net_then = c.args.net.now;
+      clock = c.args.clock.now;
+      clock_then = c.args.clock.now;
+      draw = c.args.draw.now;
+      draw_then = c.args.draw.now;
+    } in
+    idle_net c.args.options.now around refl

@@ -1,0 +1,84 @@
+use Rattle.std.proofs.Common.{ℕ, List, Err, ◌∙◌, ap, inl, inr, refl, subst, sym}
+use Rattle.mt_edge.specs.declared.whole.ReadFault.{ReadFault}
+use Rattle.calling.specs.Owed.{Around, IsRead}
+use Rattle.statuses.specs.Outside.{Outside}
+use Rattle.calling.proofs.BatchLemmas.{idle_net}
+use Rattle.calling.proofs.running.answer.Goals as goal
+
+pub returns-in_ok-answer_to_text-in-Ok-clause-owed : goal.returns-in_ok-answer_to_text-in-Ok-clause-owed
+returns-in_ok-answer_to_text-in-Ok-clause-owed g c =
+    let input : Outside g.row.S.Denot = record { told = g.S.Source.left; faults = g.S.Source.faults; before = c.args.input.now; after = c.read_all.new.source } in
+    let read : IsRead input c.in-Ok.text = record { whole = c.in-Ok.ensures.whole; to_the_end = c.in-Ok.ensures.to_the_end; short = c.in-Ok.ensures.short } in
+    inr (c.as_slice.result.now, subst (λ (text : List ℕ). IsRead input text) (sym c.as_slice.ensures.value) read, c.in_ok-answer_to_text-in-Ok.ensures.owed)
+
+pub returns-in_ok-new-in-Err-TooLong-clause-owed : goal.returns-in_ok-new-in-Err-TooLong-clause-owed
+returns-in_ok-new-in-Err-TooLong-clause-owed g c =
+    inl (record { long = c.read_all.ensures.too_long (c.in-Err-TooLong.is ∙ ap (λ (fault : ReadFault). Err fault) c.in-Err-TooLong.field-0-is); unasked = refl; idle = record { offline = record { net = refl; clock = refl }; draw = refl }; said = c.in_ok-new-in-Err-TooLong.ensures.status; told = c.in_ok-new-in-Err-TooLong.ensures.text })
+
+pub returns-in-Err-Failed-clause-connects : goal.returns-in-Err-Failed-clause-connects
+returns-in-Err-Failed-clause-connects g c =
+    let around : Around g.row.N.Denot g.row.C.Denot g.row.D.Denot =
+    record {
+      calls = g.N.Net.calls;
+      faults = g.N.Net.faults;
+      given = g.C.Clock.given;
+      step = g.D.Draw.step;
+      net = c.args.net.now;
+      net_then = c.args.net.now;
+      clock = c.args.clock.now;
+      clock_then = c.args.clock.now;
+      draw = c.args.draw.now;
+      draw_then = c.args.draw.now;
+    } in
+    idle_net c.args.options.now around refl
+
+pub returns-in_ok-new-in-Err-TooLong-clause-connects : goal.returns-in_ok-new-in-Err-TooLong-clause-connects
+returns-in_ok-new-in-Err-TooLong-clause-connects g c =
+    let around : Around g.row.N.Denot g.row.C.Denot g.row.D.Denot =
+    record {
+      calls = g.N.Net.calls;
+      faults = g.N.Net.faults;
+      given = g.C.Clock.given;
+      step = g.D.Draw.step;
+      net = c.args.net.now;
+      net_then = c.args.net.now;
+      clock = c.args.clock.now;
+      clock_then = c.args.clock.now;
+      draw = c.args.draw.now;
+      draw_then = c.args.draw.now;
+    } in
+    idle_net c.args.options.now around refl
+
+pub returns-in_err-new-in-Err-TooLong-clause-connects : goal.returns-in_err-new-in-Err-TooLong-clause-connects
+returns-in_err-new-in-Err-TooLong-clause-connects g c =
+    let around : Around g.row.N.Denot g.row.C.Denot g.row.D.Denot =
+    record {
+      calls = g.N.Net.calls;
+      faults = g.N.Net.faults;
+      given = g.C.Clock.given;
+      step = g.D.Draw.step;
+      net = c.args.net.now;
+      net_then = c.args.net.now;
+      clock = c.args.clock.now;
+      clock_then = c.args.clock.now;
+      draw = c.args.draw.now;
+      draw_then = c.args.draw.now;
+    } in
+    idle_net c.args.options.now around refl
+
+pub returns-in-Err-Memory-clause-connects : goal.returns-in-Err-Memory-clause-connects
+returns-in-Err-Memory-clause-connects g c =
+    let around : Around g.row.N.Denot g.row.C.Denot g.row.D.Denot =
+    record {
+      calls = g.N.Net.calls;
+      faults = g.N.Net.faults;
+      given = g.C.Clock.given;
+      step = g.D.Draw.step;
+      net = c.args.net.now;
+      net_then = c.args.net.now;
+      clock = c.args.clock.now;
+      clock_then = c.args.clock.now;
+      draw = c.args.draw.now;
+      draw_then = c.args.draw.now;
+    } in
+    idle_net c.args.options.now around refl

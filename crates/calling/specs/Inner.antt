@@ -1,0 +1,54 @@
+-- Words of private contracts, which are no promise of this crate.
+use Rattle.std.specs.Prelude.{◌≡◌, ◌↔◌, ℕ, true, false, Option, Some, None, Result, Ok, Err, List}
+use Rattle.auth_keys.specs.declared.ring.RingKey.{RingKey}
+use Rattle.client_core.specs.Keys.{Keys}
+use Rattle.client_core.specs.declared.holder.Holder.{Holder}
+use Rattle.client_node.specs.Course.{Course, is_decided}
+use Rattle.client_node.specs.Trace.{ClientTrace, after_all}
+use Rattle.client_node.specs.declared.plan.Batch.{Batch}
+use Rattle.client_node.specs.declared.plan.Batch.TheVariants as batch
+use Rattle.client_rules.specs.Asking.{Fault}
+use Rattle.client_rules.specs.Client.{Client, calls_of}
+use Rattle.commands.specs.declared.command.CallOptions.{CallOptions}
+use Rattle.statuses.specs.Lines.{refusal_line}
+use Rattle.statuses.specs.declared.status.Status.{Status}
+use Rattle.statuses.specs.declared.status.Status.TheVariants as status
+use Rattle.world_rules.specs.Report.{fault_text}
+use Rattle.world_text.specs.Faults.{fault_of}
+use Rattle.calling.specs.Owed.{Around, IsOffline, plan_of, rules_under}
+use Rattle.calling.specs.Table.{TellsBatch, are_done}
+use Rattle.calling.specs.declared.asking.Untaken.{Untaken}
+use Rattle.calling.specs.declared.keys.Acting.{Acting}
+use Rattle.calling.specs.declared.keys.Acting.TheVariants.{Perm, Temp}
+
+-- the keys under which a client acts
+abbrev pub keys_of : Acting → Keys
+keys_of (Perm key) = record { key = key; bound_to = None }
+keys_of (Temp key perm expires) = record { key = key; bound_to = Some (record { perm = perm; expires = expires }) }
+
+-- a fault of a line, which wasn't for want of memory
+abbrev pub IsAt : Option (ℕ × Fault) → ℕ → Option Fault → Type 0
+IsAt due line None = Unit {0}
+IsAt due line (Some fault) = due ≡ Some (line, fault)
+
+-- the calls are taken, or this is the first one that isn't
+abbrev pub TellsUntaken : {X : Type 0} → Option (ℕ × Fault) → Result X Untaken → Type 0
+TellsUntaken due (Ok done) = due ≡ None
+TellsUntaken due (Err untaken) = IsAt due untaken.line (fault_of untaken.fault)
+
+-- this status and this text tell that a call isn't taken; for want of memory there are none
+abbrev pub IsRefusalOf : ℕ → Option Fault → Status → List ℕ → Type 0
+IsRefusalOf line None one due = ⊥
+IsRefusalOf line (Some fault) one due = (one ≡ status.InputRefused) × (due ≡ refusal_line line (fault_text fault))
+
+-- a batch was run from this course
+pub record RanFrom {N C D : Type 0} (options : CallOptions) (ring : List RingKey) (course : Course D) (around : Around N C D) (one : Status) (due : List ℕ) : Type 0 where
+  pub end : Batch
+  pub kept : Holder
+  pub trace : ClientTrace (rules_under ring around) (plan_of options) course end (around.calls around.net) (around.calls around.net_then) (around.given around.clock) (around.given around.clock_then) kept around.draw_then
+  pub left : Client
+  pub its : left ≡ (after_all (rules_under ring around) (plan_of options) course trace.attempts).client
+  pub told : TellsBatch end (calls_of left) one due
+  pub done : (one ≡ status.Done) ↔ (are_done (calls_of left) ≡ true)
+  pub not_all : (one ≡ status.NotAllDone) ↔ ((is_decided left ≡ true) × (are_done (calls_of left) ≡ false))
+  pub decided : is_decided course.client ≡ true → IsOffline around × (end ≡ batch.Decided) × (calls_of left ≡ calls_of course.client)

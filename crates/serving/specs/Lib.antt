@@ -1,0 +1,6 @@
+pub mod Keys
+pub mod Packets
+pub mod Connections
+pub mod Lines
+pub mod Runs
+pub mod Inner
