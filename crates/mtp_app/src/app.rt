@@ -39,7 +39,7 @@ const WORDS_REFUSED: &str = "words refused\n";
 ///   batch over connections of the net.
 /// - `--help`, alone or behind the name of a command, and `--version` write a text.
 ///
-/// Status 0: what was to be written is written. 1: the words are refused. 2: the input is refused, with the line and the
+/// Status 0: what was to be written is written, and by `call` each call is done. 1: the words are refused. 2: the input is refused, with the line and the
 /// cause. 3: the input can't be read. 4: the output can't be written. 5: the key file isn't read or is refused, or lacks a
 /// key. 6: each call is decided, and one isn't done. 7: more connections were lost than may be. 8: one connection gave as
 /// many pieces as it may. 9: memory ran out. 10: a client has something to send and no numbers left for it. 11: no

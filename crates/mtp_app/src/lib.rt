@@ -1,11 +1,14 @@
 //! The program `mtp`, apart from the real outside: its words, its input, its output and its status. What each command
-//! promises is a word of the crate that carries it out (`SimRun`, `LoadRun`); `specs/Obeys.antt` lists them.
+//! promises is a word of the crate that carries it out (`SimRun` and `LoadRun` of `playing`, `CallRun` of `calling`,
+//! `ServeRun` of `serving`); `specs/Obeys.antt` lists them.
 #![tactic(auto)]
 
 mod app;
 
 pub use app::run;
 
+#[cfg(test)]
+mod net_tests;
 #[cfg(test)]
 mod once_tests;
 #[cfg(test)]

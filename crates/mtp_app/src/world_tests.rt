@@ -127,15 +127,15 @@ fn too_many_calls_and_clients(rt: HostRuntime) -> Result<(), Fail> {
 
 /// A schedule whose client learns so many sessions of the server, then sends two calls and has one that is queued, and
 /// learns one more. Each time the server lost its session and makes another for the first packet.
-fn learning(alloc: Global, sessions: u64) -> Result<Octets, Fail> {
+fn learning(alloc: Global, sessions: u32) -> Result<Octets, Fail> {
     let mut schedule = Octets::copy(alloc, b"client\ncall 1 add x 5\nflush 1\n")?;
-    for k in 1..=sessions {
-        let line = format!(in alloc; "lose 1\ngive 1\ngive {}\n", k + 1)?;
+    for k in 0..sessions {
+        let line = format!(in alloc; "lose 1\ngive 1\ngive {}\n", u64::from(k) + 2)?;
         schedule.push_all(alloc, line.as_bytes())?;
     }
     let last = format!(in alloc;
         "call 1 add y 5\nflush 1\ncall 1 add z 5\nlose 1\ngive 1\ngive {}\n",
-        sessions + 3
+        u64::from(sessions) + 3
     )?;
     schedule.push_all(alloc, last.as_bytes())?;
     Ok(schedule)
