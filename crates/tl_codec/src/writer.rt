@@ -8,11 +8,23 @@ use crate::fill;
 use crate::tags::{LONG_BYTES, WORD_BYTES};
 use octets::{Buffer, Memory, Octets};
 use std::alloc::Global;
+use std::marker::Model;
 
 /// Writes TL values at the end of the octets that it was made for.
 #[derive(Debug, Drop)]
 pub struct Writer<'a> {
     into: &'a mut Octets,
+}
+
+impl<'a> Model for Writer<'a> {
+    ghost use Rattle.std.specs.Prelude.{List, ℕ};
+    ghost use Rattle.std.specs.Borrow.{MutBor};
+
+    ghost Value = { MutBor (List ℕ) };
+
+    ghost view = { λ writer. writer.into };
+
+    ghost inverse = { λ into. record { into = into } };
 }
 
 impl<'a> Writer<'a> {
