@@ -1,6 +1,10 @@
--- Whether what is kept of calls has one of a kind, by those so far and the next one; and so have the calls that it stands for.
-use Rattle.std.proofs.Common.{◌≡◌, ℕ, ◌<◌, ◌+◌, ◌-◌, not, ◌||◌, Bool, true, false, List, [], ◌∷◌, Some, take, length, get_or, slice_get, refl, sym, ap, ◌∙◌, arith}
+-- Whether what is kept of calls has one of a kind, by those so far and the next one, or by those behind a place and before it; and
+-- so have the calls that it stands for.
+use Rattle.std.proofs.Common.{◌≡◌, ℕ, zero, suc, ◌<◌, ◌≤◌, ◌+◌, ◌-◌, min, not, ◌||◌, Bool, true, false, List, [], ◌∷◌, Option, Some, None, MatchOption, ◌⊎◌, inl, inr, take, length, get_or, slice_get, refl, sym, subst, ap, ◌∙◌, arith}
 use Rattle.std.specs.List.{AllZip}
+use Rattle.std.proofs.Math.Nat.{eq-or-lt_of_le}
+use Rattle.std.proofs.Math.Seq.{take-length}
+use Rattle.std.proofs.lemmas.Bool.{cases_lt}
 use Rattle.std.proofs.lemmas.Option.{slice_get-get_or}
 use Rattle.std.proofs.lemmas.List.Folds.{list_any_at, list_any_more}
 use Rattle.call_table.specs.Kept.{IsProgressOf, IsRowOf, state_in, state_of}
@@ -11,7 +15,7 @@ use Rattle.call_table.specs.declared.row.Row.{Row}
 use Rattle.client_rules.specs.Client.{Client, calls_of}
 use Rattle.client_core.specs.declared.holder.Holder.{Holder}
 use Rattle.client_node.specs.Course.{Course, is_decided}
-use Rattle.client_node.specs.Kinds.{has_kind, has_row, is_kind, is_kind_at}
+use Rattle.client_node.specs.Kinds.{NoneBetween, has_kind, has_row, is_kind, is_kind_at}
 use Rattle.client_node.specs.Standing.{AllDecided, IsUndecided, LeavesUndecided, StandsAs, StandsFor, has_undecided, kept_of}
 use Rattle.client_node.specs.Trace.{UndecidedIn}
 use Rattle.client_node.specs.declared.calls.Kind.{Kind}
@@ -27,7 +31,7 @@ at_place kind rows place any less =
     let here : slice_get rows place ≡ Some (get_or rows place any) = slice_get-get_or rows place any less in
     rw (same, here) refl
 
-pub kind_more : (kind : Kind) (rows : List Row) (place : ℕ) → place < length rows
+kind_more : (kind : Kind) (rows : List Row) (place : ℕ) → place < length rows
     → has_row kind (take place rows) ≡ false → is_kind_at kind (state_in (call_no place) rows) ≡ false
     → has_row kind (take (place + 1) rows) ≡ false
 kind_more kind [] place less before next = absurd (omega (arith, less))
@@ -41,6 +45,43 @@ pub kind_found : (kind : Kind) (rows : List Row) (place : ℕ) → place < lengt
 kind_found kind [] place less next = absurd (omega (arith, less))
 kind_found kind (row ∷ rows) place less next =
     list_any_at (λ one. is_kind kind (state_of one.progress)) (row ∷ rows) place row less (sym (at_place kind (row ∷ rows) place row less) ∙ next)
+
+-- none so far, and not the next one
+none_here : (kind : Kind) (rows : List Row) (first place other : ℕ) → NoneBetween kind rows first place → is_kind_at kind (state_in (call_no place) rows) ≡ false
+    → first ≤ other → (other ≡ place) ⊎ (other < place) → is_kind_at kind (state_in (call_no other) rows) ≡ false
+none_here kind rows first place other before next from (inl same) = subst (λ (at : ℕ). is_kind_at kind (state_in (call_no at) rows) ≡ false) (sym same) next
+none_here kind rows first place other before next from (inr less) = before other from less
+
+pub none_more : (kind : Kind) (rows : List Row) (first place : ℕ) → NoneBetween kind rows first place
+    → is_kind_at kind (state_in (call_no place) rows) ≡ false → NoneBetween kind rows first (place + 1)
+none_more kind rows first place before next other from less =
+    none_here kind rows first place other before next from (eq-or-lt_of_le (omega (arith, less)))
+
+none_upto : (kind : Kind) (rows : List Row) (end : ℕ) → end ≤ length rows → NoneBetween kind rows 0 end → has_row kind (take end rows) ≡ false
+none_upto kind [] zero most none = refl
+none_upto kind (row ∷ rows) zero most none = refl
+none_upto kind rows (suc end) most none =
+    let same : end + 1 ≡ suc end = omega arith in
+    let so_far = none_upto kind rows end (omega (arith, most)) (λ place from less. none place from (omega (arith, less))) in
+    subst (λ (count : ℕ). has_row kind (take count rows) ≡ false) same
+    (kind_more kind rows end (omega (arith, most)) so_far (none end (omega arith) (omega arith)))
+
+-- none from a place on, and none before it
+none_either : (kind : Kind) (rows : List Row) (first place : ℕ) → NoneBetween kind rows first (length rows) → NoneBetween kind rows 0 (min first (length rows))
+    → place < length rows → (place < first) ⊎ (first ≤ place) → is_kind_at kind (state_in (call_no place) rows) ≡ false
+none_either kind rows first place behind before within (inl less) = before place (omega arith) (omega (arith, less, within))
+none_either kind rows first place behind before within (inr from) = behind place from within
+
+none_at_all : (kind : Kind) (rows : List Row) (first : ℕ) → NoneBetween kind rows first (length rows) → NoneBetween kind rows 0 (min first (length rows)) → has_row kind rows ≡ false
+none_at_all kind rows first behind before =
+    subst (λ (some : List Row). has_row kind some ≡ false) (take-length rows)
+    (none_upto kind rows (length rows) (omega arith) (λ place from less. none_either kind rows first place behind before less (cases_lt place first)))
+
+pub found_or_none : (kind : Kind) (rows : List Row) (first : ℕ) (found : Option ℕ) → NoneBetween kind rows first (length rows)
+    → MatchOption found (NoneBetween kind rows 0 (min first (length rows))) (λ place. has_row kind rows ≡ true)
+    → MatchOption found (has_row kind rows ≡ false) (λ place. has_row kind rows ≡ true)
+found_or_none kind rows first None behind before = none_at_all kind rows first behind before
+found_or_none kind rows first (Some place) behind found = found
 
 -- ---- the calls that the rows stand for
 

@@ -9,7 +9,7 @@ ghost use Rattle.client_node.specs.Standing.{AllDecided, HasKeys, IsReading, Lea
 ghost use Rattle.client_node.specs.Talks.{piece_bytes, rules_of};
 ghost use Rattle.client_node.specs.Trace.{ClientTrace};
 
-use crate::calls::is_decided;
+use crate::calls::{Cursor, is_decided};
 use crate::connection::connect;
 use crate::end::{batch_of, is_lost};
 use crate::plan::{Batch, Plan};
@@ -30,6 +30,7 @@ fn connect_all<N: Net, S: Seal, C: Clock, D: Draw>(
     plan: &Plan,
     net: &mut N,
     into: &mut [u8],
+    cursor: &mut Cursor,
     seal: &S,
     clock: &mut C,
     draw: &mut D,
@@ -47,13 +48,13 @@ fn connect_all<N: Net, S: Seal, C: Clock, D: Draw>(
 {
     let mut client = client;
     'lost: for _count in 0..plan.retries {
-        let (next, end) = connect(client, alloc, plan, net, into, seal, clock, draw);
+        let (next, end) = connect(client, alloc, plan, net, into, cursor, seal, clock, draw);
         client = next;
         if !is_lost(end) {
             return (client, batch_of(end));
         }
     }
-    let (client, end) = connect(client, alloc, plan, net, into, seal, clock, draw);
+    let (client, end) = connect(client, alloc, plan, net, into, cursor, seal, clock, draw);
     (client, batch_of(end))
 }
 
@@ -83,13 +84,24 @@ pub fn run_batch<N: Net, S: Seal, C: Clock, D: Draw>(
     ensures trace { (course : Course D) (reading : Reading) → IsReading S.lock (S.keys seal.now) reading → StandsAs client draw.old course
         → ClientTrace (rules_of D.step S.lock (S.keys seal.now) reading) plan.now course result.1 (N.calls net.old) (N.calls net.new) (C.given clock.old) (C.given clock.new) result.0 draw.new }
 {
-    if is_decided(&client) {
+    let mut cursor = Cursor::new();
+    if is_decided(&client, &mut cursor) {
         return (client, Batch::Decided);
     }
     match vec![in alloc; 0u8; PIECE_BYTES] {
         Ok(into) => {
             let mut into = into;
-            connect_all(client, alloc, plan, net, &mut into, seal, clock, draw)
+            connect_all(
+                client,
+                alloc,
+                plan,
+                net,
+                &mut into,
+                &mut cursor,
+                seal,
+                clock,
+                draw,
+            )
         }
         Err(_) => (client, Batch::Memory),
     }

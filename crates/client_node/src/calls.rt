@@ -1,11 +1,11 @@
 //! What became of a client's calls, whatever state it is in.
 
-ghost use Rattle.std.specs.Prelude.{◌≡◌, length, not};
+ghost use Rattle.std.specs.Prelude.{◌≡◌, ◌≤◌, MatchOption, false, length, not, true};
 ghost use Rattle.call_table.specs.Kept.{shown, state_in};
 ghost use Rattle.call_table.specs.Table.{IsGiven};
 ghost use Rattle.client_rules.specs.Client.{Client, calls_of};
 ghost use Rattle.client_node.specs.Course.{is_decided, must_renew};
-ghost use Rattle.client_node.specs.Kinds.{has_kind, has_row, is_kind, is_kind_at};
+ghost use Rattle.client_node.specs.Kinds.{NoneBetween, has_kind, has_row, is_kind, is_kind_at};
 ghost use Rattle.client_node.specs.Standing.{StandsFor, has_undecided, kept_of, phase_of};
 
 use client_core::{BindState, CallNo, CallState, Holder};
@@ -19,6 +19,19 @@ pub(crate) enum Kind {
     Sent,
     /// They are held.
     Held,
+}
+
+/// Where the calls are looked through from: the place where one was found last. It says nothing of them.
+#[derive(Clone, Copy, Debug)]
+pub(crate) struct Cursor {
+    place: u32,
+}
+
+impl Cursor {
+    /// The first place.
+    pub(crate) fn new() -> Cursor {
+        Cursor { place: 0 }
+    }
 }
 
 /// How many calls a client has.
@@ -57,45 +70,71 @@ fn is_one(client: &Holder, call: CallNo, kind: Kind) -> bool
     }
 }
 
-/// Whether it tells of a call of a kind.
-fn tells_of(client: &Holder, kind: Kind) -> bool
-    ensures { result ≡ has_row kind (kept_of client.now).calls.rows }
+/// The first call of a kind from one place up to another, by its place.
+fn first_between(client: &Holder, kind: Kind, first: u32, end: u32) -> Option<u32>
+    requires within { end ≤ length (kept_of client.now).calls.rows }
+    ensures { MatchOption result (NoneBetween kind (kept_of client.now).calls.rows first end) (λ place. has_row kind (kept_of client.now).calls.rows ≡ true) }
 {
-    for place in 0..count(client) {
+    for place in first..end {
         let call = CallNo {
             n: place as u64 + 1,
         };
         if is_one(client, call, kind) {
-            return true;
+            return Some(place);
         }
     }
-    false
+    None
+}
+
+/// A call of a kind, by its place: the first one from this place on, or else the first one of all.
+fn find(client: &Holder, kind: Kind, first: u32) -> Option<u32>
+    ensures { MatchOption result (has_row kind (kept_of client.now).calls.rows ≡ false) (λ place. has_row kind (kept_of client.now).calls.rows ≡ true) }
+{
+    let count = count(client);
+    match first_between(client, kind, first, count) {
+        Some(place) => Some(place),
+        None => first_between(client, kind, 0, first.min(count)),
+    }
+}
+
+/// Whether it tells of a call of a kind. It looks from the cursor on, which it puts where it finds one: while a call there
+/// stays of the kind, this costs nothing more.
+fn tells_of(client: &Holder, kind: Kind, cursor: &mut Cursor) -> bool
+    ensures { result ≡ has_row kind (kept_of client.now).calls.rows }
+{
+    match find(client, kind, cursor.place) {
+        Some(place) => {
+            cursor.place = place;
+            true
+        }
+        None => false,
+    }
 }
 
 /// Whether a client has a call of a kind.
 #[tactic(auto, using(crate::proofs::KindLemmas::kinds_tell))]
-fn has(client: &Holder, kind: Kind) -> bool
+fn has(client: &Holder, kind: Kind, cursor: &mut Cursor) -> bool
     ensures { (whole : Client) → StandsFor client.now whole → result ≡ has_kind kind (calls_of whole) }
 {
-    tells_of(client, kind)
+    tells_of(client, kind, cursor)
 }
 
 /// Whether each call is decided.
 #[tactic(auto, using(crate::proofs::KindLemmas::decided_told))]
-pub(crate) fn is_decided(client: &Holder) -> bool
+pub(crate) fn is_decided(client: &Holder, cursor: &mut Cursor) -> bool
     ensures told { result ≡ not (has_undecided client.now) }
     ensures stands { (whole : Client) → StandsFor client.now whole → result ≡ is_decided whole }
 {
-    !tells_of(client, Kind::Undecided)
+    !tells_of(client, Kind::Undecided, cursor)
 }
 
 /// Whether the client goes on in another session: it is open, a call or the binding waits for one, and no call is sent.
-pub(crate) fn must_renew(client: &Holder) -> bool
+pub(crate) fn must_renew(client: &Holder, cursor: &mut Cursor) -> bool
     ensures { (whole : Client) → StandsFor client.now whole → result ≡ must_renew (phase_of client.now) whole }
 {
     let Holder::Open(open) = client else {
         return false;
     };
     let is_held = matches!(open.binding(), Some(BindState::Held));
-    (is_held || has(client, Kind::Held)) && !has(client, Kind::Sent)
+    !has(client, Kind::Sent, cursor) && (is_held || has(client, Kind::Held, cursor))
 }

@@ -9,6 +9,7 @@ ghost use Rattle.client_node.specs.Runs.{Tried};
 ghost use Rattle.client_node.specs.Standing.{DecidedIn, HasKeys, IsReading, StandsAs, count_of};
 ghost use Rattle.client_node.specs.Talks.{piece_bytes, rules_of};
 
+use crate::calls::Cursor;
 use crate::end::End;
 use crate::plan::Plan;
 use crate::talk::talk;
@@ -27,6 +28,7 @@ pub(crate) fn connect<N: Net, S: Seal, C: Clock, D: Draw>(
     plan: &Plan,
     net: &mut N,
     into: &mut [u8],
+    cursor: &mut Cursor,
     seal: &S,
     clock: &mut C,
     draw: &mut D,
@@ -46,7 +48,9 @@ pub(crate) fn connect<N: Net, S: Seal, C: Clock, D: Draw>(
     match net.connect(plan.port) {
         Linked::Link(link) => {
             let mut link = link;
-            let (client, end) = talk(client, alloc, plan, &mut link, into, seal, clock, draw);
+            let (client, end) = talk(
+                client, alloc, plan, &mut link, into, cursor, seal, clock, draw,
+            );
             link.close();
             net.done(link);
             (client, end)

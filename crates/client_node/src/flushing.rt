@@ -8,7 +8,7 @@ ghost use Rattle.client_node.specs.Flow.{AllFlushes, CountsEnd, OneFlush, ended_
 ghost use Rattle.client_node.specs.Standing.{DecidedBy, HasKeys, StandsFor, count_of};
 ghost use Rattle.client_node.specs.Writes.{seen};
 
-use crate::calls::is_decided;
+use crate::calls::{Cursor, is_decided};
 use crate::end::End;
 use crate::holding::flush;
 use crate::sending::send_packet;
@@ -51,6 +51,7 @@ fn flush_once<L: Link, S: Seal, D: Draw>(
     wire: &mut Wire<Framed>,
     link: &mut L,
     frame: &mut Octets,
+    cursor: &mut Cursor,
     seal: &S,
     draw: &mut D,
 ) -> Result<bool, End>
@@ -68,14 +69,14 @@ fn flush_once<L: Link, S: Seal, D: Draw>(
     opens_what_it_sealed::<S>();
     match flush(client, alloc, now, seal, draw) {
         Flush::Packet(packet) => {
-            let is_decided = is_decided(client);
+            let is_decided = is_decided(client, cursor);
             end_of(
                 is_decided,
                 send_packet(alloc, wire, link, frame, packet.as_slice()),
             )
         }
         Flush::Nothing => {
-            if is_decided(client) {
+            if is_decided(client, cursor) {
                 Err(End::Decided)
             } else {
                 Ok(false)
@@ -99,6 +100,7 @@ pub(crate) fn flush_all<L: Link, S: Seal, D: Draw>(
     wire: &mut Wire<Framed>,
     link: &mut L,
     frame: &mut Octets,
+    cursor: &mut Cursor,
     seal: &S,
     draw: &mut D,
 ) -> Result<(), End>
@@ -114,7 +116,7 @@ pub(crate) fn flush_all<L: Link, S: Seal, D: Draw>(
     ensures same_in { (wire.new.form ≡ wire.old.form) × (wire.new.held ≡ wire.old.held) × (wire.new.reading ≡ wire.old.reading) }
 {
     'flushes: for _count in 0..FLUSHES_MAX {
-        match flush_once(client, alloc, now, wire, link, frame, seal, draw) {
+        match flush_once(client, alloc, now, wire, link, frame, cursor, seal, draw) {
             Ok(true) => {}
             Ok(false) => return Ok(()),
             Err(end) => return Err(end),

@@ -5,7 +5,7 @@ ghost use Rattle.client_node.specs.Course.{Course, Reading};
 ghost use Rattle.client_node.specs.Standing.{DecidedBy, IsReading, KeepsKeys, StandsAs, count_of};
 ghost use Rattle.client_node.specs.Took.{CameNext, IsHeardEnd, IsNextEnd, TookPacket, TookPiece};
 
-use crate::calls::is_decided;
+use crate::calls::{Cursor, is_decided};
 use crate::end::End;
 use crate::holding::{hear, renew};
 use client_core::Holder;
@@ -30,6 +30,7 @@ fn take_packet<S: Seal, D: Draw>(
     alloc: Global,
     now: Moment,
     packet: &[u8],
+    cursor: &mut Cursor,
     seal: &S,
     draw: &mut D,
 ) -> (Holder, Result<(), End>)
@@ -44,10 +45,10 @@ fn take_packet<S: Seal, D: Draw>(
     match heard {
         Err(Memory) => (client, Err(End::Memory)),
         Ok(()) => {
-            if is_decided(&client) {
+            if is_decided(&client, cursor) {
                 return (client, Err(End::Decided));
             }
-            (renew(client, draw), Ok(()))
+            (renew(client, cursor, draw), Ok(()))
         }
     }
 }
@@ -63,6 +64,7 @@ fn take_next<S: Seal, D: Draw>(
     alloc: Global,
     now: Moment,
     wire: &mut Wire<Framed>,
+    cursor: &mut Cursor,
     seal: &S,
     draw: &mut D,
 ) -> (Holder, Result<bool, End>)
@@ -78,7 +80,7 @@ fn take_next<S: Seal, D: Draw>(
             if packet.len() == ERROR_BYTES {
                 return (client, Err(End::Lost));
             }
-            let (client, taken) = take_packet(client, alloc, now, packet, seal, draw);
+            let (client, taken) = take_packet(client, alloc, now, packet, cursor, seal, draw);
             match taken {
                 Ok(()) => (client, Ok(true)),
                 Err(end) => (client, Err(end)),
@@ -101,6 +103,7 @@ pub(crate) fn take_piece<S: Seal, D: Draw>(
     now: Moment,
     wire: &mut Wire<Framed>,
     piece: &[u8],
+    cursor: &mut Cursor,
     seal: &S,
     draw: &mut D,
 ) -> (Holder, Result<(), End>)
@@ -116,7 +119,7 @@ pub(crate) fn take_piece<S: Seal, D: Draw>(
     }
     let mut client = client;
     'packets: for _count in 0..piece.len() {
-        let (next, taken) = take_next(client, alloc, now, wire, seal, draw);
+        let (next, taken) = take_next(client, alloc, now, wire, cursor, seal, draw);
         client = next;
         match taken {
             Ok(true) => {}

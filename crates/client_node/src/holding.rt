@@ -12,7 +12,7 @@ ghost use Rattle.client_core.specs.Sealing.{TellsSealed};
 ghost use Rattle.client_node.specs.Course.{Course, Opening, Open, attached_in, heard_in, renews};
 ghost use Rattle.client_node.specs.Standing.{FlushedAs, HasKeys, HeardAs, IsOpened, KeepsKeys, StandsAs, StandsFor, count_of, kept_of, phase_of};
 
-use crate::calls::must_renew;
+use crate::calls::{Cursor, must_renew};
 use client_core::{Flush, Holder, OpenClient, OpenStep, OpeningClient, OpeningStep};
 use draws::Draw;
 use envelope::Seal;
@@ -60,12 +60,12 @@ pub(crate) fn flush<S: Seal, D: Draw>(
 
 /// The client goes on in another session where it has to.
 #[tactic(auto, using(crate::proofs::HolderLemmas::stays, crate::proofs::HolderLemmas::goes_on, crate::proofs::HolderLemmas::kept_in))]
-pub(crate) fn renew<D: Draw>(client: Holder, draw: &mut D) -> Holder
+pub(crate) fn renew<D: Draw>(client: Holder, cursor: &mut Cursor, draw: &mut D) -> Holder
     ensures renews { (course : Course D) → StandsAs client draw.old course → StandsAs result draw.new (renews D.step course) }
     ensures keys { KeepsKeys client result }
     ensures count { count_of result ≡ count_of client }
 {
-    if !must_renew(&client) {
+    if !must_renew(&client, cursor) {
         return client;
     }
     match client {

@@ -10,6 +10,7 @@ ghost use Rattle.client_node.specs.Standing.{DecidedBy, DecidedIn, HasKeys, IsRe
 ghost use Rattle.client_node.specs.Talks.{began, piece_bytes, rules_of};
 ghost use Rattle.client_node.specs.Writes.{seen};
 
+use crate::calls::Cursor;
 use crate::end::End;
 use crate::flushing::flush_all;
 use crate::hearing::take_piece;
@@ -40,6 +41,7 @@ fn take_turn<L: Link, S: Seal, C: Clock, D: Draw>(
     wire: &mut Wire<Framed>,
     link: &mut L,
     into: &mut [u8],
+    cursor: &mut Cursor,
     seal: &S,
     clock: &mut C,
     draw: &mut D,
@@ -58,7 +60,16 @@ fn take_turn<L: Link, S: Seal, C: Clock, D: Draw>(
     match link.read(into) {
         Got::Bytes(count) => {
             let now = clock.now();
-            let (client, taken) = take_piece(client, alloc, now, wire, &into[..count], seal, draw);
+            let (client, taken) = take_piece(
+                client,
+                alloc,
+                now,
+                wire,
+                &into[..count],
+                cursor,
+                seal,
+                draw,
+            );
             match taken {
                 Ok(()) => (client, Ok(now)),
                 Err(end) => (client, Err(end)),
@@ -78,6 +89,7 @@ fn take_turns<L: Link, S: Seal, C: Clock, D: Draw>(
     frame: &mut Octets,
     into: &mut [u8],
     first: Moment,
+    cursor: &mut Cursor,
     seal: &S,
     clock: &mut C,
     draw: &mut D,
@@ -97,17 +109,37 @@ fn take_turns<L: Link, S: Seal, C: Clock, D: Draw>(
     let mut client = client;
     let mut now = first;
     'turns: for _count in 0..TURNS_MAX {
-        if let Err(end) = flush_all(&mut client, alloc, now, wire, link, frame, seal, draw) {
+        if let Err(end) = flush_all(
+            &mut client,
+            alloc,
+            now,
+            wire,
+            link,
+            frame,
+            cursor,
+            seal,
+            draw,
+        ) {
             return (client, end);
         }
-        let (next, turn) = take_turn(client, alloc, wire, link, into, seal, clock, draw);
+        let (next, turn) = take_turn(client, alloc, wire, link, into, cursor, seal, clock, draw);
         client = next;
         match turn {
             Ok(moment) => now = moment,
             Err(end) => return (client, end),
         }
     }
-    match flush_all(&mut client, alloc, now, wire, link, frame, seal, draw) {
+    match flush_all(
+        &mut client,
+        alloc,
+        now,
+        wire,
+        link,
+        frame,
+        cursor,
+        seal,
+        draw,
+    ) {
         Ok(()) => (client, End::TurnsSpent),
         Err(end) => (client, end),
     }
@@ -121,6 +153,7 @@ pub(crate) fn talk<L: Link, S: Seal, C: Clock, D: Draw>(
     plan: &Plan,
     link: &mut L,
     into: &mut [u8],
+    cursor: &mut Cursor,
     seal: &S,
     clock: &mut C,
     draw: &mut D,
@@ -147,9 +180,9 @@ pub(crate) fn talk<L: Link, S: Seal, C: Clock, D: Draw>(
     }
     let mut client = client;
     attach(&mut client);
-    let client = renew(client, draw);
+    let client = renew(client, cursor, draw);
     let mut frame = start;
     take_turns(
-        client, alloc, &mut wire, link, &mut frame, into, now, seal, clock, draw,
+        client, alloc, &mut wire, link, &mut frame, into, now, cursor, seal, clock, draw,
     )
 }
