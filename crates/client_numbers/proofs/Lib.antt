@@ -1,0 +1,5 @@
+pub mod Lists
+pub mod Kept
+pub mod Taking
+pub mod Filling
+pub mod Events
