@@ -18,14 +18,14 @@ use Rattle.client_rules.specs.Flush.{message_behind}
 use Rattle.client_rules.specs.Learning.{settled_if}
 use Rattle.client_rules.specs.Sending.{Setting}
 use Rattle.client_numbers.specs.Given.{AreOnce, Given, HasGiven, IsAskedAmong, IsOnce, IsRenewal, LivesAmong, given_after, given_in}
-use Rattle.client_numbers.proofs.Kept.{Has, changed-given, has-given, has-now}
+use Rattle.client_numbers.proofs.Kept.{Has, Line, changed-given, has-given, has-now, line_of}
 use Rattle.client_numbers.proofs.Taking.{ended-given, take-given}
 use Rattle.client_numbers.proofs.Filling.{flush-so}
 use Rattle.client_numbers.proofs.Lists.{all-append, none-some, nobody}
 
 -- ---- wishes
 
-submitted-given : (session : ℕ) (given : List Message) (body : List ℕ) (after : Option CallNo) (client : Client) → Has session given client → Has session given (submitted body after client)
+submitted-given : (session : Line) (given : List Message) (body : List ℕ) (after : Option CallNo) (client : Client) → Has session given client → Has session given (submitted body after client)
 submitted-given session given body after client h =
     record {
       once = h.once;
@@ -35,7 +35,7 @@ submitted-given session given body after client h =
       same = h.same;
     }
 
-unless-given : (session : ℕ) (given : List Message) (body : List ℕ) (after : Option CallNo) (client : Client) → Has session given client → Has session given (unless_fault body after client)
+unless-given : (session : Line) (given : List Message) (body : List ℕ) (after : Option CallNo) (client : Client) → Has session given client → Has session given (unless_fault body after client)
 unless-given session given body after client h =
     cond_both (is_none (submit_fault body after client)) (submitted body after client) client (Has session given) (λ is. submitted-given session given body after client h) (λ is. h)
 
@@ -52,11 +52,11 @@ alone-asked given None asked = tt
 alone-asked given (Some temporary) asked =
     cond_both (is_asked temporary.binding) _ temporary (λ (one : Temporary). IsAskedAmong given one.binding) (λ is. asked) (λ is. asked)
 
-attached-given : (session : ℕ) (given : List Message) (client : Client) → Has session given client → Has session given (attached client)
+attached-given : (session : Line) (given : List Message) (client : Client) → Has session given client → Has session given (attached client)
 attached-given session given client h =
     record { once = h.once; within = h.within; living = alone-all given (calls_of client) h.living; asked = alone-asked given client.temporary h.asked; same = h.same }
 
-dropped-given : (session : ℕ) (given : List Message) (call : CallNo) (client : Client) → Has session given client → Has session given (dropped call client)
+dropped-given : (session : Line) (given : List Message) (call : CallNo) (client : Client) → Has session given client → Has session given (dropped call client)
 dropped-given session given call client h =
     cond_both (can_drop call client) (with_call call drops client) client (Has session given)
     (λ is. changed-given session given (call.n - 1) drops client (λ one there lives. lives) h) (λ is. h)
@@ -106,27 +106,27 @@ made-given setting key temporary draw asked =
 
 -- all others go on in the same session
 on-given : {S : Type 0} (setting : Setting S) (run : Run S) (event : Event) (given : Given) → (IsRenewal event → ⊥) → HasGiven given.present run.client
-    → Has run.client.session (given_after setting run event given).present (step setting run event).client
+    → Has (line_of run.client) (given_after setting run event given).present (step setting run event).client
 on-given setting run event given on has = go event on (has-now given.present run.client has) where
-  go : (event : Event) → (IsRenewal event → ⊥) → Has run.client.session given.present run.client
-      → Has run.client.session (given_after setting run event given).present (step setting run event).client
-  go (Submit body after) on h = unless-given run.client.session given.present body after run.client h
-  go Attach on h = attached-given run.client.session given.present run.client h
+  go : (event : Event) → (IsRenewal event → ⊥) → Has (line_of run.client) given.present run.client
+      → Has (line_of run.client) (given_after setting run event given).present (step setting run event).client
+  go (Submit body after) on h = unless-given (line_of run.client) given.present body after run.client h
+  go Attach on h = attached-given (line_of run.client) given.present run.client h
   go Tick on h = record { once = h.once; within = h.within; living = h.living; asked = h.asked; same = h.same }
   go (Ping id) on h = record { once = h.once; within = h.within; living = h.living; asked = h.asked; same = h.same }
   go (AskSalts count) on h = record { once = h.once; within = h.within; living = h.living; asked = h.asked; same = h.same }
-  go (Drop call) on h = dropped-given run.client.session given.present call run.client h
-  go (Flush now) on h = (flush-so run.client.session given.present setting now run.client run.draw h).0
+  go (Drop call) on h = dropped-given (line_of run.client) given.present call run.client h
+  go (Flush now) on h = (flush-so (line_of run.client) given.present setting now run.client run.draw h).0
   go (Take now None) on h = record { once = h.once; within = h.within; living = h.living; asked = h.asked; same = h.same }
-  go (Take now (Some envelope)) on h = take-given run.client.session given.present now envelope run.client h
+  go (Take now (Some envelope)) on h = take-given (line_of run.client) given.present now envelope run.client h
   go Renew on h = absurd (on tt)
-  go End on h = ended-given run.client.session given.present run.client h
+  go End on h = ended-given (line_of run.client) given.present run.client h
 
 pub step-given : {S : Type 0} (setting : Setting S) (run : Run S) (event : Event) (given : Given) → HasGiven given.present run.client
     → HasGiven (given_after setting run event given).present (step setting run event).client
 step-given setting run event given has = go event where
   other : (event : Event) → (IsRenewal event → ⊥) → HasGiven (given_after setting run event given).present (step setting run event).client
-  other event on = has-given run.client.session (given_after setting run event given).present (step setting run event).client (on-given setting run event given on has)
+  other event on = has-given (line_of run.client) (given_after setting run event given).present (step setting run event).client (on-given setting run event given on has)
 
   go : (event : Event) → HasGiven (given_after setting run event given).present (step setting run event).client
   go (Submit body after) = other (Submit body after) (λ no. no)
@@ -140,9 +140,9 @@ step-given setting run event given has = go event where
   go Renew = renewed-given (word_after setting.step 0 run.draw) run.client
   go End = other End (λ no. no)
 
-pub step-session : {S : Type 0} (setting : Setting S) (run : Run S) (event : Event) (given : List Message) → (IsRenewal event → ⊥) → HasGiven given run.client
-    → (step setting run event).client.session ≡ run.client.session
-step-session setting run event given on has = (on-given setting run event (record { present = given; former = [] }) on has).same
+pub step-line : {S : Type 0} (setting : Setting S) (run : Run S) (event : Event) (given : List Message) → (IsRenewal event → ⊥) → HasGiven given run.client
+    → line_of (step setting run event).client ≡ line_of run.client
+step-line setting run event given on has = (on-given setting run event (record { present = given; former = [] }) on has).same
 
 -- what was given under former session numbers stays, and a renewal adds the last one
 former-once : {S : Type 0} (setting : Setting S) (run : Run S) (event : Event) (given : Given) → AreOnce given.present → AllByRecursion AreOnce given.former

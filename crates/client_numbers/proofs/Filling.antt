@@ -22,14 +22,14 @@ use Rattle.client_rules.specs.Filling.{Filling, Goes, Never, Turn, Waits, asks_b
 use Rattle.client_rules.specs.Flush.{Flushed, Marked, asked_alone, binding_alone, filled, first_marked, flush, gone_again, has_any, marked_at, message_behind, remembers, remembers_lone, room_min, sends, unless_binding, unless_call}
 use Rattle.client_rules.specs.Taking.{message_in}
 use Rattle.client_numbers.specs.Given.{IsAnswerOf, IsAskedAmong, IsContainerOf, LivesAmong, given_by}
-use Rattle.client_numbers.proofs.Kept.{Has, again-given, again-lives, changed-given, more-given, sent-lives, settled-lives}
+use Rattle.client_numbers.proofs.Kept.{Has, Line, line_of, again-given, again-lives, changed-given, more-given, sent-lives, settled-lives}
 use Rattle.client_numbers.proofs.Taking.{moment-given}
 use Rattle.client_numbers.proofs.Lists.{all-changed, all-members, none-some, some-same, true-false}
 
 above : (last now : ℕ) → last < next_number last now
 above last now = omega arith
 
-module _ (session : ℕ) (given : List Message) where
+module _ (session : Line) (given : List Message) where
   -- so far, with the messages of the packet
   abbrev Holds : Client → List Message → Type 0
   Holds client messages = Has session (given ++ messages) client
@@ -285,7 +285,7 @@ module _ (session : ℕ) (given : List Message) where
 
     -- what is given then, and the packet is made of these messages
     abbrev IsFlushed : List Message → Flushed S → Type 0
-    IsFlushed messages done = Has session (given ++ given_by messages done.answer) done.client × IsAnswerOf session messages done.answer
+    IsFlushed messages done = Has session (given ++ given_by messages done.answer) done.client × IsAnswerOf session.present messages done.answer
 
     sends-so : (setting : Setting S) (messages : List Message) (filling : Filling S) → Holds filling.client messages → IsFlushed messages (sends setting messages filling)
     sends-so setting [] filling holds = (holds, tt)
@@ -294,7 +294,7 @@ module _ (session : ℕ) (given : List Message) where
         let h = lone-given (given ++ message ∷ []) message.number filling.inner filling.client holds in (
           subst (λ (all : List Message). Has session all client) (append_assoc given (message ∷ []) (message ∷ []))
               (again-given session (given ++ message ∷ []) message client (Contains-push given message) h),
-          (h.same, inl refl),
+          (ap (λ (line : Line). line.present) h.same, inl refl),
         )
     sends-so setting (message ∷ (other ∷ messages)) filling holds =
         let client = filling.client in
@@ -304,7 +304,7 @@ module _ (session : ℕ) (given : List Message) where
         let h = said-so false (container_of all) client all holds in (
           remembers-given (given ++ (all ++ outer ∷ [])) outer.number filling.inner (after_message false client) h,
           (
-            h.same,
+            ap (λ (line : Line). line.present) h.same,
             inr
                 (record {
                   body = refl;

@@ -18,18 +18,26 @@ use Rattle.client_rules.specs.Flush.{message_behind}
 use Rattle.client_numbers.specs.Given.{AreOnce, HasGiven, IsAskedAmong, LivesAmong}
 use Rattle.client_numbers.proofs.Lists.{all-changed, all-map, all-weaker, none-some, some-same}
 
--- what it has, in a session of this number
-pub record Has (session : ℕ) (given : List Message) (client : Client) : Type 0 where
+-- a session number, and those before it
+pub record Line : Type 0 where
+  pub present : ℕ
+  pub former : List ℕ
+
+abbrev pub line_of : Client → Line
+line_of client = record { present = client.session; former = client.former }
+
+-- what it has, in a session of this number, behind those before it
+pub record Has (session : Line) (given : List Message) (client : Client) : Type 0 where
   pub once : AreOnce given
   pub within : (message : Message) → Contains given message → message.number ≤ client.counters.last
   pub living : AllByRecursion (LivesAmong given) (calls_of client)
   pub asked : IfSome client.temporary (λ temporary. IsAskedAmong given temporary.binding)
-  pub same : client.session ≡ session
+  pub same : line_of client ≡ session
 
-pub has-now : (given : List Message) (client : Client) → HasGiven given client → Has client.session given client
+pub has-now : (given : List Message) (client : Client) → HasGiven given client → Has (line_of client) given client
 has-now given client h = record { once = h.once; within = h.within; living = h.living; asked = h.asked; same = refl }
 
-pub has-given : (session : ℕ) (given : List Message) (client : Client) → Has session given client → HasGiven given client
+pub has-given : (session : Line) (given : List Message) (client : Client) → Has session given client → HasGiven given client
 has-given session given client h = record { once = h.once; within = h.within; living = h.living; asked = h.asked }
 
 -- ---- one call
@@ -87,13 +95,13 @@ more-temporary given more (Some temporary) asked = more-asked given more tempora
 
 -- ---- calls
 
-pub changed-given : (session : ℕ) (given : List Message) (place : ℕ) (change : Call → Call) (client : Client)
+pub changed-given : (session : Line) (given : List Message) (place : ℕ) (change : Call → Call) (client : Client)
     → ((call : Call) → slice_get (calls_of client) place ≡ Some call → LivesAmong given call → LivesAmong given (change call))
     → Has session given client → Has session given (with_calls (changed_at place change (calls_of client)) client)
 changed-given session given place change client so h =
     record { once = h.once; within = h.within; living = all-changed (LivesAmong given) place change (calls_of client) so h.living; asked = h.asked; same = h.same }
 
-pub mapped-given : (session : ℕ) (given : List Message) (change : Call → Call) (client : Client) → ((call : Call) → LivesAmong given call → LivesAmong given (change call))
+pub mapped-given : (session : Line) (given : List Message) (change : Call → Call) (client : Client) → ((call : Call) → LivesAmong given call → LivesAmong given (change call))
     → Has session given client → Has session given (with_calls (map change (calls_of client)) client)
 mapped-given session given change client so h =
     record { once = h.once; within = h.within; living = all-map (LivesAmong given) change (calls_of client) so h.living; asked = h.asked; same = h.same }
@@ -101,7 +109,7 @@ mapped-given session given change client so h =
 -- ---- one message more
 
 -- the next number is a new one
-pub more-given : (session : ℕ) (given : List Message) (is_content : Bool) (body : List ℕ) (client : Client) → Has session given client
+pub more-given : (session : Line) (given : List Message) (is_content : Bool) (body : List ℕ) (client : Client) → Has session given client
     → Has session (given ++ numbered is_content body client ∷ []) (after_message is_content client)
 more-given session given is_content body client h =
     let message : Message = numbered is_content body client in
@@ -138,7 +146,7 @@ more-given session given is_content body client h =
     }
 
 -- a message that was given goes once more
-pub again-given : (session : ℕ) (given : List Message) (message : Message) (client : Client) → Contains given message → Has session given client → Has session (given ++ message ∷ []) client
+pub again-given : (session : Line) (given : List Message) (message : Message) (client : Client) → Contains given message → Has session given client → Has session (given ++ message ∷ []) client
 again-given session given message client there h =
     let was : (one : Message) → Contains (given ++ message ∷ []) one → Contains given one =
     λ one among. elim (Contains-push_cases given message one among) [

@@ -19,7 +19,7 @@ pub fn numbers_are_given_once<D: Draw>()
     ensures event { (setting : Setting D) (run : Run D) (event : Event) (given : Given) → HasGiven given.present run.client
         → HasGiven (given_after setting run event given).present (step setting run event).client }
     ensures session { (setting : Setting D) (run : Run D) (event : Event) (given : List Message) → (IsRenewal event → ⊥) → HasGiven given run.client
-        → (step setting run event).client.session ≡ run.client.session }
+        → ((step setting run event).client.session ≡ run.client.session) × ((step setting run event).client.former ≡ run.client.former) }
     ensures packet { (setting : Setting D) (now : ℕ) (client : Client) (draw : D) (given : List Message) → HasGiven given client
         → IsAnswerOf client.session (filled setting (at_moment now client) draw).messages (flush setting now client draw).answer }
     ensures all { (setting : Setting D) (key : ℕ) (temporary : Option Temporary) (draw : D) (events : List Event)
