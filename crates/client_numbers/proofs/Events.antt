@@ -1,5 +1,5 @@
 -- Each event of a client keeps what it has of the numbers that it gave.
-use Rattle.std.proofs.Common.{◌≡◌, ℕ, ◌-◌, Option, Some, None, List, [], ◌∷◌, ◌++◌, map, subst, refl}
+use Rattle.std.proofs.Common.{◌≡◌, ℕ, ◌-◌, cond, Option, Some, None, List, [], ◌∷◌, ◌++◌, length, map, subst, refl}
 use Rattle.std.specs.Prelude.{⊤, IfSome, is_none, option_map}
 use Rattle.std.specs.List.{AllByRecursion, Contains}
 use Rattle.std.proofs.lemmas.Bool.{cond_both}
@@ -12,12 +12,13 @@ use Rattle.call_table.specs.declared.call.Cause.TheVariants as cause
 use Rattle.call_table.specs.Table.{Call, Name, State, is_sent, living_name, living_name_in, new_call}
 use Rattle.call_table.specs.Table as table
 use Rattle.client_rules.specs.Client.{Client, Needed, Temporary, bound_so, calls_of, with_call}
-use Rattle.client_rules.specs.Asking.{alone, alone_if_asked, alone_if_sent, attached, can_drop, drops, dropped, is_asked, submit_fault, submitted}
+use Rattle.client_rules.specs.Asking.{Fault, alone, alone_if_asked, alone_if_sent, attached, can_drop, drops, dropped, is_asked, submit_fault, submitted}
 use Rattle.client_rules.specs.Events.{Attach, AskSalts, Drop, End, Event, Flush, Ping, Renew, Run, Submit, Take, Tick, fate_renewed, made, renewed, step, unless_fault}
 use Rattle.client_rules.specs.Flush.{message_behind}
 use Rattle.client_rules.specs.Learning.{settled_if}
 use Rattle.client_rules.specs.Sending.{Setting}
-use Rattle.client_numbers.specs.Given.{AreOnce, Given, HasGiven, IsAskedAmong, IsOnce, IsRenewal, LivesAmong, given_after, given_in}
+use Rattle.client_numbers.specs.Given.{AreOnce, Given, HasGiven, IsAskedAmong, IsOnce, IsPlain, IsRenewal, LivesAmong, given_after, given_in}
+use Rattle.client_numbers.proofs.Plain.{submitted-plain}
 use Rattle.client_numbers.proofs.Kept.{Has, Line, changed-given, has-given, has-now, line_of}
 use Rattle.client_numbers.proofs.Taking.{ended-given, take-given}
 use Rattle.client_numbers.proofs.Filling.{flush-so}
@@ -25,19 +26,22 @@ use Rattle.client_numbers.proofs.Lists.{all-append, none-some, nobody}
 
 -- ---- wishes
 
-submitted-given : (session : Line) (given : List Message) (body : List ℕ) (after : Option CallNo) (client : Client) → Has session given client → Has session given (submitted body after client)
-submitted-given session given body after client h =
+submitted-given : (session : Line) (given : List Message) (body : List ℕ) (after : Option CallNo) (client : Client) → IsPlain body → Has session given client
+    → Has session given (submitted body after client)
+submitted-given session given body after client plain h =
     record {
       once = h.once;
       within = h.within;
-      living = all-append (LivesAmong given) (calls_of client) (new_call body after ∷ []) h.living (λ message is. absurd (none-some message is), tt);
+      living = all-append (LivesAmong given) (calls_of client) (new_call body after ∷ []) h.living ((plain, λ message is. absurd (none-some message is)), tt);
       asked = h.asked;
       same = h.same;
     }
 
 unless-given : (session : Line) (given : List Message) (body : List ℕ) (after : Option CallNo) (client : Client) → Has session given client → Has session given (unless_fault body after client)
-unless-given session given body after client h =
-    cond_both (is_none (submit_fault body after client)) (submitted body after client) client (Has session given) (λ is. submitted-given session given body after client h) (λ is. h)
+unless-given session given body after client h = go (submit_fault body after client) refl where
+  go : (found : Option Fault) → submit_fault body after client ≡ found → Has session given (cond (is_none found) (submitted body after client) client)
+  go None is = submitted-given session given body after client (submitted-plain (length (calls_of client)) body after is) h
+  go (Some fault) is = h
 
 alone-all : (given : List Message) (calls : List Call) → AllByRecursion (LivesAmong given) calls → AllByRecursion (LivesAmong given) (map alone_if_sent calls)
 alone-all given [] all = tt
@@ -64,22 +68,22 @@ dropped-given session given call client h =
 -- ---- another session
 
 -- no call is outstanding then
-renewed-lives : (given : List Message) (body : List ℕ) (state : State) (names : List Name) (call : Call) → call.state ≡ state
-    → LivesAmong given (settled_if (fate_renewed state) call)
-renewed-lives given body table.Sent names call is message living = absurd (none-some message living)
-renewed-lives given body table.Held names call is message living = absurd (none-some message living)
-renewed-lives given body table.Queued names call is message living =
-    absurd (none-some message (subst (λ (state : State). message_behind call.body (living_name_in state call.names) ≡ Some message) is living))
-renewed-lives given body (table.Done reply) names call is message living =
-    absurd (none-some message (subst (λ (state : State). message_behind call.body (living_name_in state call.names) ≡ Some message) is living))
-renewed-lives given body (table.Refused code) names call is message living =
-    absurd (none-some message (subst (λ (state : State). message_behind call.body (living_name_in state call.names) ≡ Some message) is living))
-renewed-lives given body (table.Unknown why) names call is message living =
-    absurd (none-some message (subst (λ (state : State). message_behind call.body (living_name_in state call.names) ≡ Some message) is living))
+renewed-lives : (state : State) (call : Call) → call.state ≡ state → IsPlain call.body → LivesAmong [] (settled_if (fate_renewed state) call)
+renewed-lives table.Sent call is plain = (plain, λ message living. absurd (none-some message living))
+renewed-lives table.Held call is plain = (plain, λ message living. absurd (none-some message living))
+renewed-lives table.Queued call is plain = (plain, λ message living.
+    absurd (none-some message (subst (λ (state : State). message_behind call.body (living_name_in state call.names) ≡ Some message) is living)))
+renewed-lives (table.Done reply) call is plain = (plain, λ message living.
+    absurd (none-some message (subst (λ (state : State). message_behind call.body (living_name_in state call.names) ≡ Some message) is living)))
+renewed-lives (table.Refused code) call is plain = (plain, λ message living.
+    absurd (none-some message (subst (λ (state : State). message_behind call.body (living_name_in state call.names) ≡ Some message) is living)))
+renewed-lives (table.Unknown why) call is plain = (plain, λ message living.
+    absurd (none-some message (subst (λ (state : State). message_behind call.body (living_name_in state call.names) ≡ Some message) is living)))
 
-renewed-all : (calls : List Call) → AllByRecursion (LivesAmong []) (map (λ call. settled_if (fate_renewed call.state) call) calls)
-renewed-all [] = tt
-renewed-all (call ∷ calls) = (renewed-lives [] call.body call.state call.names call refl, renewed-all calls)
+renewed-all : (given : List Message) (calls : List Call) → AllByRecursion (LivesAmong given) calls
+    → AllByRecursion (LivesAmong []) (map (λ call. settled_if (fate_renewed call.state) call) calls)
+renewed-all given [] all = tt
+renewed-all given (call ∷ calls) all = (renewed-lives call.state call refl all.0.0, renewed-all given calls all.1)
 
 needed-asked : (temporary : Option Temporary) → IfSome (option_map (bound_so Needed) temporary) (λ temporary. IsAskedAmong [] temporary.binding)
 needed-asked None = tt
@@ -88,12 +92,12 @@ needed-asked (Some temporary) = tt
 none-once : AreOnce []
 none-once one other among beside same = absurd (nobody one among)
 
-renewed-given : (session : ℕ) (client : Client) → HasGiven [] (renewed session client)
-renewed-given session client =
+renewed-given : (session : ℕ) (given : List Message) (client : Client) → HasGiven given client → HasGiven [] (renewed session client)
+renewed-given session given client h =
     record {
       once = none-once;
       within = λ message among. absurd (nobody message among);
-      living = renewed-all (calls_of client);
+      living = renewed-all given (calls_of client) h.living;
       asked = needed-asked client.temporary;
     }
 
@@ -137,7 +141,7 @@ step-given setting run event given has = go event where
   go (Drop call) = other (Drop call) (λ no. no)
   go (Flush now) = other (Flush now) (λ no. no)
   go (Take now opened) = other (Take now opened) (λ no. no)
-  go Renew = renewed-given (word_after setting.step 0 run.draw) run.client
+  go Renew = renewed-given (word_after setting.step 0 run.draw) given.present run.client has
   go End = other End (λ no. no)
 
 pub step-line : {S : Type 0} (setting : Setting S) (run : Run S) (event : Event) (given : List Message) → (IsRenewal event → ⊥) → HasGiven given run.client

@@ -10,12 +10,12 @@ use Rattle.call_table.specs.declared.call.Flags.{Flags}
 use Rattle.call_table.specs.declared.call.Fate.{Fate}
 use Rattle.call_table.specs.declared.call.Fate.TheVariants as fate
 use Rattle.call_table.specs.declared.call.Living.{Living}
-use Rattle.call_table.specs.Table.{Call, Name, State, changed_at, flagged, living_name, living_name_in, sent, sent_again, settled, with_salt}
+use Rattle.call_table.specs.Table.{Call, Name, State, changed_at, flagged, living_name, living_name_in, sent, sent_again, settled, state_after, with_salt}
 use Rattle.call_table.specs.Table as table
 use Rattle.client_rules.specs.Client.{Asked, Binding, Bound, Client, Held, Needed, Refused, Temporary, after_message, calls_of, numbered, time_of, with_call, with_calls}
 use Rattle.client_rules.specs.Filling.{body_behind}
 use Rattle.client_rules.specs.Flush.{message_behind}
-use Rattle.client_numbers.specs.Given.{AreOnce, HasGiven, IsAskedAmong, LivesAmong}
+use Rattle.client_numbers.specs.Given.{AreOnce, HasGiven, IsAskedAmong, IsPlain, LivesAmong}
 use Rattle.client_numbers.proofs.Lists.{all-changed, all-map, all-weaker, none-some, some-same}
 
 -- a session number, and those before it
@@ -42,12 +42,16 @@ has-given session given client h = record { once = h.once; within = h.within; li
 
 -- ---- one call
 
-pub settled-lives : (given : List Message) (fate : Fate) (call : Call) → LivesAmong given (settled fate call)
-settled-lives given fate.Queue call message is = absurd (none-some message is)
-settled-lives given fate.Hold call message is = absurd (none-some message is)
-settled-lives given (fate.Done bytes) call message is = absurd (none-some message is)
-settled-lives given (fate.Refused code) call message is = absurd (none-some message is)
-settled-lives given (fate.Unknown cause) call message is = absurd (none-some message is)
+never-lives : (given : List Message) (body : List ℕ) (fate : Fate) (names : List Name) (message : Message)
+    → message_behind body (living_name_in (state_after fate) names) ≡ Some message → Contains given message
+never-lives given body fate.Queue names message is = absurd (none-some message is)
+never-lives given body fate.Hold names message is = absurd (none-some message is)
+never-lives given body (fate.Done bytes) names message is = absurd (none-some message is)
+never-lives given body (fate.Refused code) names message is = absurd (none-some message is)
+never-lives given body (fate.Unknown cause) names message is = absurd (none-some message is)
+
+pub settled-lives : (given : List Message) (fate : Fate) (call : Call) → IsPlain call.body → LivesAmong given (settled fate call)
+settled-lives given fate call plain = (plain, never-lives given call.body fate call.names)
 
 salted-same : (body : List ℕ) (salt : ℕ) (state : State) (names : List Name)
     → message_behind body (living_name_in state (with_salt salt names)) ≡ message_behind body (living_name_in state names)
@@ -60,30 +64,23 @@ salted-same body salt (table.Refused code) names = refl
 salted-same body salt (table.Unknown cause) names = refl
 
 pub again-lives : (given : List Message) (salt : ℕ) (flags : Flags) (call : Call) → LivesAmong given call → LivesAmong given (sent_again salt (flagged flags call))
-again-lives given salt flags call lives message is = lives message (sym (salted-same call.body salt call.state call.names) ∙ is)
+again-lives given salt flags call lives = (lives.0, λ message is. lives.1 message (sym (salted-same call.body salt call.state call.names) ∙ is))
 
-pub sent-lives : (given : List Message) (session salt : ℕ) (living : Living) (call : Call)
+pub sent-lives : (given : List Message) (session salt : ℕ) (living : Living) (call : Call) → IsPlain call.body
     → Contains given (record { number = living.number; seq = living.seq; body = body_behind living.wrap call.body }) → LivesAmong given (sent session living salt call)
-sent-lives given session salt living call among message is =
+sent-lives given session salt living call plain among =
     let one : Message = record { number = living.number; seq = living.seq; body = body_behind living.wrap call.body } in
-    subst (Contains given) (some-same one message is) among
+    (plain, λ message is. subst (Contains given) (some-same one message is) among)
 
 more-lives : (given more : List Message) (calls : List Call) → AllByRecursion (LivesAmong given) calls → AllByRecursion (LivesAmong (given ++ more)) calls
 more-lives given more calls all =
-    all-weaker (LivesAmong given) (LivesAmong (given ++ more)) calls (λ call lives message is. Contains-append_left given more message (lives message is)) all
+    all-weaker (LivesAmong given) (LivesAmong (given ++ more)) calls (λ call lives. (lives.0, λ message is. Contains-append_left given more message (lives.1 message is))) all
 
 -- ---- the binding
 
-pub binding-asked : (given : List Message) (binding : Binding) → ((message : Message) → binding ≡ Asked message → Contains given message) → IsAskedAmong given binding
-binding-asked given Needed so = tt
-binding-asked given (Asked message) so = so message refl
-binding-asked given Held so = tt
-binding-asked given Bound so = tt
-binding-asked given (Refused code) so = tt
-
 more-asked : (given more : List Message) (binding : Binding) → IsAskedAmong given binding → IsAskedAmong (given ++ more) binding
 more-asked given more Needed asked = tt
-more-asked given more (Asked message) asked = Contains-append_left given more message asked
+more-asked given more (Asked message) asked = (asked.0, Contains-append_left given more message asked.1)
 more-asked given more Held asked = tt
 more-asked given more Bound asked = tt
 more-asked given more (Refused code) asked = tt

@@ -1,4 +1,5 @@
 pub mod Lists
+pub mod Plain
 pub mod Kept
 pub mod Taking
 pub mod Filling

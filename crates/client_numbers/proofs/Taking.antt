@@ -49,7 +49,7 @@ module _ (session : Line) (given : List Message) where
   -- ---- one call
 
   becomes-given : (call : CallNo) (fate : Fate) (client : Client) → H client → H (becomes call fate client)
-  becomes-given call fate client h = changed-given session given (call.n - 1) (settled fate) client (λ one there lives. settled-lives given fate one) h
+  becomes-given call fate client h = changed-given session given (call.n - 1) (settled fate) client (λ one there lives. settled-lives given fate one lives.0) h
 
   alone-given : (call : Option CallNo) (client : Client) → H client → H (alone_call call client)
   alone-given None client h = h
@@ -64,7 +64,7 @@ module _ (session : Line) (given : List Message) where
 
   settled_if-lives : (found : Option Fate) (call : Call) → LivesAmong given call → LivesAmong given (settled_if found call)
   settled_if-lives None call lives = lives
-  settled_if-lives (Some fate) call lives = settled-lives given fate call
+  settled_if-lives (Some fate) call lives = settled-lives given fate call lives.0
 
   pub each-given : (fate : Call → Option Fate) (client : Client) → H client → H (each_becomes fate client)
   each-given fate client h = mapped-given session given (λ call. settled_if (fate call) call) client (λ call lives. settled_if-lives (fate call) call lives) h

@@ -1,9 +1,9 @@
 -- What a client gives numbers to: each message that goes, and no number to two of them under one session number
 -- (core.telegram.org/mtproto/description, "Message Identifier").
-use Rattle.std.specs.Prelude.{◌≡◌, ◌⊎◌, ◌<◌, ◌≤◌, ⊤, ℕ, Option, Some, List, [], ◌∷◌, ◌++◌, fold, IfSome}
+use Rattle.std.specs.Prelude.{◌≡◌, ◌⊎◌, ◌<◌, ◌≤◌, ⊤, ℕ, false, Some, List, [], ◌∷◌, ◌++◌, IfSome}
 use Rattle.std.specs.List.{AllByRecursion, Contains}
 use Rattle.service_tl.specs.declared.lists.Message.{Message}
-use Rattle.containers.specs.Container.{container_of}
+use Rattle.containers.specs.Container.{begins_container, container_of}
 use Rattle.envelope.specs.declared.parts.Envelope.{Envelope}
 use Rattle.call_table.specs.Table.{Call, living_name}
 use Rattle.client_rules.specs.Client.{Asked, Binding, Client, at_moment, calls_of}
@@ -33,9 +33,14 @@ pub record IsContainerOf (messages : List Message) (envelope : Envelope) : Type 
   pub body : envelope.body ≡ container_of messages
   pub below : AllByRecursion (λ message. message.number < envelope.number) messages
 
--- a packet is its only message, or such a container
-abbrev pub IsMadeOf : List Message → Envelope → Type 0
-IsMadeOf messages envelope = (messages ≡ message_in envelope ∷ []) ⊎ IsContainerOf messages envelope
+-- a message that is no container
+abbrev pub IsPlain : List ℕ → Type 0
+IsPlain body = begins_container body ≡ false
+
+-- a packet is its only message, or such a container; no message in it is one
+pub record IsMadeOf (messages : List Message) (envelope : Envelope) : Type 0 where
+  pub plain : AllByRecursion (λ message. IsPlain message.body) messages
+  pub packet : (messages ≡ message_in envelope ∷ []) ⊎ IsContainerOf messages envelope
 
 -- the packet of a flush, under this session number, has all that the flush gives
 abbrev pub IsAnswerOf : ℕ → List Message → Answer → Type 0
@@ -75,13 +80,13 @@ pub record IsOnce (given : Given) : Type 0 where
 
 -- ---- what a client keeps of it
 
--- the message under which a call is outstanding was given
+-- a call is no container, and the message under which it is outstanding was given
 abbrev pub LivesAmong : List Message → Call → Type 0
-LivesAmong given call = (message : Message) → message_behind call.body (living_name call) ≡ Some message → Contains given message
+LivesAmong given call = IsPlain call.body × ((message : Message) → message_behind call.body (living_name call) ≡ Some message → Contains given message)
 
--- so was the one that asked for a binding
+-- so is the one that asked for a binding
 abbrev pub IsAskedAmong : List Message → Binding → Type 0
-IsAskedAmong given (Asked message) = Contains given message
+IsAskedAmong given (Asked message) = IsPlain message.body × Contains given message
 IsAskedAmong given _ = ⊤
 
 -- These are the messages that a client gave numbers to under its present session number: none is above its last number, and
