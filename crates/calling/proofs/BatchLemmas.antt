@@ -1,5 +1,5 @@
 -- What is told of a client's batch, by its trace.
-use Rattle.std.proofs.Common.{◌≡◌, ◌∙◌, inl, inr, ℕ, ◌+◌, ◌≤◌, Bool, true, false, not, List, [], ◌∷◌, ◌++◌, length, Option, Some, None, IfSome, Result, Ok, Err, IfOk, ap, sym, subst, refl, append_assoc, append-nil, length-append, arith}
+use Rattle.std.proofs.Common.{◌≡◌, ◌∙◌, inl, inr, ℕ, ◌+◌, ◌≤◌, Bool, true, false, not, List, [], ◌∷◌, ◌++◌, length, Option, Some, None, IfSome, Result, Ok, Err, IfErr, IfOk, ap, sym, subst, refl, append_assoc, append-nil, length-append, arith}
 use Rattle.std.specs.Prelude.{◌↔◌, IsSome, IsSomeAnd}
 use Rattle.std.proofs.lemmas.List.Elements.{All-append, All-cons, All-nil}
 use Rattle.auth_keys.specs.declared.ring.RingKey.{RingKey}
@@ -32,9 +32,9 @@ use Rattle.statuses.specs.declared.answer.Answer.{Answer}
 use Rattle.statuses.specs.declared.status.Status.{Status}
 use Rattle.statuses.specs.declared.status.Status.TheVariants as status
 use Rattle.draws.specs.Draws.{word_after}
-use Rattle.calling.specs.Inner.{RanFrom}
+use Rattle.calling.specs.Inner.{LeftFrom, RanFrom}
 use Rattle.calling.specs.Keys.{client_under}
-use Rattle.calling.specs.Owed.{Around, IsOffline, RanBatch, begins, plan_of, rules_under}
+use Rattle.calling.specs.Owed.{Around, HasCause, IsOffline, LastEnds, LeftBatch, LostTooMany, RanBatch, begins, plan_of, rules_under}
 use Rattle.calling.specs.Reading.{reading_under}
 use Rattle.calling.specs.Runs.{ConnectsAlone, IsConnect, UsesNet}
 use Rattle.calling.specs.Script.{given_all, untaken}
@@ -140,7 +140,7 @@ decided-not : (all : Bool) → decided_status all ≡ status.NotAllDone → all 
 decided-not true is = absurd cc
 decided-not false is = refl
 
-pub says_done : (end : Batch) (left : Client) (one : Status) (due : List ℕ) → UndecidedIn end left → TellsBatch end (calls_of left) one due
+says_done : (end : Batch) (left : Client) (one : Status) (due : List ℕ) → UndecidedIn end left → TellsBatch end (calls_of left) one due
     → (one ≡ status.Done) ↔ (are_done (calls_of left) ≡ true)
 says_done batch.Decided left one due undecided told =
     (λ e. decided-done (are_done (calls_of left)) (sym told.0 ∙ e), λ all. told.0 ∙ ap decided_status all)
@@ -149,7 +149,7 @@ says_done batch.TurnsSpent left one due undecided told = (λ e. let f = told.0 i
 says_done batch.Spent left one due undecided told = (λ e. let f = told.0 in absurd cc, λ all. let d = all-decided left all in absurd cc)
 says_done batch.Memory left one due undecided told = absurd told
 
-pub says_not_all : (end : Batch) (left : Client) (one : Status) (due : List ℕ) → UndecidedIn end left → (end ≡ batch.Decided → is_decided left ≡ true) → TellsBatch end (calls_of left) one due
+says_not_all : (end : Batch) (left : Client) (one : Status) (due : List ℕ) → UndecidedIn end left → (end ≡ batch.Decided → is_decided left ≡ true) → TellsBatch end (calls_of left) one due
     → (one ≡ status.NotAllDone) ↔ ((is_decided left ≡ true) × (are_done (calls_of left) ≡ false))
 says_not_all batch.Decided left one due undecided all told =
     (λ e. (all refl, decided-not (are_done (calls_of left)) (sym told.0 ∙ e)), λ h. told.0 ∙ ap decided_status h.1)
@@ -157,6 +157,69 @@ says_not_all batch.LinkLost left one due undecided all told = (λ e. let f = tol
 says_not_all batch.TurnsSpent left one due undecided all told = (λ e. let f = told.0 in absurd cc, λ h. let d = h.0 in absurd cc)
 says_not_all batch.Spent left one due undecided all told = (λ e. let f = told.0 in absurd cc, λ h. let d = h.0 in absurd cc)
 says_not_all batch.Memory left one due undecided all told = absurd told
+
+-- by the end of a batch
+abbrev end-told : Status → Batch
+end-told status.LinkLost = batch.LinkLost
+end-told status.TurnsSpent = batch.TurnsSpent
+end-told status.NumbersSpent = batch.Spent
+end-told one = batch.Decided
+
+decided-told : (all : Bool) → end-told (decided_status all) ≡ batch.Decided
+decided-told true = refl
+decided-told false = refl
+
+end-by-status : (end : Batch) (calls : List Call) (one : Status) (due : List ℕ) → TellsBatch end calls one due → end-told one ≡ end
+end-by-status batch.Decided calls one due told = ap end-told told.0 ∙ decided-told (are_done calls)
+end-by-status batch.LinkLost calls one due told = ap end-told told.0
+end-by-status batch.TurnsSpent calls one due told = ap end-told told.0
+end-by-status batch.Spent calls one due told = ap end-told told.0
+end-by-status batch.Memory calls one due told = absurd told
+
+module _ (end : Batch) (calls : List Call) (one : Status) (due : List ℕ) (told : TellsBatch end calls one due) where
+  ended : (want : Status) → one ≡ want → end ≡ end-told want
+  ended want is = sym (end-by-status end calls one due told) ∙ ap end-told is
+
+  as-lost : end ≡ batch.LinkLost → one ≡ status.LinkLost
+  as-lost is = (subst (λ (b : Batch). TellsBatch b calls one due) is told).0
+
+  as-turns : end ≡ batch.TurnsSpent → one ≡ status.TurnsSpent
+  as-turns is = (subst (λ (b : Batch). TellsBatch b calls one due) is told).0
+
+  as-numbers : end ≡ batch.Spent → one ≡ status.NumbersSpent
+  as-numbers is = (subst (λ (b : Batch). TellsBatch b calls one due) is told).0
+
+module _ {S : Type 0} (rules : Rules S) (plan : Plan) (course : Course S) (end : Batch) where
+  -- it ended by its last connection
+  last-by : (attempts : List Attempt) → EndsBy rules plan course end attempts → (want : Batch) → end ≡ want → (want ≡ batch.Decided → ⊥) → (want ≡ batch.Memory → ⊥) → LastEnds attempts want
+  last-by [] (inl h) want is other none = absurd (other (sym is ∙ h.0))
+  last-by [] (inr h) want is other none = absurd (none (sym is ∙ h))
+  last-by (last ∷ earlier) h want is other none = h.3 ∙ is
+
+  by-last : (attempts : List Attempt) → EndsBy rules plan course end attempts → (want : Batch) → LastEnds attempts want → end ≡ want
+  by-last [] h want last = absurd last
+  by-last (last ∷ earlier) h want is = sym h.3 ∙ is
+
+  all-lost : (attempts : List Attempt) → EndsBy rules plan course end attempts → end ≡ batch.LinkLost → LostTooMany rules plan course attempts
+  all-lost [] (inl h) is = let d = h.0 in absurd cc
+  all-lost [] (inr h) is = absurd cc
+  all-lost (last ∷ earlier) h is = (h.3 ∙ is, h.1, h.5 is)
+
+  lost-all : (attempts : List Attempt) → EndsBy rules plan course end attempts → LostTooMany rules plan course attempts → end ≡ batch.LinkLost
+  lost-all [] h lost = absurd lost
+  lost-all (last ∷ earlier) h lost = sym h.3 ∙ lost.0
+
+  pub has_cause : (attempts : List Attempt) → EndsBy rules plan course end attempts → (left : Client) (one : Status) (due : List ℕ) → UndecidedIn end left → (end ≡ batch.Decided → is_decided left ≡ true)
+      → TellsBatch end (calls_of left) one due → HasCause rules plan course attempts left one
+  has_cause attempts how left one due undecided all told =
+      let calls = calls_of left in
+      record {
+        done = says_done end left one due undecided told;
+        not_all = says_not_all end left one due undecided all told;
+        link_lost = (λ is. all-lost attempts how (ended end calls one due told status.LinkLost is), λ h. as-lost end calls one due told (lost-all attempts how h));
+        turns_spent = (λ is. last-by attempts how batch.TurnsSpent (ended end calls one due told status.TurnsSpent is) (λ e. cc) (λ e. cc), λ h. as-turns end calls one due told (by-last attempts how batch.TurnsSpent h));
+        numbers_spent = (λ is. last-by attempts how batch.Spent (ended end calls one due told status.NumbersSpent is) (λ e. cc) (λ e. cc), λ h. as-numbers end calls one due told (by-last attempts how batch.Spent h));
+      }
 
 -- ---- the batch
 
@@ -190,10 +253,16 @@ ran_from options ring course around end kept trace decided idle (Ok answer) told
       left = left;
       its = refl;
       told = so;
-      done = says_done end left answer.status answer.text trace.undecided so;
-      not_all = says_not_all end left answer.status answer.text trace.undecided (λ e. (decided e).stands left trace.stands.client) so;
+      cause = has_cause (rules_under ring around) (plan_of options) course end trace.attempts trace.ended left answer.status answer.text trace.undecided (λ e. (decided e).stands left trace.stands.client) so;
       decided = λ all. ((idle all).0, (idle all).1, no-attempt (rules_under ring around) (plan_of options) course end trace.attempts trace.ended all);
     }
+
+-- memory ran out
+pub left_from : {N C D : Type 0} (options : CallOptions) (ring : List RingKey) (course : Course D) (around : Around N C D) (end : Batch) (kept : Holder)
+    → ClientTrace (rules_under ring around) (plan_of options) course end (around.calls around.net) (around.calls around.net_then) (around.given around.clock) (around.given around.clock_then) kept around.draw_then
+    → (answer : Result Answer Memory) → IfErr answer (λ memory. LeftFrom options ring course around)
+left_from options ring course around end kept trace (Err memory) = record { end = end; kept = kept; trace = trace }
+left_from options ring course around end kept trace (Ok answer) = tt
 
 -- with no call
 empty-told : (calls : List Call) (one : Status) (due : List ℕ) → calls ≡ [] → TellsBatch batch.Decided calls one due → (one ≡ status.Done) × (due ≡ [])
@@ -222,11 +291,14 @@ ran_batch options calls ring keys around drawn one due taken ran =
       left = ran.left;
       its = ran.its;
       told = ran.told;
-      done = ran.done;
-      not_all = ran.not_all;
+      cause = ran.cause;
       no_call = λ none.
           let own = none-given calls (client_under keys (word_after around.step 0 around.draw)) none refl in
           let idle = ran.decided (none-decided (begins keys calls around).client own) in
           let said = empty-told (calls_of ran.left) one due (idle.2 ∙ own) (told-so ran.end (calls_of ran.left) one due idle.1 ran.told) in
           (said.0, said.1, record { net = idle.0.net; clock = idle.0.clock });
     }
+
+pub left_batch : {N C D : Type 0} (options : CallOptions) (calls : List ScriptCall) (ring : List RingKey) (keys : Keys) (around : Around N C D) (drawn : D)
+    → untaken calls ≡ None → LeftFrom options ring (begins keys calls around) (record around { draw = drawn }) → LeftBatch options calls ring keys around
+left_batch options calls ring keys around drawn taken left = record { taken = taken; end = left.end; kept = left.kept; trace = left.trace }

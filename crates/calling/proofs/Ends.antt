@@ -12,7 +12,7 @@ use Rattle.statuses.specs.Outside.{HadFault, IsUntouched, Outside, Tells, Writes
 use Rattle.statuses.specs.Statuses.{UnlessFault}
 use Rattle.statuses.specs.declared.status.Status.{Status}
 use Rattle.statuses.specs.declared.status.Status.TheVariants as status
-use Rattle.calling.specs.Owed.{AskedFor, Around, FileFault, Files, IsIdle, Owes, OwesToKeyFile, OwesToKeys, RanBatch}
+use Rattle.calling.specs.Owed.{AskedFor, Around, FileFault, Files, IsIdle, Owes, OwesToKeyFile, OwesToKeys, RanBatch, RunsOut}
 use Rattle.calling.specs.Runs.{CallRun, HasNoFault, IsOfCall, IsLawful, IsTold, UnlessNotRead, UsesNet}
 use Rattle.calling.proofs.Taken.{call_refused, calls_taken, file_refused, file_taken, if-both, if-told, input_refused, input_taken, is_of_call, key_refused, keys_taken, ring_taken}
 
@@ -91,18 +91,19 @@ module _ {S O F N C D : Type 0} (options : CallOptions) (input : Outside S) (out
     none-of (inl e) = inr (inl e)
     none-of (inr e) = inr (inr (inr e))
 
-    untold : (one ≡ status.ReadFault) ⊎ (one ≡ status.Memory) → (one ≡ status.ReadFault → HadFault input × (files.after ≡ files.before) × IsIdle around) → IsTold options input out files around one
-    untold (inl e) read_fault = let h = read_fault e in inr (inl (e, h.0, untouched, h.1, h.2))
-    untold (inr e) read_fault = inr (inr (e, untouched))
+    untold : (one ≡ status.ReadFault) ⊎ (one ≡ status.Memory) → (one ≡ status.ReadFault → HadFault input × (files.after ≡ files.before) × IsIdle around) → (one ≡ status.Memory → RunsOut options input files around)
+        → IsTold options input out files around one
+    untold (inl e) read_fault left = let h = read_fault e in inr (inl (e, h.0, untouched, h.1, h.2))
+    untold (inr e) read_fault left = inr (inr (e, untouched, left e))
 
     for-memory : HasNoFault input out files → (one ≡ status.ReadFault) ⊎ (one ≡ status.Memory) → (one ≡ status.ReadFault → HadFault input × (files.after ≡ files.before) × IsIdle around) → one ≡ status.Memory
     for-memory no_fault (inl e) read_fault = absurd (no_fault.of_input (read_fault e).0)
     for-memory no_fault (inr e) read_fault = e
 
-    pub untold_run : (one ≡ status.ReadFault → HadFault input × (files.after ≡ files.before) × IsIdle around) → CallRun options input out files around one
-    untold_run read_fault = record {
+    pub untold_run : (one ≡ status.ReadFault → HadFault input × (files.after ≡ files.before) × IsIdle around) → (one ≡ status.Memory → RunsOut options input files around) → CallRun options input out files around one
+    untold_run read_fault left = record {
       ends = none-of why;
-      told = untold why read_fault;
+      told = untold why read_fault left;
       asked = asked;
       connects = connects;
       no_script = if-told (input.told input.before) _ (λ text bad. not-told one status.InputRefused why);

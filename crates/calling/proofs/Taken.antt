@@ -1,5 +1,5 @@
 -- What is owed, by what was read.
-use Rattle.std.proofs.Common.{Bool, true, false, ◌≡◌, ◌⊎◌, inl, inr, ℕ, ◌≤◌, List, length, Option, Some, None, IfSome, ap, sym, subst, arith}
+use Rattle.std.proofs.Common.{Bool, true, false, ◌≡◌, ◌∙◌, ◌⊎◌, inl, inr, ℕ, ◌≤◌, List, length, Option, Some, None, IfSome, ap, sym, subst, arith}
 use Rattle.auth_keys.specs.KeyFile.{IsFaultOf, IsRingOf}
 use Rattle.auth_keys.specs.declared.fault.KeyFault.{KeyFault}
 use Rattle.auth_keys.specs.declared.fault.KeyFault.TheVariants as faults
@@ -9,11 +9,12 @@ use Rattle.call_script.specs.declared.script.ScriptCall.{ScriptCall}
 use Rattle.client_core.specs.Keys.{Keys}
 use Rattle.client_rules.specs.Asking.{Fault}
 use Rattle.commands.specs.declared.command.CallOptions.{CallOptions}
+use Rattle.key_files.specs.Files.{IsRefusedAt, line_of}
 use Rattle.statuses.specs.Outside.{IfTold, Outside}
 use Rattle.statuses.specs.declared.status.Status.{Status}
 use Rattle.statuses.specs.declared.status.Status.TheVariants as status
 use Rattle.calling.specs.Keys.{keys_for}
-use Rattle.calling.specs.Owed.{Around, FileFault, Files, HasFaultAt, IsFaultAt, Owes, OwesToKeyFile, OwesToKeys, OwesToRing, OwesToScript, OwesToText, RanBatch}
+use Rattle.calling.specs.Owed.{Around, FileFault, Files, Owes, OwesToKeyFile, OwesToKeys, OwesToRing, OwesToScript, OwesToText, RanBatch}
 use Rattle.call_table.specs.Table.{Call}
 use Rattle.client_node.specs.declared.plan.Batch.{Batch}
 use Rattle.client_node.specs.declared.plan.Batch.TheVariants as batch
@@ -32,8 +33,8 @@ if-both (Some x) P Q h p = h x p
 
 -- what is owed, where these laws of texts hold
 module _ (one-script : (text : List ℕ) (calls others : List ScriptCall) → Spells text calls → Spells text others → calls ≡ others) (good-script : (text : List ℕ) (calls : List ScriptCall) (bad : ℕ) → Spells text calls → HasBadLine text bad → ⊥) (one-ring : (text : List ℕ) (ring other : List RingKey) → IsRingOf text ring → IsRingOf text other → ring ≡ other) (good-ring : (text : List ℕ) (ring : List RingKey) (fault : KeyFault) → IsRingOf text ring → IsFaultOf text fault → fault ≡ faults.Memory) where
-  no-fault-at : (text : List ℕ) (ring : List RingKey) (line : ℕ) → IsRingOf text ring → HasFaultAt text line → ⊥
-  no-fault-at text ring line is h = subst (IsFaultAt line) (good-ring text ring h.0 is h.1) h.2
+  no-fault-at : (text : List ℕ) (ring : List RingKey) (line : ℕ) → IsRingOf text ring → IsRefusedAt text line → ⊥
+  no-fault-at text ring line is h = let none : None ≡ Some line = sym (ap line_of (good-ring text ring h.fault is h.its)) ∙ h.on in cc
 
   module _ {F N C D : Type 0} (options : CallOptions) (files : Files F) (around : Around N C D) (said : Status) (due : List ℕ) where
     -- ---- the input
@@ -71,7 +72,7 @@ module _ (one-script : (text : List ℕ) (calls others : List ScriptCall) → Sp
     file_taken calls (inr (other, gave, owes)) =
         if-both (files.told files.before) _ _ (λ told named text is. inr (subst (λ (t : List ℕ). OwesToKeyFile options calls t around said due) (is other named) owes)) gave.named
 
-    pub file_refused : (calls : List ScriptCall) (text : List ℕ) (line : ℕ) → OwesToKeyFile options calls text around said due → HasFaultAt text line → said ≡ status.KeysRefused
+    pub file_refused : (calls : List ScriptCall) (text : List ℕ) (line : ℕ) → OwesToKeyFile options calls text around said due → IsRefusedAt text line → said ≡ status.KeysRefused
     file_refused calls text line (inl r) bad = r.said
     file_refused calls text line (inr (ring, is, owes)) bad = absurd (no-fault-at text ring line is bad)
 

@@ -1,6 +1,8 @@
 -- Words of private contracts, which are no promise of this crate.
-use Rattle.std.specs.Prelude.{◌≡◌, ◌↔◌, ℕ, true, false, Option, Some, None, Result, Ok, Err, List}
+use Rattle.std.specs.Prelude.{◌≡◌, ◌⊎◌, ℕ, true, Option, Some, None, Result, Ok, Err, List}
 use Rattle.auth_keys.specs.declared.ring.RingKey.{RingKey}
+use Rattle.call_script.specs.Scripts.{Spells}
+use Rattle.call_script.specs.declared.script.ScriptCall.{ScriptCall}
 use Rattle.client_core.specs.Keys.{Keys}
 use Rattle.client_core.specs.declared.holder.Holder.{Holder}
 use Rattle.client_node.specs.Course.{Course, is_decided}
@@ -15,8 +17,9 @@ use Rattle.statuses.specs.declared.status.Status.{Status}
 use Rattle.statuses.specs.declared.status.Status.TheVariants as status
 use Rattle.world_rules.specs.Report.{fault_text}
 use Rattle.world_text.specs.Faults.{fault_of}
-use Rattle.calling.specs.Owed.{Around, IsOffline, plan_of, rules_under}
-use Rattle.calling.specs.Table.{TellsBatch, are_done}
+use Rattle.calling.specs.Keys.{keys_for}
+use Rattle.calling.specs.Owed.{Around, Files, HasCause, IsBefore, IsOffline, LeftBatch, LeftUnderFile, plan_of, rules_under}
+use Rattle.calling.specs.Table.{TellsBatch}
 use Rattle.calling.specs.declared.asking.Untaken.{Untaken}
 use Rattle.calling.specs.declared.keys.Acting.{Acting}
 use Rattle.calling.specs.declared.keys.Acting.TheVariants.{Perm, Temp}
@@ -49,6 +52,27 @@ pub record RanFrom {N C D : Type 0} (options : CallOptions) (ring : List RingKey
   pub left : Client
   pub its : left ≡ (after_all (rules_under ring around) (plan_of options) course trace.attempts).client
   pub told : TellsBatch end (calls_of left) one due
-  pub done : (one ≡ status.Done) ↔ (are_done (calls_of left) ≡ true)
-  pub not_all : (one ≡ status.NotAllDone) ↔ ((is_decided left ≡ true) × (are_done (calls_of left) ≡ false))
+  pub cause : HasCause (rules_under ring around) (plan_of options) course trace.attempts left one
   pub decided : is_decided course.client ≡ true → IsOffline around × (end ≡ batch.Decided) × (calls_of left ≡ calls_of course.client)
+
+-- a batch was left that began as this course
+pub record LeftFrom {N C D : Type 0} (options : CallOptions) (ring : List RingKey) (course : Course D) (around : Around N C D) : Type 0 where
+  pub end : Batch
+  pub kept : Holder
+  pub trace : ClientTrace (rules_under ring around) (plan_of options) course end (around.calls around.net) (around.calls around.net_then) (around.given around.clock) (around.given around.clock_then) kept around.draw_then
+
+-- ---- where memory runs out: no batch was begun, or one was left, by what was read
+
+abbrev pub LeavesKeys : {N C D : Type 0} → CallOptions → List ScriptCall → List RingKey → Keys → Around N C D → Type 0
+LeavesKeys options calls ring keys around = IsBefore around ⊎ LeftBatch options calls ring keys around
+
+abbrev pub LeavesRing : {N C D : Type 0} → CallOptions → List ScriptCall → List RingKey → Around N C D → Type 0
+LeavesRing options calls ring around =
+    IsBefore around ⊎ ((keys : Keys) × (keys_for ring options.key options.perm ≡ Some keys) × LeftBatch options calls ring keys around)
+
+abbrev pub LeavesScript : {F N C D : Type 0} → CallOptions → List ScriptCall → Files F → Around N C D → Type 0
+LeavesScript options calls files around = IsBefore around ⊎ LeftUnderFile options calls files around
+
+abbrev pub LeavesText : {F N C D : Type 0} → CallOptions → List ℕ → Files F → Around N C D → Type 0
+LeavesText options text files around =
+    IsBefore around ⊎ ((calls : List ScriptCall) × Spells text calls × LeftUnderFile options calls files around)

@@ -1,24 +1,24 @@
 -- What a run of `call` owes to what it read: the status and the text that are due, in the order of its checks.
-use Rattle.std.specs.Prelude.{◌≡◌, ◌<◌, ◌≤◌, ◌⊎◌, ◌↔◌, ℕ, true, false, Option, Some, None, IfSome, IsSomeAnd, codes, decimal, List, [], ◌∷◌, ◌++◌, length}
-use Rattle.std.specs.List.{Contains}
-use Rattle.auth_keys.specs.KeyFile.{IsFaultOf, IsRingOf}
-use Rattle.auth_keys.specs.declared.fault.KeyFault.{KeyFault}
-use Rattle.auth_keys.specs.declared.fault.KeyFault.TheVariants as faults
+use Rattle.std.specs.Prelude.{◌≡◌, ◌<◌, ◌≤◌, ◌⊎◌, ◌↔◌, ℕ, true, false, Option, Some, None, IfSome, IsSomeAnd, codes, List, [], ◌∷◌, length}
+use Rattle.auth_keys.specs.KeyFile.{IsRingOf}
 use Rattle.auth_keys.specs.declared.ring.RingKey.{RingKey}
 use Rattle.call_script.specs.Scripts.{HasBadLine, Spells}
 use Rattle.call_script.specs.declared.script.ScriptCall.{ScriptCall}
 use Rattle.client_core.specs.Keys.{Keys}
 use Rattle.client_core.specs.declared.holder.Holder.{Holder}
 use Rattle.client_node.specs.Course.{Course, Opening, is_decided}
+use Rattle.client_node.specs.Ends.{batch_by}
 use Rattle.client_node.specs.Talks.{Rules, rules_of}
-use Rattle.client_node.specs.Trace.{ClientTrace, after_all}
+use Rattle.client_node.specs.Trace.{AreLost, Attempt, ClientTrace, after_all, end_of_attempt}
 use Rattle.client_node.specs.declared.plan.Batch.{Batch}
+use Rattle.client_node.specs.declared.plan.Batch.TheVariants as batch
 use Rattle.client_node.specs.declared.plan.Plan.{Plan}
 use Rattle.client_rules.specs.Asking.{Fault}
 use Rattle.client_rules.specs.Client.{Client, calls_of}
 use Rattle.commands.specs.declared.command.CallOptions.{CallOptions}
 use Rattle.draws.specs.Draws.{draw_after, word_after}
 use Rattle.envelope.specs.Lock.{mt_lock}
+use Rattle.key_files.specs.Files.{AsksOnce, HasFile, IsRefusedAt, not_read, refused_at}
 use Rattle.mt_edge.specs.Faults.{Rose}
 use Rattle.mt_edge.specs.Files.{FilesTold}
 use Rattle.mt_edge.specs.declared.net_call.NetCall.{NetCall}
@@ -41,11 +41,13 @@ pub record Files (F : Type 0) : Type 0 where
   pub before : F
   pub after : F
 
+-- these parts of them
+abbrev pub files_of : {F : Type 0} → (F → Option FilesTold) → (F → ℕ) → F → F → Files F
+files_of told faults before after = record { told = told; faults = faults; before = before; after = after }
+
 -- they were asked once, for the file of this name
 abbrev pub AskedFor : {F : Type 0} → List ℕ → Files F → Type 0
-AskedFor name files =
-    IfSome (files.told files.after) (λ after. IsSomeAnd (files.told files.before) (λ before.
-    (after.files ≡ before.files) × (after.asked ≡ before.asked ++ name ∷ [])))
+AskedFor name files = IfSome (files.told files.after) (λ after. IsSomeAnd (files.told files.before) (λ before. AsksOnce name before after))
 
 -- a read of them failed, and was counted
 abbrev pub FileFault : {F : Type 0} → Files F → Type 0
@@ -54,7 +56,7 @@ FileFault files = Rose (files.faults files.before) (files.faults files.after)
 -- they gave this text for that name: it is that of a file of this name, where they tell
 pub record Gave {F : Type 0} (name : List ℕ) (files : Files F) (text : List ℕ) : Type 0 where
   pub asked : AskedFor name files
-  pub named : IfSome (files.told files.before) (λ told. Contains told.files (record { name = name; contents = text }))
+  pub named : HasFile (files.told files.before) name text
   pub no_fault : files.faults files.after ≡ files.faults files.before
 
 -- What is around a batch, before a run and after it: a net, with the calls and faults that it tells, a clock, with the moments that
@@ -70,6 +72,22 @@ pub record Around (N C D : Type 0) : Type 0 where
   pub clock_then : C
   pub draw : D
   pub draw_then : D
+
+-- these parts of it
+abbrev pub around_of : {N C D : Type 0} → (N → Option (List NetCall)) → (N → ℕ) → (C → Option (List ℕ)) → (D → ℕ × D) → N → N → C → C → D → D → Around N C D
+around_of calls faults given step net net_then clock clock_then draw draw_then =
+    record {
+      calls = calls;
+      faults = faults;
+      given = given;
+      step = step;
+      net = net;
+      net_then = net_then;
+      clock = clock;
+      clock_then = clock_then;
+      draw = draw;
+      draw_then = draw_then;
+    }
 
 -- nothing was connected to, and the clock wasn't asked
 pub record IsOffline {N C D : Type 0} (around : Around N C D) : Type 0 where
@@ -109,6 +127,29 @@ pub record RefusesCall {N C D : Type 0} (calls : List ScriptCall) (around : Arou
   pub said : one ≡ status.InputRefused
   pub told : due ≡ refusal_line line (fault_text fault)
 
+-- the last of these attempts to connect ended as a batch ends so
+abbrev pub LastEnds : List Attempt → Batch → Type 0
+LastEnds [] end = ⊥
+LastEnds (last ∷ earlier) end = batch_by (end_of_attempt last) ≡ end
+
+-- it was lost, and as many connections before it as may be
+abbrev pub LostTooMany : {D : Type 0} → Rules D → Plan → Course D → List Attempt → Type 0
+LostTooMany rules plan course [] = ⊥
+LostTooMany rules plan course (last ∷ earlier) =
+    LastEnds (last ∷ earlier) batch.LinkLost × AreLost rules plan course earlier × (length earlier ≡ plan.retries)
+
+-- Each status of a batch that was told has its cause in what the batch did, and comes there and nowhere else.
+pub record HasCause {D : Type 0} (rules : Rules D) (plan : Plan) (course : Course D) (attempts : List Attempt) (left : Client) (one : Status) : Type 0 where
+  -- each call is done; each is decided, and one isn't done
+  pub done : (one ≡ status.Done) ↔ (are_done (calls_of left) ≡ true)
+  pub not_all : (one ≡ status.NotAllDone) ↔ ((is_decided left ≡ true) × (are_done (calls_of left) ≡ false))
+  -- more connections were lost than may be
+  pub link_lost : (one ≡ status.LinkLost) ↔ LostTooMany rules plan course attempts
+  -- the last connection gave as many pieces as one gives, and a call isn't decided
+  pub turns_spent : (one ≡ status.TurnsSpent) ↔ LastEnds attempts batch.TurnsSpent
+  -- the last connection ended as there may be no further numbers for what the client had to send
+  pub numbers_spent : (one ≡ status.NumbersSpent) ↔ LastEnds attempts batch.Spent
+
 -- Each call is taken, and the batch was run. It ended so; what it did is the trace of the client that was given the calls, and
 -- what became of these is told.
 pub record RanBatch {N C D : Type 0} (options : CallOptions) (calls : List ScriptCall) (ring : List RingKey) (keys : Keys) (around : Around N C D) (one : Status) (due : List ℕ) : Type 0 where
@@ -120,11 +161,22 @@ pub record RanBatch {N C D : Type 0} (options : CallOptions) (calls : List Scrip
   pub left : Client
   pub its : left ≡ (after_all (rules_under ring around) (plan_of options) (begins keys calls around) trace.attempts).client
   pub told : TellsBatch end (calls_of left) one due
-  -- it is `Done` exactly where each call is done, and `NotAllDone` exactly where each is decided and one isn't done
-  pub done : (one ≡ status.Done) ↔ (are_done (calls_of left) ≡ true)
-  pub not_all : (one ≡ status.NotAllDone) ↔ ((is_decided left ≡ true) × (are_done (calls_of left) ≡ false))
+  pub cause : HasCause (rules_under ring around) (plan_of options) (begins keys calls around) trace.attempts left one
   -- with no call it connects to nothing, and nothing is told
   pub no_call : calls ≡ [] → (one ≡ status.Done) × (due ≡ []) × IsOffline around
+
+-- Each call is taken, and memory ran out in the batch, or behind it, before what became of the calls was told. It ended so, and
+-- what it did is the trace of the client that was given the calls.
+pub record LeftBatch {N C D : Type 0} (options : CallOptions) (calls : List ScriptCall) (ring : List RingKey) (keys : Keys) (around : Around N C D) : Type 0 where
+  pub taken : untaken calls ≡ None
+  pub end : Batch
+  pub kept : Holder
+  pub trace : ClientTrace (rules_under ring around) (plan_of options) (begins keys calls around) end (around.calls around.net) (around.calls around.net_then) (around.given around.clock) (around.given around.clock_then) kept around.draw_then
+
+-- no batch was begun: nothing was connected to, the clock wasn't asked, and the session number alone was drawn, or no word
+pub record IsBefore {N C D : Type 0} (around : Around N C D) : Type 0 where
+  pub offline : IsOffline around
+  pub drawn : (around.draw_then ≡ around.draw) ⊎ (around.draw_then ≡ draw_after around.step 1 around.draw)
 
 -- ---- in the order of the checks
 
@@ -143,22 +195,13 @@ OwesToRing options calls ring around one due =
     LacksKey options ring around one due
     ⊎ ((keys : Keys) × (keys_for ring options.key options.perm ≡ Some keys) × OwesToKeys options calls ring keys around one due)
 
--- the text of a key file has its first fault on this line
-abbrev pub IsFaultAt : ℕ → KeyFault → Type 0
-IsFaultAt line (faults.BadLine number) = number ≡ line
-IsFaultAt line (faults.TooMany number) = number ≡ line
-IsFaultAt line (faults.SameId number first) = number ≡ line
-IsFaultAt line faults.Memory = ⊥
-
-abbrev pub HasFaultAt : List ℕ → ℕ → Type 0
-HasFaultAt text line = (fault : KeyFault) × IsFaultOf text fault × IsFaultAt line fault
-
+-- a line of the key file is refused
 pub record RefusesKeyFile {N C D : Type 0} (text : List ℕ) (around : Around N C D) (one : Status) (due : List ℕ) : Type 0 where
   pub line : ℕ
-  pub fault : HasFaultAt text line
+  pub fault : IsRefusedAt text line
   pub idle : IsIdle around
   pub said : one ≡ status.KeysRefused
-  pub told : due ≡ codes "key file refused at line " ++ decimal line ++ codes "\n"
+  pub told : due ≡ refused_at line
 
 abbrev pub OwesToKeyFile : {N C D : Type 0} → CallOptions → List ScriptCall → List ℕ → Around N C D → Status → List ℕ → Type 0
 OwesToKeyFile options calls text around one due =
@@ -170,7 +213,7 @@ pub record ReadsNoKeys {F N C D : Type 0} (options : CallOptions) (files : Files
   pub fault : FileFault files
   pub idle : IsIdle around
   pub said : one ≡ status.KeysRefused
-  pub told : due ≡ codes "key file not read\n"
+  pub told : due ≡ not_read
 
 abbrev pub OwesToScript : {F N C D : Type 0} → CallOptions → List ScriptCall → Files F → Around N C D → Status → List ℕ → Type 0
 OwesToScript options calls files around one due =
@@ -207,3 +250,27 @@ pub record IsRead {S : Type 0} (input : Outside S) (text : List ℕ) : Type 0 wh
 abbrev pub Owes : {S F N C D : Type 0} → CallOptions → Outside S → Files F → Around N C D → Status → List ℕ → Type 0
 Owes options input files around one due =
     RefusesInput input files around one due ⊎ ((text : List ℕ) × IsRead input text × OwesToText options text files around one due)
+
+-- ---- where memory runs out
+
+-- the key file is that of a ring with the keys, and a batch under these was left
+pub record LeftUnderFile {F N C D : Type 0} (options : CallOptions) (calls : List ScriptCall) (files : Files F) (around : Around N C D) : Type 0 where
+  pub text : List ℕ
+  pub gave : Gave options.keys files text
+  pub ring : List RingKey
+  pub its : IsRingOf text ring
+  pub keys : Keys
+  pub found : keys_for ring options.key options.perm ≡ Some keys
+  pub left : LeftBatch options calls ring keys around
+
+-- the input is a script, and a batch of its calls was left
+pub record LeavesBatch {S F N C D : Type 0} (options : CallOptions) (input : Outside S) (files : Files F) (around : Around N C D) : Type 0 where
+  pub text : List ℕ
+  pub read : IsRead input text
+  pub calls : List ScriptCall
+  pub spelt : Spells text calls
+  pub left : LeftUnderFile options calls files around
+
+-- no batch was begun, or one was left
+abbrev pub RunsOut : {S F N C D : Type 0} → CallOptions → Outside S → Files F → Around N C D → Type 0
+RunsOut options input files around = IsBefore around ⊎ LeavesBatch options input files around

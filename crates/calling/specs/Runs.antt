@@ -8,6 +8,7 @@ use Rattle.call_script.specs.declared.script.ScriptCall.{ScriptCall}
 use Rattle.client_core.specs.Keys.{Keys}
 use Rattle.client_rules.specs.Asking.{Fault}
 use Rattle.commands.specs.declared.command.CallOptions.{CallOptions}
+use Rattle.key_files.specs.Files.{IsRefusedAt}
 use Rattle.mt_edge.specs.declared.key_files.NamedFile.{NamedFile}
 use Rattle.mt_edge.specs.declared.net_call.NetCall.{NetCall}
 use Rattle.mt_edge.specs.declared.net_call.NetCall.TheVariants.{Listen, Connect, Accept}
@@ -18,7 +19,7 @@ use Rattle.statuses.specs.Statuses.{UnlessFault}
 use Rattle.statuses.specs.declared.status.Status.{Status}
 use Rattle.statuses.specs.declared.status.Status.TheVariants as status
 use Rattle.calling.specs.Keys.{keys_for}
-use Rattle.calling.specs.Owed.{AskedFor, Around, FileFault, Files, HasFaultAt, IsIdle, Owes, RanBatch}
+use Rattle.calling.specs.Owed.{AskedFor, Around, FileFault, Files, IsIdle, Owes, RanBatch, RunsOut}
 use Rattle.calling.specs.Script.{untaken}
 
 -- ---- what is there to be read, where it is told
@@ -90,12 +91,12 @@ IsOfCall one =
     ⊎ (one ≡ status.TurnsSpent) ⊎ (one ≡ status.NumbersSpent)
 
 -- the status and the text that are due to what was read are told; or none is, since a read of the input failed, and nothing else
--- was touched; or since memory ran out
+-- was touched; or since memory ran out, and then what a batch did before is its trace
 abbrev pub IsTold : {S O F N C D : Type 0} → CallOptions → Outside S → Outside O → Files F → Around N C D → Status → Type 0
 IsTold options input out files around one =
     ((said : Status) × (due : List ℕ) × Owes options input files around said due × Tells out said due one)
     ⊎ ((one ≡ status.ReadFault) × HadFault input × IsUntouched out × (files.after ≡ files.before) × IsIdle around)
-    ⊎ ((one ≡ status.Memory) × IsUntouched out)
+    ⊎ ((one ≡ status.Memory) × IsUntouched out × RunsOut options input files around)
 
 pub record CallRun {S O F N C D : Type 0} (options : CallOptions) (input : Outside S) (out : Outside O) (files : Files F) (around : Around N C D) (one : Status) : Type 0 where
   -- it ends by one of these
@@ -110,7 +111,7 @@ pub record CallRun {S O F N C D : Type 0} (options : CallOptions) (input : Outsi
   pub not_taken : IfScript input (λ calls. IfFile files options.keys (λ text. (ring : List RingKey) (keys : Keys) → IsLawful options text ring keys
       → (line : ℕ) (fault : Fault) → untaken calls ≡ Some (line, fault) → UnlessNotRead files one status.InputRefused))
   -- Keys are refused where the key file has a fault, and where it lacks a key.
-  pub no_ring : IfScript input (λ calls. IfFile files options.keys (λ text. (line : ℕ) → HasFaultAt text line → UnlessFault one status.KeysRefused))
+  pub no_ring : IfScript input (λ calls. IfFile files options.keys (λ text. (line : ℕ) → IsRefusedAt text line → UnlessFault one status.KeysRefused))
   pub no_key : IfScript input (λ calls. IfFile files options.keys (λ text. (ring : List RingKey) → IsRingOf text ring
       → keys_for ring options.key options.perm ≡ None → UnlessFault one status.KeysRefused))
   -- Where script, key file, keys and calls are taken and no read and no write failed, the batch was run and what became of it is

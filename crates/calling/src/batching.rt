@@ -1,12 +1,13 @@
 //! The batch of a client, and what is told of it.
 
-ghost use Rattle.std.specs.Prelude.{◌≡◌, ◌≢◌, ◌++◌, true, IfOk};
+ghost use Rattle.std.specs.Prelude.{◌≡◌, ◌≢◌, ◌++◌, true, IfErr, IfOk};
 ghost use Rattle.client_core.specs.Keys.{HasKeys, keys_in};
 ghost use Rattle.client_node.specs.Course.{Course};
 ghost use Rattle.client_node.specs.Standing.{StandsAs, StandsFor};
 ghost use Rattle.client_rules.specs.Client.{Client, calls_of};
 ghost use Rattle.transport.specs.declared.form.Form.TheVariants as forms;
-ghost use Rattle.calling.specs.Inner.{RanFrom};
+ghost use Rattle.calling.specs.Inner.{LeftFrom, RanFrom};
+ghost use Rattle.calling.specs.Owed.{around_of};
 ghost use Rattle.calling.specs.Runs.{UsesNet};
 ghost use Rattle.calling.specs.Table.{TellsBatch, are_done, decided_status, table};
 
@@ -40,10 +41,12 @@ pub(crate) fn run<N: Net, C: Clock, D: Draw>(
     requires full_is_plain { options.now.obfuscate ≡ true → options.now.form ≢ forms.Full }
     requires keys { HasKeys ring (keys_in client) }
     ensures ran { (course : Course D) → StandsAs (Holder.Opening client) draw.old course → IfOk result (λ answer. RanFrom options.now ring course
-        (record { calls = N.calls; faults = N.faults; given = C.given; step = D.step; net = net.old; net_then = net.new; clock = clock.old; clock_then = clock.new; draw = draw.old; draw_then = draw.new })
+        (around_of N.calls N.faults C.given D.step net.old net.new clock.old clock.new draw.old draw.new)
         answer.status answer.text) }
+    ensures left { (course : Course D) → StandsAs (Holder.Opening client) draw.old course → IfErr result (λ _. LeftFrom options.now ring course
+        (around_of N.calls N.faults C.given D.step net.old net.new clock.old clock.new draw.old draw.new)) }
     ensures connects { UsesNet options.now
-        (record { calls = N.calls; faults = N.faults; given = C.given; step = D.step; net = net.old; net_then = net.new; clock = clock.old; clock_then = clock.new; draw = draw.old; draw_then = draw.new }) }
+        (around_of N.calls N.faults C.given D.step net.old net.new clock.old clock.new draw.old draw.new) }
 {
     packets_open_as_worked_out();
     let plan = Plan {

@@ -3,7 +3,7 @@
 ghost use Rattle.std.specs.Prelude.{◌≡◌, ◌≢◌, ◌⊎◌, true, Err, IfOk};
 ghost use Rattle.statuses.specs.Outside.{HadFault};
 ghost use Rattle.transport.specs.declared.form.Form.TheVariants as forms;
-ghost use Rattle.calling.specs.Owed.{AskedFor, IsIdle, Owes};
+ghost use Rattle.calling.specs.Owed.{AskedFor, IsIdle, Owes, RunsOut, around_of, files_of};
 ghost use Rattle.calling.specs.Runs.{CallRun, UsesNet};
 
 use crate::checking::answer_to_text;
@@ -40,8 +40,8 @@ pub fn run_call<S: Source, O: Sink, F: KeyFiles, N: Net, C: Clock, D: Draw>(
     ensures { CallRun options.now
         (record { told = S.left; faults = S.faults; before = input.old; after = input.new })
         (record { told = O.written; faults = O.faults; before = out.old; after = out.new })
-        (record { told = F.told; faults = F.faults; before = files.old; after = files.new })
-        (record { calls = N.calls; faults = N.faults; given = C.given; step = D.step; net = net.old; net_then = net.new; clock = clock.old; clock_then = clock.new; draw = draw.old; draw_then = draw.new })
+        (files_of F.told F.faults files.old files.new)
+        (around_of N.calls N.faults C.given D.step net.old net.new clock.old clock.new draw.old draw.new)
         result }
 {
     one_script();
@@ -66,16 +66,20 @@ fn answer<S: Source, F: KeyFiles, N: Net, C: Clock, D: Draw>(
     requires { options.now.obfuscate ≡ true → options.now.form ≢ forms.Full }
     ensures owed { IfOk result (λ answer. Owes options.now
         (record { told = S.left; faults = S.faults; before = input.old; after = input.new })
-        (record { told = F.told; faults = F.faults; before = files.old; after = files.new })
-        (record { calls = N.calls; faults = N.faults; given = C.given; step = D.step; net = net.old; net_then = net.new; clock = clock.old; clock_then = clock.new; draw = draw.old; draw_then = draw.new })
+        (files_of F.told F.faults files.old files.new)
+        (around_of N.calls N.faults C.given D.step net.old net.new clock.old clock.new draw.old draw.new)
         answer.status answer.text) }
     ensures read_fault { result ≡ Err Stop.ReadFault → HadFault (record { told = S.left; faults = S.faults; before = input.old; after = input.new }) }
+    ensures left { result ≡ Err Stop.Memory → RunsOut options.now
+        (record { told = S.left; faults = S.faults; before = input.old; after = input.new })
+        (files_of F.told F.faults files.old files.new)
+        (around_of N.calls N.faults C.given D.step net.old net.new clock.old clock.new draw.old draw.new) }
     ensures unasked { result ≡ Err Stop.ReadFault → files.new ≡ files.old }
     ensures idle { result ≡ Err Stop.ReadFault → IsIdle
-        (record { calls = N.calls; faults = N.faults; given = C.given; step = D.step; net = net.old; net_then = net.new; clock = clock.old; clock_then = clock.new; draw = draw.old; draw_then = draw.new }) }
-    ensures asked { AskedFor options.now.keys (record { told = F.told; faults = F.faults; before = files.old; after = files.new }) ⊎ (files.new ≡ files.old) }
+        (around_of N.calls N.faults C.given D.step net.old net.new clock.old clock.new draw.old draw.new) }
+    ensures asked { AskedFor options.now.keys (files_of F.told F.faults files.old files.new) ⊎ (files.new ≡ files.old) }
     ensures connects { UsesNet options.now
-        (record { calls = N.calls; faults = N.faults; given = C.given; step = D.step; net = net.old; net_then = net.new; clock = clock.old; clock_then = clock.new; draw = draw.old; draw_then = draw.new }) }
+        (around_of N.calls N.faults C.given D.step net.old net.new clock.old clock.new draw.old draw.new) }
 {
     match read_all(alloc, input, SCRIPT_BYTES_MAX) {
         Ok(text) => Ok(answer_to_text(alloc, options, text.as_slice(), files, net, clock, draw)?),

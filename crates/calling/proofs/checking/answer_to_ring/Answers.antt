@@ -1,9 +1,9 @@
-use Rattle.std.proofs.Common.{refl, sym}
+use Rattle.std.proofs.Common.{inl, refl, sym}
 use Rattle.calling.specs.Inner.{keys_of}
-use Rattle.calling.specs.Owed.{Around}
+use Rattle.calling.specs.Owed.{around_of}
 use Rattle.calling.proofs.BatchLemmas.{idle_net}
 use Rattle.calling.proofs.KeyLemmas.{keys_are_there}
-use Rattle.calling.proofs.Steps.{owes_keys, owes_no_key}
+use Rattle.calling.proofs.Steps.{before_idle, if_err, leaves_keys, owes_keys, owes_no_key}
 use Rattle.calling.proofs.checking.answer_to_ring.Goals as goal
 
 pub answer_under-requires-clause-keys : goal.answer_under-requires-clause-keys
@@ -12,51 +12,25 @@ answer_under-requires-clause-keys g c =
 
 pub returns-in-Some-clause-owed : goal.returns-in-Some-clause-owed
 returns-in-Some-clause-owed g c =
-    let around : Around g.row.N.Denot g.row.C.Denot g.row.D.Denot =
-    record {
-      calls = g.N.Net.calls;
-      faults = g.N.Net.faults;
-      given = g.C.Clock.given;
-      step = g.D.Draw.step;
-      net = c.args.net.now;
-      net_then = c.answer_under.new.net;
-      clock = c.args.clock.now;
-      clock_then = c.answer_under.new.clock;
-      draw = c.args.draw.now;
-      draw_then = c.answer_under.new.draw;
-    } in
+    let around = around_of g.N.Net.calls g.N.Net.faults g.C.Clock.given g.D.Draw.step c.args.net.now c.answer_under.new.net c.args.clock.now c.answer_under.new.clock c.args.draw.now c.answer_under.new.draw in
     owes_keys c.args.options.now c.args.script.now around c.answer_under.result c.args.ring c.in-Some.keys c.in-Some.ensures.keys c.answer_under.ensures.owed
 
 pub returns-in-None-clause-owed : goal.returns-in-None-clause-owed
 returns-in-None-clause-owed g c =
-    let around : Around g.row.N.Denot g.row.C.Denot g.row.D.Denot =
-    record {
-      calls = g.N.Net.calls;
-      faults = g.N.Net.faults;
-      given = g.C.Clock.given;
-      step = g.D.Draw.step;
-      net = c.args.net.now;
-      net_then = c.args.net.now;
-      clock = c.args.clock.now;
-      clock_then = c.args.clock.now;
-      draw = c.args.draw.now;
-      draw_then = c.args.draw.now;
-    } in
+    let around = around_of g.N.Net.calls g.N.Net.faults g.C.Clock.given g.D.Draw.step c.args.net.now c.args.net.now c.args.clock.now c.args.clock.now c.args.draw.now c.args.draw.now in
     owes_no_key c.args.options.now c.args.script.now around c.new.result c.args.ring c.in-None.ensures.keys (record { offline = record { net = refl; clock = refl }; draw = refl }) c.new.ensures.status c.new.ensures.text
 
 pub returns-in-None-clause-connects : goal.returns-in-None-clause-connects
 returns-in-None-clause-connects g c =
-    let around : Around g.row.N.Denot g.row.C.Denot g.row.D.Denot =
-    record {
-      calls = g.N.Net.calls;
-      faults = g.N.Net.faults;
-      given = g.C.Clock.given;
-      step = g.D.Draw.step;
-      net = c.args.net.now;
-      net_then = c.args.net.now;
-      clock = c.args.clock.now;
-      clock_then = c.args.clock.now;
-      draw = c.args.draw.now;
-      draw_then = c.args.draw.now;
-    } in
+    let around = around_of g.N.Net.calls g.N.Net.faults g.C.Clock.given g.D.Draw.step c.args.net.now c.args.net.now c.args.clock.now c.args.clock.now c.args.draw.now c.args.draw.now in
     idle_net c.args.options.now around refl
+
+pub returns-in-Some-clause-left : goal.returns-in-Some-clause-left
+returns-in-Some-clause-left g c =
+    let around = around_of g.N.Net.calls g.N.Net.faults g.C.Clock.given g.D.Draw.step c.args.net.now c.answer_under.new.net c.args.clock.now c.answer_under.new.clock c.args.draw.now c.answer_under.new.draw in
+    leaves_keys c.args.options.now c.args.script.now around c.answer_under.result c.args.ring c.in-Some.keys c.in-Some.ensures.keys c.answer_under.ensures.left
+
+pub returns-in-None-clause-left : goal.returns-in-None-clause-left
+returns-in-None-clause-left g c =
+    let around = around_of g.N.Net.calls g.N.Net.faults g.C.Clock.given g.D.Draw.step c.args.net.now c.args.net.now c.args.clock.now c.args.clock.now c.args.draw.now c.args.draw.now in
+    if_err c.new.result _ (inl (before_idle around (record { offline = record { net = refl; clock = refl }; draw = refl })))

@@ -1,97 +1,86 @@
-use Rattle.std.proofs.Common.{ℕ, List, refl, subst, sym}
-use Rattle.calling.specs.Owed.{AskedFor, Around, Files, Gave}
+use Rattle.std.proofs.Common.{inl, refl}
+use Rattle.calling.specs.Owed.{around_of, files_of}
 use Rattle.calling.proofs.BatchLemmas.{idle_net}
-use Rattle.calling.proofs.Steps.{asks_for, gives, owes_file, owes_no_file, rises}
+use Rattle.calling.proofs.Steps.{asked_by, before_idle, gave_by, if_err, leaves_ring, owes_bad_file, owes_no_file, owes_ring, rises}
 use Rattle.calling.proofs.checking.answer_to_script.Goals as goal
 
-pub returns-in-Contents-clause-owed : goal.returns-in-Contents-clause-owed
-returns-in-Contents-clause-owed g c =
-    let around : Around g.row.N.Denot g.row.C.Denot g.row.D.Denot =
-    record {
-      calls = g.N.Net.calls;
-      faults = g.N.Net.faults;
-      given = g.C.Clock.given;
-      step = g.D.Draw.step;
-      net = c.args.net.now;
-      net_then = c.answer_to_keys.new.net;
-      clock = c.args.clock.now;
-      clock_then = c.answer_to_keys.new.clock;
-      draw = c.args.draw.now;
-      draw_then = c.answer_to_keys.new.draw;
-    } in
-    let files : Files g.row.F.Denot = record { told = g.F.KeyFiles.told; faults = g.F.KeyFiles.faults; before = c.args.files.now; after = c.read.new.self } in
-    let gave = gives c.as_str.result.now c.in-Contents.text files c.in-Contents.ensures.told c.in-Contents.ensures.goes_on c.in-Contents.ensures.counted in
-    let named = subst (λ (name : List ℕ). Gave name files c.in-Contents.text) c.as_str.ensures gave in
-    owes_file c.args.options.now c.args.script.now around c.answer_to_keys.result files c.as_slice.result.now
-    (subst (λ (text : List ℕ). Gave c.args.options.now.keys files text) (sym c.as_slice.ensures.value) named) c.answer_to_keys.ensures.owed
+pub returns-in-Ok-clause-owed : goal.returns-in-Ok-clause-owed
+returns-in-Ok-clause-owed g c =
+    let around = around_of g.N.Net.calls g.N.Net.faults g.C.Clock.given g.D.Draw.step c.args.net.now c.answer_to_ring.new.net c.args.clock.now c.answer_to_ring.new.clock c.args.draw.now c.answer_to_ring.new.draw in
+    let files = files_of g.F.KeyFiles.told g.F.KeyFiles.faults c.args.files.now c.read_ring.new.files in
+    let given = c.in-Ok.ensures.gives in
+    owes_ring c.args.options.now c.args.script.now around c.answer_to_ring.result files c.in-Ok.ring given.0
+    (gave_by c.as_str.result.now c.args.options.now.keys files given.0 c.as_str.ensures c.read_ring.ensures.asked given.1 c.in-Ok.ensures.counted) given.2 c.answer_to_ring.ensures.owed
 
-pub returns-in-Contents-clause-asked : goal.returns-in-Contents-clause-asked
-returns-in-Contents-clause-asked g c =
-    let files : Files g.row.F.Denot = record { told = g.F.KeyFiles.told; faults = g.F.KeyFiles.faults; before = c.args.files.now; after = c.read.new.self } in
-    let asked = subst (λ (name : List ℕ). AskedFor name files) c.as_str.ensures (asks_for c.as_str.result.now files c.read.result c.read.ensures.told) in
-    asked
+pub returns-in-Ok-clause-left : goal.returns-in-Ok-clause-left
+returns-in-Ok-clause-left g c =
+    let around = around_of g.N.Net.calls g.N.Net.faults g.C.Clock.given g.D.Draw.step c.args.net.now c.answer_to_ring.new.net c.args.clock.now c.answer_to_ring.new.clock c.args.draw.now c.answer_to_ring.new.draw in
+    let files = files_of g.F.KeyFiles.told g.F.KeyFiles.faults c.args.files.now c.read_ring.new.files in
+    let given = c.in-Ok.ensures.gives in
+    leaves_ring c.args.options.now c.args.script.now around c.answer_to_ring.result files c.in-Ok.ring given.0
+    (gave_by c.as_str.result.now c.args.options.now.keys files given.0 c.as_str.ensures c.read_ring.ensures.asked given.1 c.in-Ok.ensures.counted) given.2 c.answer_to_ring.ensures.left
 
-pub returns-in-Failed-clause-owed : goal.returns-in-Failed-clause-owed
-returns-in-Failed-clause-owed g c =
-    let around : Around g.row.N.Denot g.row.C.Denot g.row.D.Denot =
-    record {
-      calls = g.N.Net.calls;
-      faults = g.N.Net.faults;
-      given = g.C.Clock.given;
-      step = g.D.Draw.step;
-      net = c.args.net.now;
-      net_then = c.args.net.now;
-      clock = c.args.clock.now;
-      clock_then = c.args.clock.now;
-      draw = c.args.draw.now;
-      draw_then = c.args.draw.now;
-    } in
-    let files : Files g.row.F.Denot = record { told = g.F.KeyFiles.told; faults = g.F.KeyFiles.faults; before = c.args.files.now; after = c.read.new.self } in
-    let asked = subst (λ (name : List ℕ). AskedFor name files) c.as_str.ensures (asks_for c.as_str.result.now files c.read.result c.read.ensures.told) in
-    owes_no_file c.args.options.now c.args.script.now around c.new.result files asked (rises (g.F.KeyFiles.faults c.args.files.now) (g.F.KeyFiles.faults c.read.new.self) c.in-Failed.ensures.counted) (record { offline = record { net = refl; clock = refl }; draw = refl }) c.new.ensures.status c.new.ensures.text
+pub returns-in-Ok-clause-asked : goal.returns-in-Ok-clause-asked
+returns-in-Ok-clause-asked g c =
+    let files = files_of g.F.KeyFiles.told g.F.KeyFiles.faults c.args.files.now c.read_ring.new.files in
+    asked_by c.as_str.result.now c.args.options.now.keys files c.as_str.ensures c.read_ring.ensures.asked
 
-pub returns-in-Failed-clause-asked : goal.returns-in-Failed-clause-asked
-returns-in-Failed-clause-asked g c =
-    let files : Files g.row.F.Denot = record { told = g.F.KeyFiles.told; faults = g.F.KeyFiles.faults; before = c.args.files.now; after = c.read.new.self } in
-    let asked = subst (λ (name : List ℕ). AskedFor name files) c.as_str.ensures (asks_for c.as_str.result.now files c.read.result c.read.ensures.told) in
-    asked
+pub returns-in-Err-Unread-clause-asked : goal.returns-in-Err-Unread-clause-asked
+returns-in-Err-Unread-clause-asked g c =
+    let files = files_of g.F.KeyFiles.told g.F.KeyFiles.faults c.args.files.now c.read_ring.new.files in
+    asked_by c.as_str.result.now c.args.options.now.keys files c.as_str.ensures c.read_ring.ensures.asked
 
-pub returns-in-Memory-clause-asked : goal.returns-in-Memory-clause-asked
-returns-in-Memory-clause-asked g c =
-    let files : Files g.row.F.Denot = record { told = g.F.KeyFiles.told; faults = g.F.KeyFiles.faults; before = c.args.files.now; after = c.read.new.self } in
-    let asked = subst (λ (name : List ℕ). AskedFor name files) c.as_str.ensures (asks_for c.as_str.result.now files c.read.result c.read.ensures.told) in
-    asked
-
-pub returns-in-Failed-clause-connects : goal.returns-in-Failed-clause-connects
-returns-in-Failed-clause-connects g c =
-    let around : Around g.row.N.Denot g.row.C.Denot g.row.D.Denot =
-    record {
-      calls = g.N.Net.calls;
-      faults = g.N.Net.faults;
-      given = g.C.Clock.given;
-      step = g.D.Draw.step;
-      net = c.args.net.now;
-      net_then = c.args.net.now;
-      clock = c.args.clock.now;
-      clock_then = c.args.clock.now;
-      draw = c.args.draw.now;
-      draw_then = c.args.draw.now;
-    } in
+pub returns-in-Err-Unread-clause-connects : goal.returns-in-Err-Unread-clause-connects
+returns-in-Err-Unread-clause-connects g c =
+    let around = around_of g.N.Net.calls g.N.Net.faults g.C.Clock.given g.D.Draw.step c.args.net.now c.args.net.now c.args.clock.now c.args.clock.now c.args.draw.now c.args.draw.now in
     idle_net c.args.options.now around refl
 
-pub returns-in-Memory-clause-connects : goal.returns-in-Memory-clause-connects
-returns-in-Memory-clause-connects g c =
-    let around : Around g.row.N.Denot g.row.C.Denot g.row.D.Denot =
-    record {
-      calls = g.N.Net.calls;
-      faults = g.N.Net.faults;
-      given = g.C.Clock.given;
-      step = g.D.Draw.step;
-      net = c.args.net.now;
-      net_then = c.args.net.now;
-      clock = c.args.clock.now;
-      clock_then = c.args.clock.now;
-      draw = c.args.draw.now;
-      draw_then = c.args.draw.now;
-    } in
+pub returns-in-Err-Unread-clause-left : goal.returns-in-Err-Unread-clause-left
+returns-in-Err-Unread-clause-left g c =
+    let around = around_of g.N.Net.calls g.N.Net.faults g.C.Clock.given g.D.Draw.step c.args.net.now c.args.net.now c.args.clock.now c.args.clock.now c.args.draw.now c.args.draw.now in
+    if_err c.new.result _ (inl (before_idle around (record { offline = record { net = refl; clock = refl }; draw = refl })))
+
+pub returns-in-Err-Refused-clause-asked : goal.returns-in-Err-Refused-clause-asked
+returns-in-Err-Refused-clause-asked g c =
+    let files = files_of g.F.KeyFiles.told g.F.KeyFiles.faults c.args.files.now c.read_ring.new.files in
+    asked_by c.as_str.result.now c.args.options.now.keys files c.as_str.ensures c.read_ring.ensures.asked
+
+pub returns-in-Err-Refused-clause-connects : goal.returns-in-Err-Refused-clause-connects
+returns-in-Err-Refused-clause-connects g c =
+    let around = around_of g.N.Net.calls g.N.Net.faults g.C.Clock.given g.D.Draw.step c.args.net.now c.args.net.now c.args.clock.now c.args.clock.now c.args.draw.now c.args.draw.now in
     idle_net c.args.options.now around refl
+
+pub returns-in-Err-Refused-clause-left : goal.returns-in-Err-Refused-clause-left
+returns-in-Err-Refused-clause-left g c =
+    let around = around_of g.N.Net.calls g.N.Net.faults g.C.Clock.given g.D.Draw.step c.args.net.now c.args.net.now c.args.clock.now c.args.clock.now c.args.draw.now c.args.draw.now in
+    if_err c.key_file_refused.result _ (inl (before_idle around (record { offline = record { net = refl; clock = refl }; draw = refl })))
+
+pub returns-in-Err-Memory-clause-asked : goal.returns-in-Err-Memory-clause-asked
+returns-in-Err-Memory-clause-asked g c =
+    let files = files_of g.F.KeyFiles.told g.F.KeyFiles.faults c.args.files.now c.read_ring.new.files in
+    asked_by c.as_str.result.now c.args.options.now.keys files c.as_str.ensures c.read_ring.ensures.asked
+
+pub returns-in-Err-Memory-clause-connects : goal.returns-in-Err-Memory-clause-connects
+returns-in-Err-Memory-clause-connects g c =
+    let around = around_of g.N.Net.calls g.N.Net.faults g.C.Clock.given g.D.Draw.step c.args.net.now c.args.net.now c.args.clock.now c.args.clock.now c.args.draw.now c.args.draw.now in
+    idle_net c.args.options.now around refl
+
+pub returns-in-Err-Memory-clause-left : goal.returns-in-Err-Memory-clause-left
+returns-in-Err-Memory-clause-left g c =
+    let around = around_of g.N.Net.calls g.N.Net.faults g.C.Clock.given g.D.Draw.step c.args.net.now c.args.net.now c.args.clock.now c.args.clock.now c.args.draw.now c.args.draw.now in
+    inl (before_idle around (record { offline = record { net = refl; clock = refl }; draw = refl }))
+
+pub returns-in-Err-Unread-clause-owed : goal.returns-in-Err-Unread-clause-owed
+returns-in-Err-Unread-clause-owed g c =
+    let around = around_of g.N.Net.calls g.N.Net.faults g.C.Clock.given g.D.Draw.step c.args.net.now c.args.net.now c.args.clock.now c.args.clock.now c.args.draw.now c.args.draw.now in
+    let files = files_of g.F.KeyFiles.told g.F.KeyFiles.faults c.args.files.now c.read_ring.new.files in
+    owes_no_file c.args.options.now c.args.script.now around c.new.result files (asked_by c.as_str.result.now c.args.options.now.keys files c.as_str.ensures c.read_ring.ensures.asked)
+    (rises (g.F.KeyFiles.faults c.args.files.now) (g.F.KeyFiles.faults c.read_ring.new.files) (rw c.in-Err-Unread.field-0-is at c.in-Err-Unread.ensures.counted)) (record { offline = record { net = refl; clock = refl }; draw = refl }) c.new.ensures.status c.new.ensures.text
+
+pub returns-in-Err-Refused-clause-owed : goal.returns-in-Err-Refused-clause-owed
+returns-in-Err-Refused-clause-owed g c =
+    let around = around_of g.N.Net.calls g.N.Net.faults g.C.Clock.given g.D.Draw.step c.args.net.now c.args.net.now c.args.clock.now c.args.clock.now c.args.draw.now c.args.draw.now in
+    let files = files_of g.F.KeyFiles.told g.F.KeyFiles.faults c.args.files.now c.read_ring.new.files in
+    let given = rw c.in-Err-Refused.field-0-is at c.in-Err-Refused.ensures.gives in
+    owes_bad_file c.args.options.now c.args.script.now around c.key_file_refused.result files given.0 c.in-Err-Refused.line
+    (gave_by c.as_str.result.now c.args.options.now.keys files given.0 c.as_str.ensures c.read_ring.ensures.asked given.1 (rw c.in-Err-Refused.field-0-is at c.in-Err-Refused.ensures.counted)) given.2 (record { offline = record { net = refl; clock = refl }; draw = refl }) c.key_file_refused.ensures.status c.key_file_refused.ensures.text

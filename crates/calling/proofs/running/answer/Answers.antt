@@ -1,8 +1,9 @@
 use Rattle.std.proofs.Common.{ℕ, List, Err, ◌∙◌, ap, inl, inr, refl, subst, sym}
 use Rattle.mt_edge.specs.declared.whole.ReadFault.{ReadFault}
-use Rattle.calling.specs.Owed.{Around, IsRead}
+use Rattle.calling.specs.Owed.{IsRead, around_of, files_of}
 use Rattle.statuses.specs.Outside.{Outside}
 use Rattle.calling.proofs.BatchLemmas.{idle_net}
+use Rattle.calling.proofs.Steps.{before_idle, leaves_text}
 use Rattle.calling.proofs.running.answer.Goals as goal
 
 pub returns-in_ok-answer_to_text-in-Ok-clause-owed : goal.returns-in_ok-answer_to_text-in-Ok-clause-owed
@@ -17,68 +18,38 @@ returns-in_ok-new-in-Err-TooLong-clause-owed g c =
 
 pub returns-in-Err-Failed-clause-connects : goal.returns-in-Err-Failed-clause-connects
 returns-in-Err-Failed-clause-connects g c =
-    let around : Around g.row.N.Denot g.row.C.Denot g.row.D.Denot =
-    record {
-      calls = g.N.Net.calls;
-      faults = g.N.Net.faults;
-      given = g.C.Clock.given;
-      step = g.D.Draw.step;
-      net = c.args.net.now;
-      net_then = c.args.net.now;
-      clock = c.args.clock.now;
-      clock_then = c.args.clock.now;
-      draw = c.args.draw.now;
-      draw_then = c.args.draw.now;
-    } in
+    let around = around_of g.N.Net.calls g.N.Net.faults g.C.Clock.given g.D.Draw.step c.args.net.now c.args.net.now c.args.clock.now c.args.clock.now c.args.draw.now c.args.draw.now in
     idle_net c.args.options.now around refl
 
 pub returns-in_ok-new-in-Err-TooLong-clause-connects : goal.returns-in_ok-new-in-Err-TooLong-clause-connects
 returns-in_ok-new-in-Err-TooLong-clause-connects g c =
-    let around : Around g.row.N.Denot g.row.C.Denot g.row.D.Denot =
-    record {
-      calls = g.N.Net.calls;
-      faults = g.N.Net.faults;
-      given = g.C.Clock.given;
-      step = g.D.Draw.step;
-      net = c.args.net.now;
-      net_then = c.args.net.now;
-      clock = c.args.clock.now;
-      clock_then = c.args.clock.now;
-      draw = c.args.draw.now;
-      draw_then = c.args.draw.now;
-    } in
+    let around = around_of g.N.Net.calls g.N.Net.faults g.C.Clock.given g.D.Draw.step c.args.net.now c.args.net.now c.args.clock.now c.args.clock.now c.args.draw.now c.args.draw.now in
     idle_net c.args.options.now around refl
 
 pub returns-in_err-new-in-Err-TooLong-clause-connects : goal.returns-in_err-new-in-Err-TooLong-clause-connects
 returns-in_err-new-in-Err-TooLong-clause-connects g c =
-    let around : Around g.row.N.Denot g.row.C.Denot g.row.D.Denot =
-    record {
-      calls = g.N.Net.calls;
-      faults = g.N.Net.faults;
-      given = g.C.Clock.given;
-      step = g.D.Draw.step;
-      net = c.args.net.now;
-      net_then = c.args.net.now;
-      clock = c.args.clock.now;
-      clock_then = c.args.clock.now;
-      draw = c.args.draw.now;
-      draw_then = c.args.draw.now;
-    } in
+    let around = around_of g.N.Net.calls g.N.Net.faults g.C.Clock.given g.D.Draw.step c.args.net.now c.args.net.now c.args.clock.now c.args.clock.now c.args.draw.now c.args.draw.now in
     idle_net c.args.options.now around refl
 
 pub returns-in-Err-Memory-clause-connects : goal.returns-in-Err-Memory-clause-connects
 returns-in-Err-Memory-clause-connects g c =
-    let around : Around g.row.N.Denot g.row.C.Denot g.row.D.Denot =
-    record {
-      calls = g.N.Net.calls;
-      faults = g.N.Net.faults;
-      given = g.C.Clock.given;
-      step = g.D.Draw.step;
-      net = c.args.net.now;
-      net_then = c.args.net.now;
-      clock = c.args.clock.now;
-      clock_then = c.args.clock.now;
-      draw = c.args.draw.now;
-      draw_then = c.args.draw.now;
-    } in
+    let around = around_of g.N.Net.calls g.N.Net.faults g.C.Clock.given g.D.Draw.step c.args.net.now c.args.net.now c.args.clock.now c.args.clock.now c.args.draw.now c.args.draw.now in
     idle_net c.args.options.now around refl
+
+pub returns-in_err-answer_to_text-in-Ok-clause-left : goal.returns-in_err-answer_to_text-in-Ok-clause-left
+returns-in_err-answer_to_text-in-Ok-clause-left g c =
+    let around = around_of g.N.Net.calls g.N.Net.faults g.C.Clock.given g.D.Draw.step c.args.net.now c.answer_to_text.new.net c.args.clock.now c.answer_to_text.new.clock c.args.draw.now c.answer_to_text.new.draw in
+    let files = files_of g.F.KeyFiles.told g.F.KeyFiles.faults c.args.files.now c.answer_to_text.new.files in
+    let input : Outside g.row.S.Denot = record { told = g.S.Source.left; faults = g.S.Source.faults; before = c.args.input.now; after = c.read_all.new.source } in
+    let read : IsRead input c.in-Ok.text = record { whole = c.in-Ok.ensures.whole; to_the_end = c.in-Ok.ensures.to_the_end; short = c.in-Ok.ensures.short } in
+    λ is. leaves_text c.args.options.now input files around c.as_slice.result.now (subst (λ (text : List ℕ). IsRead input text) (sym c.as_slice.ensures.value) read) c.in_err-answer_to_text-in-Ok.ensures.left
+
+pub returns-in_err-new-in-Err-TooLong-clause-left : goal.returns-in_err-new-in-Err-TooLong-clause-left
+returns-in_err-new-in-Err-TooLong-clause-left g c =
+    let around = around_of g.N.Net.calls g.N.Net.faults g.C.Clock.given g.D.Draw.step c.args.net.now c.args.net.now c.args.clock.now c.args.clock.now c.args.draw.now c.args.draw.now in
+    λ is. inl (before_idle around (record { offline = record { net = refl; clock = refl }; draw = refl }))
+
+pub returns-in-Err-Memory-clause-left : goal.returns-in-Err-Memory-clause-left
+returns-in-Err-Memory-clause-left g c =
+    let around = around_of g.N.Net.calls g.N.Net.faults g.C.Clock.given g.D.Draw.step c.args.net.now c.args.net.now c.args.clock.now c.args.clock.now c.args.draw.now c.args.draw.now in
+    λ is. inl (before_idle around (record { offline = record { net = refl; clock = refl }; draw = refl }))

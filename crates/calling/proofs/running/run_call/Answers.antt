@@ -1,5 +1,5 @@
 use Rattle.std.proofs.Common.{Err, ◌∙◌, ap, inl, inr, refl}
-use Rattle.calling.specs.Owed.{Around, Files}
+use Rattle.calling.specs.Owed.{around_of, files_of}
 use Rattle.statuses.specs.declared.answer.Stop.{Stop}
 use Rattle.statuses.specs.Outside.{Outside}
 use Rattle.statuses.specs.declared.status.Status.TheVariants as status
@@ -8,20 +8,8 @@ use Rattle.calling.proofs.running.run_call.Goals as goal
 
 pub returns-in-Ok : goal.returns-in-Ok
 returns-in-Ok g c =
-    let around : Around g.row.N.Denot g.row.C.Denot g.row.D.Denot =
-    record {
-      calls = g.N.Net.calls;
-      faults = g.N.Net.faults;
-      given = g.C.Clock.given;
-      step = g.D.Draw.step;
-      net = c.args.net.now;
-      net_then = c.answer.new.net;
-      clock = c.args.clock.now;
-      clock_then = c.answer.new.clock;
-      draw = c.args.draw.now;
-      draw_then = c.answer.new.draw;
-    } in
-    let files : Files g.row.F.Denot = record { told = g.F.KeyFiles.told; faults = g.F.KeyFiles.faults; before = c.args.files.now; after = c.answer.new.files } in
+    let around = around_of g.N.Net.calls g.N.Net.faults g.C.Clock.given g.D.Draw.step c.args.net.now c.answer.new.net c.args.clock.now c.answer.new.clock c.args.draw.now c.answer.new.draw in
+    let files = files_of g.F.KeyFiles.told g.F.KeyFiles.faults c.args.files.now c.answer.new.files in
     let input : Outside g.row.S.Denot = record { told = g.S.Source.left; faults = g.S.Source.faults; before = c.args.input.now; after = c.answer.new.input } in
     let out : Outside g.row.O.Denot = record { told = g.O.Sink.written; faults = g.O.Sink.faults; before = c.args.out.now; after = c.tell.new.out } in
     told_run c.args.options.now input out files around c.one_reading.ensures.calls c.one_reading.ensures.not_both c.one_reading-2.ensures.ring c.one_reading-2.ensures.no_fault
@@ -29,41 +17,19 @@ returns-in-Ok g c =
 
 pub returns-in-Err-ReadFault : goal.returns-in-Err-ReadFault
 returns-in-Err-ReadFault g c =
-    let around : Around g.row.N.Denot g.row.C.Denot g.row.D.Denot =
-    record {
-      calls = g.N.Net.calls;
-      faults = g.N.Net.faults;
-      given = g.C.Clock.given;
-      step = g.D.Draw.step;
-      net = c.args.net.now;
-      net_then = c.answer.new.net;
-      clock = c.args.clock.now;
-      clock_then = c.answer.new.clock;
-      draw = c.args.draw.now;
-      draw_then = c.answer.new.draw;
-    } in
-    let files : Files g.row.F.Denot = record { told = g.F.KeyFiles.told; faults = g.F.KeyFiles.faults; before = c.args.files.now; after = c.answer.new.files } in
+    let around = around_of g.N.Net.calls g.N.Net.faults g.C.Clock.given g.D.Draw.step c.args.net.now c.answer.new.net c.args.clock.now c.answer.new.clock c.args.draw.now c.answer.new.draw in
+    let files = files_of g.F.KeyFiles.told g.F.KeyFiles.faults c.args.files.now c.answer.new.files in
     let input : Outside g.row.S.Denot = record { told = g.S.Source.left; faults = g.S.Source.faults; before = c.args.input.now; after = c.answer.new.input } in
     let out : Outside g.row.O.Denot = record { told = g.O.Sink.written; faults = g.O.Sink.faults; before = c.args.out.now; after = c.args.out.now } in
     untold_run c.args.options.now input out files around status.ReadFault (inl refl) refl c.answer.ensures.asked c.answer.ensures.connects
     (λ e. let is = c.in-Err-ReadFault.is ∙ ap (λ (stop : Stop). Err stop) c.in-Err-ReadFault.field-0-is in (c.answer.ensures.read_fault is, c.answer.ensures.unasked is, c.answer.ensures.idle is))
+    (λ e. absurd cc)
 
 pub returns-in-Err-Memory : goal.returns-in-Err-Memory
 returns-in-Err-Memory g c =
-    let around : Around g.row.N.Denot g.row.C.Denot g.row.D.Denot =
-    record {
-      calls = g.N.Net.calls;
-      faults = g.N.Net.faults;
-      given = g.C.Clock.given;
-      step = g.D.Draw.step;
-      net = c.args.net.now;
-      net_then = c.answer.new.net;
-      clock = c.args.clock.now;
-      clock_then = c.answer.new.clock;
-      draw = c.args.draw.now;
-      draw_then = c.answer.new.draw;
-    } in
-    let files : Files g.row.F.Denot = record { told = g.F.KeyFiles.told; faults = g.F.KeyFiles.faults; before = c.args.files.now; after = c.answer.new.files } in
+    let around = around_of g.N.Net.calls g.N.Net.faults g.C.Clock.given g.D.Draw.step c.args.net.now c.answer.new.net c.args.clock.now c.answer.new.clock c.args.draw.now c.answer.new.draw in
+    let files = files_of g.F.KeyFiles.told g.F.KeyFiles.faults c.args.files.now c.answer.new.files in
     let input : Outside g.row.S.Denot = record { told = g.S.Source.left; faults = g.S.Source.faults; before = c.args.input.now; after = c.answer.new.input } in
     let out : Outside g.row.O.Denot = record { told = g.O.Sink.written; faults = g.O.Sink.faults; before = c.args.out.now; after = c.args.out.now } in
     untold_run c.args.options.now input out files around status.Memory (inr refl) refl c.answer.ensures.asked c.answer.ensures.connects (λ e. absurd cc)
+    (λ e. c.answer.ensures.left (c.in-Err-Memory.is ∙ ap (λ (stop : Stop). Err stop) c.in-Err-Memory.field-0-is))
