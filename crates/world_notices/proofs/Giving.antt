@@ -22,7 +22,7 @@ use Rattle.world_rules.specs.Ends.{sent_down, sent_up}
 use Rattle.world_rules.specs.Run.{set}
 use Rattle.world_rules.specs.World as rules
 use Rattle.world_notices.specs.Numbers.{AreGivenOnce, IsGiven, IsGivenUnder}
-use Rattle.world_notices.proofs.Lists.{all-append, all-made, all-members, all-weaker, changed-other, changed-there, get-append, get-below, get-changed, get-end, get-map, get-more, here, map-get, nobody, none-some, some-same}
+use Rattle.world_notices.proofs.Lists.{all-append, all-made, all-members, all-weaker, changed-other, changed-there, get-append, get-below, get-changed, get-end, get-map, get-more, here, map-get, some-same}
 use Rattle.world_notices.proofs.Distinct.{Distinct, across, disjoint, from-pairs, front, own}
 use Rattle.world_notices.proofs.Walking.{IsIdle, IsWish}
 
