@@ -1,14 +1,11 @@
 -- Each event of a client keeps what it has of the numbers that it gave.
-use Rattle.std.proofs.Common.{◌≡◌, ℕ, ◌-◌, cond, Option, Some, None, List, [], ◌∷◌, ◌++◌, length, map, subst, refl}
-use Rattle.std.specs.Prelude.{⊤, IfSome, is_none, option_map}
-use Rattle.std.specs.List.{AllByRecursion, Contains}
+use Rattle.std.proofs.Common.{◌≡◌, ℕ, ◌-◌, cond, Option, Some, None, List, [], ◌∷◌, length, map, subst, refl}
+use Rattle.std.specs.Prelude.{IfSome, is_none, option_map}
+use Rattle.std.specs.List.{AllByRecursion}
 use Rattle.std.proofs.lemmas.Bool.{cond_both}
 use Rattle.draws.specs.Draws.{word_after}
 use Rattle.service_tl.specs.declared.lists.Message.{Message}
 use Rattle.call_table.specs.declared.call.CallNo.{CallNo}
-use Rattle.call_table.specs.declared.call.Fate.{Fate}
-use Rattle.call_table.specs.declared.call.Fate.TheVariants as fate
-use Rattle.call_table.specs.declared.call.Cause.TheVariants as cause
 use Rattle.call_table.specs.Table.{Call, Name, State, is_sent, living_name, living_name_in, new_call}
 use Rattle.call_table.specs.Table as table
 use Rattle.client_rules.specs.Client.{Client, Needed, Temporary, bound_so, calls_of, with_call}
@@ -71,14 +68,26 @@ dropped-given session given call client h =
 renewed-lives : (state : State) (call : Call) → call.state ≡ state → IsPlain call.body → LivesAmong [] (settled_if (fate_renewed state) call)
 renewed-lives table.Sent call is plain = (plain, λ message living. absurd (none-some message living))
 renewed-lives table.Held call is plain = (plain, λ message living. absurd (none-some message living))
-renewed-lives table.Queued call is plain = (plain, λ message living.
-    absurd (none-some message (subst (λ (state : State). message_behind call.body (living_name_in state call.names) ≡ Some message) is living)))
-renewed-lives (table.Done reply) call is plain = (plain, λ message living.
-    absurd (none-some message (subst (λ (state : State). message_behind call.body (living_name_in state call.names) ≡ Some message) is living)))
-renewed-lives (table.Refused code) call is plain = (plain, λ message living.
-    absurd (none-some message (subst (λ (state : State). message_behind call.body (living_name_in state call.names) ≡ Some message) is living)))
-renewed-lives (table.Unknown why) call is plain = (plain, λ message living.
-    absurd (none-some message (subst (λ (state : State). message_behind call.body (living_name_in state call.names) ≡ Some message) is living)))
+renewed-lives table.Queued call is plain = (
+  plain,
+  λ message living.
+      absurd (none-some message (subst (λ (state : State). message_behind call.body (living_name_in state call.names) ≡ Some message) is living)),
+)
+renewed-lives (table.Done reply) call is plain = (
+  plain,
+  λ message living.
+      absurd (none-some message (subst (λ (state : State). message_behind call.body (living_name_in state call.names) ≡ Some message) is living)),
+)
+renewed-lives (table.Refused code) call is plain = (
+  plain,
+  λ message living.
+      absurd (none-some message (subst (λ (state : State). message_behind call.body (living_name_in state call.names) ≡ Some message) is living)),
+)
+renewed-lives (table.Unknown why) call is plain = (
+  plain,
+  λ message living.
+      absurd (none-some message (subst (λ (state : State). message_behind call.body (living_name_in state call.names) ≡ Some message) is living)),
+)
 
 renewed-all : (given : List Message) (calls : List Call) → AllByRecursion (LivesAmong given) calls
     → AllByRecursion (LivesAmong []) (map (λ call. settled_if (fate_renewed call.state) call) calls)

@@ -1,9 +1,9 @@
 -- A flush gives new numbers to new messages, and sends others under the numbers that they had.
-use Rattle.std.proofs.Common.{◌≡◌, ◌∙◌, ℕ, zero, suc, ◌+◌, ◌-◌, ◌<◌, ◌≤◌, Bool, true, false, Option, Some, None, List, [], ◌∷◌, ◌++◌, append-nil, append_assoc, ap, sym, subst, refl, arith, inl, inr}
-use Rattle.std.specs.Prelude.{◌&&◌, ◌⊎◌, IfSome, fold, is_some, nat_lt, option_map, slice_get}
+use Rattle.std.proofs.Common.{◌≡◌, ◌∙◌, ℕ, zero, suc, ◌-◌, ◌<◌, Bool, true, false, Option, Some, None, List, [], ◌∷◌, ◌++◌, append-nil, append_assoc, ap, sym, subst, refl, arith, inl, inr}
+use Rattle.std.specs.Prelude.{◌&&◌, IfSome, fold, is_some, nat_lt, option_map, slice_get}
 use Rattle.std.specs.List.{AllByRecursion, Contains}
 use Rattle.std.proofs.lemmas.Bool.{cond_both}
-use Rattle.std.proofs.lemmas.List.Elements.{Contains-append_left, Contains-append_right, Contains-push}
+use Rattle.std.proofs.lemmas.List.Elements.{Contains-append_right, Contains-push}
 use Rattle.draws.specs.Draws.{draw_after, next_bytes}
 use Rattle.msg_ids.specs.Counters.{next_number, room}
 use Rattle.service_tl.specs.declared.item.Item.{Item}
@@ -16,17 +16,16 @@ use Rattle.call_table.specs.declared.call.CallNo.{CallNo}
 use Rattle.call_table.specs.declared.call.Fate.TheVariants as fate
 use Rattle.call_table.specs.declared.call.Group.TheVariants as group
 use Rattle.call_table.specs.declared.call.Living.{Living}
-use Rattle.call_table.specs.Table.{Call, Name, at, changed_at, group_of, living_name, owner, sent, settled}
+use Rattle.call_table.specs.Table.{Call, Name, at, group_of, living_name, owner, sent, settled}
 use Rattle.client_rules.specs.Client.{Asked, Binding, Bound, Client, Held, Needed, Refused, States, Temporary, after_message, at_moment, bound_so, calls_of, is_open, numbered, time_of, with_binding, with_call}
-use Rattle.client_rules.specs.Sending.{Setting, binding_body, inner_of, packet_of}
+use Rattle.client_rules.specs.Sending.{Setting, binding_body, inner_of}
 use Rattle.client_rules.specs.Filling.{Filling, Goes, Never, Turn, Waits, asks_binding, asks_states, body_behind, changes, empty, fills, goes, is_needed, number_of, outstanding, says, says_acks, says_binding, says_call, says_call_at, says_destroyed, says_drop, says_drop_of, says_ping, says_resent, says_salts, says_states, says_told, sends_call, takes_turn, turn_of, undropped}
 use Rattle.client_rules.specs.Flush.{Flushed, Marked, asked_alone, binding_alone, filled, first_marked, flush, gone_again, has_any, marked_at, message_behind, remembers, remembers_lone, room_min, sends, unless_binding, unless_call}
-use Rattle.client_rules.specs.Taking.{message_in}
-use Rattle.client_numbers.specs.Given.{IsAnswerOf, IsAskedAmong, IsContainerOf, IsMadeOf, IsPlain, LivesAmong, given_by}
+use Rattle.client_numbers.specs.Given.{IsAnswerOf, IsAskedAmong, IsPlain, LivesAmong, given_by}
 use Rattle.client_numbers.proofs.Plain.{IsSaid, behind-plain, item-plain}
-use Rattle.client_numbers.proofs.Kept.{Has, Line, line_of, again-given, again-lives, changed-given, more-given, sent-lives, settled-lives}
+use Rattle.client_numbers.proofs.Kept.{Has, Line, again-given, again-lives, changed-given, more-given, sent-lives, settled-lives}
 use Rattle.client_numbers.proofs.Taking.{moment-given}
-use Rattle.client_numbers.proofs.Lists.{all-append, all-changed, all-members, none-some, some-same, true-false}
+use Rattle.client_numbers.proofs.Lists.{all-append, all-members, none-some, some-same, true-false}
 
 above : (last now : ℕ) → last < next_number last now
 above last now = omega arith

@@ -1,18 +1,16 @@
 -- What changes of a client leave of the numbers that it gave, and what one number more adds.
-use Rattle.std.proofs.Common.{◌≡◌, ◌∙◌, ℕ, ◌+◌, ◌-◌, ◌<◌, ◌≤◌, Bool, Option, Some, None, List, [], ◌∷◌, ◌++◌, map, ap, sym, subst, refl, arith, inl, inr}
-use Rattle.std.specs.Prelude.{◌⊎◌, IfSome, slice_get}
+use Rattle.std.proofs.Common.{◌≡◌, ◌∙◌, ℕ, ◌<◌, ◌≤◌, Bool, Option, Some, None, List, [], ◌∷◌, ◌++◌, map, ap, sym, subst, refl, arith, inl, inr}
+use Rattle.std.specs.Prelude.{IfSome, slice_get}
 use Rattle.std.specs.List.{AllByRecursion, Contains}
-use Rattle.std.proofs.lemmas.List.Elements.{Contains-append_left, Contains-push, Contains-push_cases}
+use Rattle.std.proofs.lemmas.List.Elements.{Contains-append_left, Contains-push_cases}
 use Rattle.service_tl.specs.declared.lists.Message.{Message}
-use Rattle.msg_ids.specs.Counters.{next_number}
-use Rattle.call_table.specs.declared.call.CallNo.{CallNo}
 use Rattle.call_table.specs.declared.call.Flags.{Flags}
 use Rattle.call_table.specs.declared.call.Fate.{Fate}
 use Rattle.call_table.specs.declared.call.Fate.TheVariants as fate
 use Rattle.call_table.specs.declared.call.Living.{Living}
 use Rattle.call_table.specs.Table.{Call, Name, State, changed_at, flagged, living_name, living_name_in, sent, sent_again, settled, state_after, with_salt}
 use Rattle.call_table.specs.Table as table
-use Rattle.client_rules.specs.Client.{Asked, Binding, Bound, Client, Held, Needed, Refused, Temporary, after_message, calls_of, numbered, time_of, with_call, with_calls}
+use Rattle.client_rules.specs.Client.{Asked, Binding, Bound, Client, Held, Needed, Refused, Temporary, after_message, calls_of, numbered, with_calls}
 use Rattle.client_rules.specs.Filling.{body_behind}
 use Rattle.client_rules.specs.Flush.{message_behind}
 use Rattle.client_numbers.specs.Given.{AreOnce, HasGiven, IsAskedAmong, IsPlain, LivesAmong}

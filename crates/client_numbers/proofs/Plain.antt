@@ -1,5 +1,5 @@
 -- What a client says beside containers is none.
-use Rattle.std.proofs.Common.{◌≡◌, ◌≤◌, ◌<◌, ◌+◌, ◌^◌, ◌==◌, ◌&&◌, ◌%◌, ℕ, Bool, true, false, not, Option, Some, None, List, [], ◌∷◌, ◌++◌, length, length-append, ap, sym, refl, ◌∙◌, arith, inl, inr}
+use Rattle.std.proofs.Common.{◌≡◌, ◌≤◌, ◌<◌, ◌^◌, ◌==◌, ◌&&◌, ◌%◌, ℕ, Bool, true, false, not, Option, Some, None, List, [], ◌++◌, length, length-append, ap, sym, refl, ◌∙◌, arith, inl, inr}
 use Rattle.std.specs.Prelude.{⊤, nat_le, nat_lt}
 use Rattle.std.proofs.lemmas.Bool.{cases_Bool, cond_both, eqb-true}
 use Rattle.byteorder.specs.Endian.{little_bytes, little_number}
@@ -12,7 +12,7 @@ use Rattle.service_tl.specs.Items.{spelling_of}
 use Rattle.service_tl.specs.Schema.{schema, service_numbers, auth_bind_temp_auth_key, destroy_session, get_future_salts, invoke_after_msg, msg_resend_req, msgs_ack, msgs_state_info, msgs_state_req, ping, rpc_drop_answer}
 use Rattle.containers.specs.Container.{begins_container, constructor}
 use Rattle.call_table.specs.declared.call.CallNo.{CallNo}
-use Rattle.client_rules.specs.Asking.{Fault, NoSuchCall, NotWords, ServiceTag, TooLong, TooMany, begins_service, body_bytes_max, fault_at, has_earlier, is_refused}
+use Rattle.client_rules.specs.Asking.{Fault, NotWords, ServiceTag, TooLong, begins_service, body_bytes_max, fault_at, is_refused}
 use Rattle.client_rules.specs.Filling.{body_behind}
 use Rattle.client_numbers.specs.Given.{IsPlain}
 use Rattle.client_numbers.proofs.Lists.{none-some, true-false}

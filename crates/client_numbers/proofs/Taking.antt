@@ -1,7 +1,7 @@
 -- What a client hears leaves the numbers that it gave.
-use Rattle.std.proofs.Common.{◌≡◌, ◌∙◌, ◌==◌, ℕ, ◌-◌, Bool, true, false, Option, Some, None, List, [], ◌∷◌, length, map, ap, sym, subst, refl}
+use Rattle.std.proofs.Common.{◌==◌, ℕ, ◌-◌, Bool, true, false, Option, Some, None, List, [], ◌∷◌, length}
 use Rattle.std.specs.Prelude.{◌||◌, IfSome, not, fold, nat_le, nat_lt, option_map}
-use Rattle.std.specs.List.{AllByRecursion, list_any, zip}
+use Rattle.std.specs.List.{list_any, zip}
 use Rattle.std.proofs.lemmas.Bool.{cond_both}
 use Rattle.service_tl.specs.declared.item.Item.{Item}
 use Rattle.service_tl.specs.declared.item.Item.TheVariants.{RpcResult, NewSessionCreated, MsgsStateReq, MsgsStateInfo, MsgsAllInfo, MsgResendReq, MsgDetailedInfo, MsgNewDetailedInfo, BadMsgNotification, BadServerSalt}
@@ -12,7 +12,7 @@ use Rattle.call_table.specs.declared.call.CallNo.{CallNo}
 use Rattle.call_table.specs.declared.call.Fate.{Fate}
 use Rattle.call_table.specs.declared.call.Fate.TheVariants as fate
 use Rattle.call_table.specs.Table.{Call, inner_of, living_name, owner, settled}
-use Rattle.client_rules.specs.Client.{Asked, Binding, Bound, Client, Held, Needed, Refused, StateRequest, Temporary, at_moment, bound_so, calls_of, is_open, with_binding}
+use Rattle.client_rules.specs.Client.{Binding, Bound, Client, Held, Needed, Refused, StateRequest, Temporary, at_moment, bound_so, calls_of, is_open, with_binding}
 use Rattle.client_rules.specs.Asking.{alone}
 use Rattle.client_rules.specs.Learning.{each_becomes, ended, fate_at_end, fate_learning, learn, learnt_max, learns, settled_if, with_clock}
 use Rattle.client_rules.specs.Taking.{Notice, acknowledges, alone_among, alone_call, alone_number, answered_by, asks_answer, becomes, binding_answered, binding_noticed, fate_noticed, goes_again, has_asked, is_asked_by, is_for, is_odd, message_in, messages_of, noticed, noticed_by, packet_noticed, row, take, takes_message, takes_over, told_of, told_state, told_states, with_notice_clock, with_notice_salt, without_idle_wish}

@@ -1,10 +1,9 @@
 -- What is judged of messages that are what is told of their numbers.
-use Rattle.std.proofs.Common.{◌≡◌, ◌≢◌, ◌∙◌, ◌+◌, ◌<◌, ◌^◌, ◌==◌, ℕ, Bool, true, false, cond, Option, Some, None, List, [], ◌∷◌, ◌++◌, map, ap, sym, subst, refl, arith, inl, inr}
+use Rattle.std.proofs.Common.{◌≡◌, ◌∙◌, ◌+◌, ◌==◌, ℕ, Bool, true, false, cond, Option, Some, None, List, [], ◌∷◌, map, ap, sym, subst, refl, inl, inr}
 use Rattle.std.specs.Prelude.{◌&&◌, ⊤, fold, nat_lt, nat_le, Result, Ok, Err}
-use Rattle.std.specs.List.{AllByRecursion, list_any, zip}
+use Rattle.std.specs.List.{AllByRecursion, zip}
 use Rattle.std.specs.Option.{option_or}
 use Rattle.std.proofs.lemmas.Bool.{cases_Bool, cond_both, and_parts, eqb-true}
-use Rattle.service_tl.specs.declared.item.Item.{Item}
 use Rattle.service_tl.specs.declared.lists.Message.{Message}
 use Rattle.containers.specs.declared.fault.ContainerFault.{ContainerFault}
 use Rattle.containers.specs.Container.{begins_container}
@@ -19,9 +18,9 @@ use Rattle.id_window.specs.History.{AcceptedCall, AcceptedContainer, AcceptedOth
 use Rattle.inbox.specs.declared.judged.Judgement.{Judgement}
 use Rattle.inbox.specs.declared.judged.Verdict.{Verdict}
 use Rattle.inbox.specs.declared.judged.Verdict.TheVariants.{Accepted, Again, Noticed}
-use Rattle.inbox.specs.Kinds.{begins_acknowledgement, begins_call, constructor_of, container_in, item_told, kind_among, kind_beginning, kind_of}
-use Rattle.inbox.specs.Refusals.{Way, InContainer, InEnvelope, by_body, by_envelope, by_neighbours, by_number, by_parity, first_code, is_valid_salt, needs_even, needs_odd, refusal, second_of}
-use Rattle.inbox.specs.Judging.{Session as Remembered, first_mark, inner_judgements, inner_session, is_container, is_recorded, is_uncontained, judge, judged_session, judgement_on, judgements, outcome_of, recorded, remembered as after_judging, session_after, unfolded, verdict_again, verdict_by}
+use Rattle.inbox.specs.Kinds.{begins_acknowledgement, begins_call, constructor_of, item_told, kind_among, kind_beginning, kind_of}
+use Rattle.inbox.specs.Refusals.{Way, InContainer, InEnvelope, by_body, by_envelope, by_neighbours, by_number, by_parity, is_valid_salt, needs_even, needs_odd, refusal, second_of}
+use Rattle.inbox.specs.Judging.{Session as Remembered, first_mark, inner_judgements, inner_session, is_container, is_recorded, is_uncontained, judge, judged_session, judgements, outcome_of, recorded, remembered as after_judging, session_after, unfolded, verdict_by}
 use Rattle.server_rules.specs.Server.{Fate, IsKept, Name, Reply, WasAcked, WasDropped, answered_mark, is_good, mark_after, mark_by, marks_of, reply_to}
 use Rattle.server_notices.specs.Apart.{IsJudgementOf, IsOfKind, IsOtherCode, IsOutcomeOf, Kinds}
 use Rattle.server_notices.proofs.Lists.{all-append, all-map, none-some, some-same, true-false}

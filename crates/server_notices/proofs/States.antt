@@ -13,7 +13,7 @@ use Rattle.inbox.specs.Judging.{judge, judgements, session_after, unfolded}
 use Rattle.inbox.specs.declared.judged.Judgement.{Judgement}
 use Rattle.inbox.specs.declared.judged.Verdict.{Verdict}
 use Rattle.inbox.specs.declared.judged.Verdict.TheVariants.{Accepted}
-use Rattle.packing.specs.Packing.{after_outer, after_packets, grouped, groups, is_within, outer_of, outers_of, packed, packets_of}
+use Rattle.packing.specs.Packing.{after_outer, after_packets, grouped, groups, is_within, outer_of, outers_of, packets_of}
 use Rattle.regs_service.specs.Served.{Step}
 use Rattle.waits.specs.declared.job.Job.{Job}
 use Rattle.waits.specs.declared.job.Unfinished.{Unfinished}
@@ -24,7 +24,7 @@ use Rattle.server_rules.specs.Events.{Attach, Course, Event, Loss, Packet, Resta
 use Rattle.server_rules.specs.Speaking.{msg_wait_failed, msg_wait_timeout, needs_salts, says, says_it_is_new}
 use Rattle.server_rules.specs.Waiting.{after_failures, after_timeouts, all_given_up, first_given_up, given_up, gives_up, tells_of}
 use Rattle.server_rules.specs.Rows.{acks_of, destroys, owes, row, settles}
-use Rattle.server_rules.specs.Sending.{all_sent, envelope_of, messages_by, names_in, padding_bytes, seals, sends}
+use Rattle.server_rules.specs.Sending.{all_sent, envelope_of, messages_by, names_in, seals, sends}
 use Rattle.server_rules.specs.Answer.{Answer, after_run, attaches, begun, ended, finishes, hears, hears_by, is_spent, message_in, name_in, opens, runs, session_for, takes, takes_by, ticks, with_place, without_first as without_first_session}
 use Rattle.server_notices.specs.Apart.{AreQuiet, AreSessionsOf, IsEventOf, IsJudgementOf, IsOfKind, IsPacketOf, IsQuiet, IsQuietBody, IsSessionOf, Kinds}
 use Rattle.server_notices.proofs.Judging.{IsJudgedSo, IsVerdictSo, Remembers, all-so, marks-so}

@@ -1,6 +1,6 @@
 -- Which numbers are a container's, by the packets of a world in which no number is that of two messages.
-use Rattle.std.proofs.Common.{◌≡◌, ◌≤◌, ◌<◌, ◌+◌, ◌^◌, ◌==◌, ℕ, Bool, true, false, List, [], ◌∷◌, ◌++◌, length, length-append, Option, Some, Result, Ok, Err, inl, inr, refl, sym, ap, subst, ◌∙◌, arith, drop, take, eq-eqb}
-use Rattle.std.specs.Prelude.{◌&&◌, ◌⊎◌, IsTrue}
+use Rattle.std.proofs.Common.{◌≡◌, ◌≤◌, ◌<◌, ◌+◌, ◌^◌, ◌==◌, ℕ, Bool, true, false, List, [], ◌∷◌, ◌++◌, length, length-append, Some, Result, Ok, Err, inl, inr, refl, sym, ap, subst, ◌∙◌, arith, drop, take, eq-eqb}
+use Rattle.std.specs.Prelude.{◌&&◌, IsTrue}
 use Rattle.std.specs.List.{AllByRecursion, Contains, flat_map, list_any}
 use Rattle.std.proofs.lemmas.Bool.{and_parts, cases_Bool, eqb-true}
 use Rattle.std.proofs.lemmas.List.{take_at, drop_at, length-drop}
@@ -18,17 +18,15 @@ use Rattle.inbox.specs.declared.judged.Verdict.{Verdict}
 use Rattle.inbox.specs.declared.judged.Verdict.TheVariants.{Accepted, Again, Noticed}
 use Rattle.inbox.specs.Kinds.{inner_messages, parts_among}
 use Rattle.inbox.specs.Judging.{judge, unfolded}
-use Rattle.inbox.specs.Refusals.{Way}
 use Rattle.client_rules.specs.Taking.{message_in}
-use Rattle.client_numbers.specs.Given.{AreOnce, IsContainerOf, IsMadeOf, IsPlain}
-use Rattle.server_rules.specs.Server.{Name, Session, remembered}
-use Rattle.server_rules.specs.Answer as server
+use Rattle.client_numbers.specs.Given.{IsContainerOf, IsPlain}
+use Rattle.server_rules.specs.Server.{Name, remembered}
 use Rattle.server_notices.specs.Apart.{IsOfKind, IsPacketOf, Kinds}
 use Rattle.world_rules.specs.Setting.{as_heard}
 use Rattle.world_rules.specs.World.{Packet}
 use Rattle.world_law.specs.Made.{IsShort}
 use Rattle.world_notices.specs.Numbers.{AreGivenOnce, IsGiven, IsGivenUnder}
-use Rattle.world_notices.proofs.Lists.{all-members, any-found, any-there, each_of, here, later, true-false}
+use Rattle.world_notices.proofs.Lists.{all-members, any-found, any-there, each_of, true-false}
 use Rattle.world_notices.proofs.Telling.{ArePacketsOf}
 
 -- what laws tell of containers

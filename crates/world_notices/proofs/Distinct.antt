@@ -1,6 +1,6 @@
 -- Numbers that differ, each of one place.
 use Rattle.std.proofs.Common.{◌≡◌, ◌≢◌, ℕ, zero, suc, ◌<◌, Some, List, [], ◌∷◌, ◌++◌, length, inl, inr, refl, sym, ap, subst, arith}
-use Rattle.std.specs.Prelude.{⊤, ◌⊎◌, slice_get}
+use Rattle.std.specs.Prelude.{⊤, slice_get}
 use Rattle.std.specs.List.{AllPairs, Contains, flat_map}
 use Rattle.std.proofs.lemmas.List.Elements.{Contains-append_left, Contains-append_right}
 use Rattle.world_notices.proofs.Lists.{first_or, nobody, none-some, some-same}

@@ -1,33 +1,33 @@
 -- Each event of a world keeps the numbers of its packets.
-use Rattle.std.proofs.Common.{◌≡◌, ◌≢◌, ◌∙◌, ◌<◌, zero, suc, ℕ, Option, Some, None, List, [], ◌∷◌, ◌++◌, length, map, inl, inr, refl, sym, ap, subst, arith}
-use Rattle.std.specs.Prelude.{◌⊎◌, slice_get}
+use Rattle.std.proofs.Common.{◌≡◌, ◌≢◌, ◌∙◌, zero, suc, ℕ, Option, Some, List, [], ◌∷◌, ◌++◌, length, map, inl, inr, refl, sym, ap, subst, arith}
+use Rattle.std.specs.Prelude.{slice_get}
 use Rattle.std.specs.List.{AllByRecursion, Contains, flat_map}
 use Rattle.std.proofs.lemmas.Bool.{cases_eq}
+use Rattle.std.proofs.lemmas.List.{append-nil}
 use Rattle.std.proofs.lemmas.List.Elements.{Contains-append_left, Contains-append_right, Contains-push}
 use Rattle.draws.specs.Draws.{word_after}
-use Rattle.msg_ids.specs.Moments.{moment_of}
 use Rattle.service_tl.specs.declared.lists.Message.{Message}
 use Rattle.envelope.specs.declared.parts.Dir.TheVariants.{Up, Down}
-use Rattle.client_rules.specs.Client.{Client, Temporary, at_moment, fresh_client}
+use Rattle.client_rules.specs.Client.{Client, Temporary, at_moment}
 use Rattle.client_rules.specs.Events.{Run, made, renewed, step}
 use Rattle.client_rules.specs.Events as wishes
 use Rattle.client_rules.specs.Flush.{Answer, Nothing, Sends, Spent, filled, flush}
 use Rattle.client_rules.specs.Taking.{message_in}
-use Rattle.client_numbers.specs.Given.{AreOnce, Given, HasGiven, IsAnswerOf, IsRenewal, given_after, given_by, gives}
-use Rattle.server_rules.specs.Events.{Event as ServerEvent, Restart}
-use Rattle.world_rules.specs.Setting.{Setting, at_client}
+use Rattle.client_rules.specs.Sending.{Setting as ClientSetting}
+use Rattle.client_numbers.specs.Given.{Given, HasGiven, IsAnswerOf, IsRenewal, given_after, given_by}
+use Rattle.server_rules.specs.Event.{Sent}
 use Rattle.world_rules.specs.World.{Packet, Seat, World, changed_at, changed_from_0, counted}
 use Rattle.world_rules.specs.Premises.{Fresh, drawn_for_session, names_drawn, sessions_drawn}
-use Rattle.world_rules.specs.Ends.{acts, flushed_at, flushes, seat_changed, sent_down, sent_up, serves}
-use Rattle.world_rules.specs.Run.{joins, set}
+use Rattle.world_rules.specs.Ends.{sent_down, sent_up}
+use Rattle.world_rules.specs.Run.{set}
 use Rattle.world_rules.specs.World as rules
-use Rattle.world_notices.specs.Numbers.{AreGivenOnce, GivesOnce, IsGiven, IsGivenUnder}
-use Rattle.world_notices.proofs.Lists.{all-append, all-made, all-weaker, changed-other, changed-there, get-append, get-below, get-changed, get-end, get-map, get-more, here, map-get, nobody, none-some}
+use Rattle.world_notices.specs.Numbers.{AreGivenOnce, IsGiven, IsGivenUnder}
+use Rattle.world_notices.proofs.Lists.{all-append, all-made, all-members, all-weaker, changed-other, changed-there, get-append, get-below, get-changed, get-end, get-map, get-more, here, map-get, some-same}
 use Rattle.world_notices.proofs.Distinct.{Distinct, across, disjoint, from-pairs, front, own}
 use Rattle.world_notices.proofs.Walking.{IsIdle, IsWish}
 
 -- what is known of a client
-pub record Numbers (S : Type 0) (setting : Rattle.client_rules.specs.Sending.Setting S) : Type 0 where
+pub record Numbers (S : Type 0) (setting : ClientSetting S) : Type 0 where
   pub made : (key : ℕ) (temporary : Option Temporary) (draw : S) → IsIdle temporary → HasGiven [] (made setting key temporary draw).client
   pub event : (run : Run S) (event : wishes.Event) (given : Given) → HasGiven given.present run.client
       → HasGiven (given_after setting run event given).present (step setting run event).client
@@ -147,7 +147,7 @@ joined-keeps seats bag new none has apart k =
 
 -- ---- a client does something
 
-module _ {S : Type 0} (setting : Rattle.client_rules.specs.Sending.Setting S) (numbers : Numbers S setting) (seats : List Seat) (bag : List Packet) (k : Keeps seats bag) (place : ℕ) (seat : Seat) (at : slice_get seats place ≡ Some seat) (draw : S) where
+module _ {S : Type 0} (setting : ClientSetting S) (numbers : Numbers S setting) (seats : List Seat) (bag : List Packet) (k : Keeps seats bag) (place : ℕ) (seat : Seat) (at : slice_get seats place ≡ Some seat) (draw : S) where
   abbrev run : Run S
   run = record { client = seat.client; draw = draw }
 
@@ -171,14 +171,14 @@ module _ {S : Type 0} (setting : Rattle.client_rules.specs.Sending.Setting S) (n
               | inr its ↦
                   let was = its.1 in
                   let same : was.0 ≡ seat =
-                  Rattle.world_notices.proofs.Lists.some-same was.0 seat (sym was.1 ∙ (ap (slice_get seats) its.0 ∙ at)) in
+                  some-same was.0 seat (sym was.1 ∙ (ap (slice_get seats) its.0 ∙ at)) in
                   subst (SeatHas bag) (ap (As client) (sym same) ∙ was.2) has
             ];
         owned =
             owned-later seats (Laters client) bag
             (stay-changed seats place (As client)
             (λ one there session drawn.
-            let same : one ≡ seat = Rattle.world_notices.proofs.Lists.some-same one seat (sym there ∙ at) in
+            let same : one ≡ seat = some-same one seat (sym there ∙ at) in
             subst (λ (one : Seat). Contains (sessions_drawn (As client one)) session) (sym same) (more session (subst (λ (one : Seat). Contains (sessions_drawn one) session) same drawn))))
             k.owned;
         once = k.once;
@@ -214,7 +214,7 @@ module _ {S : Type 0} (setting : Rattle.client_rules.specs.Sending.Setting S) (n
             let mine : Contains (sessions_drawn (As (renewed word seat.client) seat)) word = Contains-push (seat.client.former ++ seat.client.session ∷ []) word in
             elim (cases_eq was.place place) [
               | inl here_ ↦
-                  let its : was.seat ≡ seat = Rattle.world_notices.proofs.Lists.some-same was.seat seat (sym was.there ∙ (ap (slice_get seats) here_ ∙ at)) in
+                  let its : was.seat ≡ seat = some-same was.seat seat (sym was.there ∙ (ap (slice_get seats) here_ ∙ at)) in
                   let drawn : Contains (sessions_drawn seat) word =
                   subst (Contains (sessions_drawn seat)) same (subst (λ (one : Seat). Contains (sessions_drawn one) packet.envelope.session) its was.drawn) in
                   absurd
@@ -277,11 +277,11 @@ module _ {S : Type 0} (setting : Rattle.client_rules.specs.Sending.Setting S) (n
       → HasGiven (own_seat.given ++ given_by messages answer) client → IsAnswerOf seat.client.session messages answer → AreApart seats
       → Keeps (Laters client) (bag ++ sent_up answer)
   went-keeps client Nothing messages session former has of apart =
-      let none : own_seat.given ++ [] ≡ own_seat.given = Rattle.std.proofs.lemmas.List.append-nil own_seat.given in
-      subst (Keeps (Laters client)) (sym (Rattle.std.proofs.lemmas.List.append-nil bag)) (same-keeps client session former (subst (λ (given : List Message). HasGiven given client) none has))
+      let none : own_seat.given ++ [] ≡ own_seat.given = append-nil own_seat.given in
+      subst (Keeps (Laters client)) (sym (append-nil bag)) (same-keeps client session former (subst (λ (given : List Message). HasGiven given client) none has))
   went-keeps client Spent messages session former has of apart =
-      let none : own_seat.given ++ [] ≡ own_seat.given = Rattle.std.proofs.lemmas.List.append-nil own_seat.given in
-      subst (Keeps (Laters client)) (sym (Rattle.std.proofs.lemmas.List.append-nil bag)) (same-keeps client session former (subst (λ (given : List Message). HasGiven given client) none has))
+      let none : own_seat.given ++ [] ≡ own_seat.given = append-nil own_seat.given in
+      subst (Keeps (Laters client)) (sym (append-nil bag)) (same-keeps client session former (subst (λ (given : List Message). HasGiven given client) none has))
   went-keeps client (Sends sent) messages session former has of apart =
       let packet : Packet = record { dir = Up; envelope = sent.envelope; padding = sent.padding } in
       let more : List Message = messages ++ message_in sent.envelope ∷ [] in
@@ -291,7 +291,7 @@ module _ {S : Type 0} (setting : Rattle.client_rules.specs.Sending.Setting S) (n
         messages = messages;
         made = of.1;
         among =
-            Rattle.world_notices.proofs.Lists.all-members (Contains all) messages
+            all-members (Contains all) messages
             (λ message among. Contains-append_right own_seat.given more message (Contains-append_left messages (message_in sent.envelope ∷ []) message among));
         outer = Contains-append_right own_seat.given more (message_in sent.envelope) (Contains-push messages (message_in sent.envelope));
       } in
@@ -334,7 +334,7 @@ module _ {S : Type 0} (setting : Rattle.client_rules.specs.Sending.Setting S) (n
                   }
               | inr its ↦
                   let was = its.1 in
-                  let same : was.0 ≡ seat = Rattle.world_notices.proofs.Lists.some-same was.0 seat (sym was.1 ∙ (ap (slice_get seats) its.0 ∙ at)) in
+                  let same : was.0 ≡ seat = some-same was.0 seat (sym was.1 ∙ (ap (slice_get seats) its.0 ∙ at)) in
                   subst (SeatHas (bag ++ packet ∷ [])) (ap (As client) (sym same) ∙ was.2)
                   (record {
                     given = all;
@@ -380,7 +380,7 @@ module _ {S : Type 0} (setting : Rattle.client_rules.specs.Sending.Setting S) (n
 no-up : Down ≡ Up → ⊥
 no-up is = cc
 
-pub served-keeps : (seats : List Seat) (bag : List Packet) (sent : List Rattle.server_rules.specs.Event.Sent) → Keeps seats bag → Keeps seats (bag ++ map sent_down sent)
+pub served-keeps : (seats : List Seat) (bag : List Packet) (sent : List Sent) → Keeps seats bag → Keeps seats (bag ++ map sent_down sent)
 served-keeps seats bag sent k =
     let down : (number : ℕ) (given : List Message) → AllByRecursion (IsGivenUnder number given) (map sent_down sent) =
     λ number given. all-made (IsGivenUnder number given) sent_down sent (λ one up. absurd (no-up up)) in

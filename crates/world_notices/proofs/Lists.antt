@@ -3,7 +3,7 @@ use Rattle.std.proofs.Common.{◌≡◌, ◌≢◌, ◌∙◌, zero, suc, ℕ, �
 use Rattle.std.specs.Prelude.{◌⊎◌, slice_get}
 use Rattle.std.specs.List.{AllByRecursion, Contains, list_any}
 use Rattle.std.proofs.lemmas.Bool.{cases_Bool}
-use Rattle.world_rules.specs.World.{changed_at, changed_from_0}
+use Rattle.world_rules.specs.World.{changed_from_0}
 
 pub none-some : {X : Type 0} (x : X) → None ≡ Some x → ⊥
 none-some x is = cc

@@ -13,21 +13,20 @@ use Rattle.sched_text.specs.declared.event.Event.{Event}
 use Rattle.sched_text.specs.declared.event.Event.TheVariants as line
 use Rattle.server_laws.specs.Order.{AreOrdered}
 use Rattle.server_rules.specs.Events.{Course, Event as ServerEvent, Packet as Comes, Restart, after_event}
-use Rattle.client_rules.specs.Client.{Temporary}
 use Rattle.client_rules.specs.Events as wishes
 use Rattle.server_notices.specs.Apart.{IsPacketOf, Kinds}
 use Rattle.world_rules.specs.Setting.{Setting, as_heard, at_client, at_server}
-use Rattle.world_rules.specs.World.{Packet, Seat, World, bytes_of, changed_at, counted, seat_now, server_now}
-use Rattle.world_rules.specs.Premises.{Fresh, IsByNoChance, NoChance, OpensOnly}
+use Rattle.world_rules.specs.World.{Packet, Seat, World, bytes_of, counted, seat_now, server_now}
+use Rattle.world_rules.specs.Premises.{IsByNoChance, NoChance, OpensOnly}
 use Rattle.world_rules.specs.Refusals.{ForeignOpens, Refusal, opened, refusal, unless}
 use Rattle.world_rules.specs.Refusals as refusals
-use Rattle.world_rules.specs.Ends.{acts, course_in, flushes, serves}
-use Rattle.world_rules.specs.Run.{after, is_in_the_way, joins, set, step, step_any}
+use Rattle.world_rules.specs.Ends.{acts, course_in, flushes}
+use Rattle.world_rules.specs.Run.{after, is_in_the_way, step, step_any}
 use Rattle.world_packets.specs.Lawful.{AreLawfulPackets, IsSealedPacket}
 use Rattle.world_law.specs.Made.{IsOfPacket, IsShort}
 use Rattle.world_notices.proofs.Lists.{each_of, get-there, none-some}
-use Rattle.world_notices.proofs.Walking.{AreOpened, IsIdle, IsWish, walked}
-use Rattle.world_notices.proofs.Giving.{AreApart, Keeps, Numbers, acted-keeps, all_set-keeps, flushed-keeps, fresh-apart, joined-keeps, one_set-keeps, served-keeps}
+use Rattle.world_notices.proofs.Walking.{AreOpened, IsWish, walked}
+use Rattle.world_notices.proofs.Giving.{AreApart, Keeps, Numbers, acted-keeps, all_set-keeps, flushed-keeps, joined-keeps, one_set-keeps, served-keeps}
 use Rattle.world_notices.proofs.Telling.{ArePacketsOf, IsTold, Opened, Serves, told-walk}
 
 -- ---- what opens at the server

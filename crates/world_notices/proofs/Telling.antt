@@ -1,5 +1,5 @@
 -- Each event of a world keeps that a server says no notice 19, where the packets tell containers' numbers apart.
-use Rattle.std.proofs.Common.{◌≡◌, zero, suc, ℕ, Option, Some, None, List, [], ◌∷◌, ◌++◌, map, refl}
+use Rattle.std.proofs.Common.{◌≡◌, suc, ℕ, Option, Some, None, List, map, refl}
 use Rattle.std.specs.Prelude.{option_map}
 use Rattle.std.specs.List.{AllByRecursion}
 use Rattle.envelope.specs.declared.parts.Dir.TheVariants.{Up, Down}
@@ -9,7 +9,7 @@ use Rattle.server_rules.specs.Events.{Course, Event as ServerEvent, Packet as Co
 use Rattle.client_rules.specs.Flush.{Answer, Nothing, Sends, Spent}
 use Rattle.server_notices.specs.Apart.{AreQuiet, AreSessionsOf, IsEventOf, IsPacketOf, IsQuietBody, Kinds}
 use Rattle.world_rules.specs.Setting.{Setting, as_heard, at_server}
-use Rattle.world_rules.specs.World.{Packet, Seat, World, server_now}
+use Rattle.world_rules.specs.World.{Packet, World, server_now}
 use Rattle.world_rules.specs.Ends.{comes_up, course_in, flushed_at, sent_down, sent_up, serves}
 use Rattle.world_law.specs.Made.{IsShort}
 use Rattle.world_notices.specs.Numbers.{IsQuietPacket}
@@ -49,9 +49,11 @@ module _ {S V : Type 0} (setting : Setting S V) (known : Serves S V setting) (wo
       let done = after_event (at_server setting) setting.serve setting.fresh (course_in world) event in
       let before = all-front _ world.bag (map sent_down done.packets) are in
       let was = told kinds before in
-      let is = known kinds (course_in world) event (so kinds before) was.0 tt in
-      (is.0, all-append IsQuietPacket world.bag (map sent_down done.packets) was.1
-      (all-map IsQuietPacket (λ (sent : Sent). IsQuietBody sent.envelope.body) sent_down done.packets (λ sent quiet down. quiet) is.1))
+      let is = known kinds (course_in world) event (so kinds before) was.0 tt in (
+        is.0,
+        all-append IsQuietPacket world.bag (map sent_down done.packets) was.1
+            (all-map IsQuietPacket (λ (sent : Sent). IsQuietBody sent.envelope.body) sent_down done.packets (λ sent quiet down. quiet) is.1),
+      )
 
   again-told : IsTold (serves setting Restart world) → IsTold (record (serves setting Restart world) { start = suc world.start })
   again-told told kinds are = told kinds are

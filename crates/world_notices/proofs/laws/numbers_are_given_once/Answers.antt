@@ -1,9 +1,9 @@
-use Rattle.std.proofs.Common.{[], List, subst}
+use Rattle.std.proofs.Common.{[]}
 use Rattle.world_rules.specs.Setting.{Setting, at_client, at_server}
 use Rattle.world_rules.specs.World.{World, begins}
 use Rattle.world_rules.specs.Premises.{Fresh}
-use Rattle.world_rules.specs.Run.{step, step_any}
-use Rattle.world_notices.proofs.Lists.{none-some}
+use Rattle.world_rules.specs.Run.{after, step, step_any}
+use Rattle.world_notices.proofs.Lists.{nobody, none-some}
 use Rattle.world_notices.proofs.Giving.{Keeps, Numbers, fresh-apart}
 use Rattle.world_notices.proofs.Runs.{IsAnyEvent, Known, all-kept, any-steps, by-any, event-keeps, event-ordered, its-steps}
 use Rattle.world_notices.proofs.laws.numbers_are_given_once.Goals as goal
@@ -25,7 +25,7 @@ module _ (g : Rattle.world_notices.proofs.laws.numbers_are_given_once.Given.Over
     ordered = event-ordered setting (c.servers_stay_in_order.ensures.event (at_server setting) setting.serve setting.fresh);
     before = c.worlds_only_grow.ensures.words setting;
     kept = λ world event any fresh later k.
-        event-keeps setting (numbers setting) world k (fresh-apart world fresh) event (fresh-apart (Rattle.world_rules.specs.Run.after setting world event) later);
+        event-keeps setting (numbers setting) world k (fresh-apart world fresh) event (fresh-apart (after setting world event) later);
   }
 
   begun : (setting : Setting g.row.D.Denot g.row.V.Denot) (draw : g.row.D.Denot) → P (begins setting draw)
@@ -34,7 +34,7 @@ module _ (g : Rattle.world_notices.proofs.laws.numbers_are_given_once.Given.Over
     owned = tt;
     once = λ session. record {
       given = [];
-      once = λ one other among beside same. absurd (Rattle.world_notices.proofs.Lists.nobody one among);
+      once = λ one other among beside same. absurd (nobody one among);
       packets = tt;
     };
   }
