@@ -5,6 +5,8 @@ use Rattle.auth_keys.specs.declared.fault.KeyFault.{KeyFault}
 use Rattle.auth_keys.specs.declared.fault.KeyFault.TheVariants as faults
 use Rattle.auth_keys.specs.declared.ring.RingKey.{RingKey}
 use Rattle.commands.specs.declared.command.ServeOptions.{ServeOptions}
+use Rattle.key_files.specs.Files.{AsksOnce, GivesBy, HasText, IsFileOf, IsRefusedAt, line_of}
+use Rattle.key_files.specs.declared.reading.KeysFault.{KeysFault}
 use Rattle.mt_edge.specs.Files.{FilesTold}
 use Rattle.mt_edge.specs.declared.act.Act.TheVariants.{Ready, Failed as NotReady}
 use Rattle.mt_edge.specs.declared.net_call.NetCall.{NetCall}
@@ -14,12 +16,10 @@ use Rattle.statuses.specs.Outside.{HadFault, Outside, Tells}
 use Rattle.statuses.specs.declared.status.Status.{Status}
 use Rattle.statuses.specs.declared.status.Status.TheVariants as status
 use Rattle.serving.specs.Connections.{AreNoted, AreNotedBy, Connection, CountsEnding, EndsBy}
-use Rattle.serving.specs.Inner.{IsWith, KeysBy, RunsWith, ServesWith}
-use Rattle.serving.specs.Keys.{AsksOnce, HasText, IsFileOf, IsRefusedAt, line_of}
+use Rattle.serving.specs.Inner.{IsWith, RunsWith, ServesWith}
 use Rattle.serving.specs.Runs.{Calls, CountsFiles, CountsNet, Course, Unread, Refused, Unbegun, Deaf, Mute, Serves, Ends, FailsNever, FailsOnce, Faulted, HasKeys, IfTold, Makes, Moments, Part, Reads, Registers, ServeRun, ServesBy}
 use Rattle.serving.specs.declared.ending.Ending.{Ending}
 use Rattle.serving.specs.declared.ending.Ending.TheVariants.{Served, Stopped, NotTaken, Memory}
-use Rattle.serving.specs.declared.keys.KeysFault.{KeysFault}
 use Rattle.serving.proofs.Texts.{rose-once}
 
 -- ---- the text of a key file
@@ -78,7 +78,7 @@ taken-with None name own course with = tt
 taken-with (Some told) name own course with = λ text ring line is its same. not-refused own course line with same
 
 pub reads-with : {D F : Type 0} (name : List ℕ) (files : Part FilesTold F) (ring : List RingKey) (course : Course D) → OneReading → IsWith ring course
-    → KeysBy (files.told files.before) name (Ok ring) → IfTold files (AsksOnce name) → FailsNever files → Reads name files course
+    → GivesBy (files.told files.before) name (Ok ring) → IfTold files (AsksOnce name) → FailsNever files → Reads name files course
 reads-with name files ring course one own has asked never = record {
   keys = keys-with (files.told files.before) name ring course own has;
   asked = asked;
@@ -329,8 +329,8 @@ run-of step options files net out moments draw one course reads calls serves end
 
 -- ---- the file's name
 
-pub keys-named : (told : Option FilesTold) (name own : List ℕ) (result : Result (List RingKey) KeysFault) → name ≡ own → KeysBy told name result → KeysBy told own result
-keys-named told name own result is has = subst (λ (some : List ℕ). KeysBy told some result) is has
+pub keys-named : (told : Option FilesTold) (name own : List ℕ) (result : Result (List RingKey) KeysFault) → name ≡ own → GivesBy told name result → GivesBy told own result
+keys-named told name own result is has = subst (λ (some : List ℕ). GivesBy told some result) is has
 
 pub refused-named : (told : Option FilesTold) (name own : List ℕ) (line : ℕ) → name ≡ own → HasText told name (λ text. IsRefusedAt text line) → HasText told own (λ text. IsRefusedAt text line)
 refused-named told name own line is has = subst (λ (some : List ℕ). HasText told some (λ text. IsRefusedAt text line)) is has
@@ -342,7 +342,7 @@ asks-named before after name own is asked = subst (λ (some : List ℕ). IfSome 
 -- ---- the ways of a run
 
 pub run-with : {F N O D : Type 0} (step : D → ℕ × D) (options : ServeOptions) (files : Part FilesTold F) (net : Part (List NetCall) N) (out : Outside O) (moments : Moments) (draw : D) (one : Status) (ring : List RingKey)
-    → OneReading → KeysBy (files.told files.before) options.keys (Ok ring) → IfTold files (AsksOnce options.keys) → FailsNever files → RunsWith step options ring net out moments draw one
+    → OneReading → GivesBy (files.told files.before) options.keys (Ok ring) → IfTold files (AsksOnce options.keys) → FailsNever files → RunsWith step options ring net out moments draw one
     → ServeRun step options files net out moments draw one
 run-with step options files net out moments draw one ring reading has asked never runs =
     run-of step options files net out moments draw one runs.course (reads-with options.keys files ring runs.course reading runs.own has asked never) runs.calls runs.serves runs.ends

@@ -1,9 +1,7 @@
 -- What the private parts of a run do: scaffolding of proofs, and no promise.
-use Rattle.std.specs.Prelude.{◌≡◌, ℕ, List, ◌∷◌, [], ◌++◌, length, Option, Some, None, IfSome, IsSomeAnd, Result, Ok, Err, ⊤}
-use Rattle.auth_keys.specs.KeyFile.{IsRingOf}
+use Rattle.std.specs.Prelude.{◌≡◌, ℕ, List, ◌∷◌, [], ◌++◌, length, Option, Some, None, IfSome, IsSomeAnd, ⊤}
 use Rattle.auth_keys.specs.declared.ring.RingKey.{RingKey}
 use Rattle.mt_edge.specs.Faults.{one_more}
-use Rattle.mt_edge.specs.Files.{FilesTold}
 use Rattle.mt_edge.specs.declared.net_call.NetCall.{NetCall}
 use Rattle.mt_edge.specs.declared.net_call.NetCall.TheVariants.{Accept}
 use Rattle.mt_edge.specs.declared.net_call.Outcome.TheVariants.{Failed}
@@ -17,27 +15,10 @@ use Rattle.server_node.specs.Trace.{Rules, rules_of}
 use Rattle.server_node.specs.declared.conn.ConnEnd.{ConnEnd}
 use Rattle.server_node.specs.declared.conn.ConnEnd.TheVariants as ends
 use Rattle.serving.specs.Connections.{AllGoOn, AreConnections, AreNoted, AreNotedBy, Between, Connection, EndsBy, IsConnection, IsNoted, behind_all}
-use Rattle.serving.specs.Keys.{HasText, IsRefusedAt}
 use Rattle.serving.specs.Packets.{outside_of}
 use Rattle.serving.specs.Runs.{Calls, Course, Unread, Refused, Unbegun, Deaf, Mute, Serves, Ends, IsServed, Moments, Part, Registers, ServesBy, first_of}
 use Rattle.serving.specs.declared.ending.Ending.{Ending}
 use Rattle.serving.specs.declared.ending.Ending.TheVariants.{Stopped, NotTaken, Memory}
-use Rattle.serving.specs.declared.keys.KeysFault.{KeysFault}
-use Rattle.serving.specs.declared.keys.KeysFault.TheVariants as keys
-
--- ---- the key file
-
-abbrev pub KeysBy : Option FilesTold → List ℕ → Result (List RingKey) KeysFault → Type 0
-KeysBy told name (Ok ring) = HasText told name (λ text. IsRingOf text ring)
-KeysBy told name (Err keys.Unread) = ⊤
-KeysBy told name (Err (keys.Refused line)) = HasText told name (λ text. IsRefusedAt text line)
-KeysBy told name (Err keys.Memory) = ⊤
-
-abbrev pub CountsKeys : Result (List RingKey) KeysFault → ℕ → ℕ → Type 0
-CountsKeys (Ok ring) before after = after ≡ before
-CountsKeys (Err keys.Unread) before after = after ≡ one_more before
-CountsKeys (Err (keys.Refused line)) before after = after ≡ before
-CountsKeys (Err keys.Memory) before after = after ≡ before
 
 -- ---- behind the key file
 

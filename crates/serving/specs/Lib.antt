@@ -1,4 +1,3 @@
-pub mod Keys
 pub mod Packets
 pub mod Connections
 pub mod Lines

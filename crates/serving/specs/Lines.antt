@@ -7,13 +7,6 @@ use Rattle.serving.specs.declared.ending.Ending.TheVariants.{Served, Stopped, No
 abbrev pub numbered : List ℕ → ℕ → List ℕ
 numbered words number = words ++ decimal number ++ codes "\n"
 
--- the key file can't be read, or is refused at a line
-abbrev pub not_read : List ℕ
-not_read = codes "key file not read\n"
-
-abbrev pub refused_at : ℕ → List ℕ
-refused_at line = numbered (codes "key file refused at line ") line
-
 -- connections are taken on a port
 abbrev pub listening : ℕ → List ℕ
 listening port = numbered (codes "listening ") port

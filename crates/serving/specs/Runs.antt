@@ -3,6 +3,7 @@ use Rattle.std.specs.Prelude.{◌≡◌, ◌⊎◌, ℕ, Option, List, [], ◌�
 use Rattle.auth_keys.specs.KeyFile.{IsRingOf}
 use Rattle.auth_keys.specs.declared.ring.RingKey.{RingKey}
 use Rattle.commands.specs.declared.command.ServeOptions.{ServeOptions}
+use Rattle.key_files.specs.Files.{AsksOnce, HasText, IsFileOf, IsRefusedAt, not_read, refused_at}
 use Rattle.mt_edge.specs.Faults.{Rose, one_more}
 use Rattle.mt_edge.specs.Files.{FilesTold}
 use Rattle.mt_edge.specs.declared.act.Act.TheVariants.{Ready, Failed as NotReady}
@@ -15,8 +16,7 @@ use Rattle.statuses.specs.Outside.{HadFault, IsUntouched, Outside, Tells, Writes
 use Rattle.statuses.specs.declared.status.Status.{Status}
 use Rattle.statuses.specs.declared.status.Status.TheVariants as status
 use Rattle.serving.specs.Connections.{AreConnections, AreNotedBy, Between, Connection, CountsEnding, EndsBy, behind_all}
-use Rattle.serving.specs.Keys.{AsksOnce, HasText, IsFileOf, IsRefusedAt}
-use Rattle.serving.specs.Lines.{last_line, listening, not_listening, not_read, refused_at}
+use Rattle.serving.specs.Lines.{last_line, listening, not_listening}
 use Rattle.serving.specs.Packets.{outside_of}
 use Rattle.serving.specs.declared.ending.Ending.{Ending}
 use Rattle.serving.specs.declared.ending.Ending.TheVariants.{Served, Stopped, NotTaken, Memory}

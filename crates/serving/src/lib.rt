@@ -6,7 +6,6 @@
 mod connection;
 mod connections;
 mod ending;
-mod keys;
 pub mod laws;
 mod lines;
 mod running;

@@ -2,7 +2,7 @@
 
 ghost use Rattle.std.specs.Prelude.{◌≡◌, ◌++◌, IfOk, IfSome, List, Some, ℕ};
 ghost use Rattle.statuses.specs.Outside.{Tells};
-ghost use Rattle.serving.specs.Lines.{last_line, listening, numbered, refused_at};
+ghost use Rattle.serving.specs.Lines.{last_line, listening, numbered};
 ghost use Rattle.serving.specs.declared.ending.Ending.TheVariants.{Served};
 
 use itoa::Buffer;
@@ -23,13 +23,6 @@ pub(crate) fn served_line(alloc: Global, conns: u32) -> Result<Octets, Memory>
     ensures { IfOk result (λ text. text ≡ last_line conns Served) }
 {
     numbered(alloc, b"served ", conns)
-}
-
-/// The line that says at which line a key file is refused.
-pub(crate) fn refused_line(alloc: Global, line: u32) -> Result<Octets, Memory>
-    ensures { IfOk result (λ text. text ≡ refused_at line) }
-{
-    numbered(alloc, b"key file refused at line ", line)
 }
 
 /// A number with words in front of it, as a line.

@@ -7,14 +7,14 @@ ghost use Rattle.serving.specs.Runs.{ServeRun};
 
 use crate::connections::serve_all;
 use crate::ending::Ending;
-use crate::keys::{KeysFault, read_ring};
 use crate::laws::rings_say_as_worked_out;
-use crate::lines::{listening_line, refused_line, say, served_line};
+use crate::lines::{listening_line, say, served_line};
 use auth_keys::Ring;
 use auth_keys::laws::one_reading;
 use commands::ServeOptions;
 use draws::Draw;
 use envelope::MtSeal;
+use key_files::{KeysFault, read_ring, refused_line};
 use mt_edge::{Act, Clock, KeyFiles, Net, Sink, WriteFault, write_all};
 use regs_service::{Regs, Service};
 use server_core::order_laws::events_keep_order;

@@ -1,5 +1,5 @@
 use Rattle.std.proofs.Common.{Ok, ◌∙◌}
-use Rattle.serving.specs.Lines.{refused_at}
+use Rattle.key_files.specs.Files.{refused_at}
 use Rattle.statuses.specs.declared.status.Status.TheVariants as status
 use Rattle.serving.proofs.Texts.{tells-line}
 use Rattle.serving.proofs.Ways.{asks-named, keys-named, refused-named, run-refused, run-with}
@@ -13,7 +13,7 @@ returns-in-Ok g c = record {
       (record { told = g.O.Sink.written; faults = g.O.Sink.faults; before = c.args.out.now; after = c.listen.new.out })
       (record { before = g.C.Clock.given c.args.clock.now; after = g.C.Clock.given c.listen.new.clock }) c.args.draw.now c.listen.result c.in-Ok.ring
       (record { no_fault = c.one_reading.ensures.no_fault; fault = c.one_reading.ensures.fault })
-      (keys-named (g.F.KeyFiles.told c.args.files.now) c.as_str.result.now c.args.options.now.keys (Ok c.in-Ok.ring) c.as_str.ensures c.in-Ok.ensures.keys)
+      (keys-named (g.F.KeyFiles.told c.args.files.now) c.as_str.result.now c.args.options.now.keys (Ok c.in-Ok.ring) c.as_str.ensures c.in-Ok.ensures.gives)
       (asks-named (g.F.KeyFiles.told c.args.files.now) (g.F.KeyFiles.told c.read_ring.new.files) c.as_str.result.now c.args.options.now.keys c.as_str.ensures c.read_ring.ensures.asked)
       c.in-Ok.ensures.counted c.listen.ensures.run;
 }
@@ -26,7 +26,7 @@ returns-in-Ok-refused_line g c = record {
       (record { told = g.O.Sink.written; faults = g.O.Sink.faults; before = c.args.out.now; after = c.say-in-Ok-refused_line.new.out })
       (g.C.Clock.given c.args.clock.now) c.args.draw.now c.say-in-Ok-refused_line.result c.in-Err-Refused.line
       (record { no_fault = c.one_reading.ensures.no_fault; fault = c.one_reading.ensures.fault })
-      (refused-named (g.F.KeyFiles.told c.args.files.now) c.as_str.result.now c.args.options.now.keys c.in-Err-Refused.line c.as_str.ensures (rw c.in-Err-Refused.field-0-is at c.in-Err-Refused.ensures.keys))
+      (refused-named (g.F.KeyFiles.told c.args.files.now) c.as_str.result.now c.args.options.now.keys c.in-Err-Refused.line c.as_str.ensures (rw c.in-Err-Refused.field-0-is at c.in-Err-Refused.ensures.gives))
       (asks-named (g.F.KeyFiles.told c.args.files.now) (g.F.KeyFiles.told c.read_ring.new.files) c.as_str.result.now c.args.options.now.keys c.as_str.ensures c.read_ring.ensures.asked)
       (rw c.in-Err-Refused.field-0-is at c.in-Err-Refused.ensures.counted)
       (tells-line (record { told = g.O.Sink.written; faults = g.O.Sink.faults; before = c.args.out.now; after = c.say-in-Ok-refused_line.new.out }) status.KeysRefused c.as_slice.result.now (refused_at c.in-Err-Refused.line) c.say-in-Ok-refused_line.result
