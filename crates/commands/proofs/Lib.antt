@@ -3,3 +3,4 @@ mod Ids
 mod Takings
 mod Sayings
 mod Written
+mod Lawful

@@ -1,5 +1,5 @@
 -- What the words of the command line say: the words without the program's own name.
-use Rattle.std.specs.Prelude.{◌≡◌, ℕ, Bool, true, false, List, [], ◌∷◌, Some, codes, slice_get}
+use Rattle.std.specs.Prelude.{◌≡◌, ◌≢◌, ℕ, Bool, true, false, List, [], ◌∷◌, Some, codes, slice_get, ⊤}
 use Rattle.std.specs.Str.{bytes_eq}
 use Rattle.std.specs.List.{list_any}
 use Rattle.clap.specs.Words.{App, Row}
@@ -75,3 +75,14 @@ Means words command.Version = words ≡ codes "--version" ∷ []
 pub record Says (words : List (List ℕ)) (said : Command) : Type 0 where
   pub first : slice_get words 0 ≡ Some (first_word said)
   pub means : Means words said
+
+-- ---- what any words say
+
+-- This holds of each command that words say: `serve` is never told to stop after 0 packets, and full frames are never obfuscated.
+abbrev pub IsLawful : Command → Type 0
+IsLawful (command.Sim wire) = ⊤
+IsLawful (command.Load calls) = ⊤
+IsLawful (command.Serve options) = options.stop_after ≢ Some 0
+IsLawful (command.Call options) = options.obfuscate ≡ true → options.form ≢ Full
+IsLawful (command.Help page) = ⊤
+IsLawful command.Version = ⊤

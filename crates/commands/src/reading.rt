@@ -5,7 +5,7 @@ ghost use Rattle.std.specs.List.{list_any};
 ghost use Rattle.std.specs.Str.{bytes_eq};
 ghost use Rattle.commands.specs.Simple.{sim, load, serve, call};
 ghost use Rattle.commands.specs.Values.{HasFlag, HasNumber};
-ghost use Rattle.commands.specs.Says.{Says, SaysServe, SaysCall, page_word};
+ghost use Rattle.commands.specs.Says.{IsLawful, Says, SaysServe, SaysCall, page_word};
 ghost use Rattle.commands.specs.Inner.{IsTold, RefusesUnlessMemory};
 ghost use Rattle.commands.specs.declared.command.Command.{Command};
 ghost use Rattle.commands.specs.declared.command.ServeOptions.{ServeOptions};
@@ -25,6 +25,7 @@ use transport::Form;
 /// `Refused` where the words say no command. `Memory`.
 pub fn read<'a>(alloc: Global, words: &'a [String]) -> Result<Command<'a>, WordsFault>
     ensures said { IfOk result (Says (map string_bytes words.entry.now)) }
+    ensures lawful { IfOk result IsLawful }
     ensures refused { IfErr result (λ fault. fault ≡ WordsFault.Refused → (command : Command) → Says (map string_bytes words.entry.now) command → ⊥) }
 {
     let Some(first) = words.first() else {

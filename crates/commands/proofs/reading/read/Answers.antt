@@ -1,4 +1,5 @@
 use Rattle.std.proofs.Common.{◌≡◌, ◌∙◌, ap, sym, rules, codes, string_bytes, Some}
+use Rattle.commands.proofs.Lawful.{serve_lawful}
 use Rattle.commands.proofs.Numbers.{passed_on}
 use Rattle.commands.proofs.Sayings.{begins, asked, refused-sim, refused-load, refused-serve, refused-call, refused-help}
 use Rattle.commands.proofs.reading.read.Goals as goal
@@ -106,3 +107,11 @@ returns-in_ok-told_call-in-call-clause-said c =
         told.tells,
       );
     }
+
+-- ---- what any words say
+
+pub returns-in_ok-told_serve-in-serve-clause-lawful : goal.returns-in_ok-told_serve-in-serve-clause-lawful
+returns-in_ok-told_serve-in-serve-clause-lawful c = serve_lawful _ _ c.in_ok-told_serve-in-serve.ensures.found.tells
+
+pub returns-in_ok-told_call-in-call-clause-lawful : goal.returns-in_ok-told_call-in-call-clause-lawful
+returns-in_ok-told_call-in-call-clause-lawful c = c.in_ok-told_call-in-call.ensures.found.tells.lawful
