@@ -1,5 +1,5 @@
 -- One text behind another.
-use Rattle.std.proofs.Common.{◌≡◌, ◌≤◌, ◌+◌, ◌-◌, ◌^◌, inl, inr, ℕ, Bool, true, false, leb, List, ◌++◌, Option, Some, None, IfSome, IsSomeAnd, refl, sym, ap, subst, ◌∙◌, append_assoc, arith}
+use Rattle.std.proofs.Common.{◌≡◌, ◌≤◌, ◌+◌, ◌-◌, ◌^◌, ◌⊎◌, inl, inr, ℕ, Bool, true, false, leb, List, [], ◌++◌, Option, Some, None, IfSome, IsSomeAnd, refl, sym, ap, subst, ◌∙◌, append_assoc, append-nil, arith}
 use Rattle.std.proofs.lemmas.Bool.{leb-true, leb-false}
 use Rattle.mt_edge.specs.Faults.{Rose, one_more}
 use Rattle.statuses.specs.Outside.{Outside, Tells}
@@ -66,6 +66,50 @@ writes-line first last text line is wrote = subst (λ (some : List ℕ). IfSome 
 
 pub front-line : (first last : Option (List ℕ)) (text line : List ℕ) → text ≡ line → Front first last text → Front first last line
 front-line first last text line is wrote = subst (λ (some : List ℕ). Front first last some) is wrote
+
+-- ---- a text that is written whole, before another one
+
+abbrev pub First : Option (List ℕ) → Option (List ℕ) → List ℕ → Type 0
+First first last text = IfSome first (λ bytes. IsSomeAnd last (λ now. (rest : List ℕ) × (now ≡ bytes ++ (text ++ rest))))
+
+first-some : (bytes : List ℕ) (last : Option (List ℕ)) (one other : List ℕ) → last ≡ Some ((bytes ++ one) ++ other) → IsSomeAnd last (λ now. (rest : List ℕ) × (now ≡ bytes ++ (one ++ rest)))
+first-some bytes last one other wrote =
+    subst (λ (told : Option (List ℕ)). IsSomeAnd told (λ now. (rest : List ℕ) × (now ≡ bytes ++ (one ++ rest)))) (sym wrote) (other, append_assoc bytes one other)
+
+first-front : (bytes : List ℕ) (last : Option (List ℕ)) (one other : List ℕ)
+    → IsSomeAnd last (λ now. (front : List ℕ) × (rest : List ℕ) × (other ≡ front ++ rest) × (now ≡ (bytes ++ one) ++ front))
+    → IsSomeAnd last (λ now. (rest : List ℕ) × (now ≡ bytes ++ (one ++ rest)))
+first-front bytes None one other wrote = absurd wrote
+first-front bytes (Some now) one other wrote = (wrote.0, wrote.3 ∙ append_assoc bytes one wrote.0)
+
+first-over : (first middle last : Option (List ℕ)) (one other : List ℕ) → IfSome first (λ bytes. middle ≡ Some (bytes ++ one))
+    → IfSome middle (λ bytes. last ≡ Some (bytes ++ other)) ⊎ Front middle last other → First first last one
+first-over None middle last one other wrote then = tt
+first-over (Some bytes) middle last one other wrote (inl then) =
+    first-some bytes last one other (subst (λ (told : Option (List ℕ)). IfSome told (λ some. last ≡ Some (some ++ other))) wrote then)
+first-over (Some bytes) middle last one other wrote (inr then) =
+    first-front bytes last one other (subst (λ (told : Option (List ℕ)). Front told last other) wrote then)
+
+first-tells : {T : Type 0} (told : T → Option (List ℕ)) (faults : T → ℕ) (first middle last : T) (one other : List ℕ) (due answer : Status)
+    → IfSome (told first) (λ bytes. told middle ≡ Some (bytes ++ one)) → Tells (record { told = told; faults = faults; before = middle; after = last }) due other answer
+    → First (told first) (told last) one
+first-tells told faults first middle last one other due answer wrote (inl done) = first-over (told first) (told middle) (told last) one other wrote (inl done.1)
+first-tells told faults first middle last one other due answer wrote (inr failed) = first-over (told first) (told middle) (told last) one other wrote (inr failed.2)
+
+-- by the line that it is: another text is told behind it, or none
+pub first-line : {T : Type 0} (told : T → Option (List ℕ)) (faults : T → ℕ) (first middle last : T) (one other line : List ℕ) (due answer : Status) → one ≡ line
+    → IfSome (told first) (λ bytes. told middle ≡ Some (bytes ++ one)) → Tells (record { told = told; faults = faults; before = middle; after = last }) due other answer
+    → First (told first) (told last) line
+first-line told faults first middle last one other line due answer is wrote tells =
+    subst (λ (text : List ℕ). First (told first) (told last) text) is (first-tells told faults first middle last one other due answer wrote tells)
+
+first-alone : (first last : Option (List ℕ)) (text : List ℕ) → IfSome first (λ bytes. last ≡ Some (bytes ++ text)) → First first last text
+first-alone None last text wrote = tt
+first-alone (Some bytes) last text wrote =
+    subst (λ (told : Option (List ℕ)). IsSomeAnd told (λ now. (rest : List ℕ) × (now ≡ bytes ++ (text ++ rest)))) (sym wrote) ([], ap (λ (all : List ℕ). bytes ++ all) (sym (append-nil text)))
+
+pub first-line-alone : (first last : Option (List ℕ)) (text line : List ℕ) → text ≡ line → IfSome first (λ bytes. last ≡ Some (bytes ++ text)) → First first last line
+first-line-alone first last text line is wrote = subst (λ (some : List ℕ). First first last some) is (first-alone first last text wrote)
 
 -- ---- counts
 

@@ -1,5 +1,5 @@
 -- A run, from its parts.
-use Rattle.std.proofs.Common.{◌≡◌, ◌≢◌, ◌≤◌, ◌+◌, ◌⊎◌, inl, inr, ℕ, List, [], ◌∷◌, ◌++◌, length, Option, Some, None, IfSome, IsSome, IsSomeAnd, Result, Ok, refl, sym, ap, subst, ◌∙◌, append_assoc, append-nil, length-append, arith}
+use Rattle.std.proofs.Common.{◌≡◌, ◌≢◌, ◌<◌, ◌≤◌, ◌+◌, ◌⊎◌, inl, inr, ℕ, List, [], ◌∷◌, ◌++◌, length, Option, Some, None, IfSome, IsSome, IsSomeAnd, Result, Ok, refl, sym, ap, subst, ◌∙◌, append_assoc, append-nil, length-append, arith}
 use Rattle.auth_keys.specs.KeyFile.{IsFaultOf, IsRingOf}
 use Rattle.auth_keys.specs.declared.fault.KeyFault.{KeyFault}
 use Rattle.auth_keys.specs.declared.fault.KeyFault.TheVariants as faults
@@ -17,7 +17,8 @@ use Rattle.statuses.specs.declared.status.Status.{Status}
 use Rattle.statuses.specs.declared.status.Status.TheVariants as status
 use Rattle.serving.specs.Connections.{AreNoted, AreNotedBy, Connection, CountsEnding, EndsBy}
 use Rattle.serving.specs.Inner.{IsWith, RunsWith, ServesWith}
-use Rattle.serving.specs.Runs.{Calls, CountsFiles, CountsNet, Course, Unread, Refused, Unbegun, Deaf, Mute, Serves, Ends, FailsNever, FailsOnce, Faulted, HasKeys, IfTold, Makes, Moments, Part, Reads, Registers, ServeRun, ServesBy}
+use Rattle.serving.specs.Lines.{listening}
+use Rattle.serving.specs.Runs.{Calls, CountsFiles, CountsNet, Course, Unread, Refused, Unbegun, Deaf, Mute, Serves, Ends, FailsNever, FailsOnce, Faulted, HasKeys, IfTold, Makes, Moments, Part, Reads, Registers, ServeRun, ServesBy, WritesFirst}
 use Rattle.serving.specs.declared.ending.Ending.{Ending}
 use Rattle.serving.specs.declared.ending.Ending.TheVariants.{Served, Stopped, NotTaken, Memory}
 use Rattle.serving.proofs.Texts.{rose-once}
@@ -213,10 +214,10 @@ write-fault options out (Refused line) one ends is = write-fault-of out status.K
 write-fault options out Unbegun one ends is = let both : status.Memory ≡ status.WriteFault = sym ends.0 ∙ is in cc
 write-fault options out (Deaf ring) one ends is = write-fault-of out status.NotListening _ one ends (λ same. cc) is
 write-fault options out (Mute ring) one ends is = ends.1
-write-fault options out (Serves ring connections Served) one ends is = write-fault-of out status.Done _ one ends (λ same. cc) is
-write-fault options out (Serves ring connections Stopped) one ends is = write-fault-of out status.Done _ one ends (λ same. cc) is
-write-fault options out (Serves ring connections NotTaken) one ends is = write-fault-of out status.NotListening _ one ends (λ same. cc) is
-write-fault options out (Serves ring connections Memory) one ends is = let both : status.Memory ≡ status.WriteFault = sym ends.0 ∙ is in cc
+write-fault options out (Serves ring connections Served) one ends is = write-fault-of out status.Done _ one ends.1 (λ same. cc) is
+write-fault options out (Serves ring connections Stopped) one ends is = write-fault-of out status.Done _ one ends.1 (λ same. cc) is
+write-fault options out (Serves ring connections NotTaken) one ends is = write-fault-of out status.NotListening _ one ends.1 (λ same. cc) is
+write-fault options out (Serves ring connections Memory) one ends is = let both : status.Memory ≡ status.WriteFault = sym ends.1.0 ∙ is in cc
 
 -- a status other than that of the course, or of a write fault, doesn't come
 other-status : {O : Type 0} (out : Outside O) (due : Status) (text : List ℕ) (one which : Status) → Tells out due text one → (due ≡ which → ⊥) → (status.WriteFault ≡ which → ⊥) → one ≡ which → ⊥
@@ -230,10 +231,10 @@ not-listening options net out (Refused line) one counted ends is = absurd (other
 not-listening options net out Unbegun one counted ends is = let both : status.Memory ≡ status.NotListening = sym ends.0 ∙ is in cc
 not-listening options net out (Deaf ring) one counted ends is = rose-once (net.faults net.before) (net.faults net.after) counted
 not-listening options net out (Mute ring) one counted ends is = let both : status.WriteFault ≡ status.NotListening = sym ends.0 ∙ is in cc
-not-listening options net out (Serves ring connections Served) one counted ends is = absurd (other-status out status.Done _ one status.NotListening ends (λ same. cc) (λ same. cc) is)
-not-listening options net out (Serves ring connections Stopped) one counted ends is = absurd (other-status out status.Done _ one status.NotListening ends (λ same. cc) (λ same. cc) is)
+not-listening options net out (Serves ring connections Served) one counted ends is = absurd (other-status out status.Done _ one status.NotListening ends.1 (λ same. cc) (λ same. cc) is)
+not-listening options net out (Serves ring connections Stopped) one counted ends is = absurd (other-status out status.Done _ one status.NotListening ends.1 (λ same. cc) (λ same. cc) is)
 not-listening options net out (Serves ring connections NotTaken) one counted ends is = rose-once (net.faults net.before) (net.faults net.after) counted
-not-listening options net out (Serves ring connections Memory) one counted ends is = let both : status.Memory ≡ status.NotListening = sym ends.0 ∙ is in cc
+not-listening options net out (Serves ring connections Memory) one counted ends is = let both : status.Memory ≡ status.NotListening = sym ends.1.0 ∙ is in cc
 
 keys-refused : {D F O : Type 0} (options : ServeOptions) (files : Part FilesTold F) (out : Outside O) (course : Course D) (one : Status) → CountsFiles files course → Ends options out course one
     → one ≡ status.KeysRefused → Faulted files ⊎ ((line : ℕ) × (course ≡ Refused line))
@@ -242,10 +243,10 @@ keys-refused options files out (Refused line) one counted ends is = inr (line, r
 keys-refused options files out Unbegun one counted ends is = let both : status.Memory ≡ status.KeysRefused = sym ends.0 ∙ is in cc
 keys-refused options files out (Deaf ring) one counted ends is = absurd (other-status out status.NotListening _ one status.KeysRefused ends (λ same. cc) (λ same. cc) is)
 keys-refused options files out (Mute ring) one counted ends is = let both : status.WriteFault ≡ status.KeysRefused = sym ends.0 ∙ is in cc
-keys-refused options files out (Serves ring connections Served) one counted ends is = absurd (other-status out status.Done _ one status.KeysRefused ends (λ same. cc) (λ same. cc) is)
-keys-refused options files out (Serves ring connections Stopped) one counted ends is = absurd (other-status out status.Done _ one status.KeysRefused ends (λ same. cc) (λ same. cc) is)
-keys-refused options files out (Serves ring connections NotTaken) one counted ends is = absurd (other-status out status.NotListening _ one status.KeysRefused ends (λ same. cc) (λ same. cc) is)
-keys-refused options files out (Serves ring connections Memory) one counted ends is = let both : status.Memory ≡ status.KeysRefused = sym ends.0 ∙ is in cc
+keys-refused options files out (Serves ring connections Served) one counted ends is = absurd (other-status out status.Done _ one status.KeysRefused ends.1 (λ same. cc) (λ same. cc) is)
+keys-refused options files out (Serves ring connections Stopped) one counted ends is = absurd (other-status out status.Done _ one status.KeysRefused ends.1 (λ same. cc) (λ same. cc) is)
+keys-refused options files out (Serves ring connections NotTaken) one counted ends is = absurd (other-status out status.NotListening _ one status.KeysRefused ends.1 (λ same. cc) (λ same. cc) is)
+keys-refused options files out (Serves ring connections Memory) one counted ends is = let both : status.Memory ≡ status.KeysRefused = sym ends.1.0 ∙ is in cc
 
 -- ---- nothing but a fault or want of memory keeps it from being done
 
@@ -261,10 +262,10 @@ done-without-fault options files net out (Refused line) one read called ends rin
 done-without-fault options files net out Unbegun one read called ends ring file call write = inr ends.0
 done-without-fault options files net out (Deaf own) one read called ends ring file call write = absurd (call (rose-once (net.faults net.before) (net.faults net.after) called))
 done-without-fault options files net out (Mute own) one read called ends ring file call write = absurd (write ends.1)
-done-without-fault options files net out (Serves own connections Served) one read called ends ring file call write = done-or-fault out _ one write ends
-done-without-fault options files net out (Serves own connections Stopped) one read called ends ring file call write = done-or-fault out _ one write ends
+done-without-fault options files net out (Serves own connections Served) one read called ends ring file call write = done-or-fault out _ one write ends.1
+done-without-fault options files net out (Serves own connections Stopped) one read called ends ring file call write = done-or-fault out _ one write ends.1
 done-without-fault options files net out (Serves own connections NotTaken) one read called ends ring file call write = absurd (call (rose-once (net.faults net.before) (net.faults net.after) called))
-done-without-fault options files net out (Serves own connections Memory) one read called ends ring file call write = inr ends.0
+done-without-fault options files net out (Serves own connections Memory) one read called ends ring file call write = inr ends.1.0
 
 complete : {D F N O : Type 0} (options : ServeOptions) (files : Part FilesTold F) (net : Part (List NetCall) N) (out : Outside O) (course : Course D) (one : Status) (told : Option FilesTold)
     → CountsFiles files course → CountsNet net course → Ends options out course one
@@ -309,6 +310,24 @@ few-calls first None most P few made = tt
 few-calls None (Some last) most P few made = absurd made
 few-calls (Some first) (Some last) most P few made = omega (arith, ap length made.1, length-append first made.0, few made.0 made.2)
 
+-- ---- none is asked for unless the first line is written
+
+first-made : {D O : Type 0} (options : ServeOptions) (out : Outside O) (course : Course D) (one : Status) (made : List NetCall) → Makes options.port course made → Ends options out course one
+    → 1 < length made → WritesFirst out (listening options.port)
+first-made options out Unread one made is ends more = absurd (omega (arith, more, ap length is))
+first-made options out (Refused line) one made is ends more = absurd (omega (arith, more, ap length is))
+first-made options out Unbegun one made is ends more = absurd (omega (arith, more, ap length is))
+first-made options out (Deaf ring) one made is ends more = absurd (omega (arith, more, ap length is))
+first-made options out (Mute ring) one made is ends more = absurd (omega (arith, more, ap length is))
+first-made options out (Serves ring connections ending) one made is ends more = ends.0
+
+first-called : (first last : Option (List NetCall)) (P : List NetCall → Type 0) (W : Type 0) → ((made : List NetCall) → P made → 1 < length made → W)
+    → IfSome last (λ after. IsSomeAnd first (λ before. (made : List NetCall) × (after ≡ before ++ made) × P made))
+    → IfSome last (λ after. IsSomeAnd first (λ before. length before + 1 < length after → W))
+first-called first None P W written made = tt
+first-called None (Some last) P W written made = absurd made
+first-called (Some first) (Some last) P W written made = λ more. written made.0 made.2 (omega (arith, more, ap length made.1, length-append first made.0))
+
 -- ---- all of it
 
 pub run-of : {F N O D : Type 0} (step : D → ℕ × D) (options : ServeOptions) (files : Part FilesTold F) (net : Part (List NetCall) N) (out : Outside O) (moments : Moments) (draw : D) (one : Status) (course : Course D)
@@ -321,6 +340,7 @@ run-of step options files net out moments draw one course reads calls serves end
   serves = serves;
   ends = ends;
   few = few-calls (net.told net.before) (net.told net.after) (1 + options.conns) (Makes options.port course) (λ made is. few-made step options moments draw course made is serves) calls.made;
+  first_line = first-called (net.told net.before) (net.told net.after) (Makes options.port course) (WritesFirst out (listening options.port)) (λ made is. first-made options out course one made is ends) calls.made;
   write_fault = write-fault options out course one ends;
   not_listening = not-listening options net out course one calls.counted ends;
   keys_refused = keys-refused options files out course one reads.counted ends;

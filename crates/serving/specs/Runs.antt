@@ -1,5 +1,5 @@
 -- What a run of `serve` promises.
-use Rattle.std.specs.Prelude.{◌≡◌, ◌⊎◌, ℕ, Option, List, [], ◌∷◌, ◌++◌, ◌+◌, ◌≤◌, length, IfSome, IsSome, IsSomeAnd, ⊤}
+use Rattle.std.specs.Prelude.{◌≡◌, ◌⊎◌, ℕ, Option, List, [], ◌∷◌, ◌++◌, ◌+◌, ◌<◌, ◌≤◌, length, IfSome, IsSome, IsSomeAnd, ⊤}
 use Rattle.auth_keys.specs.KeyFile.{IsRingOf}
 use Rattle.auth_keys.specs.declared.ring.RingKey.{RingKey}
 use Rattle.commands.specs.declared.command.ServeOptions.{ServeOptions}
@@ -155,6 +155,11 @@ ServesBy step options moments draw (Serves ring connections ending) =
 
 -- ---- the status, and what is written
 
+-- of a sink, where it tells what was written: this text was written whole, before anything else
+abbrev pub WritesFirst : {O : Type 0} → Outside O → List ℕ → Type 0
+WritesFirst out text =
+    IfSome (out.told out.before) (λ bytes. IsSomeAnd (out.told out.after) (λ now. (rest : List ℕ) × (now ≡ bytes ++ (text ++ rest))))
+
 -- behind the first line: as all connections are served, or as many packets are answered as there were to answer, it is done
 abbrev pub EndsServing : {O : Type 0} → ServeOptions → Outside O → Ending → Status → Type 0
 EndsServing options out Served one = Tells out status.Done (listening options.port ++ last_line options.conns Served) one
@@ -163,14 +168,15 @@ EndsServing options out NotTaken one = Tells out status.NotListening (listening 
 EndsServing options out Memory one = (one ≡ status.Memory) × Writes out (listening options.port)
 
 -- Each status with the course that is its cause: it comes there and nowhere else. Where a write to the output fails, it is the
--- write fault in place of another one, and a front of what was due is written.
+-- write fault in place of another one, and a front of what was due is written; where connections are served, the first line of
+-- it is whole.
 abbrev pub Ends : {D O : Type 0} → ServeOptions → Outside O → Course D → Status → Type 0
 Ends options out Unread one = Tells out status.KeysRefused not_read one
 Ends options out (Refused line) one = Tells out status.KeysRefused (refused_at line) one
 Ends options out Unbegun one = (one ≡ status.Memory) × IsUntouched out
 Ends options out (Deaf ring) one = Tells out status.NotListening not_listening one
 Ends options out (Mute ring) one = (one ≡ status.WriteFault) × HadFault out × WritesFront out (listening options.port)
-Ends options out (Serves ring connections ending) one = EndsServing options out ending one
+Ends options out (Serves ring connections ending) one = WritesFirst out (listening options.port) × EndsServing options out ending one
 
 -- ---- a run
 
@@ -184,6 +190,8 @@ pub record ServeRun {F N O D : Type 0} (step : D → ℕ × D) (options : ServeO
   pub ends : Ends options out course result
   -- No more connections are asked for than there should be.
   pub few : IfTold net (λ before after. length after ≤ length before + (1 + options.conns))
+  -- None is asked for unless the first line is written: where that is torn, or isn't there, the net was called once at most.
+  pub first_line : IfTold net (λ before after. length before + 1 < length after → WritesFirst out (listening options.port))
   -- Faults of the outside come only where they were counted.
   pub write_fault : result ≡ status.WriteFault → HadFault out
   pub not_listening : result ≡ status.NotListening → Faulted net

@@ -84,12 +84,14 @@ fn words_of(alloc: Global, line: &str) -> Result<Vec<String>, AllocError> {
         .try_collect(alloc)
 }
 
-// How a run with these words ends, what it writes, and its net, over these links, where these calls of the net fail.
+// How a run with these words ends, what it writes, and its net, over these links, where these calls of the net and these
+// writes fail.
 fn ran(
     alloc: Global,
     line: &str,
     mut files: MemFiles,
     failing: &[u64],
+    unwritten: &[u64],
 ) -> Result<(Status, MemSink, MemNet), Fail> {
     let words = words_of(alloc, line)?;
     let Command::Serve(options) = read(alloc, words.as_slice())? else {
@@ -98,7 +100,7 @@ fn ran(
     if options.stop_after == Some(0) {
         return Err(Fail::new("no packet to answer"));
     }
-    let mut out = MemSink::new(alloc, 1_000, 7, &[])?;
+    let mut out = MemSink::new(alloc, 1_000, 7, unwritten)?;
     let mut net = MemNet::new(alloc, links(alloc)?, failing, 8)?;
     let mut clock = ListClock::new(alloc, &[Moment::new(0)])?;
     let status = run_serve(
@@ -136,7 +138,7 @@ fn a_connection_is_served(rt: HostRuntime) -> Result<(), Fail> {
     let alloc = rt.alloc();
     let text = key_file(alloc)?;
     let line = "serve --keys f --port 4430 --conns 1";
-    let (status, out, net) = ran(alloc, line, file(alloc, "f", text.as_str())?, &[])?;
+    let (status, out, net) = ran(alloc, line, file(alloc, "f", text.as_str())?, &[], &[])?;
     assert_eq!(rt; status, Status::Done);
     assert_eq!(rt; out.written(), b"listening 4430\nserved 1\n".as_slice());
     assert!(rt; are_two_frames(written(&net)));
@@ -194,9 +196,35 @@ fn runs_that_end_otherwise(rt: HostRuntime) -> Result<(), Fail> {
         ),
     ];
     for (line, name, contents, failing, status, due) in rows {
-        let (ended, out, _) = ran(alloc, line, file(alloc, name, contents)?, failing)?;
+        let (ended, out, _) = ran(alloc, line, file(alloc, name, contents)?, failing, &[])?;
         assert_eq!(rt; ended, status, "{due}");
         assert_eq!(rt; out.written(), due.as_bytes());
+    }
+    Ok(())
+}
+
+// Three writes of the first line, of 15 bytes, and two of the last one: whichever fails, what stands before it is written, and
+// no connection is taken unless the first line is whole.
+#[test]
+fn each_write_that_fails_ends_it(rt: HostRuntime) -> Result<(), Fail> {
+    let alloc = rt.alloc();
+    let text = key_file(alloc)?;
+    let line = "serve --keys f --port 4430 --conns 1";
+    for write in 1..=6u64 {
+        let files = file(alloc, "f", text.as_str())?;
+        let (status, out, net) = ran(alloc, line, files, &[], &[write])?;
+        let bytes = match write {
+            1 => 0,
+            2 => 7,
+            3 => 14,
+            4 => 15,
+            5 => 22,
+            _ => 24,
+        };
+        assert_eq!(rt; status == Status::WriteFault, write <= 5);
+        assert!(rt; b"listening 4430\nserved 1\n".starts_with(out.written()));
+        assert_eq!(rt; out.written().len(), bytes);
+        assert_eq!(rt; net.calls().len(), if write <= 3 { 1 } else { 2 });
     }
     Ok(())
 }

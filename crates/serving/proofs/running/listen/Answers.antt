@@ -3,7 +3,7 @@ use Rattle.serving.specs.Lines.{last_line, listening, not_listening}
 use Rattle.serving.specs.Runs.{Deaf, Mute, Serves, Unbegun}
 use Rattle.serving.specs.declared.ending.Ending.TheVariants.{Served, Stopped, NotTaken, Memory}
 use Rattle.statuses.specs.declared.status.Status.TheVariants as status
-use Rattle.serving.proofs.Texts.{front-line, tells-lines, writes-line}
+use Rattle.serving.proofs.Texts.{first-line, first-line-alone, front-line, tells-lines, writes-line}
 use Rattle.serving.proofs.Ways.{calls-deaf, calls-mute, calls-none, calls-serves}
 use Rattle.serving.proofs.running.listen.Goals as goal
 
@@ -68,9 +68,13 @@ returns-in-Served g c =
             (record { before = g.C.Clock.given c.args.clock.now; after = g.C.Clock.given c.serve.new.clock }) c.args.draw.now Served
             c.in-Ready.ensures.told c.in-Ready.ensures.counted c.listen.ensures.first_fault serves c.in-Served.ensures.counted c.serve.ensures.first_fault;
         serves = serves.are;
-        ends = tells-lines g.O.Sink.written g.O.Sink.faults c.args.out.now c.write_all.new.sink c.say-in-Served.new.out c.as_slice.result.now c.as_slice-in-Served.result.now
-            (listening c.args.options.now.port) (last_line c.args.options.now.conns Served) status.Done c.say-in-Served.result
-            (c.as_slice.ensures.value ∙ c.in-Ok.ensures) (c.as_slice-in-Served.ensures.value ∙ c.in-Ok-served_line.ensures) c.in_default-write_all.ensures.whole c.write_all.ensures.never_falls c.say-in-Served.ensures;
+        ends = (
+          first-line g.O.Sink.written g.O.Sink.faults c.args.out.now c.write_all.new.sink c.say-in-Served.new.out c.as_slice.result.now c.as_slice-in-Served.result.now
+              (listening c.args.options.now.port) status.Done c.say-in-Served.result (c.as_slice.ensures.value ∙ c.in-Ok.ensures) c.in_default-write_all.ensures.whole c.say-in-Served.ensures,
+          tells-lines g.O.Sink.written g.O.Sink.faults c.args.out.now c.write_all.new.sink c.say-in-Served.new.out c.as_slice.result.now c.as_slice-in-Served.result.now
+              (listening c.args.options.now.port) (last_line c.args.options.now.conns Served) status.Done c.say-in-Served.result
+              (c.as_slice.ensures.value ∙ c.in-Ok.ensures) (c.as_slice-in-Served.ensures.value ∙ c.in-Ok-served_line.ensures) c.in_default-write_all.ensures.whole c.write_all.ensures.never_falls c.say-in-Served.ensures,
+        );
       };
     }
 
@@ -85,9 +89,13 @@ returns-in-Stopped g c =
             (record { before = g.C.Clock.given c.args.clock.now; after = g.C.Clock.given c.serve.new.clock }) c.args.draw.now Stopped
             c.in-Ready.ensures.told c.in-Ready.ensures.counted c.listen.ensures.first_fault serves c.in-Stopped.ensures.counted c.serve.ensures.first_fault;
         serves = serves.are;
-        ends = tells-lines g.O.Sink.written g.O.Sink.faults c.args.out.now c.write_all.new.sink c.say-in-Stopped.new.out c.as_slice.result.now (last_line c.args.options.now.conns Stopped)
-            (listening c.args.options.now.port) (last_line c.args.options.now.conns Stopped) status.Done c.say-in-Stopped.result
-            (c.as_slice.ensures.value ∙ c.in-Ok.ensures) refl c.in_default-write_all.ensures.whole c.write_all.ensures.never_falls c.say-in-Stopped.ensures;
+        ends = (
+          first-line g.O.Sink.written g.O.Sink.faults c.args.out.now c.write_all.new.sink c.say-in-Stopped.new.out c.as_slice.result.now (last_line c.args.options.now.conns Stopped)
+              (listening c.args.options.now.port) status.Done c.say-in-Stopped.result (c.as_slice.ensures.value ∙ c.in-Ok.ensures) c.in_default-write_all.ensures.whole c.say-in-Stopped.ensures,
+          tells-lines g.O.Sink.written g.O.Sink.faults c.args.out.now c.write_all.new.sink c.say-in-Stopped.new.out c.as_slice.result.now (last_line c.args.options.now.conns Stopped)
+              (listening c.args.options.now.port) (last_line c.args.options.now.conns Stopped) status.Done c.say-in-Stopped.result
+              (c.as_slice.ensures.value ∙ c.in-Ok.ensures) refl c.in_default-write_all.ensures.whole c.write_all.ensures.never_falls c.say-in-Stopped.ensures,
+        );
       };
     }
 
@@ -102,9 +110,13 @@ returns-in-NotTaken g c =
             (record { before = g.C.Clock.given c.args.clock.now; after = g.C.Clock.given c.serve.new.clock }) c.args.draw.now NotTaken
             c.in-Ready.ensures.told c.in-Ready.ensures.counted c.listen.ensures.first_fault serves c.in-NotTaken.ensures.counted c.serve.ensures.first_fault;
         serves = serves.are;
-        ends = tells-lines g.O.Sink.written g.O.Sink.faults c.args.out.now c.write_all.new.sink c.say-in-NotTaken.new.out c.as_slice.result.now not_listening
-            (listening c.args.options.now.port) not_listening status.NotListening c.say-in-NotTaken.result
-            (c.as_slice.ensures.value ∙ c.in-Ok.ensures) refl c.in_default-write_all.ensures.whole c.write_all.ensures.never_falls c.say-in-NotTaken.ensures;
+        ends = (
+          first-line g.O.Sink.written g.O.Sink.faults c.args.out.now c.write_all.new.sink c.say-in-NotTaken.new.out c.as_slice.result.now not_listening
+              (listening c.args.options.now.port) status.NotListening c.say-in-NotTaken.result (c.as_slice.ensures.value ∙ c.in-Ok.ensures) c.in_default-write_all.ensures.whole c.say-in-NotTaken.ensures,
+          tells-lines g.O.Sink.written g.O.Sink.faults c.args.out.now c.write_all.new.sink c.say-in-NotTaken.new.out c.as_slice.result.now not_listening
+              (listening c.args.options.now.port) not_listening status.NotListening c.say-in-NotTaken.result
+              (c.as_slice.ensures.value ∙ c.in-Ok.ensures) refl c.in_default-write_all.ensures.whole c.write_all.ensures.never_falls c.say-in-NotTaken.ensures,
+        );
       };
     }
 
@@ -119,6 +131,9 @@ returns g c =
             (record { before = g.C.Clock.given c.args.clock.now; after = g.C.Clock.given c.serve.new.clock }) c.args.draw.now Memory
             c.in-Ready.ensures.told c.in-Ready.ensures.counted c.listen.ensures.first_fault serves c.in-Memory.ensures.counted c.serve.ensures.first_fault;
         serves = serves.are;
-        ends = (refl, writes-line (g.O.Sink.written c.args.out.now) (g.O.Sink.written c.write_all.new.sink) c.as_slice.result.now (listening c.args.options.now.port) (c.as_slice.ensures.value ∙ c.in-Ok.ensures) c.in_default-write_all.ensures.whole);
+        ends = (
+          first-line-alone (g.O.Sink.written c.args.out.now) (g.O.Sink.written c.write_all.new.sink) c.as_slice.result.now (listening c.args.options.now.port) (c.as_slice.ensures.value ∙ c.in-Ok.ensures) c.in_default-write_all.ensures.whole,
+          (refl, writes-line (g.O.Sink.written c.args.out.now) (g.O.Sink.written c.write_all.new.sink) c.as_slice.result.now (listening c.args.options.now.port) (c.as_slice.ensures.value ∙ c.in-Ok.ensures) c.in_default-write_all.ensures.whole),
+        );
       };
     }
