@@ -51,3 +51,4 @@ pub mod PacketDues
 pub mod BetweenEvents
 pub mod Desked
 pub mod Outcomes
+pub mod Acked

@@ -18,3 +18,4 @@ pub mod SettlingAll
 pub mod Room
 pub mod Packets
 pub mod Desks
+pub mod Acceptance

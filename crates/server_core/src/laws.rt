@@ -1,23 +1,28 @@
 //! Laws of an event in which one session speaks, each the contract of a function that does nothing.
 
-ghost use Rattle.std.specs.Prelude.{◌≡◌, ◌∷◌, ℕ, List, Some, All, false, length};
+ghost use Rattle.std.specs.Prelude.{◌≡◌, ◌∷◌, ℕ, List, Some, All, Contains, false, length, true};
+ghost use Rattle.id_window.specs.Crossing.{is_odd};
 ghost use Rattle.id_window.specs.History.{History};
 ghost use Rattle.inbox.specs.declared.judged.Judgement.{Judgement};
 ghost use Rattle.regs_service.specs.Served.{Step};
 ghost use Rattle.waits.specs.Jobs.{Queue, ready_job};
 ghost use Rattle.waits.specs.declared.job.Job.{Job};
 ghost use Rattle.server_laws.specs.Order.{AreOrdered, IsMidway, IsSpeaking, IsTold, jobs_of, opens_of};
-ghost use Rattle.server_rules.specs.Event.{Entry, Envelope, Setting, Speaker, State, speaker_in, spoken};
+ghost use Rattle.server_rules.specs.Event.{Entry, Envelope, Sent, Setting, Speaker, State, speaker_in, spoken};
 ghost use Rattle.server_rules.specs.Server.{Name, Server, Session, name_of, session_named};
 ghost use Rattle.server_rules.specs.Waiting.{after_failures};
 ghost use Rattle.server_rules.specs.Answer.{after_packet, after_work, begun, is_spent, name_in, opens, runs};
+ghost use Rattle.server_bounds.specs.Taking.{IsTaken};
+ghost use Rattle.server_core.specs.Acceptance.{Acknowledges};
 ghost use Rattle.server_core.specs.Working.{run_entry};
 ghost use Rattle.server_core.specs.One.{AreOwnFailures, fails_all, finishes_all};
 ghost use Rattle.server_core.specs.Among.{Among, IsAlone, IsInOrder, IsOrderlySpeaker, heard_among, packet_among, settles_among, speaks_among};
 
 use draws::Draw;
+use packing::laws::packets_have_all_messages;
 use server_laws::laws::{
-    rows_keep_order, sessions_speak_for_themselves, speech_keeps_order, taken_jobs_are_open,
+    rows_keep_order, sessions_speak, sessions_speak_for_themselves, speech_keeps_order,
+    taken_jobs_are_open,
 };
 
 /// Where all jobs that have failed are those of the session that speaks, that session answers them all.
@@ -81,4 +86,14 @@ pub fn one_session_stays_in_order<D: Draw>()
     speech_keeps_order::<D>();
     rows_keep_order::<D>();
     taken_jobs_are_open::<D>();
+}
+
+/// A packet whose message is accepted in an event and has an odd seq is acknowledged by one of the packets of that event.
+pub fn acknowledgements_go_out<D: Draw>()
+    ensures { (setting : Setting D) (envelope : Envelope) (server : Server) (draw : D)
+        → IsTaken D setting envelope server draw → is_odd envelope.seq ≡ true
+        → (one : Sent) × Contains (after_packet setting envelope server draw).packets one × Acknowledges (name_in envelope) envelope.number one }
+{
+    sessions_speak::<D>();
+    packets_have_all_messages();
 }

@@ -11,10 +11,10 @@ ghost use Rattle.inbox.specs.Acceptance.{IsAcceptable};
 ghost use Rattle.rows.specs.Rings.{AreOf};
 ghost use Rattle.server_rules.specs.Answer.{after_packet, begun, hears as heard_in, message_in, name_in};
 ghost use Rattle.server_rules.specs.Server.{Server as Rules, Session, remembered, session_named};
-ghost use Rattle.server_bounds.specs.Taking.{IsTaken};
 ghost use Rattle.server_laws.specs.Order.{AreOrdered};
 ghost use Rattle.standing.specs.Says.{Keys, setting_of};
 ghost use Rattle.server_core.specs.declared.desk.Heard.TheVariants.{Judged, NotOpened};
+ghost use Rattle.server_core.specs.Acceptance.{WasTaken};
 ghost use Rattle.server_core.specs.Effects.{Gives};
 ghost use Rattle.server_core.specs.Packets.{IsHeardOf, NothingIsDone, brought, brought_in, effects_in};
 ghost use Rattle.server_core.specs.Server.{Stands};
@@ -23,7 +23,9 @@ ghost use Rattle.server_core.specs.Sessions.{is_kept_as};
 use crate::desk::{Heard, Reply};
 use crate::effects::Effects;
 use crate::hearing::{hears_known, makes_place};
-use crate::laws::{one_session_stays_alone, one_session_stays_in_order, one_session_takes};
+use crate::laws::{
+    acknowledgements_go_out, one_session_stays_alone, one_session_stays_in_order, one_session_takes,
+};
 use crate::packet_answers::answers_packet;
 use crate::room::judges_in_room;
 use crate::server::{Server, later};
@@ -61,18 +63,21 @@ impl<S: Seal> Server<S> {
             → AreOrdered server.sessions server.jobs → Opens S.lock (S.keys self.old.seal) (max self.old.moment now) Up packet.now envelope
             → IfOk result (λ reply. Gives S.lock (S.keys self.old.seal) self.new draw.new (effects_in reply)
             (after_packet (setting_of (max self.old.moment now) D.step keys) (brought_in envelope) server draw.old)) }
-        // A message that nothing refuses is accepted and acknowledged, and a call is a job then or has its answer.
-        ensures accepted { (keys : Keys) (server : Rules) (envelope : Sealed) (session : Session) → Stands self.old server
-            → Opens S.lock (S.keys self.old.seal) (max self.old.moment now) Up packet.now envelope
+        // The message of an envelope that nothing refuses is accepted in this event: what is kept of its session has its number as
+        // an accepted one, where its seq is odd a packet that goes out acknowledges it, and a call is an unfinished job or has its
+        // answer. Which of these, and with which answer, is as `given` says.
+        ensures accepted { (keys : Keys) (server : Rules) (envelope : Sealed) (session : Session) → AreOf (S.keys self.old.seal) keys → Stands self.old server
+            → AreOrdered server.sessions server.jobs → Opens S.lock (S.keys self.old.seal) (max self.old.moment now) Up packet.now envelope
             → session_named (name_in (brought_in envelope))
             (heard_in (setting_of (max self.old.moment now) D.step keys) (brought_in envelope) (begun server draw.old)).sessions ≡ Some session
             → IsAcceptable (max self.old.moment now) session.salts envelope.salt (remembered session) (message_in (brought_in envelope))
-            → OnOk result (IsTaken D (setting_of (max self.old.moment now) D.step keys) (brought_in envelope) server draw.old) }
+            → IfOk result (λ reply. WasTaken S.lock (S.keys self.old.seal) (brought_in envelope) self.new (effects_in reply)) }
         ensures unchanged_on_memory { OnErr result (self.new ≡ self.old) }
         ensures same_seal { self.new.seal ≡ self.old.seal }
     {
         S::opens_what_it_sealed();
         lawful_messages_are_taken::<D>();
+        acknowledgements_go_out::<D>();
         let moment = later(self.moment, now);
         match self.seal.unseal(alloc, moment, Dir::Up, packet) {
             Opened::Envelope(envelope) => self.hears(alloc, moment, envelope, draw),

@@ -1,5 +1,6 @@
 use Rattle.std.proofs.Common.{◌≡◌, ◌∙◌, ℕ, List, max, ap, subst}
 use Rattle.std.specs.Prelude.{IfOk}
+use Rattle.std.proofs.lemmas.Result.{IfOk-weaker}
 use Rattle.auth_keys.specs.declared.ring.RingKey.{RingKey}
 use Rattle.envelope.specs.declared.parts.Dir.TheVariants.{Up}
 use Rattle.envelope.specs.declared.parts.Envelope.{Envelope}
@@ -9,7 +10,8 @@ use Rattle.standing.specs.Says.{setting_of}
 use Rattle.server_core.specs.Effects.{Gives}
 use Rattle.server_core.specs.Packets.{brought_in, effects_in}
 use Rattle.server_core.specs.Server.{Kept}
-use Rattle.server_core.proofs.Outcomes.{on-ok}
+use Rattle.server_core.specs.Acceptance.{WasTaken}
+use Rattle.server_core.proofs.Acked.{was-taken}
 use Rattle.server_core.proofs.server.Server.on_packet.Goals as goal
 
 pub returns-in-Envelope-clause-given : goal.returns-in-Envelope-clause-given
@@ -49,11 +51,31 @@ returns-in-Refused-clause-given g c = λ keys server envelope of stands order op
     absurd (c.opens_what_it_sealed.ensures.not_both ring latest Up packet envelope refusal opens (subst M moment (subst R same_ring c.in-Refused.ensures.refused)))
 
 pub returns-in-Envelope-clause-accepted : goal.returns-in-Envelope-clause-accepted
-returns-in-Envelope-clause-accepted g c = λ keys server envelope session stands opens found acceptable.
-    on-ok c.hears.result
-    (c.lawful_messages_are_taken.ensures (setting_of (max c.args.self.now.moment c.args.now) g.D.Draw.step keys) (brought_in envelope) server c.args.draw.now session found acceptable)
+returns-in-Envelope-clause-accepted g c = λ keys server envelope session of stands order opens found acceptable.
+    let V : Type 0 = g.row.S.Denot in
+    let D : Type 0 = g.row.D.Denot in
+    let setting = setting_of (max c.args.self.now.moment c.args.now) g.D.Draw.step keys in
+    let lock = g.S.Seal.lock in
+    let ring = g.S.Seal.keys c.args.self.now.seal in
+    let brought = brought_in envelope in
+    let taken = c.lawful_messages_are_taken.ensures setting brought server c.args.draw.now session found acceptable in
+    IfOk-weaker c.hears.result
+    (λ reply. Gives {S = V} {D = D} lock ring c.hears.new.self c.hears.new.draw (effects_in reply) (after_packet setting brought server c.args.draw.now))
+    (λ reply. WasTaken {S = V} lock ring brought c.hears.new.self (effects_in reply))
+    (λ reply gives. was-taken lock ring setting brought server c.args.draw.now c.hears.new.self c.hears.new.draw (effects_in reply) gives taken
+    (c.acknowledgements_go_out.ensures setting brought server c.args.draw.now taken))
+    (returns-in-Envelope-clause-given g c keys server envelope of stands order opens)
 
 pub returns-in-Refused-clause-accepted : goal.returns-in-Refused-clause-accepted
-returns-in-Refused-clause-accepted g c = λ keys server envelope session stands opens found acceptable.
-    on-ok c.refuses.result
-    (c.lawful_messages_are_taken.ensures (setting_of (max c.args.self.now.moment c.args.now) g.D.Draw.step keys) (brought_in envelope) server c.args.draw.now session found acceptable)
+returns-in-Refused-clause-accepted g c = λ keys server envelope session of stands order opens found acceptable.
+    let K : Type 0 = Kept g.row.S.Denot in
+    let lock = g.S.Seal.lock in
+    let ring = g.S.Seal.keys c.args.self.now.seal in
+    let packet = c.args.packet.now in
+    let latest = max c.args.self.now.moment c.args.now in
+    let same_ring : g.S.Seal.keys c.self.inside.seal ≡ ring = ap (λ (kept : K). g.S.Seal.keys kept.seal) c.self.view_is in
+    let moment : c.later-moment.result ≡ latest = c.later-moment.ensures ∙ ap (λ (kept : K). max kept.moment c.args.now) c.self.view_is in
+    let refusal = c.in-Refused.refusal in
+    let R : List RingKey → Type 0 = λ ring. IsRefused lock ring c.later-moment.result Up packet refusal in
+    let M : ℕ → Type 0 = λ now. IsRefused lock ring now Up packet refusal in
+    absurd (c.opens_what_it_sealed.ensures.not_both ring latest Up packet envelope refusal opens (subst M moment (subst R same_ring c.in-Refused.ensures.refused)))
