@@ -5,7 +5,6 @@ ghost use Rattle.auth_keys.specs.Rings.{entry_of};
 ghost use Rattle.client_core.specs.Keys.{keys_in};
 
 use crate::flushes::seal;
-use crate::keys::{KEY_ID, ring};
 use crate::talks::opens;
 use client_core::{CallNo, CallState, Flush, Holder, OpeningClient};
 use client_node::{Batch, Plan, run_batch};
@@ -19,6 +18,7 @@ use regs_service::{Regs, Service};
 use server_core::Server;
 use std::alloc::Global;
 use std::test::*;
+use test_keys::{KEY_ID, ring};
 use transport::Form;
 
 // The call `add x 5`, and the reply `value 5`.

@@ -4,7 +4,6 @@ ghost use Rattle.std.specs.Prelude.{◌≡◌, None, Some, IfOk, IsSome};
 ghost use Rattle.auth_keys.specs.Rings.{entry_of};
 ghost use Rattle.client_core.specs.Keys.{keys_in};
 
-use crate::keys::{KEY_ID, bytes_from_0_to_255};
 use crate::talks::{opened_by, told};
 use auth_keys::Ring;
 use client_core::{BindState, OpenClient, OpeningClient};
@@ -13,6 +12,7 @@ use envelope::{MtSeal, Seal};
 use msg_ids::Moment;
 use std::alloc::Global;
 use std::test::*;
+use test_keys::{KEY_ID, bytes_from_0_to_255};
 
 // The identifier of the key `ff` to `00`: bytes 12 to 19 of its SHA-1, by Python's hashlib.
 const TEMP_ID: u64 = 0x134a_728f_0eb1_d196;

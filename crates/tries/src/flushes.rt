@@ -4,7 +4,6 @@ ghost use Rattle.std.specs.Prelude.{◌≡◌, None, IfOk, IsSome};
 ghost use Rattle.auth_keys.specs.Rings.{entry_of};
 ghost use Rattle.client_core.specs.Keys.{keys_in};
 
-use crate::keys::{KEY_ID, ring};
 use client_core::{Flush, OpeningClient};
 use draws::{Draw, StepDraw};
 use envelope::{Dir, Envelope, MtSeal, Opened, Seal};
@@ -12,6 +11,7 @@ use msg_ids::Moment;
 use octets::Octets;
 use std::alloc::Global;
 use std::test::*;
+use test_keys::{KEY_ID, ring};
 
 // The seal of the key `00` to `ff`.
 pub(crate) fn seal(alloc: Global) -> Result<MtSeal, Fail>

@@ -15,8 +15,6 @@ mod flushes;
 #[cfg(test)]
 mod forgetting;
 #[cfg(test)]
-mod keys;
-#[cfg(test)]
 mod owed;
 #[cfg(test)]
 mod servers;

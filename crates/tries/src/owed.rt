@@ -4,7 +4,6 @@ ghost use Rattle.std.specs.Prelude.{◌≤◌, IsSome};
 ghost use Rattle.auth_keys.specs.Rings.{entry_of};
 ghost use Rattle.msg_ids.specs.Counters.{room};
 
-use crate::keys::{KEY_ID, ring};
 use draws::{Draw, StepDraw};
 use envelope::{ClearSeal, Dir, Envelope, Opened, Seal};
 use msg_ids::{Moment, Numbers};
@@ -13,6 +12,7 @@ use owing::{Header, Outs, Owing, Packets, packets_most};
 use salt_line::SaltRow;
 use std::alloc::Global;
 use std::test::*;
+use test_keys::{KEY_ID, ring};
 
 const HEADER: Header = Header {
     key: KEY_ID,

@@ -3,7 +3,6 @@
 ghost use Rattle.std.specs.Prelude.{IsSome};
 ghost use Rattle.auth_keys.specs.Rings.{entry_of};
 
-use crate::keys::{KEY_ID, ring};
 use draws::StepDraw;
 use envelope::{Dir, Envelope, MtSeal, Opened, Refusal, Seal};
 use msg_ids::Moment;
@@ -11,6 +10,7 @@ use octets::{Memory, Octets};
 use server_core::{Heard, Reply, Server};
 use std::alloc::Global;
 use std::test::*;
+use test_keys::{KEY_ID, ring};
 
 // The call `add x 5`.
 const BODY: &[u8] = b"\x01\x2c\x1b\x0a\x01x\0\0\x05\0\0\0\0\0\0\0";

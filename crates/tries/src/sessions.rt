@@ -3,7 +3,6 @@
 ghost use Rattle.std.specs.Prelude.{IsSome};
 ghost use Rattle.auth_keys.specs.Rings.{entry_of};
 
-use crate::keys::{KEY_ID, ring};
 use draws::{Draw, StepDraw};
 use envelope::{Dir, MtSeal, Opened, Seal};
 use inbox::{Mark, Outer};
@@ -14,6 +13,7 @@ use owing::{Outs, Owing, Packets, packets_most};
 use standing::Standing;
 use std::alloc::Global;
 use std::test::*;
+use test_keys::{KEY_ID, ring};
 
 // The session says that it is new and which salt is right, and sends that.
 fn hears_first<S: Seal, D: Draw>(alloc: Global, seal: &S, draw: &mut D) -> Result<Outs, Memory>

@@ -6,7 +6,6 @@ ghost use Rattle.client_core.specs.Keys.{HasKeys, keys_in};
 ghost use Rattle.client_core.specs.Took.{open_left, opening_left};
 
 use crate::flushes::{opened, seal, submitted};
-use crate::keys::KEY_ID;
 use client_core::{
     CallNo, CallState, Cause, EndedClient, OpenClient, OpenStep, OpeningClient, OpeningStep,
 };
@@ -16,6 +15,7 @@ use msg_ids::Moment;
 use octets::Octets;
 use std::alloc::Global;
 use std::test::*;
+use test_keys::KEY_ID;
 
 // The first word of a `StepDraw`, and the second.
 const SESSION: u64 = 6_364_136_223_846_793_005;
