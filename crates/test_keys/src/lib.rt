@@ -25,16 +25,20 @@ pub fn bytes_from_0_to_255() -> [u8; 256]
     bytes
 }
 
-// The line of a key file that has these words, a blank and the digits of the key.
-fn line(alloc: Global, words: &str) -> Result<String, AllocError>
+/// The line of a key file that has these words, a blank and the digits of the key. The words are `perm`, or `temp` and the
+/// moment of expiry.
+///
+/// # Errors
+///
+/// Where there is no memory.
+pub fn line(alloc: Global, words: &str) -> Result<String, AllocError>
     ensures line { IfOk result (λ line. string_bytes line ≡ line_of words.now) }
 {
     let digits = hex::encode(alloc, bytes_from_0_to_255().as_slice())?;
     format!(in alloc; "{words} {digits}")
 }
 
-/// The ring of a key file with one line: these words, a blank and the key's 512 digits. The words are `perm`, or `temp`
-/// and the moment of expiry.
+/// The ring of a key file with that line alone.
 ///
 /// # Errors
 ///

@@ -3,7 +3,7 @@
 ghost use Rattle.std.specs.Prelude.{◌≡◌, ◌≢◌, true};
 ghost use Rattle.transport.specs.declared.form.Form.TheVariants as forms;
 
-use super::*;
+use calling::run_call;
 use commands::{CallOptions, Command, read};
 use msg_ids::Moment;
 use mt_edge::{ListClock, MemFiles, MemLink, MemNet, MemSink, MemSource, NamedFile, StepDraw};
@@ -11,6 +11,7 @@ use octets::{Memory, Octets};
 use statuses::Status;
 use std::alloc::{AllocError, Global};
 use std::test::*;
+use test_keys::line;
 
 // The key `00` to `ff`, whose identifier is that of the bytes 12 to 19 of its SHA-1, by Python's hashlib.
 const WORDS: &str = "call --keys k --key 32d1586ea457dfc8 --port 1 --form intermediate";
@@ -34,12 +35,8 @@ fn row_of(kind: &'static str, script: &'static str, failing: [u64; 3]) -> Given 
 
 // A key file with one key.
 fn key_files(alloc: Global, row: Given) -> Result<MemFiles, Fail> {
-    let mut key = [0; 256];
-    for byte in 0..=255u8 {
-        key[usize::from(byte)] = byte;
-    }
-    let digits = hex::encode(alloc, key.as_slice())?;
-    let text = format!(in alloc; "{} {digits}\n", row.kind)?;
+    let line = line(alloc, row.kind)?;
+    let text = format!(in alloc; "{line}\n")?;
     let mut files = Vec::new(alloc);
     files.push(NamedFile {
         name: Octets::copy(alloc, b"k")?,

@@ -3,8 +3,6 @@
 ghost use Rattle.std.specs.Prelude.{IsSome};
 ghost use Rattle.auth_keys.specs.Rings.{entry_of};
 
-use crate::{Conn, ConnEnd, serve_one};
-use auth_keys::Ring;
 use draws::StepDraw;
 use envelope::{Dir, Envelope, MtSeal, Seal};
 use msg_ids::Moment;
@@ -12,28 +10,13 @@ use mt_edge::{Linked, ListClock, MemLink, MemNet, Net, NetCall, Outcome};
 use octets::{Memory, Octets};
 use regs_service::{Regs, Service};
 use server_core::{Plain, Server};
+use server_node::{Conn, ConnEnd, serve_one};
 use std::alloc::Global;
 use std::test::*;
-
-// The identifier of the key `00` to `ff`: bytes 12 to 19 of its SHA-1, by Python's hashlib.
-const KEY_ID: u64 = 0xc8df_57a4_6e58_d132;
+use test_keys::{KEY_ID, ring};
 
 // The call `add x 5`.
 const BODY: &[u8] = b"\x01\x2c\x1b\x0a\x01x\0\0\x05\0\0\0\0\0\0\0";
-
-// The ring of the key `00` to `ff`.
-fn ring(alloc: Global) -> Result<Ring, Fail> {
-    let mut bytes = [0; 256];
-    for byte in 0..=255u8 {
-        bytes[usize::from(byte)] = byte;
-    }
-    let digits = hex::encode(alloc, bytes.as_slice())?;
-    let text = format!(in alloc; "perm {digits}")?;
-    if u32::try_from(text.len()).is_err() {
-        return Err(Fail::new("too long"));
-    }
-    Ok(Ring::read(alloc, text.as_bytes())?)
-}
 
 // The call's packet under number 4 and seq 1 in session 9, with salt 0.
 fn sealed<S: Seal>(alloc: Global, seal: &S) -> Result<Octets, Memory>
@@ -63,7 +46,7 @@ fn brought(alloc: Global, seal: &MtSeal) -> Result<Octets, Fail> {
 
 // What a connection that brings it came to over memory, where these calls of its link fail, and the net that it was of.
 fn served(alloc: Global, failing: &[u64]) -> Result<(ConnEnd, MemNet), Fail> {
-    let seal = MtSeal::new(ring(alloc)?);
+    let seal = MtSeal::new(ring(alloc, "perm")?);
     let text = brought(alloc, &seal)?;
     let mut links = Vec::new(alloc);
     links.push(MemLink::new(alloc, text.as_slice(), 100, failing, 1_000, 10)?)?;

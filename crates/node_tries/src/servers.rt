@@ -2,8 +2,6 @@
 
 ghost use Rattle.std.specs.Prelude.{◌<◌, length};
 
-use crate::run_serve;
-use auth_keys::Ring;
 use client_core::{Flush, OpeningClient};
 use commands::{Command, read};
 use draws::StepDraw;
@@ -11,38 +9,18 @@ use envelope::{MtSeal, Seal};
 use msg_ids::Moment;
 use mt_edge::{ListClock, MemFiles, MemLink, MemNet, MemSink, NamedFile, NetCall, Outcome};
 use octets::Octets;
+use serving::run_serve;
 use statuses::Status;
 use std::alloc::{AllocError, Global};
 use std::test::*;
-
-// The identifier of the key `00` to `ff`: bytes 12 to 19 of its SHA-1, by Python's hashlib.
-const KEY_ID: u64 = 0xc8df_57a4_6e58_d132;
+use test_keys::{KEY_ID, line, ring};
 
 // The call `add x 5`.
 const ADD: &[u8] = b"\x01\x2c\x1b\x0a\x01x\0\0\x05\0\0\0\0\0\0\0";
 
-// The key file of the key `00` to `ff`.
-fn key_file(alloc: Global) -> Result<String, Fail> {
-    let mut bytes = [0; 256];
-    for byte in 0..=255u8 {
-        bytes[usize::from(byte)] = byte;
-    }
-    let digits = hex::encode(alloc, bytes.as_slice())?;
-    Ok(format!(in alloc; "perm {digits}")?)
-}
-
-// The seal of that key.
-fn seal(alloc: Global) -> Result<MtSeal, Fail> {
-    let text = key_file(alloc)?;
-    if u32::try_from(text.len()).is_err() {
-        return Err(Fail::new("too long"));
-    }
-    Ok(MtSeal::new(Ring::read(alloc, text.as_bytes())?))
-}
-
 // The first packet of a client with the call.
 fn first_packet(alloc: Global) -> Result<Octets, Fail> {
-    let seal = seal(alloc)?;
+    let seal = MtSeal::new(ring(alloc, "perm")?);
     if !seal.has(KEY_ID) {
         return Err(Fail::new("no key"));
     }
@@ -136,7 +114,7 @@ fn are_two_frames(text: &[u8]) -> bool {
 #[test]
 fn a_connection_is_served(rt: HostRuntime) -> Result<(), Fail> {
     let alloc = rt.alloc();
-    let text = key_file(alloc)?;
+    let text = line(alloc, "perm")?;
     let line = "serve --keys f --port 4430 --conns 1";
     let (status, out, net) = ran(alloc, line, file(alloc, "f", text.as_str())?, &[], &[])?;
     assert_eq!(rt; status, Status::Done);
@@ -148,7 +126,7 @@ fn a_connection_is_served(rt: HostRuntime) -> Result<(), Fail> {
 #[test]
 fn runs_that_end_otherwise(rt: HostRuntime) -> Result<(), Fail> {
     let alloc = rt.alloc();
-    let text = key_file(alloc)?;
+    let text = line(alloc, "perm")?;
     let keys = text.as_str();
     let one = "serve --keys f --port 4430 --conns 1";
     let stops = "serve --keys f --port 4430 --conns 3 --stop-after 1";
@@ -208,7 +186,7 @@ fn runs_that_end_otherwise(rt: HostRuntime) -> Result<(), Fail> {
 #[test]
 fn each_write_that_fails_ends_it(rt: HostRuntime) -> Result<(), Fail> {
     let alloc = rt.alloc();
-    let text = key_file(alloc)?;
+    let text = line(alloc, "perm")?;
     let line = "serve --keys f --port 4430 --conns 1";
     for write in 1..=6u64 {
         let files = file(alloc, "f", text.as_str())?;
