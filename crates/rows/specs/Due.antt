@@ -75,10 +75,6 @@ IsItemShort (MsgsStateReq numbers) = length numbers ≤ ids_max
 IsItemShort (MsgResendReq numbers) = length numbers ≤ ids_max
 IsItemShort _ = ⊤
 
-abbrev pub IsShort : Verdict → Type 0
-IsShort (Accepted item) = IsItemShort item
-IsShort _ = ⊤
-
 -- ---- how much it may owe at most
 
 -- it may say kept replies again

@@ -5,7 +5,7 @@ ghost use Rattle.salt_line.specs.Rows.{future_rows_max};
 ghost use Rattle.owing.specs.Items.{ids_max, salts_bytes, states_bytes};
 ghost use Rattle.rows.specs.declared.due.Due.TheVariants.{Answers};
 ghost use Rattle.rows.specs.declared.due.Answering.TheVariants.{ForService};
-ghost use Rattle.rows.specs.Due.{IsItemShort, IsShort, accepted_needed, body_needed, call_needed, due_by, due_bytes, due_of, due_repeats, list_needed, telling_bytes, word_needed};
+ghost use Rattle.rows.specs.Due.{IsItemShort, accepted_needed, body_needed, call_needed, due_by, due_bytes, due_repeats, list_needed, telling_bytes, word_needed};
 
 use crate::calls::CallDue;
 use answers::Bytes;
@@ -142,28 +142,6 @@ pub enum Due {
 }
 
 impl Due {
-    /// What the message of this number and sequence number needs, which was judged so and has this body.
-    ///
-    /// # Errors
-    ///
-    /// `Memory`.
-    pub fn new(
-        alloc: Global,
-        number: u64,
-        seq: u32,
-        verdict: &Verdict,
-        body: &[u8],
-    ) -> Result<Due, Memory>
-        requires short { IsShort verdict.now }
-        ensures { IfOk result (λ due. due ≡ due_of number seq verdict.now body.now) }
-    {
-        match verdict {
-            Verdict::Noticed(code) => Ok(Due::Notice { seq, code: *code }),
-            Verdict::Again(_) => Ok(Due::CameAgain { seq }),
-            Verdict::Accepted(item) => accepted_needed(alloc, number, item, body),
-        }
-    }
-
     /// What the message of this sequence number needs, which was judged so, where this is what it needs accepted. Takes no
     /// memory.
     pub fn judged(self, seq: u32, verdict: &Verdict) -> Due
