@@ -1,12 +1,12 @@
 -- What a walk along a session's links comes by, and what it leaves.
-use Rattle.std.proofs.Common.{◌≡◌, ◌∙◌, ℕ, ◌<◌, ◌≤◌, inl, inr, Bool, true, false, not, ◌&&◌, ◌||◌, ◌==◌, Option, None, Some, List, [], ◌∷◌, if◌then◌else◌, cond, length, map, ap, sym, refl, subst, arith}
+use Rattle.std.proofs.Common.{◌≡◌, ◌∙◌, ℕ, ◌<◌, ◌≤◌, inl, inr, Bool, true, false, not, ◌&&◌, ◌||◌, ◌==◌, Option, None, Some, List, [], ◌∷◌, if◌then◌else◌, cond, length, ap, sym, refl, arith}
 use Rattle.std.specs.List.{filter, list_any}
 use Rattle.waits.specs.declared.job.Unfinished.{Unfinished}
 use Rattle.waits.specs.declared.slot.Slot.{Slot}
-use Rattle.waits.specs.Jobs.{Queue, is_of, is_call, is_empty, waits_for, told, after_answer, settled, without_session, without_number}
-use Rattle.waits.specs.Slots.{somes, job_at, passes, put_at, changed, told_at, unsettled, IsWithin, IsGone, IsTold}
+use Rattle.waits.specs.Jobs.{is_of, is_call, waits_for, told, after_answer, settled, without_session}
+use Rattle.waits.specs.Slots.{somes, job_at, passes, put_at, changed, told_at, unsettled, IsGone, IsTold}
 use Rattle.waits.proofs.Limits.{same_owner}
-use Rattle.waits.proofs.Slots.{none_total, job_beyond, job_put_here, job_put_other, filter_put, map_put}
+use Rattle.waits.proofs.Slots.{none_total, job_beyond, job_put_here, filter_put, map_put}
 use Rattle.waits.proofs.Walks.{from_or, within_same, within_put, put_better}
 use Rattle.waits.proofs.Standing.{put_same}
 use Rattle.waits.proofs.Places.{IsNone}

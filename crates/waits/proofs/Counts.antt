@@ -1,7 +1,6 @@
 -- How many jobs are ready and how many aren't, and what follows where all are.
-use Rattle.std.proofs.Common.{◌≡◌, ℕ, ◌+◌, ◌<◌, ◌≤◌, Bool, true, false, not, nat_le, ◌&&◌, [], ◌∷◌, length, ap, refl, arith}
-use Rattle.waits.specs.declared.job.Unfinished.{Unfinished}
-use Rattle.waits.specs.Jobs.{Queue, is_of, is_empty, is_waiting, is_ready, is_overdue, one_if, total, ready_count, blocked_count, waiting_count, overdue_count, overdue_count_of}
+use Rattle.std.proofs.Common.{◌≡◌, ℕ, ◌+◌, ◌≤◌, Bool, true, false, not, nat_le, ◌&&◌, [], ◌∷◌, length, refl, arith}
+use Rattle.waits.specs.Jobs.{Queue, is_of, is_empty, is_waiting, is_ready, one_if, ready_count, blocked_count, waiting_count, overdue_count, overdue_count_of}
 use Rattle.waits.specs.Limits.{wait_seconds}
 
 pub one_if_le : (holds : Bool) → one_if holds ≤ 1

@@ -1,8 +1,7 @@
 -- Each session stays within its limits where a job goes, comes or is told.
-use Rattle.std.proofs.Common.{◌≡◌, ℕ, zero, suc, ◌+◌, ◌<◌, ◌≤◌, Bool, true, false, not, ◌==◌, if◌then◌else◌, [], ◌∷◌, ◌++◌, length, take, drop, remove, map, ap, sym, refl, subst, arith}
+use Rattle.std.proofs.Common.{◌≡◌, ℕ, ◌+◌, ◌<◌, ◌≤◌, Bool, true, false, not, ◌==◌, if◌then◌else◌, [], ◌∷◌, ◌++◌, ap, sym, refl, subst, arith}
 use Rattle.std.specs.List.{filter}
 use Rattle.std.proofs.lemmas.Bool.{eqb-true, and_parts}
-use Rattle.waits.specs.declared.job.Job.{Job}
 use Rattle.waits.specs.declared.job.Unfinished.{Unfinished}
 use Rattle.waits.specs.Limits.{most_jobs, most_job_bytes}
 use Rattle.waits.specs.Jobs.{Queue, is_of, one_if, load_of, total, job_count, job_bytes, told, waits_for, after_answer, settled, AreWithinLimits}

@@ -1,11 +1,10 @@
 -- Which job stands at a place, and what is left where it is taken out.
-use Rattle.std.proofs.Common.{◌≡◌, ◌∙◌, ℕ, zero, suc, ◌+◌, ◌<◌, ◌≤◌, Bool, ◌||◌, true, false, Option, None, Some, List, [], ◌∷◌, length, take, ap, sym, refl, subst, arith}
+use Rattle.std.proofs.Common.{◌≡◌, ℕ, zero, suc, ◌+◌, ◌<◌, ◌≤◌, Bool, ◌||◌, true, false, Option, None, Some, List, [], ◌∷◌, take, ap, sym, refl, subst, arith}
 use Rattle.std.specs.List.{list_any}
 use Rattle.waits.specs.declared.job.Unfinished.{Unfinished}
-use Rattle.waits.specs.declared.job.Job.{Job}
 use Rattle.waits.specs.declared.slot.Slot.{Slot}
 use Rattle.waits.specs.Jobs.{Queue, is_ready, one_if, ready_count, ready_job, without_ready, first_job, without_first}
-use Rattle.waits.specs.Slots.{with_any, somes, job_at, passes, put_at, changed}
+use Rattle.waits.specs.Slots.{with_any, somes, job_at, passes, put_at}
 
 -- ---- the first one that is so
 

@@ -1,14 +1,14 @@
 -- The tallies and their last places, where the places of a session change.
-use Rattle.std.proofs.Common.{◌≡◌, ◌∙◌, ℕ, zero, suc, is_some, ◌+◌, ◌<◌, ◌≤◌, Bool, true, false, not, ◌&&◌, ◌==◌, Option, None, Some, List, [], ◌∷◌, ◌++◌, length, take, ap, sym, refl, subst, arith}
+use Rattle.std.proofs.Common.{◌≡◌, ◌∙◌, ℕ, zero, suc, is_some, ◌+◌, ◌<◌, ◌≤◌, true, false, ◌&&◌, ◌==◌, None, Some, List, [], ◌∷◌, ◌++◌, length, take, ap, sym, refl, subst, arith}
 use Rattle.waits.specs.declared.job.Unfinished.{Unfinished}
 use Rattle.waits.specs.declared.slot.Slot.{Slot}
 use Rattle.waits.specs.declared.tally.Tally.{Tally}
 use Rattle.waits.specs.Limits.{most_jobs, most_job_bytes}
-use Rattle.waits.specs.Jobs.{Queue, is_of, one_if, load_of, job_count, job_bytes, AreWithinLimits}
+use Rattle.waits.specs.Jobs.{Queue, is_of, load_of, job_count, job_bytes, AreWithinLimits}
 use Rattle.waits.specs.Tallies.{tally_of, stored, without_tally, with_one, without_one, Counted, IsRight, IsTallied}
 use Rattle.waits.specs.declared.line.Line.{Line}
 use Rattle.waits.specs.Slots.{somes, job_at, passes, put_at, Walks, IsWithin, Tracked, IsLine, Stands}
-use Rattle.waits.proofs.Tallies.{Apart, SameElsewhere, Gains, Found, found, found_at, found_right, owner, right_more, right_less, counted_by, tallied_by, tallied_stored, tallied_without, gains_elsewhere, elsewhere_back, measures_by, own_of}
+use Rattle.waits.proofs.Tallies.{SameElsewhere, Gains, found_at, found_right, owner, right_more, right_less, counted_by, tallied_by, tallied_stored, gains_elsewhere, elsewhere_back, measures_by, own_of}
 use Rattle.waits.proofs.Limits.{counts, weighs}
 use Rattle.waits.proofs.Tracks.{tracked_stored, tracked_without}
 use Rattle.waits.proofs.Walks.{walks_within, walks_push_other, walks_push_own, within_put}
@@ -32,9 +32,9 @@ changed_kept xs ys ts key session t w kept is same_key same_session same_last ri
     record {
       tallied = tallied_stored (somes xs) (somes ys) ts w kept.tallied right there';
       tracked = tracked_stored ys ts w
-      (λ other other_session apart. walks_on other other_session xs ys (tally_of other other_session ts).last within (kept.tracked other other_session))
-      (subst (λ (k : ℕ). Walks (is_of k w.session) ys (length ys) w.last) (sym same_key) (subst (λ (s : ℕ). Walks (is_of key s) ys (length ys) w.last) (sym same_session) own))
-      (λ none. total_none (is_of w.key w.session) ys (sym right.count ∙ none));
+          (λ other other_session apart. walks_on other other_session xs ys (tally_of other other_session ts).last within (kept.tracked other other_session))
+          (subst (λ (k : ℕ). Walks (is_of k w.session) ys (length ys) w.last) (sym same_key) (subst (λ (s : ℕ). Walks (is_of key s) ys (length ys) w.last) (sym same_session) own))
+          (λ none. total_none (is_of w.key w.session) ys (sym right.count ∙ none));
     }
 
 -- a job goes
@@ -60,8 +60,8 @@ pub forgotten_kept : (xs ys : List Slot) (ts : List Tally) (key session : ℕ) �
 forgotten_kept xs ys ts key session kept tallied within none = record {
   tallied = tallied;
   tracked = tracked_without ys ts key session
-  (λ other other_session apart. walks_on other other_session xs ys (tally_of other other_session ts).last within (kept.tracked other other_session))
-  (total_none (is_of key session) ys none);
+      (λ other other_session apart. walks_on other other_session xs ys (tally_of other other_session ts).last within (kept.tracked other other_session))
+      (total_none (is_of key session) ys none);
 }
 
 -- a job comes
@@ -86,11 +86,11 @@ put_kept xs ts one t w s n kept is e stands named long =
     record {
       tallied = tallied_by (somes xs) (somes ys) ts one w' kept.tallied same_key same_session right' (gains_elsewhere (somes xs) (somes ys) one gains);
       tracked = tracked_stored ys ts w'
-      (λ other other_session apart.
-      let apart' : is_of other other_session one ≡ false = subst (λ (k : ℕ). ((k == other) && (session == other_session)) ≡ false) same_key (subst (λ (r : ℕ). ((w.key == other) && (r == other_session)) ≡ false) same_session apart) in
-      walks_push_other (is_of other other_session) xs s (tally_of other other_session ts).last (ap (passes (is_of other other_session)) stands ∙ apart') (kept.tracked other other_session))
-      (subst (λ (k : ℕ). Walks (is_of k w.session) ys (length ys) n) (sym same_key) (subst (λ (r : ℕ). Walks (is_of key r) ys (length ys) n) (sym same_session) own))
-      (λ none. absurd (omega (arith, count)));
+          (λ other other_session apart.
+          let apart' : is_of other other_session one ≡ false = subst (λ (k : ℕ). ((k == other) && (session == other_session)) ≡ false) same_key (subst (λ (r : ℕ). ((w.key == other) && (r == other_session)) ≡ false) same_session apart) in
+          walks_push_other (is_of other other_session) xs s (tally_of other other_session ts).last (ap (passes (is_of other other_session)) stands ∙ apart') (kept.tracked other other_session))
+          (subst (λ (k : ℕ). Walks (is_of k w.session) ys (length ys) n) (sym same_key) (subst (λ (r : ℕ). Walks (is_of key r) ys (length ys) n) (sym same_session) own))
+          (λ none. absurd (omega (arith, count)));
     }
 
 pub some_within : (slots : List Slot) (k : ℕ) → is_some (job_at slots k) ≡ true → k < length slots

@@ -1,8 +1,8 @@
 -- What is found, and what a call changes, where no job is of the kind that it looks for.
-use Rattle.std.proofs.Common.{◌≡◌, ◌∙◌, ℕ, zero, suc, ◌+◌, ◌-◌, ◌<◌, ◌≤◌, Bool, true, false, not, ◌&&◌, ◌==◌, cond, List, [], ◌∷◌, ◌++◌, length, get_or, take, remove, map, ap, sym, refl, subst, arith}
+use Rattle.std.proofs.Common.{◌≡◌, ◌∙◌, ℕ, Bool, true, false, not, ◌&&◌, ◌==◌, cond, List, [], ◌∷◌, map, ap, refl, arith}
 use Rattle.std.specs.List.{list_any}
 use Rattle.waits.specs.declared.job.Unfinished.{Unfinished}
-use Rattle.waits.specs.Jobs.{Queue, is_of, is_call, is_empty, is_waiting, is_ready, has_failed, one_if, total, waits_for, after_answer, settled, without_session, job_count, waiting_count, ready_count, blocked_count, failed_count, accepted, job_bytes, load_of, AreWithinLimits}
+use Rattle.waits.specs.Jobs.{Queue, is_of, is_call, is_empty, is_waiting, is_ready, has_failed, one_if, total, waits_for, after_answer, settled, without_session, job_count, waiting_count, blocked_count, failed_count}
 use Rattle.waits.proofs.Places.{IsNone}
 
 none_so : (so : Bool) → one_if so ≡ 0 → so ≡ false

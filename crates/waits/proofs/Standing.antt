@@ -1,12 +1,12 @@
 -- What is counted of all jobs, where one place changes.
-use Rattle.std.proofs.Common.{◌≡◌, ◌∙◌, ℕ, zero, suc, ◌+◌, ◌-◌, ◌<◌, ◌≤◌, Bool, true, false, not, min, Option, None, Some, List, [], ◌∷◌, ◌++◌, length, take, ap, sym, refl, subst, arith}
+use Rattle.std.proofs.Common.{◌≡◌, ℕ, zero, suc, ◌+◌, ◌-◌, ◌<◌, ◌≤◌, Bool, true, false, not, Option, None, Some, List, [], ◌∷◌, ◌++◌, length, take, ap, sym, refl, subst, arith}
 use Rattle.waits.specs.declared.job.Unfinished.{Unfinished}
 use Rattle.waits.specs.declared.slot.Slot.{Slot}
 use Rattle.waits.specs.Jobs.{Queue, is_ready, has_failed, one_if, total, ready_count, blocked_count, failed_count}
 use Rattle.waits.specs.Slots.{with_any, somes, job_at, put_at}
 use Rattle.waits.proofs.Totals.{total_push}
 use Rattle.waits.proofs.Tallies.{Gains}
-use Rattle.waits.proofs.Slots.{measured, total_put, total_take_less, total_length, take_put, take_push, somes_push}
+use Rattle.waits.proofs.Slots.{measured, total_put, total_take_less, total_length, take_put, take_push}
 
 -- the counts of all jobs
 pub record Sums (xs : Queue) (c b f : ℕ) : Type 0 where

@@ -1,11 +1,11 @@
 -- A job of a session is told of an answer, and counted again.
-use Rattle.std.proofs.Common.{◌≡◌, ◌∙◌, ℕ, ◌+◌, ◌-◌, ◌<◌, ◌≤◌, Bool, true, false, not, Option, None, Some, is_some, List, [], ◌∷◌, length, ap, sym, refl, subst, arith}
+use Rattle.std.proofs.Common.{◌≡◌, ◌∙◌, ℕ, ◌+◌, ◌<◌, ◌≤◌, Bool, true, Option, None, Some, is_some, List, length, ap, sym, refl, subst, arith}
 use Rattle.std.proofs.lemmas.Bool.{and_parts}
 use Rattle.waits.specs.declared.job.Unfinished.{Unfinished}
 use Rattle.waits.specs.declared.slot.Slot.{Slot}
 use Rattle.waits.specs.declared.tally.Tally.{Tally}
 use Rattle.waits.specs.Limits.{most_jobs, most_job_bytes}
-use Rattle.waits.specs.Jobs.{is_of, is_waiting, is_ready, one_if, load_of, waits_for, after_answer}
+use Rattle.waits.specs.Jobs.{is_of, load_of, waits_for, after_answer}
 use Rattle.waits.specs.Tallies.{with_one, without_one, Counted, IsRight}
 use Rattle.waits.specs.Slots.{somes, job_at, passes, put_at, changed, told_at, IsSameSession}
 use Rattle.waits.proofs.Limits.{same_owner, less_load}

@@ -1,12 +1,11 @@
 -- The last places that tallies tell, where one is stored in place of another.
-use Rattle.std.proofs.Common.{◌≡◌, ◌∙◌, ℕ, ◌<◌, Bool, true, false, not, ◌&&◌, ◌==◌, cond, nat_lt, if◌then◌else◌, unwrap_or, Option, None, Some, List, [], ◌∷◌, ◌++◌, length, find, ap, sym, refl, subst, arith}
+use Rattle.std.proofs.Common.{◌≡◌, ◌∙◌, ℕ, Bool, true, false, not, ◌&&◌, ◌==◌, cond, nat_lt, if◌then◌else◌, unwrap_or, Option, None, Some, List, [], ◌∷◌, ◌++◌, length, find, ap, sym, refl, subst, arith}
 use Rattle.std.specs.List.{filter}
 use Rattle.std.proofs.lemmas.Bool.{eqb-true, eq-eqb, ltb-false, and_parts}
 use Rattle.waits.specs.declared.tally.Tally.{Tally}
 use Rattle.waits.specs.declared.slot.Slot.{Slot}
-use Rattle.waits.specs.declared.job.Unfinished.{Unfinished}
 use Rattle.waits.specs.Jobs.{is_of}
-use Rattle.waits.specs.Tallies.{is_tally_of, no_tally, tally_of, tally_if_any, without_tally, stored}
+use Rattle.waits.specs.Tallies.{is_tally_of, no_tally, tally_of, without_tally, stored}
 use Rattle.waits.specs.Slots.{job_at, passes, Walks, Tracked}
 use Rattle.waits.proofs.Tallies.{Apart, turned, append_none}
 use Rattle.waits.proofs.Walks.{walks_none}

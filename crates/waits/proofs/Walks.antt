@@ -1,5 +1,5 @@
 -- Walks along the links of a session.
-use Rattle.std.proofs.Common.{◌≡◌, ◌≢◌, ◌∙◌, ℕ, zero, suc, ◌+◌, ◌-◌, ◌<◌, ◌≤◌, Bool, true, false, ◌⊎◌, inl, inr, Option, None, Some, List, [], ◌∷◌, ◌++◌, length, ap, sym, refl, subst, arith}
+use Rattle.std.proofs.Common.{◌≡◌, ◌∙◌, ℕ, zero, suc, ◌+◌, ◌-◌, ◌<◌, ◌≤◌, Bool, true, false, ◌⊎◌, inl, inr, Option, None, Some, List, [], ◌∷◌, ◌++◌, length, ap, sym, refl, subst, arith}
 use Rattle.waits.specs.declared.job.Unfinished.{Unfinished}
 use Rattle.waits.specs.declared.slot.Slot.{Slot}
 use Rattle.waits.specs.Slots.{job_at, link_at, passes, put_at, Walks, IsWithin}
@@ -211,9 +211,9 @@ searchstep_suc own bad slots p found needs on =
         walks = step.walks;
         before = λ k from below. elim (lt_or p k (omega arith)) [
           | inl past ↦ (elim (from_or k on.bound) [
-              | inl above ↦ on.before k above below
-              | inr less ↦ needs_at own bad (job_at slots k) needs (step.between k past less)
-            ])
+            | inl above ↦ on.before k above below
+            | inr less ↦ needs_at own bad (job_at slots k) needs (step.between k past less)
+          ])
           | inr same ↦ subst (λ (n : ℕ). passes bad (job_at slots n) ≡ false) same none
         ];
         most = on.most;

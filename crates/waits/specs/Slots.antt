@@ -1,6 +1,6 @@
 -- The places in which jobs stand, and the links between those of a session: words of private contracts, which are no
 -- promise of this crate.
-use Rattle.std.specs.Prelude.{◌≡◌, ℕ, zero, suc, ◌<◌, ◌≤◌, Bool, true, false, not, ◌&&◌, ◌||◌, ◌⊎◌, Option, None, Some, List, [], ◌∷◌, length, take}
+use Rattle.std.specs.Prelude.{◌≡◌, ℕ, zero, suc, ◌≤◌, Bool, false, not, ◌&&◌, ◌||◌, ◌⊎◌, Option, None, Some, List, [], ◌∷◌, length, take}
 use Rattle.waits.specs.declared.job.Unfinished.{Unfinished}
 use Rattle.waits.specs.declared.slot.Slot.{Slot}
 use Rattle.waits.specs.declared.line.Line.{Line}

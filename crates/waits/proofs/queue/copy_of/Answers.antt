@@ -1,9 +1,9 @@
-use Rattle.std.proofs.Common.{◌≡◌, ◌∙◌, ◌+◌, ◌++◌, ◌∷◌, [], ◌≤◌, Option, None, Some, Vec, Global, List, length, take, vec_len, vec_capacity, ap, sym, refl, subst, arith}
+use Rattle.std.proofs.Common.{◌≡◌, ◌∙◌, ◌++◌, ◌∷◌, [], Some, Vec, Global, List, length, vec_len, vec_capacity, ap, sym, subst, arith}
 use Rattle.waits.specs.declared.slot.Slot.{Slot}
 use Rattle.waits.specs.declared.job.Unfinished.{Unfinished}
 use Rattle.waits.specs.declared.tally.Tally.{Tally}
 use Rattle.waits.specs.declared.line.Line.{Line}
-use Rattle.waits.specs.Jobs.{Queue, load_of, job_count, job_bytes}
+use Rattle.waits.specs.Jobs.{Queue, job_count, job_bytes}
 use Rattle.waits.specs.Slots.{somes, job_at, Stands}
 use Rattle.waits.proofs.Slots.{slot_at, take_all, somes_take_same}
 use Rattle.waits.proofs.Placing.{copying, stands_new}

@@ -1,7 +1,7 @@
-use Rattle.std.proofs.Common.{◌≡◌, ◌≤◌, ◌∙◌, ◌+◌, List, Option, take, ap, sym, refl, arith}
+use Rattle.std.proofs.Common.{◌≡◌, ◌∙◌, List, Option, ap, sym, refl, arith}
 use Rattle.waits.specs.Jobs.{one_if, total}
 use Rattle.waits.specs.Wanted.{is_wanted}
-use Rattle.waits.specs.Slots.{somes, passes, job_at}
+use Rattle.waits.specs.Slots.{somes, job_at}
 use Rattle.waits.specs.declared.job.Unfinished.{Unfinished}
 use Rattle.waits.specs.declared.slot.Slot.{Slot}
 use Rattle.waits.proofs.Slots.{slot_at, total_take_more, take_all, measured, measured_one}

@@ -1,4 +1,4 @@
-use Rattle.std.proofs.Common.{◌≡◌, ◌∙◌, ◌+◌, ◌<◌, ℕ, false, true, inl, inr, ap, sym, subst, arith, add-one}
+use Rattle.std.proofs.Common.{◌≡◌, ◌∙◌, ℕ, false, inl, inr, ap, sym, subst, arith}
 use Rattle.waits.specs.Wanted.{is_wanted}
 use Rattle.waits.specs.Slots.{passes, job_at}
 use Rattle.waits.proofs.Slots.{slot_at}

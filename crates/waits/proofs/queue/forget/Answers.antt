@@ -1,8 +1,7 @@
-use Rattle.std.proofs.Common.{◌≡◌, ◌∙◌, not, ℕ, List, length, ap, sym, refl, subst, arith}
+use Rattle.std.proofs.Common.{◌≡◌, ◌∙◌, not, List, length, ap, sym, subst}
 use Rattle.waits.specs.declared.job.Unfinished.{Unfinished}
-use Rattle.waits.specs.declared.slot.Slot.{Slot}
 use Rattle.waits.specs.declared.tally.Tally.{Tally}
-use Rattle.waits.specs.Jobs.{Queue, is_of, job_count, without_session, AreWithinLimits}
+use Rattle.waits.specs.Jobs.{Queue, is_of, job_count, AreWithinLimits}
 use Rattle.waits.specs.Tallies.{without_tally, IsTallied}
 use Rattle.waits.specs.Slots.{somes, Walks}
 use Rattle.waits.proofs.Limits.{limits_filter}

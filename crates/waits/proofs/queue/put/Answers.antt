@@ -1,9 +1,8 @@
 use Rattle.std.proofs.Common.{◌≡◌, ◌∙◌, ◌+◌, ◌++◌, ◌∷◌, [], Some, List, ap, sym, refl, subst, arith}
 use Rattle.waits.specs.declared.slot.Slot.{Slot}
 use Rattle.waits.specs.declared.tally.Tally.{Tally}
-use Rattle.waits.specs.Jobs.{Queue, AreWithinLimits}
-use Rattle.waits.specs.Tallies.{stored}
-use Rattle.waits.specs.Slots.{somes, Stands}
+use Rattle.waits.specs.Jobs.{AreWithinLimits}
+use Rattle.waits.specs.Slots.{somes}
 use Rattle.waits.proofs.Limits.{limits_push}
 use Rattle.waits.proofs.Tallies.{found_at, waiting_le, blocked_le}
 use Rattle.waits.proofs.Slots.{somes_push}

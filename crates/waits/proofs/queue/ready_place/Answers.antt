@@ -1,4 +1,4 @@
-use Rattle.std.proofs.Common.{◌≡◌, ◌∙◌, ◌+◌, true, List, Option, take, ap, sym, arith}
+use Rattle.std.proofs.Common.{◌≡◌, ◌∙◌, List, Option, ap, sym, arith}
 use Rattle.waits.specs.Jobs.{is_ready, one_if, ready_count}
 use Rattle.waits.specs.Slots.{somes, passes, job_at}
 use Rattle.waits.specs.declared.job.Unfinished.{Unfinished}

@@ -1,9 +1,8 @@
-use Rattle.std.proofs.Common.{◌≡◌, ◌∙◌, ◌≤◌, true, false, not, Bool, ℕ, List, length, ap, sym, refl, subst, arith}
+use Rattle.std.proofs.Common.{◌≡◌, ◌∙◌, true, false, not, Bool, ℕ, List, length, ap, sym, subst, arith}
 use Rattle.std.specs.List.{list_any}
-use Rattle.waits.specs.declared.slot.Slot.{Slot}
 use Rattle.waits.specs.declared.tally.Tally.{Tally}
 use Rattle.waits.specs.Jobs.{Queue, is_of, one_if, settled, AreWithinLimits}
-use Rattle.waits.specs.Tallies.{stored, is_tally_of, tally_of}
+use Rattle.waits.specs.Tallies.{is_tally_of}
 use Rattle.waits.specs.Slots.{somes, Walks}
 use Rattle.waits.proofs.Limits.{limits_settled}
 use Rattle.waits.proofs.Tallies.{SameElsewhere, found_at, found_right, known, settled_elsewhere}

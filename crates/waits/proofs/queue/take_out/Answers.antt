@@ -1,10 +1,9 @@
-use Rattle.std.proofs.Common.{◌≡◌, ◌∙◌, ◌<◌, None, Some, is_some, true, false, not, Bool, List, length, ap, sym, refl, subst, arith}
+use Rattle.std.proofs.Common.{◌≡◌, ◌∙◌, None, Some, is_some, true, false, not, Bool, List, ap, sym, subst, arith}
 use Rattle.std.specs.List.{list_any}
-use Rattle.waits.specs.declared.job.Unfinished.{Unfinished}
 use Rattle.waits.specs.declared.slot.Slot.{Slot}
 use Rattle.waits.specs.declared.tally.Tally.{Tally}
-use Rattle.waits.specs.Jobs.{Queue, AreWithinLimits, one_if, job_count}
-use Rattle.waits.specs.Tallies.{stored, is_tally_of, without_one}
+use Rattle.waits.specs.Jobs.{AreWithinLimits, one_if}
+use Rattle.waits.specs.Tallies.{stored, is_tally_of}
 use Rattle.waits.specs.Slots.{somes, job_at, put_at}
 use Rattle.waits.proofs.Limits.{limits_less}
 use Rattle.waits.proofs.Tallies.{found_at, known}

@@ -1,7 +1,5 @@
-use Rattle.std.proofs.Common.{◌≡◌, ◌∙◌, Option, set, ap, sym}
-use Rattle.waits.specs.declared.slot.Slot.{Slot}
+use Rattle.std.proofs.Common.{◌∙◌, Option, set, ap, sym}
 use Rattle.waits.specs.declared.job.Unfinished.{Unfinished}
-use Rattle.waits.specs.Slots.{put_at}
 use Rattle.waits.proofs.Slots.{slot_at, set_put}
 use Rattle.waits.proofs.slot.replace.Goals as goal
 

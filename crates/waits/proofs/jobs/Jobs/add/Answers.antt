@@ -1,4 +1,4 @@
-use Rattle.std.proofs.Common.{◌≡◌, ◌∙◌, ◌<◌, ◌≤◌, ◌+◌, ap, sym, subst, arith}
+use Rattle.std.proofs.Common.{◌≡◌, ◌<◌, ◌≤◌, ◌+◌, ap, sym, subst, arith}
 use Rattle.waits.specs.Limits.{most_jobs, most_job_bytes}
 use Rattle.waits.specs.Jobs.{Queue, job_count, job_bytes, load_of}
 use Rattle.waits.specs.Held.{Held}

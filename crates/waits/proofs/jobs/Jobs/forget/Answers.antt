@@ -1,4 +1,4 @@
-use Rattle.std.proofs.Common.{◌≡◌, ap, sym, subst, arith}
+use Rattle.std.proofs.Common.{◌≡◌, ap, subst, arith}
 use Rattle.waits.specs.Jobs.{Queue, without_session}
 use Rattle.waits.specs.Held.{Held}
 use Rattle.waits.specs.Slots.{somes}

@@ -1,9 +1,9 @@
-use Rattle.std.proofs.Common.{◌≡◌, ap, sym, subst, length, arith}
+use Rattle.std.proofs.Common.{◌≡◌, sym, subst, length}
 use Rattle.std.specs.List.{list_any}
 use Rattle.waits.specs.declared.tally.Tally.{Tally}
 use Rattle.waits.specs.Jobs.{is_call, is_of}
 use Rattle.waits.specs.Held.{Held}
-use Rattle.waits.specs.Slots.{somes, Walks}
+use Rattle.waits.specs.Slots.{Walks}
 use Rattle.waits.proofs.jobs.Jobs.has.Goals as goal
 
 pub has_call-requires : goal.has_call-requires

@@ -1,9 +1,8 @@
-use Rattle.std.proofs.Common.{◌≡◌, ◌∙◌, ◌<◌, true, Option, Some, ap, sym, subst, arith}
+use Rattle.std.proofs.Common.{◌≡◌, ◌∙◌, Option, Some, ap, sym, subst, arith}
 use Rattle.waits.specs.declared.job.Unfinished.{Unfinished}
-use Rattle.waits.specs.declared.job.Job.{Job}
-use Rattle.waits.specs.Jobs.{Queue, is_ready, ready_job, ready_count}
+use Rattle.waits.specs.Jobs.{is_ready, ready_job, ready_count}
 use Rattle.waits.specs.Held.{Held}
-use Rattle.waits.specs.Slots.{somes, job_at, passes, changed}
+use Rattle.waits.specs.Slots.{job_at, changed}
 use Rattle.waits.proofs.Places.{ready_at, ready_none, there}
 use Rattle.waits.proofs.jobs.Jobs.ready_at.Goals as goal
 

@@ -1,4 +1,4 @@
-use Rattle.std.proofs.Common.{◌≡◌, ◌∙◌, ap, arith}
+use Rattle.std.proofs.Common.{◌∙◌, ap, arith}
 use Rattle.waits.specs.Jobs.{Queue}
 use Rattle.waits.specs.Held.{Held}
 use Rattle.waits.proofs.jobs.Jobs.rebuilt.Goals as goal

@@ -1,4 +1,4 @@
-use Rattle.std.proofs.Common.{◌≡◌, ◌∙◌, ◌≤◌, ℕ, max, length, ap, arith}
+use Rattle.std.proofs.Common.{◌∙◌, ℕ, max, ap, arith}
 use Rattle.waits.specs.Jobs.{Queue}
 use Rattle.waits.specs.Held.{Held}
 use Rattle.waits.specs.Slots.{somes}

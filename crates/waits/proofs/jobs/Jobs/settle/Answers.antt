@@ -1,5 +1,5 @@
-use Rattle.std.proofs.Common.{◌≡◌, ◌<◌, ap, sym, subst, arith}
-use Rattle.waits.specs.Jobs.{Queue, settled, job_count, waiting_count}
+use Rattle.std.proofs.Common.{◌≡◌, ap, sym, subst, arith}
+use Rattle.waits.specs.Jobs.{Queue, settled, waiting_count}
 use Rattle.waits.specs.Held.{Held}
 use Rattle.waits.specs.Slots.{somes}
 use Rattle.waits.proofs.Searches.{settles_none}

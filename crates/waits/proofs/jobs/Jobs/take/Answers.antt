@@ -1,9 +1,9 @@
-use Rattle.std.proofs.Common.{◌≡◌, ◌∙◌, ◌<◌, true, Option, None, Some, List, length, take, ap, sym, subst, arith}
+use Rattle.std.proofs.Common.{◌≡◌, ◌∙◌, true, Option, None, Some, List, length, take, ap, sym, subst, arith}
 use Rattle.waits.specs.declared.job.Unfinished.{Unfinished}
 use Rattle.waits.specs.declared.slot.Slot.{Slot}
 use Rattle.waits.specs.Jobs.{Queue, is_ready, ready_job, without_ready, ready_count}
 use Rattle.waits.specs.Held.{Held}
-use Rattle.waits.specs.Slots.{somes, job_at, passes, IsLine}
+use Rattle.waits.specs.Slots.{somes, job_at, passes}
 use Rattle.waits.proofs.Slots.{take_put, length_put}
 use Rattle.waits.proofs.Places.{ready_at}
 use Rattle.waits.proofs.Telling.{some_of}
@@ -27,13 +27,16 @@ invariant_of-self c =
     let first : c.args.k ≡ 0 = omega (arith, c.if-k-eq0.true) in
     let passed : ready_count (somes (take i c.take_out-one.new.line.slots.items)) ≡ 0 =
     subst (λ (ys : List Slot). ready_count (somes (take i ys)) ≡ 0) (sym c.take_out-one.ensures.left) (ap (λ (ys : List Slot). ready_count (somes ys)) (take_put xs i i None (omega arith)) ∙ (c.ready_place-place.ensures.before ∙ first)) in
-    let long = ap length c.take_out-one.ensures.left ∙ length_put xs i None in
-    (record {
-      limits = stands.limits;
-      tallied = stands.tallied;
-      tracked = stands.tracked;
-      counted = record { count = stands.counted.count; blocked = stands.counted.blocked; failing = stands.counted.failing; passed = passed; within = omega (arith, c.ready_place-place.ensures.within, long) };
-    }, omega (arith, c.take_out-one.ensures.len, c.take_out-one.ensures.capacity, c.self.invariant.1), omega (arith, c.take_out-one.ensures.tallies_len, c.take_out-one.ensures.tallies_capacity, c.self.invariant.2))
+    let long = ap length c.take_out-one.ensures.left ∙ length_put xs i None in (
+      record {
+        limits = stands.limits;
+        tallied = stands.tallied;
+        tracked = stands.tracked;
+        counted = record { count = stands.counted.count; blocked = stands.counted.blocked; failing = stands.counted.failing; passed = passed; within = omega (arith, c.ready_place-place.ensures.within, long) };
+      },
+      omega (arith, c.take_out-one.ensures.len, c.take_out-one.ensures.capacity, c.self.invariant.1),
+      omega (arith, c.take_out-one.ensures.tallies_len, c.take_out-one.ensures.tallies_capacity, c.self.invariant.2),
+    )
 
 pub invariant_of-self-else-k-eq0 : goal.invariant_of-self-else-k-eq0
 invariant_of-self-else-k-eq0 c = (c.take_out-one.ensures.stands, omega (arith, c.take_out-one.ensures.len, c.take_out-one.ensures.capacity, c.self.invariant.1), omega (arith, c.take_out-one.ensures.tallies_len, c.take_out-one.ensures.tallies_capacity, c.self.invariant.2))

@@ -1,4 +1,4 @@
-use Rattle.std.proofs.Common.{◌≡◌, ◌∙◌, ◌-◌, ℕ, ap, sym, refl, subst, arith}
+use Rattle.std.proofs.Common.{◌∙◌, ◌-◌, ℕ, sym, refl, subst, arith}
 use Rattle.waits.specs.Jobs.{is_of}
 use Rattle.waits.proofs.Along.{none_left_out}
 use Rattle.waits.proofs.Walks.{Onward, onward_start, onstep, onward_end, onward_within, within_same, within_twice}

@@ -1,4 +1,4 @@
-use Rattle.std.proofs.Common.{◌≡◌, ◌∙◌, ◌-◌, ℕ, ap, sym, refl, subst, arith}
+use Rattle.std.proofs.Common.{◌∙◌, ◌-◌, ℕ, sym, refl, subst, arith}
 use Rattle.waits.specs.Jobs.{is_of}
 use Rattle.waits.specs.Slots.{unsettled, IsTold, IsSameSession}
 use Rattle.waits.proofs.Along.{unsettled_own, none_unsettled}

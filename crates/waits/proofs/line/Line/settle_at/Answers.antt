@@ -1,7 +1,7 @@
-use Rattle.std.proofs.Common.{◌≡◌, ◌∙◌, true, false, List, ap, sym, refl, subst, arith}
+use Rattle.std.proofs.Common.{◌∙◌, List, ap, sym, refl, subst}
 use Rattle.waits.specs.declared.slot.Slot.{Slot}
 use Rattle.waits.specs.Jobs.{waits_for}
-use Rattle.waits.specs.Slots.{passes, job_at, IsTold}
+use Rattle.waits.specs.Slots.{passes, IsTold}
 use Rattle.waits.proofs.Slots.{slot_at}
 use Rattle.waits.proofs.Along.{told_there, told_other}
 use Rattle.waits.proofs.line.Line.settle_at.Goals as goal

@@ -1,4 +1,4 @@
-use Rattle.std.proofs.Common.{◌≡◌, ◌∙◌, Bool, not, None, Some, List, length, take, ap, sym, refl, subst, arith}
+use Rattle.std.proofs.Common.{◌≡◌, ◌∙◌, Bool, not, None, List, length, take, ap, sym, subst, arith}
 use Rattle.waits.specs.declared.slot.Slot.{Slot}
 use Rattle.waits.specs.Jobs.{is_ready, one_if, ready_count, blocked_count, failed_count}
 use Rattle.waits.specs.Slots.{somes, put_at}

@@ -1,10 +1,9 @@
-use Rattle.std.proofs.Common.{◌≡◌, ◌∙◌, ◌<◌, ◌≤◌, Bool, true, None, Option, Some, is_some, List, length, ap, sym, subst, arith}
+use Rattle.std.proofs.Common.{◌≡◌, ◌∙◌, true, None, Option, Some, is_some, List, length, ap, sym, subst, arith}
 use Rattle.waits.specs.declared.job.Unfinished.{Unfinished}
 use Rattle.waits.specs.declared.slot.Slot.{Slot}
 use Rattle.waits.specs.declared.tally.Tally.{Tally}
-use Rattle.waits.specs.Limits.{most_jobs}
 use Rattle.waits.specs.Jobs.{Queue, waits_for, after_answer, load_of}
-use Rattle.waits.specs.Tallies.{with_one, without_one, Counted, IsRight}
+use Rattle.waits.specs.Tallies.{with_one, without_one, IsRight}
 use Rattle.waits.specs.Slots.{somes, job_at, passes, put_at, IsSameSession}
 use Rattle.waits.proofs.Slots.{job_within, put_twice, job_put_here, length_put}
 use Rattle.waits.proofs.Telling.{telling, some_of}
