@@ -1,99 +1,101 @@
--- Which job a place is, and what is left where it is taken out.
-use Rattle.std.proofs.Common.{◌≡◌, ◌∙◌, ℕ, zero, suc, ◌+◌, ◌<◌, ◌≤◌, Bool, true, false, [], ◌∷◌, length, get_or, take, remove, None, Some, ltb, ap, sym, refl, subst, arith}
+-- Which job stands at a place, and what is left where it is taken out.
+use Rattle.std.proofs.Common.{◌≡◌, ℕ, zero, suc, ◌+◌, ◌<◌, ◌≤◌, Bool, ◌||◌, true, false, Option, None, Some, List, [], ◌∷◌, take, ap, sym, refl, subst, arith}
 use Rattle.std.specs.List.{list_any}
-use Rattle.std.proofs.lemmas.Bool.{ltb-true, ltb-false}
 use Rattle.waits.specs.declared.job.Unfinished.{Unfinished}
+use Rattle.waits.specs.declared.slot.Slot.{Slot}
 use Rattle.waits.specs.Jobs.{Queue, is_ready, one_if, ready_count, ready_job, without_ready, first_job, without_first}
+use Rattle.waits.specs.Slots.{with_any, somes, job_at, passes, put_at}
 
 -- ---- the first one that is so
 
--- all at these places fail the test
-abbrev pub NoneBefore : (Unfinished → Bool) → Queue → ℕ → Type 0
-NoneBefore test xs i = (k : ℕ) (d : Unfinished) → k < i → test (get_or xs k d) ≡ false
-
-pub record IsFirst (test : Unfinished → Bool) (xs : Queue) (i : ℕ) (x : Unfinished) : Type 0 where
+pub record IsFirst (test : Unfinished → Bool) (xs ys : Queue) (x : Unfinished) : Type 0 where
   pub job : first_job test xs ≡ Some x.job
-  pub others : without_first test xs ≡ remove xs i
+  pub others : without_first test xs ≡ ys
   pub any : list_any test xs ≡ true
 
-pub first_at : (test : Unfinished → Bool) (xs : Queue) (i : ℕ) (x : Unfinished) → i < length xs → NoneBefore test xs i → test (get_or xs i x) ≡ true → x ≡ get_or xs i x → IsFirst test xs i x
-first_at test [] i x within before here at = absurd (omega arith)
-first_at test (y ∷ ys) zero x within before here at = record {
-  job = rw here (ap (λ (z : Unfinished). Some z.job) (sym at));
-  others = rw here refl;
-  any = rw here refl;
+first_step : (test : Unfinished → Bool) (one : Option Unfinished) (xs ys : Queue) (x : Unfinished) → passes test one ≡ false → IsFirst test xs ys x → IsFirst test (with_any one xs) (with_any one ys) x
+first_step test None xs ys x out later = later
+first_step test (Some y) xs ys x out later = record {
+  job = rw out later.job;
+  others = rw out (ap (λ (zs : Queue). y ∷ zs) later.others);
+  any = rw out later.any;
 }
-first_at test (y ∷ ys) (suc i) x within before here at =
-    let no : test y ≡ false = before 0 x (omega arith) in
-    let later = first_at test ys i x (omega arith) (λ k d below. before (suc k) d (omega arith)) here at in
-    record {
-      job = rw no later.job;
-      others = rw no (ap (λ (zs : Queue). y ∷ zs) later.others);
-      any = rw no later.any;
-    }
+
+first_here : (test : Unfinished → Bool) (one : Option Unfinished) (xs : Queue) (x : Unfinished) → one ≡ Some x → test x ≡ true → IsFirst test (with_any one xs) xs x
+first_here test one xs x is here = subst (λ (o : Option Unfinished). IsFirst test (with_any o xs) xs x) (sym {A = Option Unfinished} is) (record { job = rw here refl; others = rw here refl; any = rw here refl })
+
+pub first_at : (test : Unfinished → Bool) (slots : List Slot) (p : ℕ) (x : Unfinished) → job_at slots p ≡ Some x → test x ≡ true → ((k : ℕ) → k < p → passes test (job_at slots k) ≡ false) → IsFirst test (somes slots) (somes (put_at p None slots)) x
+first_at test [] p x is here before = let clash : None ≡ Some x = is in cc
+first_at test (s ∷ ss) zero x is here before = first_here test s.one (somes ss) x is here
+first_at test (s ∷ ss) (suc p) x is here before =
+    first_step test s.one (somes ss) (somes (put_at p None ss)) x (before 0 (omega arith)) (first_at test ss p x is here (λ k below. before (suc k) (omega arith)))
+
+-- one that is so tells that there is one
+
+any_or : (a b : Bool) → b ≡ true → (a || b) ≡ true
+any_or true b is = refl
+any_or false b is = is
+
+any_step : (test : Unfinished → Bool) (one : Option Unfinished) (xs : Queue) → list_any test xs ≡ true → list_any test (with_any one xs) ≡ true
+any_step test None xs later = later
+any_step test (Some y) xs later = any_or (test y) (list_any test xs) later
+
+any_here : (test : Unfinished → Bool) (one : Option Unfinished) (xs : Queue) → passes test one ≡ true → list_any test (with_any one xs) ≡ true
+any_here test None xs is = let clash : false ≡ true = is in cc
+any_here test (Some y) xs is = rw is refl
+
+pub any_at : (test : Unfinished → Bool) (slots : List Slot) (p : ℕ) → passes test (job_at slots p) ≡ true → list_any test (somes slots) ≡ true
+any_at test [] p is = let clash : false ≡ true = is in cc
+any_at test (s ∷ ss) zero is = any_here test s.one (somes ss) is
+any_at test (s ∷ ss) (suc p) is = any_step test s.one (somes ss) (any_at test ss p is)
 
 pub record IsNone (test : Unfinished → Bool) (xs : Queue) : Type 0 where
   pub job : first_job test xs ≡ None
   pub others : without_first test xs ≡ xs
   pub any : list_any test xs ≡ false
 
-pub first_none : (test : Unfinished → Bool) (xs : Queue) → NoneBefore test xs (length xs) → IsNone test xs
-first_none test [] none = record { job = refl; others = refl; any = refl }
-first_none test (y ∷ ys) none =
-    let no : test y ≡ false = none 0 y (omega arith) in
-    let later = first_none test ys (λ k d below. none (suc k) d (omega arith)) in
-    record {
-      job = rw no later.job;
-      others = rw no (ap (λ (zs : Queue). y ∷ zs) later.others);
-      any = rw no later.any;
-    }
+-- what stands at a place that is so
 
--- a search tells whether there is one
+pub record IsThere (test : Unfinished → Bool) (one : Option Unfinished) : Type 0 where
+  pub job : Unfinished
+  pub is : one ≡ Some job
+  pub so : test job ≡ true
 
-any_at : (test : Unfinished → Bool) (xs : Queue) (i : ℕ) → i < length xs → NoneBefore test xs i → ((d : Unfinished) → test (get_or xs i d) ≡ true) → list_any test xs ≡ true
-any_at test [] i within before found = absurd (omega arith)
-any_at test (y ∷ ys) zero within before found = rw (found y) refl
-any_at test (y ∷ ys) (suc i) within before found =
-    let none : test y ≡ false = before 0 y (omega arith) in
-    rw none (any_at test ys i (omega arith) (λ k d below. before (suc k) d (omega arith)) found)
-
-any_by : (test : Unfinished → Bool) (xs : Queue) (i : ℕ) (short : Bool) → ltb i (length xs) ≡ short → NoneBefore test xs i → ((d : Unfinished) → i < length xs → test (get_or xs i d) ≡ true) → short ≡ list_any test xs
-any_by test xs i true is before found =
-    let within : i < length xs = ltb-true i (length xs) is in
-    sym (any_at test xs i within before (λ d. found d within))
-any_by test xs i false is before found =
-    let past : length xs ≤ i = ltb-false i (length xs) is in
-    sym ((first_none test xs (λ k d below. before k d (omega arith))).any)
-
-pub any_is : (test : Unfinished → Bool) (xs : Queue) (i n : ℕ) → n ≡ length xs → NoneBefore test xs i → ((d : Unfinished) → i < length xs → test (get_or xs i d) ≡ true) → ltb i n ≡ list_any test xs
-any_is test xs i n all before found = ap (ltb i) all ∙ any_by test xs i (ltb i (length xs)) refl before found
+pub there : (test : Unfinished → Bool) (one : Option Unfinished) → passes test one ≡ true → IsThere test one
+there test None is = let clash : false ≡ true = is in cc
+there test (Some x) is = record { job = x; is = refl; so = is }
 
 -- ---- the ready one of a place
 
-pub record IsReadyAt (k : ℕ) (xs : Queue) (i : ℕ) (x : Unfinished) : Type 0 where
+pub record IsReadyAt (k : ℕ) (xs ys : Queue) (x : Unfinished) : Type 0 where
   pub job : ready_job k xs ≡ Some x.job
-  pub others : without_ready k xs ≡ remove xs i
+  pub others : without_ready k xs ≡ ys
 
-ready_step : (y : Unfinished) (ys : Queue) (i k : ℕ) (x : Unfinished) (ready : Bool) → is_ready y ≡ ready → ((j : ℕ) → ready_count (take i ys) ≡ j → IsReadyAt j ys i x) → one_if ready + ready_count (take i ys) ≡ k → IsReadyAt k (y ∷ ys) (suc i) x
-ready_step y ys i zero x true is later before = absurd (omega arith)
-ready_step y ys i (suc k) x true is later before =
+ready_step : (y : Unfinished) (xs ys : Queue) (n k : ℕ) (x : Unfinished) (ready : Bool) → is_ready y ≡ ready → ((j : ℕ) → n ≡ j → IsReadyAt j xs ys x) → one_if ready + n ≡ k → IsReadyAt k (y ∷ xs) (y ∷ ys) x
+ready_step y xs ys n zero x true is later before = absurd (omega arith)
+ready_step y xs ys n (suc k) x true is later before =
     let found = later k (omega arith) in
     record { job = rw is found.job; others = rw is (ap (λ (zs : Queue). y ∷ zs) found.others) }
-ready_step y ys i zero x false is later before =
+ready_step y xs ys n zero x false is later before =
     let found = later zero (omega arith) in
     record { job = rw is found.job; others = rw is (ap (λ (zs : Queue). y ∷ zs) found.others) }
-ready_step y ys i (suc k) x false is later before =
+ready_step y xs ys n (suc k) x false is later before =
     let found = later (suc k) (omega arith) in
     record { job = rw is found.job; others = rw is (ap (λ (zs : Queue). y ∷ zs) found.others) }
 
-pub ready_at : (xs : Queue) (i k : ℕ) (x : Unfinished) → i < length xs → x ≡ get_or xs i x → is_ready x ≡ true → ready_count (take i xs) ≡ k → IsReadyAt k xs i x
-ready_at [] i k x within at marked before = absurd (omega arith)
-ready_at (y ∷ ys) zero zero x within at marked before =
-    let here : is_ready y ≡ true = subst (λ (z : Unfinished). is_ready z ≡ true) at marked in
-    record { job = rw here (ap (λ (z : Unfinished). Some z.job) (sym at)); others = rw here refl }
-ready_at (y ∷ ys) zero (suc k) x within at marked before = absurd (omega arith)
-ready_at (y ∷ ys) (suc i) k x within at marked before =
-    ready_step y ys i k x (is_ready y) refl (λ j passed. ready_at ys i j x (omega arith) at marked passed) before
+ready_any : (one : Option Unfinished) (xs ys front : Queue) (k : ℕ) (x : Unfinished) → ((j : ℕ) → ready_count front ≡ j → IsReadyAt j xs ys x) → ready_count (with_any one front) ≡ k → IsReadyAt k (with_any one xs) (with_any one ys) x
+ready_any None xs ys front k x later before = later k before
+ready_any (Some y) xs ys front k x later before = ready_step y xs ys (ready_count front) k x (is_ready y) refl later before
+
+ready_here : (one : Option Unfinished) (xs : Queue) (x : Unfinished) → one ≡ Some x → is_ready x ≡ true → IsReadyAt 0 (with_any one xs) xs x
+ready_here one xs x is here = subst (λ (o : Option Unfinished). IsReadyAt 0 (with_any o xs) xs x) (sym {A = Option Unfinished} is) (record { job = rw here refl; others = rw here refl })
+
+pub ready_at : (slots : List Slot) (p k : ℕ) (x : Unfinished) → job_at slots p ≡ Some x → is_ready x ≡ true → ready_count (somes (take p slots)) ≡ k → IsReadyAt k (somes slots) (somes (put_at p None slots)) x
+ready_at [] p k x is here before = let clash : None ≡ Some x = is in cc
+ready_at (s ∷ ss) zero zero x is here before = ready_here s.one (somes ss) x is here
+ready_at (s ∷ ss) zero (suc k) x is here before = absurd (omega arith)
+ready_at (s ∷ ss) (suc p) k x is here before =
+    ready_any s.one (somes ss) (somes (put_at p None ss)) (somes (take p ss)) k x (λ j passed. ready_at ss p j x is here passed) before
 
 -- there is none where fewer are ready
 

@@ -1,5 +1,5 @@
 -- Tallies stay right where a job comes, goes or is told.
-use Rattle.std.proofs.Common.{◌≡◌, ◌∙◌, ℕ, ◌+◌, ◌-◌, ◌<◌, ◌≤◌, Bool, true, false, not, ◌&&◌, ◌||◌, ◌==◌, cond, nat_lt, if◌then◌else◌, List, [], ◌∷◌, ◌++◌, length, get_or, remove, map, ap, sym, refl, subst, arith}
+use Rattle.std.proofs.Common.{◌≡◌, ◌∙◌, ℕ, ◌+◌, ◌<◌, ◌≤◌, Bool, true, false, not, ◌&&◌, ◌||◌, ◌==◌, cond, nat_lt, if◌then◌else◌, List, [], ◌∷◌, ◌++◌, length, map, ap, sym, refl, subst, arith}
 use Rattle.std.specs.List.{filter, list_any}
 use Rattle.std.proofs.lemmas.Bool.{eqb-true, eqb-false, eq-eqb, ne_eqb, ltb-false, and_parts}
 use Rattle.std.proofs.lemmas.List.Folds.{list_any-append}
@@ -7,9 +7,7 @@ use Rattle.std.proofs.lemmas.Map.Views.{any-filter_same}
 use Rattle.waits.specs.declared.job.Unfinished.{Unfinished}
 use Rattle.waits.specs.declared.tally.Tally.{Tally}
 use Rattle.waits.specs.Jobs.{Queue, is_of, is_waiting, is_ready, one_if, load_of, total, told, waits_for, after_answer, settled, without_session, job_count, job_bytes, waiting_count, blocked_count_of}
-use Rattle.waits.specs.Tallies.{is_tally_of, no_tally, counted_in, tally_of, tally_if_any, without_tally, stored, IsRight, AreRight, Covers, IsTallied}
-use Rattle.waits.proofs.Totals.{total_push}
-use Rattle.waits.proofs.Counts.{total_without}
+use Rattle.waits.specs.Tallies.{is_tally_of, no_tally, tally_of, tally_if_any, without_tally, stored, with_one, without_one, Counted, IsRight, AreRight, Covers, IsTallied}
 use Rattle.waits.proofs.Limits.{counts, weighs, same_owner}
 
 -- how a job counts among those of a session that wait
@@ -115,7 +113,7 @@ eqb_turned : (a b : ℕ) (is : Bool) → (a == b) ≡ is → (b == a) ≡ is
 eqb_turned a b true here = eq-eqb b a (sym (eqb-true a b here))
 eqb_turned a b false here = ne_eqb b a (λ same. eqb-false a b here (sym same))
 
-turned : (a b c d : ℕ) → ((a == b) && (c == d)) ≡ false → ((b == a) && (d == c)) ≡ false
+pub turned : (a b c d : ℕ) → ((a == b) && (c == d)) ≡ false → ((b == a) && (d == c)) ≡ false
 turned a b c d apart =
     let one = eqb_turned a b (a == b) refl in
     let two = eqb_turned c d (c == d) refl in
@@ -203,7 +201,7 @@ room_by false left all room is none fewer within = none is
 
 -- ---- a job of a session comes or goes
 
-own_of : (x : Unfinished) → is_of x.job.key x.job.session x ≡ true
+pub own_of : (x : Unfinished) → is_of x.job.key x.job.session x ≡ true
 own_of x = rw (eq-eqb x.job.key x.job.key refl, eq-eqb x.job.session x.job.session refl) refl
 
 pub record Measures (key session : ℕ) (x : Unfinished) (m n k j : ℕ) : Type 0 where
@@ -221,15 +219,6 @@ measures_by key session x own is =
       blocked = ap (λ (b : Bool). one_if (b && not (is_ready x))) is;
     }
 
-right_at : (queue : Queue) (key session : ℕ) (tally : Tally) → tally.key ≡ key → tally.session ≡ session → tally.count ≡ job_count key session queue → tally.bytes ≡ job_bytes key session queue → tally.waiting ≡ waiting_count key session queue → tally.blocked ≡ blocked_count_of key session queue → IsRight queue tally
-right_at queue key session tally same_key same_session count bytes waiting blocked =
-    record {
-      count = count ∙ sym (ap (λ (k : ℕ). job_count k tally.session queue) same_key ∙ ap (λ (s : ℕ). job_count key s queue) same_session);
-      bytes = bytes ∙ sym (ap (λ (k : ℕ). job_bytes k tally.session queue) same_key ∙ ap (λ (s : ℕ). job_bytes key s queue) same_session);
-      waiting = waiting ∙ sym (ap (λ (k : ℕ). waiting_count k tally.session queue) same_key ∙ ap (λ (s : ℕ). waiting_count key s queue) same_session);
-      blocked = blocked ∙ sym (ap (λ (k : ℕ). blocked_count_of k tally.session queue) same_key ∙ ap (λ (s : ℕ). blocked_count_of key s queue) same_session);
-    }
-
 elsewhere_at : (key session : ℕ) (tally : Tally) (old new : Queue) → tally.key ≡ key → tally.session ≡ session → SameElsewhere key session old new → SameElsewhere tally.key tally.session old new
 elsewhere_at key session tally old new same_key same_session there =
     subst (λ (k : ℕ). SameElsewhere k tally.session old new) (sym same_key) (subst (λ (s : ℕ). SameElsewhere key s old new) (sym same_session) there)
@@ -237,80 +226,72 @@ elsewhere_at key session tally old new same_key same_session there =
 pub found_at : (queue : Queue) (key session : ℕ) (tallies : List Tally) (tally : Tally) → IsTallied queue tallies → tally ≡ tally_of key session tallies → Found queue key session tally
 found_at queue key session tallies tally tallied is = subst (λ (t : Tally). Found queue key session t) (sym is) (found queue key session tallies tallied)
 
-pub tallied_put : (xs : Queue) (tallies : List Tally) (x : Unfinished) (tally : Tally) (load waits blocked : ℕ) → IsTallied xs tallies → tally ≡ tally_of x.job.key x.job.session tallies → load ≡ load_of x.job → waits ≡ one_if (is_waiting x) → blocked ≡ one_if (not (is_ready x))
-    → IsTallied (xs ++ x ∷ []) (stored (record { key = tally.key; session = tally.session; count = tally.count + 1; bytes = tally.bytes + load; waiting = tally.waiting + waits; blocked = tally.blocked + blocked }) tallies)
-tallied_put xs tallies x tally load waits blocked tallied is loads waiting blocking =
-    let key = x.job.key in
-    let session = x.job.session in
-    let there = found_at xs key session tallies tally tallied is in
-    let own = measures_by key session x true (own_of x) in
-    let more = total_push (counts key session) xs x in
-    let heavier = total_push (weighs key session) xs x in
-    let longer = total_push (awaits key session) xs x in
-    let slower = total_push (blocks key session) xs x in
-    let tally' : Tally = record { key = tally.key; session = tally.session; count = tally.count + 1; bytes = tally.bytes + load; waiting = tally.waiting + waits; blocked = tally.blocked + blocked } in
-    let elsewhere : SameElsewhere key session xs (xs ++ x ∷ []) = record {
-      same = λ other other_session apart.
-          (let none = measures_by other other_session x false apart in
-          let same_count = total_push (counts other other_session) xs x in
-          let same_bytes = total_push (weighs other other_session) xs x in
-          let same_waiting = total_push (awaits other other_session) xs x in
-          let same_blocked = total_push (blocks other other_session) xs x in
-          (omega (arith, none.one), omega (arith, none.load), omega (arith, none.waits), omega (arith, none.blocked)));
-    } in
-    tallied_stored xs (xs ++ x ∷ []) tallies tally' tallied
-    (right_at (xs ++ x ∷ []) key session tally' there.of_key there.of_session (omega (arith, there.count, own.one)) (omega (arith, there.bytes, own.load)) (omega (arith, there.waiting, own.waits)) (omega (arith, there.blocked, own.blocked)))
-    (elsewhere_at key session tally' xs (xs ++ x ∷ []) there.of_key there.of_session elsewhere)
+-- the job is one of the tally's session
+pub owner : (tally : Tally) (x : Unfinished) → tally.key ≡ x.job.key → tally.session ≡ x.job.session → is_of tally.key tally.session x ≡ true
+owner tally x same_key same_session = rw (same_key, same_session) (own_of x)
 
--- its tally has what it counts
-pub record Counted (x : Unfinished) (tally : Tally) : Type 0 where
-  pub one : 1 ≤ tally.count
-  pub load : load_of x.job ≤ tally.bytes
-  pub waits : one_if (is_waiting x) ≤ tally.waiting
-  pub blocked : one_if (not (is_ready x)) ≤ tally.blocked
+-- what is found is right
+pub found_right : (queue : Queue) (key session : ℕ) (tally : Tally) → Found queue key session tally → IsRight queue tally
+found_right queue key session tally there =
+    record {
+      count = there.count ∙ sym (ap (λ (k : ℕ). job_count k tally.session queue) there.of_key ∙ ap (λ (s : ℕ). job_count key s queue) there.of_session);
+      bytes = there.bytes ∙ sym (ap (λ (k : ℕ). job_bytes k tally.session queue) there.of_key ∙ ap (λ (s : ℕ). job_bytes key s queue) there.of_session);
+      waiting = there.waiting ∙ sym (ap (λ (k : ℕ). waiting_count k tally.session queue) there.of_key ∙ ap (λ (s : ℕ). waiting_count key s queue) there.of_session);
+      blocked = there.blocked ∙ sym (ap (λ (k : ℕ). blocked_count_of k tally.session queue) there.of_key ∙ ap (λ (s : ℕ). blocked_count_of key s queue) there.of_session);
+    }
 
-pub counted_there : (xs : Queue) (tallies : List Tally) (i : ℕ) (x : Unfinished) (tally : Tally) → IsTallied xs tallies → i < length xs → x ≡ get_or xs i x → tally ≡ tally_of x.job.key x.job.session tallies → Counted x tally
-counted_there xs tallies i x tally tallied within at is =
-    let key = x.job.key in
-    let session = x.job.session in
-    let there = found_at xs key session tallies tally tallied is in
-    let own = measures_by key session x true (own_of x) in
-    let fewer = total_without (counts key session) xs i x within at in
-    let lighter = total_without (weighs key session) xs i x within at in
-    let shorter = total_without (awaits key session) xs i x within at in
-    let faster = total_without (blocks key session) xs i x within at in
-    record { one = omega (arith, there.count, own.one); load = omega (arith, there.bytes, own.load); waits = omega (arith, there.waiting, own.waits); blocked = omega (arith, there.blocked, own.blocked) }
+-- ys has all of xs, and x
+abbrev pub Gains : Queue → Queue → Unfinished → Type 0
+Gains xs ys x = (measure : Unfinished → ℕ) → total measure ys ≡ total measure xs + measure x
 
-pub known_there : (xs : Queue) (tallies : List Tally) (i : ℕ) (x : Unfinished) → IsTallied xs tallies → i < length xs → x ≡ get_or xs i x → list_any (is_tally_of x.job.key x.job.session) tallies ≡ true
-known_there xs tallies i x tallied within at =
-    let own = measures_by x.job.key x.job.session x true (own_of x) in
-    let fewer = total_without (counts x.job.key x.job.session) xs i x within at in
-    known xs x.job.key x.job.session tallies tallied (omega (arith, own.one))
+pub right_more : (xs ys : Queue) (x : Unfinished) (tally : Tally) → is_of tally.key tally.session x ≡ true → Gains xs ys x → IsRight xs tally → IsRight ys (with_one x tally)
+right_more xs ys x tally is gains right =
+    let own = measures_by tally.key tally.session x true is in
+    let more = gains (counts tally.key tally.session) in
+    let heavier = gains (weighs tally.key tally.session) in
+    let longer = gains (awaits tally.key tally.session) in
+    let slower = gains (blocks tally.key tally.session) in
+    record { count = omega (arith, right.count, own.one); bytes = omega (arith, right.bytes, own.load); waiting = omega (arith, right.waiting, own.waits); blocked = omega (arith, right.blocked, own.blocked) }
 
-pub tallied_taken : (xs : Queue) (tallies : List Tally) (i : ℕ) (x : Unfinished) (tally : Tally) (load waits blocked : ℕ) → IsTallied xs tallies → i < length xs → x ≡ get_or xs i x → tally ≡ tally_of x.job.key x.job.session tallies → load ≡ load_of x.job → waits ≡ one_if (is_waiting x) → blocked ≡ one_if (not (is_ready x))
-    → IsTallied (remove xs i) (stored (record { key = tally.key; session = tally.session; count = tally.count - 1; bytes = tally.bytes - load; waiting = tally.waiting - waits; blocked = tally.blocked - blocked }) tallies)
-tallied_taken xs tallies i x tally load waits blocked tallied within at is loads waiting blocking =
-    let key = x.job.key in
-    let session = x.job.session in
-    let there = found_at xs key session tallies tally tallied is in
-    let own = measures_by key session x true (own_of x) in
-    let fewer = total_without (counts key session) xs i x within at in
-    let lighter = total_without (weighs key session) xs i x within at in
-    let shorter = total_without (awaits key session) xs i x within at in
-    let faster = total_without (blocks key session) xs i x within at in
-    let tally' : Tally = record { key = tally.key; session = tally.session; count = tally.count - 1; bytes = tally.bytes - load; waiting = tally.waiting - waits; blocked = tally.blocked - blocked } in
-    let elsewhere : SameElsewhere key session xs (remove xs i) = record {
-      same = λ other other_session apart.
-          (let none = measures_by other other_session x false apart in
-          let same_count = total_without (counts other other_session) xs i x within at in
-          let same_bytes = total_without (weighs other other_session) xs i x within at in
-          let same_waiting = total_without (awaits other other_session) xs i x within at in
-          let same_blocked = total_without (blocks other other_session) xs i x within at in
-          (omega (arith, none.one), omega (arith, none.load), omega (arith, none.waits), omega (arith, none.blocked)));
-    } in
-    tallied_stored xs (remove xs i) tallies tally' tallied
-    (right_at (remove xs i) key session tally' there.of_key there.of_session (omega (arith, there.count, own.one)) (omega (arith, there.bytes, own.load)) (omega (arith, there.waiting, own.waits)) (omega (arith, there.blocked, own.blocked)))
-    (elsewhere_at key session tally' xs (remove xs i) there.of_key there.of_session elsewhere)
+pub right_less : (xs ys : Queue) (x : Unfinished) (tally : Tally) → is_of tally.key tally.session x ≡ true → Gains xs ys x → IsRight ys tally → IsRight xs (without_one x tally)
+right_less xs ys x tally is gains right =
+    let own = measures_by tally.key tally.session x true is in
+    let more = gains (counts tally.key tally.session) in
+    let heavier = gains (weighs tally.key tally.session) in
+    let longer = gains (awaits tally.key tally.session) in
+    let slower = gains (blocks tally.key tally.session) in
+    record { count = omega (arith, right.count, own.one); bytes = omega (arith, right.bytes, own.load); waiting = omega (arith, right.waiting, own.waits); blocked = omega (arith, right.blocked, own.blocked) }
+
+pub counted_by : (xs ys : Queue) (x : Unfinished) (tally : Tally) → is_of tally.key tally.session x ≡ true → Gains xs ys x → IsRight ys tally → Counted x tally
+counted_by xs ys x tally is gains right =
+    let own = measures_by tally.key tally.session x true is in
+    let more = gains (counts tally.key tally.session) in
+    let heavier = gains (weighs tally.key tally.session) in
+    let longer = gains (awaits tally.key tally.session) in
+    let slower = gains (blocks tally.key tally.session) in
+    record { one = omega (arith, right.count, own.one); load = omega (arith, right.bytes, own.load); waits = omega (arith, right.waiting, own.waits); blocked = omega (arith, right.blocked, own.blocked) }
+
+-- other sessions have what they had
+
+pub gains_elsewhere : (xs ys : Queue) (x : Unfinished) → Gains xs ys x → SameElsewhere x.job.key x.job.session xs ys
+gains_elsewhere xs ys x gains = record {
+  same = λ other other_session apart.
+      (let none = measures_by other other_session x false apart in
+      let same_count = gains (counts other other_session) in
+      let same_bytes = gains (weighs other other_session) in
+      let same_waiting = gains (awaits other other_session) in
+      let same_blocked = gains (blocks other other_session) in
+      (omega (arith, none.one), omega (arith, none.load), omega (arith, none.waits), omega (arith, none.blocked)));
+}
+
+pub elsewhere_back : (key session : ℕ) (xs ys : Queue) → SameElsewhere key session xs ys → SameElsewhere key session ys xs
+elsewhere_back key session xs ys there = record {
+  same = λ other other_session apart. (let same = there.same other other_session apart in (sym same.0, sym same.1, sym same.2, sym same.3));
+}
+
+pub tallied_by : (old new : Queue) (tallies : List Tally) (x : Unfinished) (tally : Tally) → IsTallied old tallies → tally.key ≡ x.job.key → tally.session ≡ x.job.session → IsRight new tally → SameElsewhere x.job.key x.job.session old new → IsTallied new (stored tally tallies)
+tallied_by old new tallies x tally tallied same_key same_session right there =
+    tallied_stored old new tallies tally tallied right (elsewhere_at x.job.key x.job.session tally old new same_key same_session there)
 
 -- ---- a call of a session is answered
 
@@ -341,10 +322,6 @@ settled_elsewhere key session number ok xs = record {
       let f = after_answer key session number ok in
       (total_same (counts other other_session) f (λ x. (told_by x).0) xs, total_same (weighs other other_session) f (λ x. (told_by x).1) xs, total_same (awaits other other_session) f (λ x. (told_by x).2) xs, total_same (blocks other other_session) f (λ x. (told_by x).3) xs));
 }
-
-pub tallied_again : (xs ys : Queue) (tallies : List Tally) (key session : ℕ) → IsTallied xs tallies → SameElsewhere key session xs ys → IsTallied ys (stored (counted_in ys key session) tallies)
-tallied_again xs ys tallies key session tallied elsewhere =
-    tallied_stored xs ys tallies (counted_in ys key session) tallied (record { count = refl; bytes = refl; waiting = refl; blocked = refl }) elsewhere
 
 -- ---- a session is forgotten
 
@@ -379,11 +356,11 @@ none_kept : (key session : ℕ) (x : Unfinished) (own : Bool) (ys : Queue) → i
 none_kept key session x true ys is none = none
 none_kept key session x false ys is none = let here = measures_by key session x false is in omega (arith, here.one)
 
-none_left : (key session : ℕ) (xs : Queue) → job_count key session (without_session key session xs) ≡ 0
+pub none_left : (key session : ℕ) (xs : Queue) → job_count key session (without_session key session xs) ≡ 0
 none_left key session [] = refl
 none_left key session (x ∷ xs) = none_kept key session x (is_of key session x) (without_session key session xs) refl (none_left key session xs)
 
-append_none : (xs : List Tally) → xs ++ [] ≡ xs
+pub append_none : (xs : List Tally) → xs ++ [] ≡ xs
 append_none [] = refl
 append_none (x ∷ xs) = ap (λ (ys : List Tally). x ∷ ys) (append_none xs)
 

@@ -1,44 +1,14 @@
 -- Sums over jobs, after a job went, came or changed.
-use Rattle.std.proofs.Common.{◌≡◌, ℕ, zero, suc, ◌+◌, ◌<◌, ◌≤◌, Bool, true, false, cond, List, [], ◌∷◌, ◌++◌, length, get_or, take, remove, map, ap, refl, arith, add-one}
+use Rattle.std.proofs.Common.{◌≡◌, ℕ, ◌+◌, ◌≤◌, Bool, true, false, cond, List, [], ◌∷◌, ◌++◌, length, map, arith}
 use Rattle.std.specs.List.{filter}
 use Rattle.waits.specs.declared.job.Unfinished.{Unfinished}
 use Rattle.waits.specs.Jobs.{Queue, total}
-
--- ---- a walk from the front
-
-total_take_suc : (measure : Unfinished → ℕ) (xs : Queue) (i : ℕ) (x : Unfinished) → i < length xs → x ≡ get_or xs i x → total measure (take (suc i) xs) ≡ total measure (take i xs) + measure x
-total_take_suc measure [] i x within at = absurd (omega arith)
-total_take_suc measure (y ∷ ys) zero x within at = let same : measure x ≡ measure y = ap measure at in omega arith
-total_take_suc measure (y ∷ ys) (suc i) x within at = let more = total_take_suc measure ys i x (omega arith) at in omega arith
-
--- one more job is passed
-pub total_take_more : (measure : Unfinished → ℕ) (xs : Queue) (i : ℕ) (x : Unfinished) → i < length xs → x ≡ get_or xs i x → total measure (take (i + 1) xs) ≡ total measure (take i xs) + measure x
-total_take_more measure xs i x within at = rw (add-one i) (total_take_suc measure xs i x within at)
-
--- what is passed has no more than all
-pub total_take_le : (measure : Unfinished → ℕ) (xs : Queue) (i : ℕ) → total measure (take i xs) ≤ total measure xs
-total_take_le measure xs zero = omega arith
-total_take_le measure [] (suc i) = omega arith
-total_take_le measure (x ∷ xs) (suc i) = let others = total_take_le measure xs i in omega arith
-
--- all are passed
-pub total_take_all : (measure : Unfinished → ℕ) (xs : Queue) (i : ℕ) → length xs ≤ i → total measure (take i xs) ≡ total measure xs
-total_take_all measure [] zero all = refl
-total_take_all measure [] (suc i) all = refl
-total_take_all measure (x ∷ xs) zero all = absurd (omega arith)
-total_take_all measure (x ∷ xs) (suc i) all = ap (λ n. measure x + n) (total_take_all measure xs i (omega arith))
 
 -- ---- a change
 
 pub total_push : (measure : Unfinished → ℕ) (xs : Queue) (x : Unfinished) → total measure (xs ++ x ∷ []) ≡ total measure xs + measure x
 total_push measure [] x = omega arith
 total_push measure (y ∷ ys) x = let others = total_push measure ys x in omega arith
-
-pub total_remove : (measure : Unfinished → ℕ) (xs : Queue) (i : ℕ) → total measure (remove xs i) ≤ total measure xs
-total_remove measure [] zero = omega arith
-total_remove measure [] (suc i) = omega arith
-total_remove measure (x ∷ xs) zero = omega arith
-total_remove measure (x ∷ xs) (suc i) = let others = total_remove measure xs i in omega arith
 
 pub total_map : (measure : Unfinished → ℕ) (f : Unfinished → Unfinished) → ((x : Unfinished) → measure (f x) ≤ measure x) → (xs : Queue) → total measure (map f xs) ≤ total measure xs
 total_map measure f less [] = omega arith

@@ -4,3 +4,4 @@ pub mod Held
 pub mod Wanted
 pub mod Tallies
 pub mod Answers
+pub mod Slots

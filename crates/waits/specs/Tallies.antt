@@ -1,9 +1,10 @@
 -- What is kept beside the jobs, so that few calls walk them: words of private contracts, which are no promise of this
 -- crate.
-use Rattle.std.specs.Prelude.{◌≡◌, ℕ, ◌≤◌, Bool, false, not, ◌==◌, ◌&&◌, nat_lt, if◌then◌else◌, unwrap_or, List, [], ◌∷◌, ◌++◌, length, take, find}
+use Rattle.std.specs.Prelude.{◌≡◌, ℕ, ◌+◌, ◌-◌, ◌≤◌, Bool, false, not, ◌==◌, ◌&&◌, nat_lt, if◌then◌else◌, unwrap_or, List, [], ◌∷◌, ◌++◌, find}
 use Rattle.std.specs.List.{filter, list_any}
 use Rattle.waits.specs.declared.tally.Tally.{Tally}
-use Rattle.waits.specs.Jobs.{Queue, job_count, job_bytes, waiting_count, blocked_count_of, ready_count, blocked_count, failed_count, AreWithinLimits}
+use Rattle.waits.specs.declared.job.Unfinished.{Unfinished}
+use Rattle.waits.specs.Jobs.{Queue, job_count, job_bytes, waiting_count, blocked_count_of, is_waiting, is_ready, load_of, one_if}
 
 -- ---- the tally of a session
 
@@ -13,19 +14,7 @@ is_tally_of key session tally = (tally.key == key) && (tally.session == session)
 
 -- that of a session with no job
 abbrev pub no_tally : ℕ → ℕ → Tally
-no_tally key session = record { key = key; session = session; count = 0; bytes = 0; waiting = 0; blocked = 0 }
-
--- that of this session among these jobs
-abbrev pub counted_in : Queue → ℕ → ℕ → Tally
-counted_in queue key session =
-    record {
-      key = key;
-      session = session;
-      count = job_count key session queue;
-      bytes = job_bytes key session queue;
-      waiting = waiting_count key session queue;
-      blocked = blocked_count_of key session queue;
-    }
+no_tally key session = record { key = key; session = session; count = 0; bytes = 0; waiting = 0; blocked = 0; last = 0 }
 
 -- the one that stands there for this session
 abbrev pub tally_of : ℕ → ℕ → List Tally → Tally
@@ -41,6 +30,35 @@ tally_if_any tally = if nat_lt 0 tally.count then tally ∷ [] else []
 
 abbrev pub stored : Tally → List Tally → List Tally
 stored tally tallies = without_tally tally.key tally.session tallies ++ tally_if_any tally
+
+-- ---- a job comes or goes
+
+-- it counts this job further
+abbrev pub with_one : Unfinished → Tally → Tally
+with_one one tally =
+    record tally {
+      count = tally.count + 1;
+      bytes = tally.bytes + load_of one.job;
+      waiting = tally.waiting + one_if (is_waiting one);
+      blocked = tally.blocked + one_if (not (is_ready one));
+    }
+
+-- it counts this job no more
+abbrev pub without_one : Unfinished → Tally → Tally
+without_one one tally =
+    record tally {
+      count = tally.count - 1;
+      bytes = tally.bytes - load_of one.job;
+      waiting = tally.waiting - one_if (is_waiting one);
+      blocked = tally.blocked - one_if (not (is_ready one));
+    }
+
+-- it counts it
+pub record Counted (job : Unfinished) (tally : Tally) : Type 0 where
+  pub one : 1 ≤ tally.count
+  pub load : load_of job.job ≤ tally.bytes
+  pub waits : one_if (is_waiting job) ≤ tally.waiting
+  pub blocked : one_if (not (is_ready job)) ≤ tally.blocked
 
 -- ---- tallies that are right
 
@@ -62,15 +80,3 @@ Covers queue tallies = (key session : ℕ) → list_any (is_tally_of key session
 pub record IsTallied (queue : Queue) (tallies : List Tally) : Type 0 where
   pub right : AreRight queue tallies
   pub covers : Covers queue tallies
-
--- ---- all of it
-
--- each session is within its limits, and what is kept beside the jobs is right: the tallies, how many jobs aren't ready,
--- how many have failed, and of how many in front none is ready
-pub record Stands (queue : Queue) (tallies : List Tally) (not_ready in_vain front : ℕ) : Type 0 where
-  pub limits : AreWithinLimits queue
-  pub tallied : IsTallied queue tallies
-  pub blocked : not_ready ≡ blocked_count queue
-  pub failing : in_vain ≡ failed_count queue
-  pub passed : ready_count (take front queue) ≡ 0
-  pub within : front ≤ length queue

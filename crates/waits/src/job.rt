@@ -64,6 +64,20 @@ pub(crate) struct Unfinished {
 }
 
 impl Unfinished {
+    /// A copy that shares the bytes of the request.
+    ///
+    /// # Errors
+    ///
+    /// `Memory`.
+    pub(crate) fn copy(&self) -> Result<Unfinished, Memory>
+        ensures { IfOk result (λ one. one ≡ self.now) }
+    {
+        Ok(Unfinished {
+            job: self.job.copy()?,
+            failed: self.failed,
+        })
+    }
+
     /// Whether it belongs to this session of this key.
     pub(crate) fn is_of(&self, key: u64, session: u64) -> bool
         ensures { result ≡ is_of key session self.now }

@@ -8,12 +8,12 @@ ghost use Rattle.waits.specs.Jobs.{accepted, is_call, is_overdue, has_failed, re
 ghost use Rattle.waits.specs.Wanted.{is_wanted};
 
 use crate::job::{Job, Unfinished};
+use crate::line::Line;
 use crate::queue::{self, Wanted};
 use crate::tally::{self, Tally};
 use msg_ids::Moment;
 use octets::Memory;
 use std::alloc::Global;
-use std::collections::VecDeque;
 use std::marker::Model;
 
 /// How many unfinished jobs a session has at most.
@@ -27,34 +27,28 @@ pub const WAIT_SECONDS: u64 = 30;
 
 /// The unfinished jobs of a server, in order of acceptance over all sessions.
 ///
-/// A count of each session's jobs is kept beside them. So what is asked of a session with no job, or told to one of which
-/// none waits, looks at no job, nor does a load, and a search for a ready job begins behind those that were passed.
+/// Each stands in a place of its own, and each place names an earlier one of the same session. A count of each session's
+/// jobs is kept beside them, with its last place. So what a session asks, or is told, looks at no job of another one, and
+/// a search for a ready job begins behind those that were passed.
 #[derive(Debug, Drop)]
 pub struct Jobs {
-    queue: VecDeque<Unfinished>,
+    line: Line,
     // What each session with jobs has among them.
     tallies: Vec<Tally>,
-    // How many of them aren't ready. Only those wait or are overdue, so at 0 no search is made for one.
-    blocked: usize,
-    // How many of them have failed.
-    failing: usize,
-    // None of so many in front is ready, so a search for a ready one begins behind them.
-    passed: usize,
     room: usize,
 }
 
 impl Model for Jobs {
     ghost use Rattle.std.specs.Prelude.{◌+◌, ◌≤◌, vec_len, vec_capacity};
-    ghost use Rattle.std.specs.VecDeque.{deque_len, deque_capacity};
     ghost use Rattle.waits.specs.Held.{Held};
-    ghost use Rattle.waits.specs.Tallies.{Stands};
+    ghost use Rattle.waits.specs.Slots.{somes, Stands};
 
     ghost Value = { Held };
 
-    ghost view = { λ jobs. record { jobs = jobs.queue.items; room = jobs.room } };
+    ghost view = { λ jobs. record { jobs = somes jobs.line.slots.items; room = jobs.room } };
 
-    ghost invariant = { λ jobs. Stands jobs.queue.items jobs.tallies.items jobs.blocked jobs.failing jobs.passed
-        × (deque_len jobs.queue + jobs.room ≤ deque_capacity jobs.queue)
+    ghost invariant = { λ jobs. Stands jobs.line jobs.tallies.items
+        × (vec_len jobs.line.slots + jobs.room ≤ vec_capacity jobs.line.slots)
         × (vec_len jobs.tallies + jobs.room ≤ vec_capacity jobs.tallies) };
 }
 
@@ -64,11 +58,8 @@ impl Jobs {
         ensures { result ≡ record { jobs = []; room = 0 } }
     {
         Jobs {
-            queue: VecDeque::new(alloc),
+            line: Line::new(alloc),
             tallies: Vec::new(alloc),
-            blocked: 0,
-            failing: 0,
-            passed: 0,
             room: 0,
         }
     }
@@ -78,12 +69,16 @@ impl Jobs {
     /// # Errors
     ///
     /// `Memory`, and then nothing has changed.
-    pub fn reserve(&mut self, _alloc: Global, count: usize) -> Result<(), Memory>
+    pub fn reserve(&mut self, alloc: Global, count: usize) -> Result<(), Memory>
         ensures reserved { OnOk result (self.new ≡ record self.old { room = max self.old.room count }) }
         ensures unchanged_on_memory { OnErr result (self.new ≡ self.old) }
     {
         let room = self.room.max(count);
-        self.queue.reserve(room)?;
+        if self.line.count < self.line.slots.len() - self.line.count {
+            *self = self.rebuilt(alloc, room)?;
+            return Ok(());
+        }
+        self.line.slots.reserve(room)?;
         self.tallies.reserve(room)?;
         self.room = room;
         Ok(())
@@ -98,18 +93,19 @@ impl Jobs {
         ensures added { self.new.jobs ≡ accepted job self.old.jobs }
         ensures room { self.new.room + 1 ≡ self.old.room }
     {
-        let one = Unfinished { job, failed: false };
-        let blocked = queue::one_if(!one.is_ready());
         self.room -= 1;
-        queue::put(&mut self.queue, &mut self.tallies, one);
-        self.blocked += blocked;
+        queue::put(
+            &mut self.line,
+            &mut self.tallies,
+            Unfinished { job, failed: false },
+        );
     }
 
     /// How many jobs are ready: they wait for no call, and none that they waited for was answered otherwise than well.
     pub fn ready(&self) -> usize
         ensures count { result ≡ ready_count self.now.jobs }
     {
-        self.queue.len() - self.blocked
+        self.line.count - self.line.blocked
     }
 
     /// The ready job of this place among the ready ones, from 0 in order of acceptance: the one that `take` takes out;
@@ -122,8 +118,8 @@ impl Jobs {
         if k >= self.ready() {
             return None;
         }
-        let found = queue::ready_place(&self.queue, self.passed, k);
-        Some(&self.queue[found].job)
+        let found = queue::ready_place(&self.line.slots, self.line.passed, k);
+        self.line.job(found)
     }
 
     /// Takes out the ready job of this place among the ready ones, from 0 in order of acceptance. The place has to be
@@ -133,15 +129,12 @@ impl Jobs {
         ensures job { ready_job k self.old.jobs ≡ Some result }
         ensures others { self.new ≡ record self.old { jobs = without_ready k self.old.jobs } }
     {
-        let place = queue::ready_place(&self.queue, self.passed, k);
-        let Unfinished { job, failed: _ } = queue::take_out(
-            &mut self.queue,
-            &mut self.tallies,
-            place,
-        );
+        let place = queue::ready_place(&self.line.slots, self.line.passed, k);
+        let one = queue::take_out(&mut self.line, &mut self.tallies, place);
         if k == 0 {
-            self.passed = place;
+            self.line.passed = place;
         }
+        let Unfinished { job, failed: _ } = one;
         job
     }
 
@@ -153,14 +146,7 @@ impl Jobs {
         if tally::find(&self.tallies, key, session).waiting == 0 {
             return;
         }
-        let waits = Wanted::Waiting(key, session, number);
-        if queue::first_place(&self.queue, &waits) == self.queue.len() {
-            return;
-        }
-        queue::settle_counted(&mut self.queue, &mut self.tallies, key, session, number, ok);
-        self.blocked = queue::count_of(&self.queue, &Wanted::Blocked);
-        self.failing = queue::count_of(&self.queue, &Wanted::Failed);
-        self.passed = 0;
+        queue::settle(&mut self.line, &mut self.tallies, key, session, number, ok);
     }
 
     /// Takes out the first job that has failed; `None` where none has. Takes no memory.
@@ -168,7 +154,7 @@ impl Jobs {
         ensures job { result ≡ first_job has_failed self.old.jobs }
         ensures others { self.new ≡ record self.old { jobs = without_first has_failed self.old.jobs } }
     {
-        if self.failing == 0 {
+        if self.line.failing == 0 {
             return None;
         }
         self.take_wanted(&Wanted::Failed)
@@ -180,7 +166,7 @@ impl Jobs {
         ensures job { result ≡ first_job (is_overdue now) self.old.jobs }
         ensures others { self.new ≡ record self.old { jobs = without_first (is_overdue now) self.old.jobs } }
     {
-        if self.blocked == 0 {
+        if self.line.blocked == 0 {
             return None;
         }
         self.take_wanted(&Wanted::Overdue(now))
@@ -191,22 +177,24 @@ impl Jobs {
         ensures job { result ≡ first_job (is_call key session number) self.old.jobs }
         ensures others { self.new ≡ record self.old { jobs = without_first (is_call key session number) self.old.jobs } }
     {
-        if tally::find(&self.tallies, key, session).count == 0 {
+        let last = tally::find(&self.tallies, key, session).last;
+        let place = self.line.first_call(key, session, number, last);
+        if place == self.line.slots.len() {
             return None;
         }
-        self.take_wanted(&Wanted::Call(key, session, number))
+        let Unfinished { job, failed: _ } = queue::take_out(
+            &mut self.line,
+            &mut self.tallies,
+            place,
+        );
+        Some(job)
     }
 
     /// Forgets all jobs of a session. Takes no memory.
     pub fn forget(&mut self, key: u64, session: u64)
         ensures { self.new ≡ record self.old { jobs = without_session key session self.old.jobs } }
     {
-        if tally::find(&self.tallies, key, session).count > 0 {
-            queue::forget_counted(&mut self.queue, &mut self.tallies, key, session);
-            self.blocked = queue::count_of(&self.queue, &Wanted::Blocked);
-            self.failing = queue::count_of(&self.queue, &Wanted::Failed);
-            self.passed = 0;
-        }
+        queue::forget(&mut self.line, &mut self.tallies, key, session);
     }
 
     /// How many jobs a session has, and the bytes of their loads: of each the length of its request, and 8 bytes for
@@ -242,10 +230,10 @@ impl Jobs {
     pub fn overdue(&self, now: Moment) -> usize
         ensures count { result ≡ overdue_count now self.now.jobs }
     {
-        if self.blocked == 0 {
+        if self.line.blocked == 0 {
             return 0;
         }
-        queue::count_of(&self.queue, &Wanted::Overdue(now))
+        queue::count_of(&self.line.slots, &Wanted::Overdue(now))
     }
 
     /// How many of these a session has. Looks at no job where none of the session waits.
@@ -255,24 +243,22 @@ impl Jobs {
         if self.waiting(key, session) == 0 {
             return 0;
         }
-        queue::count_of(&self.queue, &Wanted::OverdueOf(key, session, now))
+        queue::count_of(&self.line.slots, &Wanted::OverdueOf(key, session, now))
     }
 
     /// Whether an unfinished job has this number in this session.
     pub fn has(&self, key: u64, session: u64, number: u64) -> bool
         ensures { result ≡ list_any (is_call key session number) self.now.jobs }
     {
-        if tally::find(&self.tallies, key, session).count == 0 {
-            return false;
-        }
-        queue::first_place(&self.queue, &Wanted::Call(key, session, number)) < self.queue.len()
+        let last = tally::find(&self.tallies, key, session).last;
+        self.line.has_call(key, session, number, last)
     }
 
     /// How many unfinished jobs there are.
     pub fn len(&self) -> usize
         ensures { result ≡ length self.now.jobs }
     {
-        self.queue.len()
+        self.line.count
     }
 
     /// The same jobs, and the same room reserved.
@@ -283,13 +269,21 @@ impl Jobs {
     pub fn copy(&self, alloc: Global) -> Result<Jobs, Memory>
         ensures { IfOk result (λ jobs. jobs ≡ self.now) }
     {
+        self.rebuilt(alloc, self.room)
+    }
+
+    /// The same jobs in places of which none is empty, with so much room.
+    fn rebuilt(&self, alloc: Global, room: usize) -> Result<Jobs, Memory>
+        ensures { IfOk result (λ jobs. jobs ≡ record self.now { room = room }) }
+    {
+        let Some(capacity) = self.line.count.checked_add(room) else {
+            return Err(Memory);
+        };
+        let (line, tallies) = queue::copy_of(alloc, &self.line, capacity)?;
         Ok(Jobs {
-            queue: queue::copy_of(alloc, &self.queue)?,
-            tallies: tally::copies_of(alloc, &self.tallies)?,
-            blocked: self.blocked,
-            failing: self.failing,
-            passed: self.passed,
-            room: self.room,
+            line,
+            tallies,
+            room,
         })
     }
 
@@ -298,15 +292,15 @@ impl Jobs {
         ensures job { result ≡ first_job (is_wanted wanted.now) self.old.jobs }
         ensures others { self.new ≡ record self.old { jobs = without_first (is_wanted wanted.now) self.old.jobs } }
     {
-        let place = queue::first_place(&self.queue, wanted);
-        if place == self.queue.len() {
+        let place = queue::first_place(&self.line.slots, wanted);
+        if place == self.line.slots.len() {
             return None;
         }
-        let one = queue::take_out(&mut self.queue, &mut self.tallies, place);
-        self.blocked -= queue::one_if(!one.is_ready());
-        self.failing -= queue::one_if(one.failed);
-        self.passed = self.passed.saturating_sub(1);
-        let Unfinished { job, failed: _ } = one;
+        let Unfinished { job, failed: _ } = queue::take_out(
+            &mut self.line,
+            &mut self.tallies,
+            place,
+        );
         Some(job)
     }
 }

@@ -8,7 +8,9 @@
 mod job;
 mod jobs;
 pub mod laws;
+mod line;
 mod queue;
+mod slot;
 mod tally;
 
 pub use job::Job;

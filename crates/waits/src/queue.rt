@@ -1,36 +1,28 @@
-//! Searches over the unfinished jobs in order of acceptance.
+//! Searches over all places, and jobs that come and go with the tallies of their sessions.
 
-ghost use Rattle.std.specs.Prelude.{◌≡◌, ◌+◌, ◌<◌, ◌≤◌, ◌∷◌, ◌++◌, [], ℕ, true, false, length, take, remove, slice_index_or, vec_len, vec_capacity, IfOk};
-ghost use Rattle.std.specs.List.{list_any};
-ghost use Rattle.std.specs.VecDeque.{deque_len, deque_capacity};
-ghost use Rattle.waits.specs.declared.job.Unfinished.{Unfinished as One};
+ghost use Rattle.std.specs.Prelude.{◌≡◌, ◌+◌, ◌<◌, ◌≤◌, ◌∷◌, ◌++◌, [], ℕ, None, Some, true, false, length, take, vec_len, vec_capacity, IfOk, IsSome};
 ghost use Rattle.waits.specs.Limits.{most_jobs, most_job_bytes};
 ghost use Rattle.waits.specs.Jobs.{is_ready, one_if, total, load_of, ready_count, job_count, job_bytes, settled, without_session, AreWithinLimits};
-ghost use Rattle.waits.specs.Tallies.{is_tally_of, counted_in, IsTallied};
+ghost use Rattle.waits.specs.Slots.{somes, job_at, put_at, passes, IsLine, Stands};
 ghost use Rattle.waits.specs.Wanted.{is_wanted};
 
 use crate::job::Unfinished;
+use crate::line::{Line, one_if};
+use crate::slot::Slot;
 use crate::tally::{self, Tally};
 use msg_ids::Moment;
 use octets::Memory;
 use std::alloc::Global;
-use std::collections::VecDeque;
 
-/// What a search looks for.
+/// What a search over all places looks for.
 #[derive(Drop)]
 pub(crate) enum Wanted {
-    /// A job that isn't ready.
-    Blocked,
     /// A job that has failed.
     Failed,
     /// A job that has waited too long at this moment.
     Overdue(Moment),
     /// Such a job of a key and a session.
     OverdueOf(u64, u64, Moment),
-    /// The call of a key, a session and a number.
-    Call(u64, u64, u64),
-    /// A job of a key and a session that waits for the call of a number.
-    Waiting(u64, u64, u64),
 }
 
 /// Whether a job is what is looked for.
@@ -38,108 +30,59 @@ fn is_wanted(wanted: &Wanted, one: &Unfinished) -> bool
     ensures { result ≡ is_wanted wanted.now one.now }
 {
     match *wanted {
-        Wanted::Blocked => !one.is_ready(),
         Wanted::Failed => one.failed,
         Wanted::Overdue(now) => one.is_overdue(now),
         Wanted::OverdueOf(key, session, now) => one.is_of(key, session) && one.is_overdue(now),
-        Wanted::Call(key, session, number) => one.is_of(key, session) && one.job.number == number,
-        Wanted::Waiting(key, session, number) => one.waits_for(key, session, number),
     }
 }
 
-/// The place of the first job that is wanted, and how many there are where none is.
-pub(crate) fn first_place(queue: &VecDeque<Unfinished>, wanted: &Wanted) -> usize
-    ensures within { result ≤ length queue.now.items }
-    ensures before { (k : ℕ) (d : One) → k < result → is_wanted wanted.now (slice_index_or queue.now.items k d) ≡ false }
-    ensures found { (d : One) → result < length queue.now.items → is_wanted wanted.now (slice_index_or queue.now.items result d) ≡ true }
+/// Whether a job stands in a slot that is what is looked for.
+fn is_wanted_in(wanted: &Wanted, slot: &Slot) -> bool
+    ensures { result ≡ passes (is_wanted wanted.now) slot.now.one }
 {
-    for place in 0..queue.len() {
-        if is_wanted(wanted, &queue[place]) {
+    match &slot.one {
+        None => false,
+        Some(one) => is_wanted(wanted, one),
+    }
+}
+
+/// The place of the first job that is wanted, and how many places there are where none is.
+pub(crate) fn first_place(slots: &Vec<Slot>, wanted: &Wanted) -> usize
+    ensures within { result ≤ length slots.now.items }
+    ensures before { (k : ℕ) → k < result → passes (is_wanted wanted.now) (job_at slots.now.items k) ≡ false }
+    ensures found { result < length slots.now.items → passes (is_wanted wanted.now) (job_at slots.now.items result) ≡ true }
+{
+    for place in 0..slots.len() {
+        if is_wanted_in(wanted, &slots[place]) {
             return place;
         }
     }
-    queue.len()
-}
-
-/// 1 where this holds.
-pub(crate) fn one_if(holds: bool) -> usize
-    ensures { result ≡ one_if holds }
-{
-    if holds { 1 } else { 0 }
+    slots.len()
 }
 
 /// How many jobs are so.
-pub(crate) fn count_of(queue: &VecDeque<Unfinished>, wanted: &Wanted) -> usize
-    ensures { result ≡ total (λ one. one_if (is_wanted wanted.now one)) queue.now.items }
+pub(crate) fn count_of(slots: &Vec<Slot>, wanted: &Wanted) -> usize
+    ensures { result ≡ total (λ one. one_if (is_wanted wanted.now one)) (somes slots.now.items) }
 {
     let mut count = 0;
-    for place in 0..queue.len() {
-        count += one_if(is_wanted(wanted, &queue[place]));
+    for place in 0..slots.len() {
+        count += one_if(is_wanted_in(wanted, &slots[place]));
     }
     count
 }
 
-/// Puts a job behind all others and counts it. There is room for both.
-pub(crate) fn put(queue: &mut VecDeque<Unfinished>, tallies: &mut Vec<Tally>, one: Unfinished)
-    requires tallied { IsTallied queue.old.items tallies.old.items }
-    requires room { deque_len queue.old < deque_capacity queue.old }
-    requires tally_room { vec_len tallies.old < vec_capacity tallies.old }
-    requires fits { job_count one.job.key one.job.session queue.old.items < most_jobs }
-    requires bytes_fit { job_bytes one.job.key one.job.session queue.old.items + load_of one.job ≤ most_job_bytes }
-    ensures items { queue.new.items ≡ queue.old.items ++ one ∷ [] }
-    ensures tallied { IsTallied queue.new.items tallies.new.items }
-    ensures len { deque_len queue.new ≡ deque_len queue.old + 1 }
-    ensures capacity { deque_capacity queue.new ≡ deque_capacity queue.old }
-    ensures tallies_len { vec_len tallies.new ≤ vec_len tallies.old + 1 }
-    ensures tallies_capacity { vec_capacity tallies.new ≡ vec_capacity tallies.old }
-{
-    let mut counted = tally::find(tallies, one.job.key, one.job.session);
-    counted.count += 1;
-    counted.bytes += one.job.load();
-    counted.waiting += one_if(one.is_waiting());
-    counted.blocked += one_if(!one.is_ready());
-    tally::store(tallies, counted);
-    queue.push_back_reserved(one);
-}
-
-/// Takes out the job at a place and counts it no more.
-pub(crate) fn take_out(
-    queue: &mut VecDeque<Unfinished>,
-    tallies: &mut Vec<Tally>,
-    place: usize,
-) -> Unfinished
-    requires tallied { IsTallied queue.old.items tallies.old.items }
-    requires within { place < length queue.old.items }
-    ensures taken { result ≡ slice_index_or queue.old.items place result }
-    ensures left { queue.new.items ≡ remove queue.old.items place }
-    ensures tallied { IsTallied queue.new.items tallies.new.items }
-    ensures len { deque_len queue.new + 1 ≡ deque_len queue.old }
-    ensures capacity { deque_capacity queue.new ≡ deque_capacity queue.old }
-    ensures tallies_len { vec_len tallies.new ≤ vec_len tallies.old }
-    ensures tallies_capacity { vec_capacity tallies.new ≡ vec_capacity tallies.old }
-{
-    let one = queue.remove(place).unwrap();
-    let mut counted = tally::find(tallies, one.job.key, one.job.session);
-    counted.count -= 1;
-    counted.bytes -= one.job.load();
-    counted.waiting -= one_if(one.is_waiting());
-    counted.blocked -= one_if(!one.is_ready());
-    tally::store(tallies, counted);
-    one
-}
-
 /// The place of the ready job k. None in front of a place is ready, and the search begins there.
-pub(crate) fn ready_place(queue: &VecDeque<Unfinished>, passed: usize, k: usize) -> usize
-    requires ready { k < ready_count queue.now.items }
-    requires passed { ready_count (take passed queue.now.items) ≡ 0 }
-    ensures within { result < length queue.now.items }
-    ensures before { ready_count (take result queue.now.items) ≡ k }
-    ensures ready { (d : One) → is_ready (slice_index_or queue.now.items result d) ≡ true }
+pub(crate) fn ready_place(slots: &Vec<Slot>, passed: usize, k: usize) -> usize
+    requires ready { k < ready_count (somes slots.now.items) }
+    requires passed { ready_count (somes (take passed slots.now.items)) ≡ 0 }
+    ensures within { result < length slots.now.items }
+    ensures before { ready_count (somes (take result slots.now.items)) ≡ k }
+    ensures ready { passes is_ready (job_at slots.now.items result) ≡ true }
     ensures behind { passed ≤ result }
 {
     let mut left = k;
-    for place in passed..queue.len() {
-        if queue[place].is_ready() {
+    for place in passed..slots.len() {
+        if slots[place].is_ready() {
             if left == 0 {
                 return place;
             }
@@ -149,120 +92,106 @@ pub(crate) fn ready_place(queue: &VecDeque<Unfinished>, passed: usize, k: usize)
     unreachable!()
 }
 
-/// Tells all jobs that a call was answered.
-fn settle_all(queue: &mut VecDeque<Unfinished>, key: u64, session: u64, number: u64, ok: bool)
-    requires { AreWithinLimits queue.old.items }
-    ensures settled { queue.new.items ≡ settled key session number ok queue.old.items }
-    ensures limits { AreWithinLimits queue.new.items }
-    ensures len { deque_len queue.new ≡ deque_len queue.old }
-    ensures capacity { deque_capacity queue.new ≡ deque_capacity queue.old }
+/// Puts a job behind all others and counts it. There is room for both.
+pub(crate) fn put(line: &mut Line, tallies: &mut Vec<Tally>, one: Unfinished)
+    requires stands { Stands line.old tallies.old.items }
+    requires room { vec_len line.old.slots < vec_capacity line.old.slots }
+    requires tally_room { vec_len tallies.old < vec_capacity tallies.old }
+    requires fits { job_count one.job.key one.job.session (somes line.old.slots.items) < most_jobs }
+    requires bytes_fit { job_bytes one.job.key one.job.session (somes line.old.slots.items) + load_of one.job ≤ most_job_bytes }
+    ensures items { somes line.new.slots.items ≡ somes line.old.slots.items ++ one ∷ [] }
+    ensures stands { Stands line.new tallies.new.items }
+    ensures len { vec_len line.new.slots ≡ vec_len line.old.slots + 1 }
+    ensures capacity { vec_capacity line.new.slots ≡ vec_capacity line.old.slots }
+    ensures tallies_len { vec_len tallies.new ≤ vec_len tallies.old + 1 }
+    ensures tallies_capacity { vec_capacity tallies.new ≡ vec_capacity tallies.old }
 {
-    for place in 0..queue.len() {
-        queue[place].settle(key, session, number, ok);
-    }
+    let mut counted = tally::find(tallies, one.job.key, one.job.session).with(&one);
+    let earlier = counted.last;
+    counted.last = line.slots.len() + 1;
+    tally::store(tallies, counted);
+    line.push(earlier, one);
 }
 
-/// Keeps the jobs of other sessions.
-fn forget_session(queue: &mut VecDeque<Unfinished>, key: u64, session: u64)
-    requires { AreWithinLimits queue.old.items }
-    ensures others { queue.new.items ≡ without_session key session queue.old.items }
-    ensures limits { AreWithinLimits queue.new.items }
-    ensures len { deque_len queue.new ≤ deque_len queue.old }
-    ensures capacity { deque_capacity queue.new ≡ deque_capacity queue.old }
+/// Takes out the job at a place and counts it no more.
+pub(crate) fn take_out(line: &mut Line, tallies: &mut Vec<Tally>, place: usize) -> Unfinished
+    requires stands { Stands line.old tallies.old.items }
+    requires there { IsSome (job_at line.old.slots.items place) }
+    ensures taken { job_at line.old.slots.items place ≡ Some result }
+    ensures left { line.new.slots.items ≡ put_at place None line.old.slots.items }
+    ensures stands { Stands line.new tallies.new.items }
+    ensures len { vec_len line.new.slots ≡ vec_len line.old.slots }
+    ensures capacity { vec_capacity line.new.slots ≡ vec_capacity line.old.slots }
+    ensures tallies_len { vec_len tallies.new ≤ vec_len tallies.old }
+    ensures tallies_capacity { vec_capacity tallies.new ≡ vec_capacity tallies.old }
 {
-    queue.retain(|one| !one.is_of(key, session));
+    let one = line.take_at(place).unwrap();
+    let counted = tally::find(tallies, one.job.key, one.job.session).without(&one);
+    tally::store(tallies, counted);
+    one
 }
 
-/// What a session has among the jobs, counted one by one.
-fn tally_of_session(queue: &VecDeque<Unfinished>, key: u64, session: u64) -> Tally
-    requires { AreWithinLimits queue.now.items }
-    ensures { result ≡ counted_in queue.now.items key session }
-{
-    let mut count = 0;
-    let mut bytes = 0;
-    let mut waiting = 0;
-    let mut blocked = 0;
-    for place in 0..queue.len() {
-        let one = &queue[place];
-        if one.is_of(key, session) {
-            count += 1;
-            bytes += one.job.load();
-            waiting += one_if(one.is_waiting());
-            blocked += one_if(!one.is_ready());
-        }
-    }
-    Tally {
-        key,
-        session,
-        count,
-        bytes,
-        waiting,
-        blocked,
-    }
-}
-
-/// Tells all jobs that a call of a session with jobs was answered, and counts that session's again.
-pub(crate) fn settle_counted(
-    queue: &mut VecDeque<Unfinished>,
+/// Tells the jobs of a session with jobs that a call was answered.
+pub(crate) fn settle(
+    line: &mut Line,
     tallies: &mut Vec<Tally>,
     key: u64,
     session: u64,
     number: u64,
     ok: bool,
 )
-    requires limits { AreWithinLimits queue.old.items }
-    requires tallied { IsTallied queue.old.items tallies.old.items }
-    requires known { list_any (is_tally_of key session) tallies.old.items ≡ true }
-    ensures settled { queue.new.items ≡ settled key session number ok queue.old.items }
-    ensures limits { AreWithinLimits queue.new.items }
-    ensures tallied { IsTallied queue.new.items tallies.new.items }
-    ensures len { deque_len queue.new ≡ deque_len queue.old }
-    ensures capacity { deque_capacity queue.new ≡ deque_capacity queue.old }
+    requires stands { Stands line.old tallies.old.items }
+    requires known { 0 < job_count key session (somes line.old.slots.items) }
+    ensures settled { somes line.new.slots.items ≡ settled key session number ok (somes line.old.slots.items) }
+    ensures stands { Stands line.new tallies.new.items }
+    ensures len { vec_len line.new.slots ≡ vec_len line.old.slots }
+    ensures capacity { vec_capacity line.new.slots ≡ vec_capacity line.old.slots }
     ensures tallies_len { vec_len tallies.new ≤ vec_len tallies.old }
     ensures tallies_capacity { vec_capacity tallies.new ≡ vec_capacity tallies.old }
 {
-    settle_all(queue, key, session, number, ok);
-    tally::store(tallies, tally_of_session(queue, key, session));
+    let mut counted = tally::find(tallies, key, session);
+    line.settle(&mut counted, number, ok);
+    tally::store(tallies, counted);
 }
 
-/// Keeps the jobs and the tallies of other sessions. The session has jobs.
-pub(crate) fn forget_counted(
-    queue: &mut VecDeque<Unfinished>,
-    tallies: &mut Vec<Tally>,
-    key: u64,
-    session: u64,
-)
-    requires limits { AreWithinLimits queue.old.items }
-    requires tallied { IsTallied queue.old.items tallies.old.items }
-    ensures others { queue.new.items ≡ without_session key session queue.old.items }
-    ensures limits { AreWithinLimits queue.new.items }
-    ensures tallied { IsTallied queue.new.items tallies.new.items }
-    ensures len { deque_len queue.new ≤ deque_len queue.old }
-    ensures capacity { deque_capacity queue.new ≡ deque_capacity queue.old }
+/// Forgets the jobs of a session, and its tally.
+pub(crate) fn forget(line: &mut Line, tallies: &mut Vec<Tally>, key: u64, session: u64)
+    requires stands { Stands line.old tallies.old.items }
+    ensures others { somes line.new.slots.items ≡ without_session key session (somes line.old.slots.items) }
+    ensures stands { Stands line.new tallies.new.items }
+    ensures len { vec_len line.new.slots ≡ vec_len line.old.slots }
+    ensures capacity { vec_capacity line.new.slots ≡ vec_capacity line.old.slots }
     ensures tallies_len { vec_len tallies.new ≤ vec_len tallies.old }
     ensures tallies_capacity { vec_capacity tallies.new ≡ vec_capacity tallies.old }
 {
-    forget_session(queue, key, session);
+    let last = tally::find(tallies, key, session).last;
+    line.forget(key, session, last);
     tally::forget(tallies, key, session);
 }
 
-/// A copy of the jobs with room for so many at least.
+/// A copy of the jobs in places of which none is empty, with room for so many in all.
 pub(crate) fn copy_of(
     alloc: Global,
-    queue: &VecDeque<Unfinished>,
-) -> Result<VecDeque<Unfinished>, Memory>
-    ensures items { IfOk result (λ copy. copy.items ≡ queue.now.items) }
-    ensures len { IfOk result (λ copy. deque_len copy ≡ deque_len queue.now) }
-    ensures capacity { IfOk result (λ copy. deque_capacity copy ≡ deque_capacity queue.now) }
+    line: &Line,
+    capacity: usize,
+) -> Result<(Line, Vec<Tally>), Memory>
+    requires line { IsLine line.now }
+    requires limits { AreWithinLimits (somes line.now.slots.items) }
+    requires room { line.now.count ≤ capacity }
+    ensures items { IfOk result (λ copy. somes copy.0.slots.items ≡ somes line.now.slots.items) }
+    ensures stands { IfOk result (λ copy. Stands copy.0 copy.1.items) }
+    ensures len { IfOk result (λ copy. vec_len copy.0.slots ≡ line.now.count) }
+    ensures capacity { IfOk result (λ copy. vec_capacity copy.0.slots ≡ capacity) }
+    ensures tallies_len { IfOk result (λ copy. vec_len copy.1 ≤ line.now.count) }
+    ensures tallies_capacity { IfOk result (λ copy. vec_capacity copy.1 ≡ capacity) }
 {
-    let mut copy = VecDeque::with_capacity(alloc, queue.capacity())?;
-    for place in 0..queue.len() {
-        let one = &queue[place];
-        let job = one.job.copy()?;
-        copy.push_back_reserved(Unfinished {
-            job,
-            failed: one.failed,
-        });
+    let mut copy = Line::with_capacity(alloc, capacity)?;
+    let mut tallies = Vec::with_capacity(alloc, capacity)?;
+    for place in 0..line.slots.len() {
+        match &line.slots[place].one {
+            None => {}
+            Some(one) => put(&mut copy, &mut tallies, one.copy()?),
+        }
     }
-    Ok(copy)
+    Ok((copy, tallies))
 }

@@ -1,13 +1,14 @@
 //! What each session has among the unfinished jobs, in numbers.
 
-ghost use Rattle.std.specs.Prelude.{◌≡◌, ◌+◌, ◌<◌, ◌≤◌, false, not, find, vec_len, vec_capacity, IfOk};
+ghost use Rattle.std.specs.Prelude.{◌≡◌, ◌+◌, ◌<◌, ◌≤◌, false, not, find, vec_len, vec_capacity};
 ghost use Rattle.std.specs.List.{list_any};
 ghost use Rattle.std.specs.Option.{option_copied};
-ghost use Rattle.waits.specs.Jobs.{one_if};
-ghost use Rattle.waits.specs.Tallies.{is_tally_of, no_tally, tally_of, without_tally, stored};
+ghost use Rattle.waits.specs.Limits.{most_jobs, most_job_bytes};
+ghost use Rattle.waits.specs.Jobs.{one_if, load_of};
+ghost use Rattle.waits.specs.Tallies.{is_tally_of, no_tally, tally_of, without_tally, stored, with_one, without_one, Counted};
 
-use octets::Memory;
-use std::alloc::Global;
+use crate::job::Unfinished;
+use crate::line::one_if;
 
 /// How many jobs a session has, the bytes of their loads, how many of them wait for a call, and how many aren't ready.
 #[derive(Clone, Copy, Debug)]
@@ -18,6 +19,8 @@ pub(crate) struct Tally {
     pub bytes: usize,
     pub waiting: usize,
     pub blocked: usize,
+    /// 1 and the last place in which it has had a job.
+    pub last: usize,
 }
 
 impl Tally {
@@ -32,6 +35,42 @@ impl Tally {
             bytes: 0,
             waiting: 0,
             blocked: 0,
+            last: 0,
+        }
+    }
+
+    /// What it is with one job more.
+    pub(crate) fn with(self, one: &Unfinished) -> Tally
+        requires fits { self.count < most_jobs }
+        requires bytes_fit { self.bytes + load_of one.now.job ≤ most_job_bytes }
+        requires waiting { self.waiting ≤ self.count }
+        requires blocked { self.blocked ≤ self.count }
+        ensures { result ≡ with_one one.now self }
+    {
+        Tally {
+            key: self.key,
+            session: self.session,
+            count: self.count + 1,
+            bytes: self.bytes + one.job.load(),
+            waiting: self.waiting + one_if(one.is_waiting()),
+            blocked: self.blocked + one_if(!one.is_ready()),
+            last: self.last,
+        }
+    }
+
+    /// What it is without a job that it counts.
+    pub(crate) fn without(self, one: &Unfinished) -> Tally
+        requires { Counted one.now self }
+        ensures { result ≡ without_one one.now self }
+    {
+        Tally {
+            key: self.key,
+            session: self.session,
+            count: self.count - 1,
+            bytes: self.bytes - one.job.load(),
+            waiting: self.waiting - one_if(one.is_waiting()),
+            blocked: self.blocked - one_if(!one.is_ready()),
+            last: self.last,
         }
     }
 
@@ -80,17 +119,4 @@ pub(crate) fn store(tallies: &mut Vec<Tally>, tally: Tally)
     if tally.count > 0 {
         tallies.push_reserved(tally);
     }
-}
-
-/// A copy of the tallies with room for so many at least.
-pub(crate) fn copies_of(alloc: Global, tallies: &Vec<Tally>) -> Result<Vec<Tally>, Memory>
-    ensures items { IfOk result (λ copy. copy.items ≡ tallies.now.items) }
-    ensures len { IfOk result (λ copy. vec_len copy ≡ vec_len tallies.now) }
-    ensures capacity { IfOk result (λ copy. vec_capacity copy ≡ vec_capacity tallies.now) }
-{
-    let mut copy = Vec::with_capacity(alloc, tallies.capacity())?;
-    for place in 0..tallies.len() {
-        copy.push_reserved(tallies[place]);
-    }
-    Ok(copy)
 }

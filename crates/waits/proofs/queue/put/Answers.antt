@@ -1,43 +1,49 @@
-use Rattle.std.proofs.Common.{◌≡◌, ◌∙◌, Bool, not, ap, sym, subst, arith}
-use Rattle.waits.specs.Jobs.{Queue, is_ready, is_waiting, one_if}
-use Rattle.waits.specs.Tallies.{IsTallied}
-use Rattle.waits.proofs.Tallies.{tallied_put, found_at, waiting_le, blocked_le}
-use Rattle.waits.proofs.Counts.{one_if_le}
+use Rattle.std.proofs.Common.{◌≡◌, ◌∙◌, ◌+◌, ◌++◌, ◌∷◌, [], Some, List, ap, sym, refl, subst, arith}
+use Rattle.waits.specs.declared.slot.Slot.{Slot}
+use Rattle.waits.specs.declared.tally.Tally.{Tally}
+use Rattle.waits.specs.Jobs.{AreWithinLimits}
+use Rattle.waits.specs.Slots.{somes}
+use Rattle.waits.proofs.Limits.{limits_push}
+use Rattle.waits.proofs.Tallies.{found_at, waiting_le, blocked_le}
+use Rattle.waits.proofs.Slots.{somes_push}
+use Rattle.waits.proofs.Placing.{Kept, put_kept}
 use Rattle.waits.proofs.queue.put.Goals as goal
 
-pub overflow_add-counted : goal.overflow_add-counted
-overflow_add-counted c =
+pub with-counted-requires : goal.with-counted-requires
+with-counted-requires c =
     let one = c.args.one in
-    let there = found_at c.args.queue.now.items one.job.key one.job.session c.args.tallies.now.items c.find-counted.result c.requires.tallied c.find-counted.ensures in
-    omega (arith, there.count, c.requires.fits)
+    let xs = somes c.args.line.now.slots.items in
+    let there = found_at xs one.job.key one.job.session c.args.tallies.now.items c.find.result c.requires.stands.tallied c.find.ensures in
+    let waiting = waiting_le one.job.key one.job.session xs in
+    let blocked = blocked_le one.job.key one.job.session xs in
+    record {
+      fits = omega (arith, there.count, c.requires.fits);
+      bytes_fit = omega (arith, there.bytes, c.requires.bytes_fit);
+      waiting = omega (arith, there.waiting, there.count);
+      blocked = omega (arith, there.blocked, there.count);
+    }
 
-pub overflow_add-counted-2 : goal.overflow_add-counted-2
-overflow_add-counted-2 c =
-    let one = c.args.one in
-    let there = found_at c.args.queue.now.items one.job.key one.job.session c.args.tallies.now.items c.find-counted.result c.requires.tallied c.find-counted.ensures in
-    omega (arith, there.bytes, c.requires.bytes_fit, c.load.ensures)
+pub push-requires-clause-line : goal.push-requires-clause-line
+push-requires-clause-line c = c.requires.stands.counted
 
-pub overflow_add-counted-3 : goal.overflow_add-counted-3
-overflow_add-counted-3 c =
-    let one = c.args.one in
-    let there = found_at c.args.queue.now.items one.job.key one.job.session c.args.tallies.now.items c.find-counted.result c.requires.tallied c.find-counted.ensures in
-    let fewer = waiting_le one.job.key one.job.session c.args.queue.now.items in
-    let most = one_if_le c.is_waiting.result in
-    omega (arith, there.waiting, c.requires.fits, c.one_if.ensures)
+pub returns-clause-items : goal.returns-clause-items
+returns-clause-items c =
+    let s : Slot = record { earlier = c.with-counted.result.last; later = 0; one = Some c.args.one } in
+    ap somes c.push.ensures.items ∙ somes_push c.args.line.now.slots.items s c.args.one refl
 
-pub overflow_add-counted-4 : goal.overflow_add-counted-4
-overflow_add-counted-4 c =
+pub returns-clause-stands : goal.returns-clause-stands
+returns-clause-stands c =
+    let xs = c.args.line.now.slots.items in
     let one = c.args.one in
-    let there = found_at c.args.queue.now.items one.job.key one.job.session c.args.tallies.now.items c.find-counted.result c.requires.tallied c.find-counted.ensures in
-    let fewer = blocked_le one.job.key one.job.session c.args.queue.now.items in
-    let most = one_if_le (not c.is_ready.result) in
-    omega (arith, there.blocked, c.requires.fits, c.one_if-2.ensures)
-
-pub returns-clause-tallied : goal.returns-clause-tallied
-returns-clause-tallied c =
-    let xs = c.args.queue.now.items in
-    let one = c.args.one in
-    let waits : c.one_if.result ≡ one_if (is_waiting one) = c.one_if.ensures ∙ ap one_if c.is_waiting.ensures in
-    let blocked : c.one_if-2.result ≡ one_if (not (is_ready one)) = c.one_if-2.ensures ∙ ap (λ (b : Bool). one_if (not b)) c.is_ready.ensures in
-    let put = tallied_put xs c.args.tallies.now.items one c.find-counted.result c.load.result c.one_if.result c.one_if-2.result c.requires.tallied c.find-counted.ensures c.load.ensures waits blocked in
-    subst (λ (queue : Queue). IsTallied queue c.store.new.tallies.items) (sym c.push_back_reserved.ensures.items) (rw c.store.ensures.items put)
+    let s : Slot = record { earlier = c.with-counted.result.last; later = 0; one = Some one } in
+    let items : somes c.push.new.self.slots.items ≡ somes xs ++ one ∷ [] = ap somes c.push.ensures.items ∙ somes_push xs s one refl in
+    let stands = c.requires.stands in
+    let kept = put_kept xs c.args.tallies.now.items one c.find.result c.with-counted.result s (c.len.result + 1) (record { tallied = stands.tallied; tracked = stands.tracked }) c.find.ensures c.with-counted.ensures refl refl (omega (arith, c.len.ensures, c.args.line.now.slots.ok.0)) in
+    let now : Kept c.push.new.self.slots.items c.store.new.tallies.items =
+    subst (λ (ys : List Slot). Kept ys c.store.new.tallies.items) (sym c.push.ensures.items) (subst (λ (ts : List Tally). Kept (xs ++ s ∷ []) ts) (sym c.store.ensures.items) kept) in
+    record {
+      limits = subst AreWithinLimits (sym items) (limits_push (somes xs) one stands.limits c.requires.fits c.requires.bytes_fit);
+      tallied = now.tallied;
+      tracked = now.tracked;
+      counted = c.push.ensures.line;
+    }

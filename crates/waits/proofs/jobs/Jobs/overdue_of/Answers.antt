@@ -1,4 +1,4 @@
-use Rattle.std.proofs.Common.{◌≡◌, arith}
+use Rattle.std.proofs.Common.{arith}
 use Rattle.waits.proofs.Counts.{overdue_of_le}
 use Rattle.waits.proofs.jobs.Jobs.overdue_of.Goals as goal
 

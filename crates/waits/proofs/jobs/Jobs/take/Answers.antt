@@ -1,77 +1,84 @@
-use Rattle.std.proofs.Common.{◌≡◌, ◌∙◌, true, Some, ap, sym, subst, arith}
+use Rattle.std.proofs.Common.{◌≡◌, ◌∙◌, true, Option, None, Some, List, length, take, ap, sym, subst, arith}
 use Rattle.waits.specs.declared.job.Unfinished.{Unfinished}
-use Rattle.waits.specs.Jobs.{Queue, is_ready, ready_job, without_ready}
-use Rattle.waits.specs.Tallies.{Stands}
+use Rattle.waits.specs.declared.slot.Slot.{Slot}
+use Rattle.waits.specs.Jobs.{Queue, is_ready, ready_job, without_ready, ready_count}
 use Rattle.waits.specs.Held.{Held}
+use Rattle.waits.specs.Slots.{somes, job_at, passes}
+use Rattle.waits.proofs.Slots.{take_put, length_put}
 use Rattle.waits.proofs.Places.{ready_at}
-use Rattle.waits.proofs.Searches.{stands_taken, ready_counts, passed_kept}
+use Rattle.waits.proofs.Telling.{some_of}
 use Rattle.waits.proofs.jobs.Jobs.take.Goals as goal
+
+pub ready_place-place-requires : goal.ready_place-place-requires
+ready_place-place-requires c =
+    record {
+      ready = omega (arith, c.requires, ap (λ (held : Held). ready_count held.jobs) c.self.view_is);
+      passed = c.self.invariant.0.counted.passed;
+    }
+
+pub take_out-one-requires : goal.take_out-one-requires
+take_out-one-requires c = record { stands = c.self.invariant.0; there = some_of is_ready (job_at c.self.inside.line.slots.items c.ready_place-place.result) c.ready_place-place.ensures.ready }
 
 pub invariant_of-self : goal.invariant_of-self
 invariant_of-self c =
-    let xs = c.self.inside.queue.items in
+    let xs = c.self.inside.line.slots.items in
     let i = c.ready_place-place.result in
-    let x = c.take_out-job.result in
-    let ready : is_ready x ≡ true = subst (λ (one : Unfinished). is_ready one ≡ true) (sym c.take_out-job.ensures.taken) (c.ready_place-place.ensures.ready x) in
+    let stands = c.take_out-one.ensures.stands in
     let first : c.args.k ≡ 0 = omega (arith, c.if-k-eq0.true) in
-    let none = ready_counts x ready in
-    let stands : Stands c.take_out-job.new.queue.items c.take_out-job.new.tallies.items c.self.inside.blocked c.self.inside.failing i =
-    stands_taken xs c.take_out-job.new.queue.items c.self.inside.tallies.items c.take_out-job.new.tallies.items i x c.self.inside.blocked c.self.inside.failing c.self.inside.passed c.self.inside.blocked c.self.inside.failing i
-    c.self.invariant.0 c.take_out-job.ensures.left c.take_out-job.ensures.tallied c.ready_place-place.ensures.within c.take_out-job.ensures.taken (omega (arith, none.0)) (omega (arith, none.1)) (passed_kept xs i i (omega arith) (c.ready_place-place.ensures.before ∙ first))
-    (omega (arith, c.ready_place-place.ensures.within, c.ready_place-place.ensures.behind, c.take_out-job.ensures.len, c.self.inside.queue.ok.0, c.take_out-job.new.queue.ok.0)) in
-    (stands, omega (arith, c.take_out-job.ensures.len, c.take_out-job.ensures.capacity, c.self.invariant.1), omega (arith, c.take_out-job.ensures.tallies_len, c.take_out-job.ensures.tallies_capacity, c.self.invariant.2))
+    let passed : ready_count (somes (take i c.take_out-one.new.line.slots.items)) ≡ 0 =
+    subst (λ (ys : List Slot). ready_count (somes (take i ys)) ≡ 0) (sym c.take_out-one.ensures.left) (ap (λ (ys : List Slot). ready_count (somes ys)) (take_put xs i i None (omega arith)) ∙ (c.ready_place-place.ensures.before ∙ first)) in
+    let long = ap length c.take_out-one.ensures.left ∙ length_put xs i None in (
+      record {
+        limits = stands.limits;
+        tallied = stands.tallied;
+        tracked = stands.tracked;
+        counted = record { count = stands.counted.count; blocked = stands.counted.blocked; failing = stands.counted.failing; passed = passed; within = omega (arith, c.ready_place-place.ensures.within, long) };
+      },
+      omega (arith, c.take_out-one.ensures.len, c.take_out-one.ensures.capacity, c.self.invariant.1),
+      omega (arith, c.take_out-one.ensures.tallies_len, c.take_out-one.ensures.tallies_capacity, c.self.invariant.2),
+    )
 
 pub invariant_of-self-else-k-eq0 : goal.invariant_of-self-else-k-eq0
-invariant_of-self-else-k-eq0 c =
-    let xs = c.self.inside.queue.items in
-    let i = c.ready_place-place.result in
-    let x = c.take_out-job.result in
-    let ready : is_ready x ≡ true = subst (λ (one : Unfinished). is_ready one ≡ true) (sym c.take_out-job.ensures.taken) (c.ready_place-place.ensures.ready x) in
-    let none = ready_counts x ready in
-    let stands : Stands c.take_out-job.new.queue.items c.take_out-job.new.tallies.items c.self.inside.blocked c.self.inside.failing c.self.inside.passed =
-    stands_taken xs c.take_out-job.new.queue.items c.self.inside.tallies.items c.take_out-job.new.tallies.items i x c.self.inside.blocked c.self.inside.failing c.self.inside.passed c.self.inside.blocked c.self.inside.failing c.self.inside.passed
-    c.self.invariant.0 c.take_out-job.ensures.left c.take_out-job.ensures.tallied c.ready_place-place.ensures.within c.take_out-job.ensures.taken (omega (arith, none.0)) (omega (arith, none.1)) (passed_kept xs c.self.inside.passed i c.ready_place-place.ensures.behind c.self.invariant.0.passed)
-    (omega (arith, c.ready_place-place.ensures.within, c.ready_place-place.ensures.behind, c.take_out-job.ensures.len, c.self.inside.queue.ok.0, c.take_out-job.new.queue.ok.0)) in
-    (stands, omega (arith, c.take_out-job.ensures.len, c.take_out-job.ensures.capacity, c.self.invariant.1), omega (arith, c.take_out-job.ensures.tallies_len, c.take_out-job.ensures.tallies_capacity, c.self.invariant.2))
+invariant_of-self-else-k-eq0 c = (c.take_out-one.ensures.stands, omega (arith, c.take_out-one.ensures.len, c.take_out-one.ensures.capacity, c.self.invariant.1), omega (arith, c.take_out-one.ensures.tallies_len, c.take_out-one.ensures.tallies_capacity, c.self.invariant.2))
 
 pub returns-then-k-eq0-clause-job : goal.returns-then-k-eq0-clause-job
 returns-then-k-eq0-clause-job c =
-    let xs = c.self.inside.queue.items in
-    let i = c.ready_place-place.result in
-    let x = c.take_out-job.result in
-    let ready : is_ready x ≡ true = subst (λ (one : Unfinished). is_ready one ≡ true) (sym c.take_out-job.ensures.taken) (c.ready_place-place.ensures.ready x) in
-    let found = ready_at xs i c.args.k x c.ready_place-place.ensures.within c.take_out-job.ensures.taken ready c.ready_place-place.ensures.before in
+    let xs = c.self.inside.line.slots.items in
+    let x = c.take_out-one.result in
+    let at = c.take_out-one.ensures.taken in
+    let ready : is_ready x ≡ true = subst (λ (o : Option Unfinished). passes is_ready o ≡ true) at c.ready_place-place.ensures.ready in
+    let found = ready_at xs c.ready_place-place.result c.args.k x at ready c.ready_place-place.ensures.before in
     subst (λ (held : Held). ready_job c.args.k held.jobs ≡ Some x.job) c.self.view_is found.job
 
 pub returns-then-k-eq0-clause-others : goal.returns-then-k-eq0-clause-others
 returns-then-k-eq0-clause-others c =
-    let xs = c.self.inside.queue.items in
-    let i = c.ready_place-place.result in
-    let x = c.take_out-job.result in
-    let ready : is_ready x ≡ true = subst (λ (one : Unfinished). is_ready one ≡ true) (sym c.take_out-job.ensures.taken) (c.ready_place-place.ensures.ready x) in
-    let found = ready_at xs i c.args.k x c.ready_place-place.ensures.within c.take_out-job.ensures.taken ready c.ready_place-place.ensures.before in
-    let left : c.take_out-job.new.queue.items ≡ without_ready c.args.k xs = c.take_out-job.ensures.left ∙ sym found.others in
+    let xs = c.self.inside.line.slots.items in
+    let x = c.take_out-one.result in
+    let at = c.take_out-one.ensures.taken in
+    let ready : is_ready x ≡ true = subst (λ (o : Option Unfinished). passes is_ready o ≡ true) at c.ready_place-place.ensures.ready in
+    let found = ready_at xs c.ready_place-place.result c.args.k x at ready c.ready_place-place.ensures.before in
+    let left : somes c.take_out-one.new.line.slots.items ≡ without_ready c.args.k (somes xs) = ap somes c.take_out-one.ensures.left ∙ sym found.others in
     let holding : Queue → Held = λ queue. record { jobs = queue; room = c.self.inside.room } in
     let same = ap holding left in
-    subst (λ (held : Held). holding c.take_out-job.new.queue.items ≡ record { jobs = without_ready c.args.k held.jobs; room = held.room }) c.self.view_is same
+    subst (λ (held : Held). holding (somes c.take_out-one.new.line.slots.items) ≡ record { jobs = without_ready c.args.k held.jobs; room = held.room }) c.self.view_is same
 
 pub returns-else-k-eq0-clause-job : goal.returns-else-k-eq0-clause-job
 returns-else-k-eq0-clause-job c =
-    let xs = c.self.inside.queue.items in
-    let i = c.ready_place-place.result in
-    let x = c.take_out-job.result in
-    let ready : is_ready x ≡ true = subst (λ (one : Unfinished). is_ready one ≡ true) (sym c.take_out-job.ensures.taken) (c.ready_place-place.ensures.ready x) in
-    let found = ready_at xs i c.args.k x c.ready_place-place.ensures.within c.take_out-job.ensures.taken ready c.ready_place-place.ensures.before in
+    let xs = c.self.inside.line.slots.items in
+    let x = c.take_out-one.result in
+    let at = c.take_out-one.ensures.taken in
+    let ready : is_ready x ≡ true = subst (λ (o : Option Unfinished). passes is_ready o ≡ true) at c.ready_place-place.ensures.ready in
+    let found = ready_at xs c.ready_place-place.result c.args.k x at ready c.ready_place-place.ensures.before in
     subst (λ (held : Held). ready_job c.args.k held.jobs ≡ Some x.job) c.self.view_is found.job
 
 pub returns-else-k-eq0-clause-others : goal.returns-else-k-eq0-clause-others
 returns-else-k-eq0-clause-others c =
-    let xs = c.self.inside.queue.items in
-    let i = c.ready_place-place.result in
-    let x = c.take_out-job.result in
-    let ready : is_ready x ≡ true = subst (λ (one : Unfinished). is_ready one ≡ true) (sym c.take_out-job.ensures.taken) (c.ready_place-place.ensures.ready x) in
-    let found = ready_at xs i c.args.k x c.ready_place-place.ensures.within c.take_out-job.ensures.taken ready c.ready_place-place.ensures.before in
-    let left : c.take_out-job.new.queue.items ≡ without_ready c.args.k xs = c.take_out-job.ensures.left ∙ sym found.others in
+    let xs = c.self.inside.line.slots.items in
+    let x = c.take_out-one.result in
+    let at = c.take_out-one.ensures.taken in
+    let ready : is_ready x ≡ true = subst (λ (o : Option Unfinished). passes is_ready o ≡ true) at c.ready_place-place.ensures.ready in
+    let found = ready_at xs c.ready_place-place.result c.args.k x at ready c.ready_place-place.ensures.before in
+    let left : somes c.take_out-one.new.line.slots.items ≡ without_ready c.args.k (somes xs) = ap somes c.take_out-one.ensures.left ∙ sym found.others in
     let holding : Queue → Held = λ queue. record { jobs = queue; room = c.self.inside.room } in
     let same = ap holding left in
-    subst (λ (held : Held). holding c.take_out-job.new.queue.items ≡ record { jobs = without_ready c.args.k held.jobs; room = held.room }) c.self.view_is same
+    subst (λ (held : Held). holding (somes c.take_out-one.new.line.slots.items) ≡ record { jobs = without_ready c.args.k held.jobs; room = held.room }) c.self.view_is same
