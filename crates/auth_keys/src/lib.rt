@@ -14,6 +14,3 @@ mod ring;
 pub use fault::KeyFault;
 pub use key::{AuthKey, KeyKind};
 pub use ring::{RING_KEYS_MAX, Ring, RingKey};
-
-#[cfg(test)]
-mod tests;

@@ -7,6 +7,3 @@ mod script;
 
 pub use octets::{Memory, Octets};
 pub use script::{Script, ScriptCall, ScriptFault, read_script};
-
-#[cfg(test)]
-mod tests;

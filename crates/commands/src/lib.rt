@@ -14,6 +14,3 @@ pub use command::{CallOptions, Command, FileName, ServeOptions, WordsFault};
 pub use page::{Page, version};
 pub use reading::read;
 pub use transport::Form;
-
-#[cfg(test)]
-mod tests;

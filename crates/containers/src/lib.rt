@@ -23,6 +23,3 @@ pub use part::Part;
 pub use parts::Parts;
 pub use service_tl::{Message, Messages};
 pub use unfolding::{Unfolded, unfold};
-
-#[cfg(test)]
-mod tests;

@@ -13,6 +13,3 @@ mod step_draw;
 pub use chacha_draw::ChaChaDraw;
 pub use draw::{Draw, Seeded, draw_bytes};
 pub use step_draw::StepDraw;
-
-#[cfg(test)]
-mod tests;

@@ -12,6 +12,3 @@ pub use deframer::Deframer;
 pub use framer::Framer;
 pub use framing::{FrameFault, Next};
 pub use full::FullForm;
-
-#[cfg(test)]
-mod tests;

@@ -13,6 +13,3 @@ pub use deframer::Deframer;
 pub use framer::Framer;
 pub use framing::{FrameFault, Next};
 pub use lengths::LengthForm;
-
-#[cfg(test)]
-mod tests;

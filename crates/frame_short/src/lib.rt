@@ -12,6 +12,3 @@ pub use abridged::AbridgedForm;
 pub use deframer::Deframer;
 pub use framer::Framer;
 pub use framing::{FrameFault, Next};
-
-#[cfg(test)]
-mod tests;

@@ -5,6 +5,3 @@
 mod reading;
 
 pub use reading::{KeysFault, read_ring, refused_line};
-
-#[cfg(test)]
-mod tests;

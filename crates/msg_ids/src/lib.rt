@@ -11,6 +11,3 @@ mod numbers;
 
 pub use moment::Moment;
 pub use numbers::Numbers;
-
-#[cfg(test)]
-mod tests;

@@ -10,8 +10,6 @@ pub mod laws;
 mod start;
 mod streams;
 mod tag;
-#[cfg(test)]
-mod tests;
 
 pub use fault::ObfusFault;
 pub use init::{Init, Pair};

@@ -13,6 +13,3 @@ pub use buffer::Buffer;
 pub use ids::IdList;
 pub use memory::Memory;
 pub use octets::Octets;
-
-#[cfg(test)]
-mod tests;

@@ -18,6 +18,3 @@ pub use event::Event;
 pub use lines::Lines;
 pub use octets::{Memory, Octets};
 pub use schedule::{Events, Placed, SchedFault, read};
-
-#[cfg(test)]
-mod tests;

@@ -25,6 +25,3 @@ pub use numbers::{
 };
 pub use parsing::{is_service, parse};
 pub use writing::write;
-
-#[cfg(test)]
-mod tests;

@@ -18,6 +18,3 @@ pub use binding::{Binding, Bound, Inner};
 pub use checking::check;
 pub use fault::{BindFault, InnerField};
 pub use message::{BIND_AUTH_KEY_INNER, MESSAGE_BYTES, bind_message, bind_message_in};
-
-#[cfg(test)]
-mod tests;

@@ -17,6 +17,3 @@ pub use octets::{IdList, Memory, Octets};
 pub use reader::Reader;
 pub use tags::{BOOL_FALSE, BOOL_TRUE, BYTES_MAX, LONGS_MAX, VECTOR};
 pub use writer::Writer;
-
-#[cfg(test)]
-mod tests;

@@ -1,6 +1,8 @@
+//! Moments, and the numbers and seqs that a sender gives.
+
 ghost use Rattle.std.specs.Prelude.{◌<◌, IfSome};
 
-use crate::{Moment, Numbers};
+use msg_ids::{Moment, Numbers};
 use std::process::Abort;
 
 // What a sender gives to messages at moments, each content-related or not.

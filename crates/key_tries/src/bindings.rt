@@ -1,15 +1,15 @@
-//! A message that was made outside, the worked rows, what no clause says, and each call once.
+//! Bindings: a message that was made outside, the worked rows, what no clause says, and each call once.
 
 ghost use Rattle.std.specs.Prelude.{◌≡◌, ◌<◌, ◌^◌, length, Ok, IsTrue, IfOk};
 ghost use Rattle.temp_keys.specs.Checking.{IsPermanent, is_temporary};
 
-use super::*;
 use auth_keys::{AuthKey, KeyFault, Ring};
 use draws::{Draw, StepDraw};
 use msg_ids::Moment;
 use octets::{Memory, Octets};
 use std::alloc::Global;
 use std::test::Fail;
+use temp_keys::{BindFault, Binding, Bound, Inner, InnerField, bind_message, check};
 
 // The keys `00` to `ff` and `ff` to `00`, by their identifiers.
 const PERM: u64 = 0xc8df_57a4_6e58_d132;

@@ -1,10 +1,10 @@
-//! A caller's try, the worked rows, and each call once.
+//! Kept replies: a caller's try, the worked rows, and each call once.
 
 ghost use Rattle.std.specs.Prelude.{◌≡◌, ◌≤◌, true, false, Ok, length, OnErr};
 ghost use Rattle.outbox.specs.Replies.{kept_bytes_max, with_kept, with_room_for};
 
-use crate::{Body, Bytes, KEPT_BYTES_MAX, KEPT_REPLIES_MAX, Kept, Outbox};
 use octets::Memory;
+use outbox::{Body, Bytes, KEPT_BYTES_MAX, KEPT_REPLIES_MAX, Kept, Outbox};
 use std::alloc::Global;
 use std::test::Fail;
 

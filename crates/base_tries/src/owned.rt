@@ -1,8 +1,8 @@
-//! What no clause says, and each call once.
+//! Bytes and numbers that own their memory: what no clause says, and each call once.
 
 ghost use Rattle.std.specs.Prelude.{◌≡◌, ◌<◌, ◌+◌, ◌^◌, ◌++◌, length, OnOk, OnErr};
 
-use super::*;
+use octets::{Buffer, IdList, Memory, Octets};
 use std::alloc::Global;
 use std::test::*;
 

@@ -1,6 +1,5 @@
 //! Calls that wait for others, that are dropped while they are unfinished, and that come under a temporary key.
 
-use super::*;
 use answers::Short;
 use auth_keys::{KeyFault, Ring};
 use draws::{Draw, StepDraw};
@@ -8,6 +7,7 @@ use inbox::{Judgement, Mark, Outer, Verdict};
 use msg_ids::Moment;
 use octets::{Memory, Octets};
 use owing::Owing;
+use rows::{Bindings, CallDue, Entries, Turn, acks_in};
 use service_tl::Item;
 use standing::Standing;
 use std::alloc::Global;

@@ -2,7 +2,7 @@
 
 ghost use Rattle.std.specs.Prelude.{◌≤◌};
 
-use super::*;
+use key_files::{KeysFault, read_ring, refused_line};
 use mt_edge::{MemFiles, NamedFile};
 use octets::Octets;
 use std::alloc::Global;

@@ -2,7 +2,7 @@
 
 ghost use Rattle.std.specs.Prelude.{◌≡◌, true, [], IfSome};
 
-use crate::{Act, ChildKids, Got, Line, Link, MemKid, MemKids, MemLink, Spawner};
+use mt_edge::{Act, ChildKids, Got, Line, Link, MemKid, MemKids, MemLink, Spawner};
 use octets::Octets;
 use std::alloc::{AllocError, Global};
 use std::test::Fail;

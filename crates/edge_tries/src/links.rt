@@ -4,12 +4,12 @@ ghost use Rattle.std.specs.Prelude.{◌≡◌, ◌<◌, ◌+◌, ◌++◌, lengt
 ghost use Rattle.mt_edge.specs.Got.{handed};
 ghost use Rattle.mt_edge.specs.Put.{taken};
 
-use crate::{
+use msg_ids::Moment;
+use mt_edge::{
     Act, Clock, DiskFiles, FileGot, Got, KeyFiles, Link, LinkTold, Linked, ListClock, MemFiles,
     MemLink, MemNet, NamedFile, Net, NetCall, Outcome, Put, ReadSource, Sink, Source, SystemClock,
     TcpNet, WriteSink,
 };
-use msg_ids::Moment;
 use octets::Octets;
 use std::fs;
 use std::io::{self, ErrorKind, Read, Write};

@@ -1,11 +1,11 @@
-//! Callers' tries, the worked rows, and each call once.
+//! Intermediate and padded frames: callers' tries, the worked rows, and each call once.
 
 ghost use Rattle.std.specs.Prelude.{◌≡◌, ◌++◌, ◌∷◌, [], List, ℕ, IfOk};
 ghost use Rattle.std.specs.Bool.{OnTrue};
 ghost use Rattle.frame_len.specs.Lengths.{IsWritten, frame_of};
 ghost use Rattle.frame_len.specs.Reading.{StandsFor};
 
-use crate::{Deframer, FrameFault, Framer, Next};
+use frame_len::{Deframer, FrameFault, Framer, Next};
 use octets::{Memory, Octets};
 use std::alloc::Global;
 use std::test::*;

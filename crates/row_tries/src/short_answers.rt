@@ -1,6 +1,6 @@
-//! The texts as another implementation spells them.
+//! Short answers, as another implementation spells them.
 
-use crate::Short;
+use answers::Short;
 use std::test::Fail;
 
 #[test]

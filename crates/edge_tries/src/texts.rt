@@ -1,6 +1,6 @@
 //! Whole texts through sources and sinks that cut and fail.
 
-use crate::{
+use mt_edge::{
     MemSink, MemSource, ReadFault, ReadSource, WriteFault, WriteSink, read_all, write_all,
 };
 use std::alloc::Global;

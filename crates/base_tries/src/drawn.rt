@@ -1,8 +1,10 @@
+//! Drawn words, beside vectors of the standard.
+
 ghost use Rattle.std.specs.Prelude.{◌≡◌, ◌+◌, ◌<◌, ◌^◌, ◌%◌, ◌==◌, IsTrue};
 ghost use Rattle.draws.specs.Draws.{draw_after, next_bytes, word_after};
 
-use crate::laws::seeded_draws_go_on;
-use crate::{ChaChaDraw, Draw, Seeded, StepDraw, draw_bytes};
+use draws::laws::seeded_draws_go_on;
+use draws::{ChaChaDraw, Draw, Seeded, StepDraw, draw_bytes};
 use std::process::Abort;
 
 fn gives<D: Draw>(rt: &impl Abort, draw: &mut D, expected: &[u64]) {

@@ -1,9 +1,9 @@
-//! The worked rows: each line with the event that it gives, and lines outside the grammar.
+//! Schedules: each line with the event that it gives, and lines outside the grammar.
 
 ghost use Rattle.std.specs.Prelude.{◌<◌, ◌^◌, ◌⊎◌, length, IfOk};
 ghost use Rattle.sched_text.specs.Schedule.{Spells};
 
-use super::*;
+use sched_text::{Events, Lines, SchedFault, call_of, read};
 use std::alloc::Global;
 use std::test::*;
 

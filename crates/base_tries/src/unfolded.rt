@@ -1,4 +1,4 @@
-//! The worked bodies, and messages that are put together and unfolded again.
+//! Containers: the worked bodies, and messages that are put together and unfolded again.
 
 ghost use Rattle.std.specs.Prelude.{◌≡◌, ◌<◌, ◌++◌, ◌∷◌, [], List, length, IsTrue, OnErr, IsErr, IfOk, None, Some, Ok};
 ghost use Rattle.std.specs.Bool.{OnTrue};
@@ -8,7 +8,10 @@ ghost use Rattle.containers.specs.Container.{AreWithin, IsInner, KeepsRules, beg
 ghost use Rattle.containers.specs.Parts.{parts_of};
 ghost use Rattle.containers.specs.Unfolded.{Tells};
 
-use super::*;
+use containers::{
+    CONTAINER_HEAD_BYTES, ContainerFault, MESSAGE_HEAD_BYTES, Message, Messages, Part, Parts, Unfolded, Why, container,
+    container_of_parts, fits, is_container, laws, unfold,
+};
 use octets::{Memory, Octets};
 use std::alloc::Global;
 use std::marker::Model;
@@ -299,7 +302,7 @@ fn faults_are_told(rt: HostRuntime) -> Result<(), Fail> {
 }
 
 #[test]
-#[tactic(auto, unfolding(crate::specs::Container::begins_container))]
+#[tactic(auto, unfolding(containers::specs::Container::begins_container))]
 fn packed_is_unfolded_again(rt: HostRuntime) -> Result<(), Fail> {
     let alloc = rt.alloc();
     let body = Octets::copy(alloc, b"abcd")?;
@@ -316,7 +319,7 @@ fn packed_is_unfolded_again(rt: HostRuntime) -> Result<(), Fail> {
 }
 
 #[test]
-#[tactic(auto, unfolding(crate::specs::Container::begins_container))]
+#[tactic(auto, unfolding(containers::specs::Container::begins_container))]
 fn list_is_unfolded_again(rt: HostRuntime) -> Result<(), Fail> {
     let alloc = rt.alloc();
     let body = Octets::copy(alloc, b"abcd")?;

@@ -3,7 +3,7 @@
 ghost use Rattle.std.specs.Prelude.{◌<◌, ◌^◌, ◌⊎◌, length, IfOk};
 ghost use Rattle.call_script.specs.Scripts.{Spells};
 
-use super::*;
+use call_script::{Script, ScriptFault, read_script};
 use std::alloc::Global;
 use std::test::*;
 

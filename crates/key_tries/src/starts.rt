@@ -1,11 +1,11 @@
-//! A caller's try, and the starts of another implementation: a few lines of Python over its hashlib and the counter mode
+//! Obfuscated connections: a caller's try, and the starts of another implementation: a few lines of Python over its hashlib and the counter mode
 //! of `cryptography` 48.0.0 (OpenSSL 3).
 
 ghost use Rattle.std.specs.Prelude.{◌≡◌, Some};
 
-use crate::{Init, ObfusFault, Pair, Tag};
 use cipher_modes::laws::ctr_undoes_itself;
 use draws::{Draw, Seeded, StepDraw};
+use obfus::{Init, ObfusFault, Pair, Tag};
 use std::test::*;
 
 const SECRET: [u8; 16] = [

@@ -1,4 +1,4 @@
-//! The worked rows, what no clause says, and each call once.
+//! Keys and rings: the worked rows, what no clause says, and each call once.
 
 ghost use Rattle.std.specs.Prelude.{◌≡◌, ◌<◌, ◌^◌, length, IfSome, IfNone, OnOk, OnErr, Some};
 ghost use Rattle.auth_keys.specs.Keys.{IsGoodAt};
@@ -7,7 +7,7 @@ ghost use Rattle.auth_keys.specs.Rings.{entry_of};
 ghost use Rattle.auth_keys.specs.declared.key.KeyKind.{KeyKind};
 ghost use Rattle.auth_keys.specs.declared.ring.RingKey.{RingKey};
 
-use super::*;
+use auth_keys::{AuthKey, KeyFault, KeyKind, Ring};
 use msg_ids::Moment;
 use std::alloc::{AllocError, Global};
 use std::test::Fail;

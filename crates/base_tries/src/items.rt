@@ -1,12 +1,12 @@
-//! One body of each constructor, worked out from the standard's schema, and bodies that are none.
+//! Service items: one body of each constructor, worked out from the standard's schema, and bodies that are none.
 
 ghost use Rattle.std.specs.Prelude.{◌≡◌, ◌++◌, ◌∷◌, [], IfOk, IfSome, None};
 ghost use Rattle.service_tl.specs.declared.item.Item.TheVariants.{MsgsAck, Pong};
 ghost use Rattle.service_tl.specs.Items.{spelling_of, IsWritable, IsOfSchema};
 ghost use Rattle.service_tl.specs.ItemOf.{item_of};
 
-use super::*;
-use crate::laws::items_again;
+use service_tl::laws::items_again;
+use service_tl::{FutureSalt, FutureSaltList, Item, Message, Messages, is_service, parse, write};
 use std::alloc::Global;
 use std::test::*;
 use tl_codec::{IdList, Memory, Octets};

@@ -1,14 +1,14 @@
-//! The worked texts of each form.
+//! TL values: the worked texts of each form.
 
 ghost use Rattle.std.specs.Prelude.{◌≡◌, ◌≤◌, ◌++◌, length, OnOk, Ok, OnErr};
 ghost use Rattle.tl_codec.specs.Standard.{bytes_max};
 ghost use Rattle.tl_codec.specs.Spelling.{Bytes, Truth, Tag, spelling};
 ghost use Rattle.tl_codec.specs.Reading.{read_at, with_rest, lent};
 
-use super::*;
 use octets::Buffer;
 use std::alloc::Global;
 use std::test::*;
+use tl_codec::{IdList, Memory, Octets, Reader, TlFault, Writer, fill};
 
 // 254 bytes of content, behind the length in its long form and before two zeros.
 fn sevens(alloc: Global) -> Result<Octets, Memory> {

@@ -5,9 +5,9 @@ ghost use Rattle.msg_ids.specs.Counters.{none_given, room};
 ghost use Rattle.containers.specs.Lent.{message_of};
 ghost use Rattle.packing.specs.Packing.{packets_of};
 
-use super::*;
 use msg_ids::{Moment, Numbers};
 use octets::{Memory, Octets};
+use packing::{Part, front, number, packed_size, packets};
 use service_tl::{Item, Messages};
 use std::alloc::Global;
 use std::test::Fail;

@@ -1,4 +1,4 @@
-//! The worked rows, and a caller's tries.
+//! Judging what comes in: the worked rows, and a caller's tries.
 
 ghost use Rattle.std.specs.Prelude.{◌≡◌, ◌≤◌, true, Some, IsOk};
 ghost use Rattle.salt_line.specs.Line.{Line, Stands as LineStands};
@@ -8,7 +8,7 @@ ghost use Rattle.inbox.specs.Refusals.{InEnvelope};
 ghost use Rattle.inbox.specs.Judging.{Session, session_after};
 ghost use Rattle.inbox.specs.Inbox.{Stands, Remembers, message_in};
 
-use crate::{Inbox, Judged, Mark, Outer, Verdict};
+use inbox::{Inbox, Judged, Mark, Outer, Verdict};
 use msg_ids::Moment;
 use octets::{IdList, Memory, Octets};
 use salt_line::SaltLine;

@@ -1,9 +1,9 @@
-//! Words and what they say; words that are refused; the pages of help.
+//! Command lines: words and what they say; words that are refused; the pages of help.
 
 ghost use Rattle.std.specs.Prelude.{◌≡◌, ◌⊎◌, IfOk, map, string_bytes};
 ghost use Rattle.commands.specs.Says.{Says};
 
-use crate::{Command, Page, WordsFault, read, version};
+use commands::{Command, Page, WordsFault, read, version};
 use std::alloc::{AllocError, Global};
 use std::test::Fail;
 

@@ -3,8 +3,8 @@
 ghost use Rattle.std.specs.Prelude.{◌≡◌, List, [], ◌∷◌, ◌++◌, IfOk, OnErr};
 ghost use Rattle.regs_service.specs.Served.{Served, Ran, state_after, requests_of};
 
-use super::*;
-use octets::Memory;
+use octets::{Memory, Octets};
+use regs_service::{NoMemory, Regs, Service, is_register_name, laws};
 use std::alloc::Global;
 use std::test::*;
 

@@ -1,4 +1,4 @@
-//! A caller's try, the worked rows, and each call once.
+//! Abridged frames: a caller's try, the worked rows, and each call once.
 
 ghost use Rattle.std.specs.Prelude.{◌≡◌, ◌++◌, ◌∷◌, [], List, ℕ, IfOk};
 ghost use Rattle.std.specs.Bool.{IsTrue, OnTrue};
@@ -7,7 +7,7 @@ ghost use Rattle.framing.specs.Streams.{Begins};
 ghost use Rattle.framing.specs.Holding.{Stands};
 ghost use Rattle.frame_short.specs.Abridged.{abridged, frame_of};
 
-use crate::{Deframer, FrameFault, Framer, Next};
+use frame_short::{Deframer, FrameFault, Framer, Next};
 use octets::{Memory, Octets};
 use std::alloc::Global;
 use std::test::*;

@@ -1,4 +1,4 @@
-//! A caller's try, the worked rows, and each call once. The frames' checks are those of zlib.
+//! Full frames: a caller's try, the worked rows, and each call once. The frames' checks are those of zlib.
 
 ghost use Rattle.std.specs.Prelude.{◌≡◌, ◌++◌, ◌∷◌, [], List, ℕ, IfOk};
 ghost use Rattle.std.specs.Bool.{IsTrue, OnTrue};
@@ -7,7 +7,7 @@ ghost use Rattle.framing.specs.Streams.{Begins};
 ghost use Rattle.framing.specs.Holding.{Stands};
 ghost use Rattle.frame_full.specs.Full.{full, frame_of};
 
-use crate::{Deframer, FrameFault, Framer, Next};
+use frame_full::{Deframer, FrameFault, Framer, Next};
 use octets::{Memory, Octets};
 use std::alloc::Global;
 use std::test::*;
