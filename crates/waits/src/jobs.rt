@@ -25,6 +25,9 @@ pub const JOB_BYTES_MAX: usize = 4_194_304;
 /// How many seconds a job waits for others before it is answered instead.
 pub const WAIT_SECONDS: u64 = 30;
 
+/// So many empty places at least are let be, since places are made anew with memory.
+const EMPTY_MIN: usize = 64;
+
 /// The unfinished jobs of a server, in order of acceptance over all sessions.
 ///
 /// Each stands in a place of its own, and each place names an earlier one of the same session. A count of each session's
@@ -74,7 +77,7 @@ impl Jobs {
         ensures unchanged_on_memory { OnErr result (self.new ≡ self.old) }
     {
         let room = self.room.max(count);
-        if self.line.count < self.line.slots.len() - self.line.count {
+        if self.line.count.max(EMPTY_MIN) < self.line.slots.len() - self.line.count {
             *self = self.rebuilt(alloc, room)?;
             return Ok(());
         }
