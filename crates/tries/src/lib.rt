@@ -3,15 +3,7 @@
 #![tactic(auto)]
 
 #[cfg(test)]
-mod batches;
-#[cfg(test)]
-mod bindings;
-#[cfg(test)]
-mod calls;
-#[cfg(test)]
 mod envelopes;
-#[cfg(test)]
-mod flushes;
 #[cfg(test)]
 mod forgetting;
 #[cfg(test)]
@@ -22,9 +14,5 @@ mod servers;
 mod sessions;
 #[cfg(test)]
 mod stepped;
-#[cfg(test)]
-mod submits;
-#[cfg(test)]
-mod talks;
 #[cfg(test)]
 mod wires;

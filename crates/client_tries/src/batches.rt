@@ -4,14 +4,14 @@ ghost use Rattle.std.specs.Prelude.{◌≡◌, ◌<◌, None, IfOk, IsSome};
 ghost use Rattle.auth_keys.specs.Rings.{entry_of};
 ghost use Rattle.client_core.specs.Keys.{keys_in};
 
-use crate::flushes::seal;
+use crate::flushes::{adds, packet, seal};
 use crate::talks::opens;
 use client_core::{CallNo, CallState, Flush, Holder, OpeningClient};
 use client_node::{Batch, Plan, run_batch};
 use draws::{Draw, StepDraw};
 use envelope::MtSeal;
 use msg_ids::Moment;
-use mt_edge::{ListClock, MemLink, MemNet};
+use mt_edge::{ListClock, MemLink, MemNet, NetCall, Outcome};
 use octets::Octets;
 use owing::Outs;
 use regs_service::{Regs, Service};
@@ -21,29 +21,8 @@ use std::test::*;
 use test_keys::{KEY_ID, ring};
 use transport::Form;
 
-// The call `add x 5`, and the reply `value 5`.
-const ADD: &[u8] = b"\x01\x2c\x1b\x0a\x01x\0\0\x05\0\0\0\0\0\0\0";
-
+// The reply `value 5`.
 const FIVE: &[u8] = b"\x03\x2c\x1b\x0a\x05\0\0\0\0\0\0\0";
-
-// A client with that call.
-fn asks<D: Draw>(alloc: Global, draw: &mut D) -> Result<OpeningClient, Fail>
-    ensures keys { IfOk result (λ client. keys_in client ≡ record { key = KEY_ID; bound_to = None }) }
-{
-    let mut client = OpeningClient::new(alloc, KEY_ID, draw)?;
-    match client.submit(alloc, ADD, None) {
-        Ok(_) => Ok(client),
-        Err(_) => Err(Fail::new("it isn't taken")),
-    }
-}
-
-// The packet of a flush.
-fn packet(flush: Flush) -> Result<Octets, Fail> {
-    match flush {
-        Flush::Packet(packet) => Ok(packet),
-        Flush::Nothing | Flush::Spent | Flush::Memory => Err(Fail::new("no packet")),
-    }
-}
 
 // Puts a packet's frame of the intermediate form behind what is there.
 fn framed(into: &mut Vec<u8>, packet: &[u8]) -> Result<(), Fail> {
@@ -80,7 +59,7 @@ fn sends_first<D: Draw>(
     requires key { IsSome (entry_of KEY_ID seal.now) }
     ensures keys { IfOk result (λ sent. keys_in sent.0 ≡ record { key = KEY_ID; bound_to = None }) }
 {
-    let mut client = asks(alloc, draw)?;
+    let mut client = adds(alloc, draw)?;
     if was_lost {
         client.flush(alloc, Moment::new(0), seal, draw);
         client.attach();
@@ -135,19 +114,23 @@ fn server_bytes(alloc: Global, seal: &MtSeal, was_lost: bool) -> Result<(Vec<u8>
     Ok((bytes, first))
 }
 
-// How a client's batch ends over these links, the last one first.
+// A net with these links, the last one first.
+fn net(alloc: Global, links: Vec<MemLink>) -> Result<MemNet, Fail> {
+    Ok(MemNet::new(alloc, links, &[], 8)?)
+}
+
+// How a client's batch ends over a net.
 fn ends(
     alloc: Global,
     client: OpeningClient,
     seal: &MtSeal,
-    links: Vec<MemLink>,
+    net: &mut MemNet,
     retries: u32,
     draw: &mut StepDraw,
 ) -> Result<(Holder, Batch), Fail>
     requires key { IsSome (entry_of KEY_ID seal.now) }
     requires its { keys_in client ≡ record { key = KEY_ID; bound_to = None } }
 {
-    let mut net = MemNet::new(alloc, links, &[], 8)?;
     let mut clock = ListClock::new(alloc, &[Moment::new(0)])?;
     let plan = Plan {
         port: 1,
@@ -159,7 +142,7 @@ fn ends(
         alloc,
         Holder::Opening(client),
         &plan,
-        &mut net,
+        net,
         seal,
         &mut clock,
         draw,
@@ -198,18 +181,18 @@ fn link(alloc: Global, bytes: &[u8], piece: usize, failing: u64) -> Result<MemLi
     Ok(MemLink::new(alloc, bytes, piece, &[failing], 4096, 16)?)
 }
 
-// How the batch of a call ends over these links, and what became of the call.
+// How the batch of a call ends over a net, and what became of the call.
 fn call_ends(
     alloc: Global,
     seal: &MtSeal,
-    links: Vec<MemLink>,
+    net: &mut MemNet,
     retries: u32,
 ) -> Result<(Batch, First), Fail>
     requires key { IsSome (entry_of KEY_ID seal.now) }
 {
     let mut draw = StepDraw::new();
-    let client = asks(alloc, &mut draw)?;
-    let (holder, end) = ends(alloc, client, seal, links, retries, &mut draw)?;
+    let client = adds(alloc, &mut draw)?;
+    let (holder, end) = ends(alloc, client, seal, net, retries, &mut draw)?;
     Ok((end, first_call(&holder)))
 }
 
@@ -220,7 +203,7 @@ fn a_link_whose_first_read_fails_is_lost(rt: HostRuntime) -> Result<(), Fail> {
     // A write of the start, one of the packet, and the read.
     let links = vec![in alloc; link(alloc, &[], 1000, 3)?]?;
     assert_eq!(rt;
-        call_ends(alloc, &seal, links, 0)?,
+        call_ends(alloc, &seal, &mut net(alloc, links)?, 0)?,
         (Batch::LinkLost, First::Sent)
     );
     Ok(())
@@ -235,23 +218,53 @@ fn a_second_link_decides(rt: HostRuntime) -> Result<(), Fail> {
     links.push(link(alloc, bytes.as_slice(), piece, 0)?)?;
     links.push(link(alloc, &[], 1000, 3)?)?;
     assert_eq!(rt;
-        call_ends(alloc, &seal, links, 1)?,
+        call_ends(alloc, &seal, &mut net(alloc, links)?, 1)?,
         (Batch::Decided, First::Five)
     );
     Ok(())
 }
 
-#[test]
-fn each_call_of_a_link_that_is_reached_loses_it(rt: HostRuntime) -> Result<(), Fail> {
-    let alloc = rt.alloc();
+// How many calls of the first link of a net have failed, where it was given back.
+fn failed(net: &MemNet) -> Option<u64> {
+    match net.calls().first() {
+        Some(
+            NetCall::Connect {
+                outcome: Outcome::Done { faults, .. },
+                ..
+            },
+        ) => Some(*faults),
+        _ => None,
+    }
+}
+
+// How a batch ends over a link whose call of this number fails, how many of its calls failed, and what became of the call.
+fn end_at(alloc: Global, failing: u64) -> Result<(Batch, Option<u64>, First), Fail> {
     let seal = seal(alloc)?;
     let (bytes, piece) = server_bytes(alloc, &seal, false)?;
-    // Two writes, a read, a write and a read.
+    let links = vec![in alloc; link(alloc, bytes.as_slice(), piece, failing)?]?;
+    let mut net = net(alloc, links)?;
+    let (end, first) = call_ends(alloc, &seal, &mut net, 0)?;
+    Ok((end, failed(&net), first))
+}
+
+// Two writes, a read, a write and a read are reached.
+const ENDS: &str = "\
+1 LinkLost Some(1) Other\n\
+2 LinkLost Some(1) Sent\n\
+3 LinkLost Some(1) Sent\n\
+4 LinkLost Some(1) Sent\n\
+5 LinkLost Some(1) Sent\n\
+6 Decided Some(0) Five\n\
+7 Decided Some(0) Five\n";
+
+#[test]
+fn each_call_of_a_link_that_is_reached_loses_it(rt: HostRuntime) -> Result<(), Fail> {
+    let mut told = String::new(rt.alloc());
     for failing in 1..8 {
-        let links = vec![in alloc; link(alloc, bytes.as_slice(), piece, failing)?]?;
-        let (end, _) = call_ends(alloc, &seal, links, 0)?;
-        assert_eq!(rt; end == Batch::LinkLost, failing < 6, "at {failing}");
+        let (end, failed, first) = end_at(rt.alloc(), failing)?;
+        told.push_str(&format!(in rt.alloc(); "{failing} {end:?} {failed:?} {first:?}\n")?)?;
     }
+    assert_eq!(rt; told.as_str(), ENDS);
     Ok(())
 }
 
@@ -259,7 +272,9 @@ fn each_call_of_a_link_that_is_reached_loses_it(rt: HostRuntime) -> Result<(), F
 fn no_call_needs_no_link(rt: HostRuntime) -> Result<(), Fail> {
     let (alloc, mut draw) = (rt.alloc(), StepDraw::new());
     let client = OpeningClient::new(alloc, KEY_ID, &mut draw)?;
-    let (_, end) = ends(alloc, client, &seal(alloc)?, Vec::new(alloc), 0, &mut draw)?;
+    let mut net = net(alloc, vec![in alloc; link(alloc, &[], 1000, 0)?]?)?;
+    let (_, end) = ends(alloc, client, &seal(alloc)?, &mut net, 0, &mut draw)?;
     assert_eq!(rt; end, Batch::Decided);
+    assert_eq!(rt; net.calls().len(), 0);
     Ok(())
 }

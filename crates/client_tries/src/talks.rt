@@ -5,7 +5,7 @@ ghost use Rattle.auth_keys.specs.Rings.{entry_of};
 ghost use Rattle.client_core.specs.Keys.{HasKeys, keys_in};
 ghost use Rattle.client_core.specs.Took.{open_left, opening_left};
 
-use crate::flushes::{opened, seal, submitted};
+use crate::flushes::{Said, opened, said, seal, submitted};
 use client_core::{
     CallNo, CallState, Cause, EndedClient, OpenClient, OpenStep, OpeningClient, OpeningStep,
 };
@@ -27,23 +27,6 @@ const ANSWER: &[u8] = b"\xdc\xf8\xf1\x73\x02\0\0\0\
     \x07\0\0\0\0\0\0\0\x01\0\0\0\x1c\0\0\0\x08\x09\xc2\x9e\x04\0\0\0\0\0\0\0\x09\0\0\0\0\0\0\0\x05\0\0\0\0\0\0\0\
     \x09\0\0\0\0\0\0\0\x02\0\0\0\x1c\0\0\0\x7b\x44\xab\xed\x04\0\0\0\0\0\0\0\x01\0\0\0\x30\0\0\0\x05\0\0\0\0\0\0\0";
 
-// What a client sends: the salt, the number and the sequence number, and the body.
-type Said = ((u64, u64, u32), Octets);
-
-fn said(envelope: Option<Envelope>) -> Result<Said, Fail> {
-    let Some(envelope) = envelope else {
-        return Err(Fail::new("nothing is sent"));
-    };
-    let Envelope {
-        salt,
-        number,
-        seq,
-        body,
-        ..
-    } = envelope;
-    Ok(((salt, number, seq), body))
-}
-
 // A packet from the server, of one message.
 fn down<S: Seal>(
     alloc: Global,
@@ -55,7 +38,7 @@ fn down<S: Seal>(
 ) -> Result<Octets, Fail>
     requires key { IsSome (entry_of key (S.keys seal.now)) }
 {
-    if body.len() % 4 != 0 || body.len() > 1024 {
+    if body.len() % 4 != 0 || body.len() > 65_536 {
         return Err(Fail::new("no body"));
     }
     let (number, seq) = named;
@@ -183,8 +166,12 @@ fn a_call_goes_again_under_the_right_salt(rt: HostRuntime) -> Result<(), Fail> {
     Ok(())
 }
 
-// A client whose call is outstanding under number 12 and salt 5.
-fn sent_again<D: Draw>(alloc: Global, seal: &MtSeal, draw: &mut D) -> Result<OpenClient, Fail>
+// A client whose call is outstanding under number 12 and salt 5, since a container of number 16.
+pub(crate) fn sent_again<D: Draw>(
+    alloc: Global,
+    seal: &MtSeal,
+    draw: &mut D,
+) -> Result<OpenClient, Fail>
     requires key { IsSome (entry_of KEY_ID seal.now) }
     ensures keys { IfOk result (λ client. keys_in client ≡ record { key = KEY_ID; bound_to = None }) }
     ensures calls { IfOk result (λ client. length client.calls.rows ≡ 1) }
@@ -259,19 +246,38 @@ fn a_renewal_queues_what_was_not_sent(rt: HostRuntime) -> Result<(), Fail> {
     Ok(())
 }
 
-#[test]
-fn the_first_packet_of_a_renewed_client(rt: HostRuntime) -> Result<(), Fail> {
-    let alloc = rt.alloc();
+// What it sends first at this moment.
+fn renewed_sends(alloc: Global, now: Moment) -> Result<Said, Fail> {
     let seal = seal(alloc)?;
     let mut client = renewed(alloc, &seal)?;
-    let flush = client.flush(alloc, Moment::new(0), &seal, &mut StepDraw::new());
-    let (named, body) = said(opened(alloc, &seal, flush)?)?;
+    let flush = client.flush(alloc, now, &seal, &mut StepDraw::new());
+    said(opened(alloc, &seal, flush)?)
+}
+
+#[test]
+fn the_first_packet_of_a_renewed_client(rt: HostRuntime) -> Result<(), Fail> {
+    let (named, body) = renewed_sends(rt.alloc(), Moment::new(0))?;
     assert_eq!(rt; named, (0, 12, 4));
     assert_eq!(rt;
         body.as_slice(),
         b"\xdc\xf8\xf1\x73\x02\0\0\0\
         \x04\0\0\0\0\0\0\0\x01\0\0\0\x04\0\0\0\x03\0\0\0\
         \x08\0\0\0\0\0\0\0\x03\0\0\0\x04\0\0\0\x04\0\0\0"
+            .as_slice()
+    );
+    Ok(())
+}
+
+// The server's moment was 0 at the client's 0, so numbers begin at 7 times 2^32.
+#[test]
+fn the_first_packet_of_a_renewed_client_at_7(rt: HostRuntime) -> Result<(), Fail> {
+    let (named, body) = renewed_sends(rt.alloc(), Moment::new(7))?;
+    assert_eq!(rt; named, (0, 30_064_771_080, 4));
+    assert_eq!(rt;
+        body.as_slice(),
+        b"\xdc\xf8\xf1\x73\x02\0\0\0\
+        \0\0\0\0\x07\0\0\0\x01\0\0\0\x04\0\0\0\x03\0\0\0\
+        \x04\0\0\0\x07\0\0\0\x03\0\0\0\x04\0\0\0\x04\0\0\0"
             .as_slice()
     );
     Ok(())

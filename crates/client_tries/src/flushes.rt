@@ -42,6 +42,45 @@ pub(crate) fn submitted<D: Draw>(
     Ok(client)
 }
 
+// The call `add x 5`.
+const ADD: &[u8] = b"\x01\x2c\x1b\x0a\x01x\0\0\x05\0\0\0\0\0\0\0";
+
+// A client under that key with that call.
+pub(crate) fn adds<D: Draw>(alloc: Global, draw: &mut D) -> Result<OpeningClient, Fail>
+    ensures keys { IfOk result (λ client. keys_in client ≡ record { key = KEY_ID; bound_to = None }) }
+{
+    let mut client = OpeningClient::new(alloc, KEY_ID, draw)?;
+    match client.submit(alloc, ADD, None) {
+        Ok(_) => Ok(client),
+        Err(_) => Err(Fail::new("it isn't taken")),
+    }
+}
+
+// The packet of a flush.
+pub(crate) fn packet(flush: Flush) -> Result<Octets, Fail> {
+    match flush {
+        Flush::Packet(packet) => Ok(packet),
+        Flush::Nothing | Flush::Spent | Flush::Memory => Err(Fail::new("no packet")),
+    }
+}
+
+// What a client sends: the salt, the number and the sequence number, and the body.
+pub(crate) type Said = ((u64, u64, u32), Octets);
+
+pub(crate) fn said(envelope: Option<Envelope>) -> Result<Said, Fail> {
+    let Some(envelope) = envelope else {
+        return Err(Fail::new("nothing is sent"));
+    };
+    let Envelope {
+        salt,
+        number,
+        seq,
+        body,
+        ..
+    } = envelope;
+    Ok(((salt, number, seq), body))
+}
+
 // The envelope of what a flush gives, and none where it gives nothing.
 pub(crate) fn opened<S: Seal>(
     alloc: Global,
@@ -70,27 +109,29 @@ fn sent_twice(alloc: Global, twice: bool) -> Result<(Option<Envelope>, Option<En
     Ok((opened(alloc, &seal, first)?, opened(alloc, &seal, second)?))
 }
 
-// The salt, the number, the sequence number and the body of the first one.
-fn sent_first(alloc: Global, twice: bool) -> Result<(u64, u64, u32, Octets), Fail> {
-    let (first, _second) = sent_twice(alloc, twice)?;
-    let Some(envelope) = first else {
-        return Err(Fail::new("nothing is sent"));
-    };
-    let Envelope {
-        salt,
-        number,
-        seq,
-        body,
-        ..
-    } = envelope;
-    Ok((salt, number, seq, body))
+// What it sends first.
+fn sent_first(alloc: Global, twice: bool) -> Result<Said, Fail> {
+    said(sent_twice(alloc, twice)?.0)
 }
 
 #[test]
 fn a_first_call(rt: HostRuntime) -> Result<(), Fail> {
-    let (salt, number, seq, body) = sent_first(rt.alloc(), false)?;
-    assert_eq!(rt; (salt, number, seq), (0, 4, 1));
+    let (named, body) = sent_first(rt.alloc(), false)?;
+    assert_eq!(rt; named, (0, 4, 1));
     assert_eq!(rt; body.as_slice(), [1, 0, 0, 0].as_slice());
+    Ok(())
+}
+
+#[test]
+fn a_sum_goes_first(rt: HostRuntime) -> Result<(), Fail> {
+    let (alloc, mut draw) = (rt.alloc(), StepDraw::new());
+    let seal = seal(alloc)?;
+    let mut client = adds(alloc, &mut draw)?;
+    let packet = packet(client.flush(alloc, Moment::new(0), &seal, &mut draw))?;
+    assert_eq!(rt; packet.as_slice().len(), 88);
+    let (named, body) = said(opened(alloc, &seal, Flush::Packet(packet))?)?;
+    assert_eq!(rt; named, (0, 4, 1));
+    assert_eq!(rt; body.as_slice(), ADD);
     Ok(())
 }
 
@@ -102,8 +143,8 @@ fn nothing_is_left(rt: HostRuntime) -> Result<(), Fail> {
 
 #[test]
 fn a_call_behind_another(rt: HostRuntime) -> Result<(), Fail> {
-    let (_, number, seq, body) = sent_first(rt.alloc(), true)?;
-    assert_eq!(rt; (number, seq), (12, 4));
+    let (named, body) = sent_first(rt.alloc(), true)?;
+    assert_eq!(rt; named, (0, 12, 4));
     assert_eq!(rt;
         body.as_slice(),
         b"\xdc\xf8\xf1\x73\x02\0\0\0\
