@@ -13,15 +13,7 @@ mod envelopes;
 #[cfg(test)]
 mod flushes;
 #[cfg(test)]
-mod forgetting;
-#[cfg(test)]
 mod keys;
-#[cfg(test)]
-mod owed;
-#[cfg(test)]
-mod servers;
-#[cfg(test)]
-mod sessions;
 #[cfg(test)]
 mod stepped;
 #[cfg(test)]
