@@ -5,14 +5,6 @@
 #[cfg(test)]
 mod envelopes;
 #[cfg(test)]
-mod forgetting;
-#[cfg(test)]
-mod owed;
-#[cfg(test)]
-mod servers;
-#[cfg(test)]
-mod sessions;
-#[cfg(test)]
 mod stepped;
 #[cfg(test)]
 mod wires;

@@ -1,6 +1,6 @@
 use Rattle.std.proofs.Common.{ap, arith}
 use Rattle.owing.specs.Dues.{Dues}
-use Rattle.tries.proofs.sessions.says_twice.Goals as goal
+use Rattle.server_tries.proofs.sessions.says_twice.Goals as goal
 
 pub says_kept-requires-clause-places : goal.says_kept-requires-clause-places
 says_kept-requires-clause-places c =
