@@ -7,3 +7,4 @@ pub mod Drawing
 pub mod Fresh
 pub mod Bindings
 pub mod Sound
+pub mod Loaded

@@ -1,9 +1,27 @@
 -- What `load` owes.
-use Rattle.std.specs.Prelude.{ℕ, List}
+use Rattle.std.specs.Prelude.{◌≡◌, ℕ, All, List}
+use Rattle.sched_text.specs.declared.schedule.Placed.{Placed}
 use Rattle.world_rules.specs.Load.{load}
+use Rattle.world_rules.specs.Premises.{IsOfBytes}
 use Rattle.world_rules.specs.Report.{summary}
-use Rattle.playing.specs.Worlds.{sim_setting}
+use Rattle.world_rules.specs.Run.{events_of}
+use Rattle.world_rules.specs.World.{World}
+use Rattle.playing.specs.Sim.{ExecutesOnce}
+use Rattle.playing.specs.Worlds.{Registers, sim_setting, sim_world}
 
--- the line that sums up the world after the schedule of so many calls
+-- the world after the large schedule of so many calls
+abbrev pub load_world : ℕ → World ℕ Registers
+load_world calls = load sim_setting 0 calls
+
+-- the line that sums it up
 abbrev pub summary_of : ℕ → List ℕ
-summary_of calls = summary sim_setting (load sim_setting 0 calls)
+summary_of calls = summary sim_setting (load_world calls)
+
+-- these are the events of that schedule: they make its world, and the bodies of their calls are bytes
+pub record AreOfLoad (calls : ℕ) (events : List Placed) : Type 0 where
+  pub world : load_world calls ≡ sim_world events
+  pub bytes : All IsOfBytes (events_of events)
+
+-- in that world each call executed at most once, as its client sent it, and what is told of it is so
+abbrev pub LoadExecutesOnce : ℕ → Type 0
+LoadExecutesOnce calls = (events : List Placed) × AreOfLoad calls events × ExecutesOnce events

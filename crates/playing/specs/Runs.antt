@@ -5,7 +5,7 @@ use Rattle.statuses.specs.Outside.{HadFault, IfTold, IsReadToTheEnd, IsUntouched
 use Rattle.statuses.specs.Statuses.{UnlessFault}
 use Rattle.statuses.specs.declared.status.Status.{Status}
 use Rattle.statuses.specs.declared.status.Status.TheVariants as status
-use Rattle.playing.specs.Load.{summary_of}
+use Rattle.playing.specs.Load.{LoadExecutesOnce, summary_of}
 use Rattle.playing.specs.Sim.{ExecutesOnce, IsDue, IsLawful, IsOfSim, IsRefused, RunsOut, report_of}
 
 -- ---- `sim`, with `--wire` or without it
@@ -34,6 +34,10 @@ pub record SimRun {S O : Type 0} (wire : Bool) (input : Outside S) (out : Outsid
 
 -- ---- `load`
 
--- It writes the line that sums up the world after the schedule of so many calls, unless a write failed or memory ran out.
-abbrev pub LoadRun : {O : Type 0} → ℕ → Outside O → Status → Type 0
-LoadRun calls out one = PlainRun out status.Done (summary_of calls) one
+pub record LoadRun {O : Type 0} (calls : ℕ) (out : Outside O) (one : Status) : Type 0 where
+  -- It writes the line that sums up the world after the large schedule of so many calls, unless a write failed or memory ran
+  -- out.
+  pub written : PlainRun out status.Done (summary_of calls) one
+  -- Done: in that world each call executed at most once, as its client sent it, what is told of it is so, and calls ran behind
+  -- their earlier calls.
+  pub once : one ≡ status.Done → LoadExecutesOnce calls

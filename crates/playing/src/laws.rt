@@ -1,6 +1,6 @@
 //! Laws of the world of `sim`, each the contract of a function that does nothing.
 
-ghost use Rattle.std.specs.Prelude.{◌<◌, All, Bool, List};
+ghost use Rattle.std.specs.Prelude.{◌<◌, ℕ, All, Bool, List};
 ghost use Rattle.envelope.specs.Lock.{mt_lock};
 ghost use Rattle.hosts.specs.Settings.{IsOf};
 ghost use Rattle.sched_text.specs.declared.schedule.Placed.{Placed};
@@ -10,6 +10,7 @@ ghost use Rattle.worlds.specs.Keys.{HasWorldKeys};
 ghost use Rattle.statuses.specs.Outside.{IsUntouched, Outside};
 ghost use Rattle.statuses.specs.declared.status.Status.TheVariants as status;
 ghost use Rattle.playing.specs.KeysOfSim.{sim_ring};
+ghost use Rattle.playing.specs.Load.{AreOfLoad, LoadExecutesOnce, load_world};
 ghost use Rattle.playing.specs.Runs.{SimRun};
 ghost use Rattle.playing.specs.Sim.{ExecutesOnce};
 ghost use Rattle.playing.specs.Words.{words_max};
@@ -22,7 +23,7 @@ use draws::laws::step_words_are_fresh;
 use envelope::MtSeal;
 use envelope::laws::opens_what_it_sealed;
 use mt_edge::{Sink, Source};
-use octets::laws::counts_of_bytes;
+use octets::laws::{bytes_stay_bytes, counts_of_bytes};
 use packet_parts::laws::locks_keep_sizes;
 use regs_service::Regs;
 use ring_rules::laws::{packets_open_as_worked_out, rings_have_keys};
@@ -64,6 +65,22 @@ pub fn sim_executes_once()
     names_are_words_drawn::<CountedDraw, Regs>();
     calls_execute_once::<CountedDraw, Regs>();
     calls_run_in_order::<CountedDraw, Regs>();
+}
+
+/// The large schedule of so many calls is a schedule: its world is that of a list of events, whose bodies are bytes.
+pub fn loads_are_schedules()
+    ensures { (calls : ℕ) → (events : List Placed) × AreOfLoad calls events }
+{
+    bytes_stay_bytes();
+}
+
+/// In the world of `load` each call executed at most once, as its client sent it, and what is told of it is so; and what ran
+/// of a call with an earlier call ran behind that one. The count of words isn't at its end.
+pub fn load_executes_once()
+    ensures { (calls : ℕ) → (load_world calls).draw < words_max → LoadExecutesOnce calls }
+{
+    loads_are_schedules();
+    sim_executes_once();
 }
 
 /// A run that stops for want of memory before it writes keeps what `sim` promises.

@@ -2,8 +2,9 @@
 
 ghost use Rattle.std.specs.Prelude.{◌≡◌, IfOk};
 ghost use Rattle.statuses.specs.declared.status.Status.TheVariants as status;
-ghost use Rattle.playing.specs.Load.{summary_of};
+ghost use Rattle.playing.specs.Load.{LoadExecutesOnce, summary_of};
 
+use crate::laws::load_executes_once;
 use crate::sim_world::SimWorld;
 use octets::{Memory, Octets};
 use statuses::{Answer, Status};
@@ -13,8 +14,13 @@ use std::alloc::Global;
 pub(crate) fn summary(alloc: Global, calls: u32) -> Result<Answer, Memory>
     ensures status { IfOk result (λ answer. answer.status ≡ status.Done) }
     ensures text { IfOk result (λ answer. answer.text ≡ summary_of calls) }
+    ensures once { IfOk result (λ _. LoadExecutesOnce calls) }
 {
     let world = SimWorld::new(alloc)?.loaded(alloc, calls)?;
+    if !world.draws_on() {
+        return Err(Memory);
+    }
+    load_executes_once();
     let mut text = Octets::new(alloc);
     world.summary(alloc, &mut text)?;
     Ok(Answer {

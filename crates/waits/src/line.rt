@@ -71,7 +71,7 @@ impl Line {
     pub(crate) fn push(&mut self, earlier: usize, one: Unfinished)
         requires line { IsLine self.old }
         requires room { vec_len self.old.slots < vec_capacity self.old.slots }
-        ensures items { self.new.slots.items ≡ self.old.slots.items ++ record { earlier = earlier; later = 0; one = Some one } ∷ [] }
+        ensures items { self.new.slots.items ≡ self.old.slots.items ++ record { earlier = earlier; one = Some one } ∷ [] }
         ensures line { IsLine self.new }
         ensures len { vec_len self.new.slots ≡ vec_len self.old.slots + 1 }
         ensures capacity { vec_capacity self.new.slots ≡ vec_capacity self.old.slots }
@@ -81,7 +81,6 @@ impl Line {
         self.failing += one_if(one.failed);
         self.slots.push_reserved(Slot {
             earlier,
-            later: 0,
             one: Some(one),
         });
     }

@@ -13,8 +13,6 @@ pub(crate) struct Slot {
     /// 1 and the place of an earlier slot, between which and this one no job of the same session stands; 0 where none
     /// stands before this one.
     pub earlier: usize,
-    /// 1 and the place of the slot that named this one as its earlier one; 0 where there is none. A hint.
-    pub later: usize,
     /// The job, until it is taken out.
     pub one: Option<Unfinished>,
 }

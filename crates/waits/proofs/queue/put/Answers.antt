@@ -28,14 +28,14 @@ push-requires-clause-line c = c.requires.stands.counted
 
 pub returns-clause-items : goal.returns-clause-items
 returns-clause-items c =
-    let s : Slot = record { earlier = c.with-counted.result.last; later = 0; one = Some c.args.one } in
+    let s : Slot = record { earlier = c.with-counted.result.last; one = Some c.args.one } in
     ap somes c.push.ensures.items ∙ somes_push c.args.line.now.slots.items s c.args.one refl
 
 pub returns-clause-stands : goal.returns-clause-stands
 returns-clause-stands c =
     let xs = c.args.line.now.slots.items in
     let one = c.args.one in
-    let s : Slot = record { earlier = c.with-counted.result.last; later = 0; one = Some one } in
+    let s : Slot = record { earlier = c.with-counted.result.last; one = Some one } in
     let items : somes c.push.new.self.slots.items ≡ somes xs ++ one ∷ [] = ap somes c.push.ensures.items ∙ somes_push xs s one refl in
     let stands = c.requires.stands in
     let kept = put_kept xs c.args.tallies.now.items one c.find.result c.with-counted.result s (c.len.result + 1) (record { tallied = stands.tallied; tracked = stands.tracked }) c.find.ensures c.with-counted.ensures refl refl (omega (arith, c.len.ensures, c.args.line.now.slots.ok.0)) in

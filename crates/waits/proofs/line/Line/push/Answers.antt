@@ -30,7 +30,7 @@ pub returns-clause-line : goal.returns-clause-line
 returns-clause-line c =
     let xs = c.args.self.now.slots.items in
     let one = c.args.one in
-    let s : Slot = record { earlier = c.args.earlier; later = 0; one = Some one } in
+    let s : Slot = record { earlier = c.args.earlier; one = Some one } in
     let jobs : somes c.push_reserved.new.self.items ≡ somes xs ++ one ∷ [] = ap somes c.push_reserved.ensures.items ∙ somes_push xs s one refl in
     let line = c.requires.line in
     let sums = sums_more (somes xs) (somes xs ++ one ∷ []) one c.args.self.now.count c.args.self.now.blocked c.args.self.now.failing (gains_pushed (somes xs) one) (record { count = line.count; blocked = line.blocked; failing = line.failing }) in
