@@ -47,7 +47,8 @@ fn hears_8193(alloc: Global, client: OpenClient, seal: &MtSeal) -> Result<OpenCl
 
 // What it sends then.
 fn acknowledges(alloc: Global) -> Result<Said, Fail> {
-    let (seal, mut draw) = (seal(alloc)?, StepDraw::new());
+    let seal = seal(alloc)?;
+    let mut draw = StepDraw::new();
     let client = sent_again(alloc, &seal, &mut draw)?;
     let mut client = hears_8193(alloc, client, &seal)?;
     let flush = client.flush(alloc, Moment::new(0), &seal, &mut draw);
@@ -86,7 +87,8 @@ fn pings(alloc: Global, client: &mut OpenClient, seal: &MtSeal, count: u8)
 
 // What a client sends by a notice about the container of its call, behind which so many packets were sent.
 fn sends_behind(alloc: Global, count: u8) -> Result<Option<Envelope>, Fail> {
-    let (seal, mut draw) = (seal(alloc)?, StepDraw::new());
+    let seal = seal(alloc)?;
+    let mut draw = StepDraw::new();
     let mut client = sent_again(alloc, &seal, &mut draw)?;
     pings(alloc, &mut client, &seal, count);
     let notice = b"\x11\xf8\xef\xa7\x10\0\0\0\0\0\0\0\x04\0\0\0\x40\0\0\0";
