@@ -162,3 +162,40 @@ fn sessions_have_jobs_of_their_own(rt: HostRuntime) -> Result<(), Fail> {
     assert_eq!(rt; copy.len(), 2);
     Ok(())
 }
+
+// A session has its own jobs where those of three stand between one another, some are taken out, one session is
+// forgotten and heard again, and places that were left empty are tidied away.
+#[test]
+fn sessions_keep_theirs_among_others(rt: HostRuntime) -> Result<(), Fail> {
+    let alloc = rt.alloc();
+    let mut jobs = Jobs::new(alloc);
+    for round in 0..40u64 {
+        for session in 1..=3u64 {
+            assert!(rt; call(&mut jobs, alloc, session, 8 + 4 * round, &[])?);
+        }
+    }
+    assert!(rt; call(&mut jobs, alloc, 2, 400, &[8])?);
+    assert_eq!(rt; number_of(next(&mut jobs)), 8);
+    assert_eq!(rt; number_of(jobs.cancel(1, 3, 12)), 12);
+    jobs.forget(1, 2);
+    assert_eq!(rt; jobs.len(), 78);
+    assert_eq!(rt; jobs.waiting(1, 2), 0);
+    assert!(rt; !jobs.has(1, 2, 400));
+    assert!(rt; call(&mut jobs, alloc, 2, 404, &[408])?);
+    jobs.settle(1, 2, 408, true);
+    assert_eq!(rt; jobs.blocked(1, 2), 0);
+    for _ in 0..76 {
+        next(&mut jobs);
+    }
+    assert_eq!(rt; jobs.len(), 3);
+    jobs.reserve(alloc, 4)?;
+    assert_eq!(rt; jobs.len(), 3);
+    assert!(rt; jobs.has(1, 1, 164));
+    assert!(rt; jobs.has(1, 3, 164));
+    assert!(rt; !jobs.has(1, 3, 12));
+    assert_eq!(rt; jobs.load(1, 2), (1, 4));
+    assert_eq!(rt; number_of(jobs.cancel(1, 3, 164)), 164);
+    assert_eq!(rt; number_of(next(&mut jobs)), 164);
+    assert_eq!(rt; number_of(next(&mut jobs)), 404);
+    Ok(())
+}

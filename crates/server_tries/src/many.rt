@@ -78,8 +78,8 @@ impl Line {
             put(alloc, &mut body, (number, seq, ADD_X_1))?;
         }
         self.number = self.number.saturating_add(4);
-        let named = (self.number, self.calls.saturating_mul(2));
-        server.hears(alloc, SESSION, SALT, (named.0, named.1, body.as_slice()))?;
+        let seq = self.calls.saturating_mul(2);
+        server.hears(alloc, SESSION, SALT, (self.number, seq, body.as_slice()))?;
         Ok(())
     }
 }

@@ -1,5 +1,6 @@
 //! Packets that are cut.
 
+use crate::bodies::ADD_X_5;
 use crate::played::{Message, SALT, container};
 use draws::StepDraw;
 use envelope::{Dir, Envelope, MtSeal, Refusal, Seal};
@@ -15,9 +16,9 @@ const MESSAGES: [Message<'static>; 2] = [
     (
         8,
         2,
-        b"Y\xb4\xd6b\x15\xc4\xb5\x1c\x01\0\0\0\x07\0\0\0\0\0\0\0",
+        b"\x59\xb4\xd6\x62\x15\xc4\xb5\x1c\x01\0\0\0\x07\0\0\0\0\0\0\0",
     ),
-    (12, 3, b"\x01\x2c\x1b\x0a\x01x\0\0\x05\0\0\0\0\0\0\0"),
+    (12, 3, ADD_X_5),
 ];
 
 // The packet of a message of session 9.
@@ -41,8 +42,7 @@ fn packet(alloc: Global, seal: &MtSeal, salt: u64, message: Message<'_>) -> Resu
 // acknowledges, and its call again.
 fn answered(alloc: Global) -> Result<(Server<MtSeal>, Octets), Fail> {
     let mut server = Server::new(alloc, MtSeal::new(ring(alloc, "perm")?));
-    let [_, (_, _, call)] = MESSAGES;
-    let first = packet(alloc, server.seal(), 0, (4, 1, call))?;
+    let first = packet(alloc, server.seal(), 0, (4, 1, ADD_X_5))?;
     server.on_packet(
         alloc,
         Moment::new(0),

@@ -60,7 +60,7 @@ fn each_number_is_acknowledged_once(rt: HostRuntime) -> Result<(), Fail> {
 }
 
 // `msgs_ack` of 13.
-const ACK_13: &[u8] = b"Y\xb4\xd6b\x15\xc4\xb5\x1c\x01\0\0\0\x0d\0\0\0\0\0\0\0";
+const ACK_13: &[u8] = b"\x59\xb4\xd6\x62\x15\xc4\xb5\x1c\x01\0\0\0\x0d\0\0\0\0\0\0\0";
 
 // A call that comes again before it is answered is acknowledged. Then its reply is said again under its own number and
 // seq, once also where the call comes twice in one event, and not for the container. Once that is acknowledged, it isn't.
