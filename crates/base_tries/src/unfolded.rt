@@ -9,8 +9,8 @@ ghost use Rattle.containers.specs.Parts.{parts_of};
 ghost use Rattle.containers.specs.Unfolded.{Tells};
 
 use containers::{
-    CONTAINER_HEAD_BYTES, ContainerFault, MESSAGE_HEAD_BYTES, Message, Messages, Part, Parts, Unfolded, Why, container,
-    container_of_parts, fits, is_container, laws, unfold,
+    CONTAINER_HEAD_BYTES, ContainerFault, MESSAGE_HEAD_BYTES, Message, Messages, Part, Parts,
+    Unfolded, Why, container, container_of_parts, fits, is_container, laws, unfold,
 };
 use octets::{Memory, Octets};
 use std::alloc::Global;
