@@ -117,7 +117,7 @@ pub returns-in-Err-Memory-clause-sim : goal.returns-in-Err-Memory-clause-sim
 returns-in-Err-Memory-clause-sim g c = λ wire asked. (status.Memory, c.number-in-Err-Memory.ensures, c.memory_may_run_out.ensures wire _ _ refl)
 
 pub returns-in-Err-Memory-clause-load : goal.returns-in-Err-Memory-clause-load
-returns-in-Err-Memory-clause-load g c = λ count asked. (status.Memory, c.number-in-Err-Memory.ensures, inr (refl, refl))
+returns-in-Err-Memory-clause-load g c = λ count asked. (status.Memory, c.number-in-Err-Memory.ensures, record { written = inr (refl, refl); once = λ is. absurd cc })
 
 pub returns-in-Err-Memory-clause-serve : goal.returns-in-Err-Memory-clause-serve
 returns-in-Err-Memory-clause-serve g c = λ options asked. (
