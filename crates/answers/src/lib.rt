@@ -7,3 +7,6 @@ mod short;
 
 pub use outbox::Bytes;
 pub use short::Short;
+
+#[cfg(test)]
+mod tests;

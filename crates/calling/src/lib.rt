@@ -10,3 +10,6 @@ mod running;
 mod telling;
 
 pub use running::run_call;
+
+#[cfg(test)]
+mod tests;

@@ -11,3 +11,6 @@ mod packing;
 pub use containers::Part;
 pub use numbering::number;
 pub use packing::{front, pack, packed_size, packets};
+
+#[cfg(test)]
+mod tests;

@@ -27,3 +27,6 @@ pub use entries::{Entries, Entry};
 pub use opening::acks_in;
 pub use turn::Turn;
 pub use waiting::Run;
+
+#[cfg(test)]
+mod tests;

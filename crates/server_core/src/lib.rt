@@ -39,3 +39,6 @@ pub use effects::Effects;
 pub use plain::Plain;
 pub use server::Server;
 pub use sessions::Sessions;
+
+#[cfg(test)]
+mod tests;

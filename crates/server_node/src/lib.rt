@@ -12,3 +12,6 @@ mod working;
 
 pub use conn::{Conn, ConnEnd};
 pub use serve::serve_one;
+
+#[cfg(test)]
+mod tests;

@@ -11,3 +11,6 @@ mod lines;
 mod running;
 
 pub use running::run_serve;
+
+#[cfg(test)]
+mod tests;
