@@ -7,6 +7,3 @@ mod short;
 
 pub use outbox::Bytes;
 pub use short::Short;
-
-#[cfg(test)]
-mod tests;

@@ -10,6 +10,3 @@ mod running;
 mod telling;
 
 pub use running::run_call;
-
-#[cfg(test)]
-mod tests;

@@ -17,6 +17,3 @@ pub use id_window::Mark;
 pub use inbox::Inbox;
 pub use judged::{Judged, Judgement, Verdict};
 pub use outer::Outer;
-
-#[cfg(test)]
-mod tests;

@@ -60,10 +60,3 @@ pub use tcp::{TcpLink, TcpNet, act_of, after_act};
 pub use told::LinkTold;
 pub use whole::{ReadFault, WriteFault, read_all, write_all};
 pub use words::Words;
-
-#[cfg(test)]
-mod kid_tests;
-#[cfg(test)]
-mod link_tests;
-#[cfg(test)]
-mod tests;

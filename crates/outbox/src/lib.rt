@@ -15,6 +15,3 @@ pub use bytes::Bytes;
 pub use kept::Kept;
 pub use outbox::{KEPT_BYTES_MAX, Outbox};
 pub use rows::KEPT_REPLIES_MAX;
-
-#[cfg(test)]
-mod tests;

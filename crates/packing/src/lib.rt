@@ -11,6 +11,3 @@ mod packing;
 pub use containers::Part;
 pub use numbering::number;
 pub use packing::{front, pack, packed_size, packets};
-
-#[cfg(test)]
-mod tests;

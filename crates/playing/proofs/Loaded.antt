@@ -11,7 +11,7 @@ use Rattle.sched_text.specs.declared.schedule.Placed.{Placed}
 use Rattle.tl_codec.specs.Spelling.{spelling}
 use Rattle.world_rules.specs.Load.{Settling, call_of_load, can_flush, does, first_ungiven, gives, goes_on, load, next_by, next_step, repeats, restarts, round, rounds, settled, settling_max}
 use Rattle.world_rules.specs.Premises.{IsOfBytes}
-use Rattle.world_rules.specs.Run.{events_of, run_from, run_of, step}
+use Rattle.world_rules.specs.Run.{events_of, run_of, step}
 use Rattle.world_rules.specs.Setting.{Setting}
 use Rattle.world_rules.specs.World.{begins, counted, counted_job}
 

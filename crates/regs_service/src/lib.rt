@@ -14,6 +14,3 @@ pub use registers::{NAMES_MAX, Regs};
 pub use reply::VALUE;
 pub use request::{ADD, GET, NAME_BYTES_MAX, is_register_name};
 pub use service::{NoMemory, REPLY_BYTES_MAX, Service};
-
-#[cfg(test)]
-mod tests;

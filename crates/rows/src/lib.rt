@@ -27,6 +27,3 @@ pub use entries::{Entries, Entry};
 pub use opening::acks_in;
 pub use turn::Turn;
 pub use waiting::Run;
-
-#[cfg(test)]
-mod tests;

@@ -39,6 +39,3 @@ pub use effects::Effects;
 pub use plain::Plain;
 pub use server::Server;
 pub use sessions::Sessions;
-
-#[cfg(test)]
-mod tests;

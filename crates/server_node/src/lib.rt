@@ -12,6 +12,3 @@ mod working;
 
 pub use conn::{Conn, ConnEnd};
 pub use serve::serve_one;
-
-#[cfg(test)]
-mod tests;

@@ -11,6 +11,3 @@ mod lines;
 mod running;
 
 pub use running::run_serve;
-
-#[cfg(test)]
-mod tests;

@@ -4,7 +4,6 @@ ghost use Rattle.std.specs.Prelude.{◌≡◌, ◌≤◌, ◌%◌, IfOk, IfSome,
 ghost use Rattle.auth_keys.specs.Rings.{entry_of};
 ghost use Rattle.envelope.specs.Packet.{body_max};
 
-use crate::keys::{KEY_ID, bytes_from_0_to_255, ring};
 use auth_keys::AuthKey;
 use cipher_modes::ige_encrypt;
 use draws::{Draw, StepDraw};
@@ -14,6 +13,7 @@ use msg_key::{UP, aes_of, msg_key};
 use octets::{Buffer, Memory, Octets};
 use std::alloc::Global;
 use std::test::*;
+use test_keys::{KEY_ID, bytes_from_0_to_255, ring};
 
 // Two packets made by another implementation of the equations: a few lines of Python over the SHA-1 and SHA-256 of its
 // hashlib and the block of AES of OpenSSL 3 (`AES_encrypt`). Key `00` to `ff`, salt 0102030405060708, session

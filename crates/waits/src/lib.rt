@@ -15,6 +15,3 @@ mod tally;
 
 pub use job::Job;
 pub use jobs::{JOB_BYTES_MAX, JOBS_MAX, Jobs, WAIT_SECONDS};
-
-#[cfg(test)]
-mod tests;

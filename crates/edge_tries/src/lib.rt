@@ -1,0 +1,12 @@
+//! Callers' tries of the outside: sources, sinks, links, nets, clocks, children and files, in memory and of this machine.
+//! A crate with tests is proved twice, so theirs stand here, over what they hand out. There is nothing else in this crate.
+#![tactic(auto)]
+
+#[cfg(test)]
+mod files;
+#[cfg(test)]
+mod kids;
+#[cfg(test)]
+mod links;
+#[cfg(test)]
+mod texts;

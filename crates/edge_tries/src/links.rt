@@ -1,0 +1,272 @@
+//! Links, nets and clocks, and std objects that fail.
+
+ghost use Rattle.std.specs.Prelude.{◌≡◌, ◌<◌, ◌+◌, ◌++◌, length, IfSome, IsSomeAnd};
+ghost use Rattle.mt_edge.specs.Got.{handed};
+ghost use Rattle.mt_edge.specs.Put.{taken};
+
+use msg_ids::Moment;
+use mt_edge::{
+    Act, Clock, DiskFiles, FileGot, Got, KeyFiles, Link, LinkTold, Linked, ListClock, MemFiles,
+    MemLink, MemNet, NamedFile, Net, NetCall, Outcome, Put, ReadSource, Sink, Source, SystemClock,
+    TcpNet, WriteSink,
+};
+use octets::Octets;
+use std::fs;
+use std::io::{self, ErrorKind, Read, Write};
+use std::process::Abort;
+use std::test::Fail;
+
+/// What a node does: it reads once and writes once, and hands on what came of both.
+fn read_and_write<L: Link>(link: &mut L, into: &mut [u8], piece: &[u8]) -> (Got, Put)
+    requires into { 0 < length into.old }
+    requires piece { 0 < length piece.now }
+    ensures told { IfSome (L.told link.new) (λ after. IsSomeAnd (L.told link.old) (λ before.
+        (after.came ≡ before.came ++ handed result.0 into.new) × (after.written ≡ before.written ++ taken result.1 piece.now))) }
+    ensures same_place { L.place link.new ≡ L.place link.old }
+{
+    let got = link.read(into);
+    let put = link.write(piece);
+    (got, put)
+}
+
+/// What a node does: it takes a connection and gives it back, and one call is noted.
+fn take_and_give_back<N: Net>(net: &mut N) -> bool
+    ensures noted { IfSome (N.calls net.new) (λ after. IsSomeAnd (N.calls net.old) (λ before. length after ≡ length before + 1)) }
+{
+    match net.accept() {
+        Linked::Link(link) => {
+            net.done(link);
+            true
+        }
+        Linked::Failed => false,
+    }
+}
+
+#[test]
+fn links_cut_fail_and_end(rt: HostRuntime) -> Result<(), Fail> {
+    let alloc = rt.alloc();
+    let mut link = MemLink::new(alloc, b"hello", 3, &[2], 4, 5)?;
+    let mut into = [0u8; 8];
+    assert_eq!(rt; link.read(&mut into), Got::Bytes(3));
+    assert_eq!(rt; &into[..3], b"hel".as_slice());
+    assert_eq!(rt; link.read(&mut into), Got::Failed);
+    assert_eq!(rt; link.read(&mut into), Got::Bytes(2));
+    assert_eq!(rt; &into[..2], b"lo".as_slice());
+    assert_eq!(rt; link.read(&mut into), Got::End);
+    assert_eq!(rt; link.write(b"abcd"), Put::Took(3));
+    assert_eq!(rt; link.write(b"de"), Put::Failed);
+    assert_eq!(rt; link.read(&mut into), Got::Failed);
+    assert_eq!(rt; link.faults(), 3);
+    Ok(())
+}
+
+#[test]
+fn closed_links_fail(rt: HostRuntime) -> Result<(), Fail> {
+    let mut into = [0u8; 4];
+    let mut link = MemLink::new(rt.alloc(), b"abc", 2, &[], 8, 4)?;
+    link.close();
+    assert_eq!(rt;
+        read_and_write(&mut link, &mut into, b"x"),
+        (Got::Failed, Put::Failed)
+    );
+    Ok(())
+}
+
+/// What a call of a net came to.
+fn kind_of(call: &NetCall) -> &'static str {
+    match call {
+        NetCall::Listen { port: 443, .. } => "listens",
+        NetCall::Accept { outcome } => match outcome {
+            Outcome::Failed => "no link",
+            Outcome::Open => "open link",
+            Outcome::Done { told, .. } => told_of(told),
+        },
+        NetCall::Connect { port: 80, .. } => "connects",
+        _ => "another",
+    }
+}
+
+/// Whether a link came to what the exchange below makes of it.
+fn told_of(told: &LinkTold) -> &'static str {
+    let is_right = told.came() == b"ab".as_slice()
+        && told.left() == b"c".as_slice()
+        && told.written() == b"xy".as_slice()
+        && told.reads().len() == 1;
+    if is_right { "right" } else { "wrong" }
+}
+
+/// A connection is taken, read from, written to and given back.
+fn exchange(net: &mut MemNet) -> (Got, Put) {
+    let mut into = [0u8; 4];
+    match net.accept() {
+        Linked::Link(link) => {
+            let mut link = link;
+            let both = read_and_write(&mut link, &mut into, b"xyz");
+            link.close();
+            net.done(link);
+            both
+        }
+        Linked::Failed => (Got::Failed, Put::Failed),
+    }
+}
+
+#[test]
+fn nets_note_their_calls(rt: HostRuntime) -> Result<(), Fail> {
+    let alloc = rt.alloc();
+    let mut links = Vec::new(alloc);
+    links.push(MemLink::new(alloc, b"abc", 2, &[], 8, 4)?)?;
+    let mut net = MemNet::new(alloc, links, &[4], 8)?;
+    assert_eq!(rt; net.listen(443), Act::Ready);
+    assert_eq!(rt; exchange(&mut net), (Got::Bytes(2), Put::Took(2)));
+    assert!(rt; !take_and_give_back(&mut net));
+    assert!(rt; matches!(net.connect(80), Linked::Failed));
+    assert_eq!(rt; net.faults(), 2);
+    let wanted = ["listens", "right", "no link", "connects"];
+    assert_eq!(rt; net.calls().len(), wanted.len());
+    for (call, want) in net.calls().iter().zip(wanted) {
+        assert_eq!(rt; kind_of(call), want);
+    }
+    Ok(())
+}
+
+#[test]
+fn clocks_go_on_with_their_last_moment(rt: HostRuntime) -> Result<(), Fail> {
+    let mut clock = ListClock::new(rt.alloc(), &[Moment::new(7), Moment::new(9)])?;
+    for seconds in [7, 9, 9] {
+        assert_eq!(rt; clock.now().seconds(), seconds);
+    }
+    Ok(())
+}
+
+/// A reader and writer that fails, but takes one byte at a time where `is_short`. It passes on at a flush alone.
+#[derive(Debug, Drop)]
+struct Odd {
+    is_short: bool,
+    fails_flush: bool,
+    held: u64,
+    passed: u64,
+}
+
+impl Read for Odd {
+    fn read(&mut self, _into: &mut [u8]) -> io::Result<usize> {
+        Err(io::Error::from(ErrorKind::BrokenPipe))
+    }
+}
+
+impl Write for Odd {
+    fn write(&mut self, piece: &[u8]) -> io::Result<usize> {
+        if self.is_short && !piece.is_empty() {
+            self.held = self.held.saturating_add(1);
+            Ok(1)
+        } else {
+            Err(io::Error::from(ErrorKind::BrokenPipe))
+        }
+    }
+
+    fn flush(&mut self) -> io::Result<()> {
+        if self.fails_flush {
+            return Err(io::Error::from(ErrorKind::BrokenPipe));
+        }
+        self.passed = self.passed.saturating_add(self.held);
+        self.held = 0;
+        Ok(())
+    }
+}
+
+fn make_odd(is_short: bool, fails_flush: bool) -> Odd {
+    Odd {
+        is_short,
+        fails_flush,
+        held: 0,
+        passed: 0,
+    }
+}
+
+#[test]
+fn objects_of_std_that_fail(rt: HostRuntime) -> Result<(), Fail> {
+    let mut into = [0u8; 4];
+    let mut source = ReadSource::new(make_odd(true, false));
+    assert_eq!(rt; source.read(&mut into), Got::Failed);
+    assert_eq!(rt; source.faults(), 1);
+    let mut source = ReadSource::new(b"".as_slice());
+    assert_eq!(rt; source.read(&mut into), Got::End);
+    assert_eq!(rt; source.faults(), 0);
+    let mut sink = WriteSink::new(make_odd(false, false));
+    assert_eq!(rt; sink.write(b"abc"), Put::Failed);
+    assert_eq!(rt; sink.faults(), 1);
+    let mut sink = WriteSink::new(make_odd(true, true));
+    assert_eq!(rt; sink.write(b"abc"), Put::Failed);
+    let mut sink = WriteSink::new(make_odd(true, false));
+    assert_eq!(rt; sink.write(b"abc"), Put::Took(1));
+    assert_eq!(rt; sink.write(b"bc"), Put::Took(1));
+    assert_eq!(rt; sink.faults(), 0);
+    assert_eq!(rt; sink.into_inner().passed, 2);
+    Ok(())
+}
+
+#[test]
+fn files_are_read_by_name(rt: HostRuntime) -> Result<(), Fail> {
+    let alloc = rt.alloc();
+    let mut files = Vec::new(alloc);
+    let name = Octets::copy(alloc, b"ring")?;
+    let contents = Octets::copy(alloc, b"key")?;
+    files.push(NamedFile { name, contents })?;
+    let mut files = MemFiles::new(alloc, files, &[3], 4)?;
+    assert!(rt;
+        matches!(files.read(alloc, "ring"), FileGot::Contents(text) if text.as_slice() == b"key".as_slice())
+    );
+    assert!(rt; matches!(files.read(alloc, "other"), FileGot::Failed));
+    assert!(rt; matches!(files.read(alloc, "ring"), FileGot::Failed));
+    let name = "mt_edge_file.tmp";
+    fs::write(&rt, name, b"key".as_slice())?;
+    let mut files = DiskFiles::new(&rt);
+    assert!(rt;
+        matches!(files.read(alloc, name), FileGot::Contents(text) if text.as_slice() == b"key".as_slice())
+    );
+    let long = vec![in alloc; 7u8; 1_048_577]?;
+    fs::write(&rt, name, long.as_slice())?;
+    assert!(rt; matches!(files.read(alloc, name), FileGot::Failed));
+    fs::remove_file(&rt, name)?;
+    assert!(rt; matches!(files.read(alloc, name), FileGot::Failed));
+    Ok(())
+}
+
+/// Listens on the first of some ports that isn't taken.
+fn free_port<N: Net>(net: &mut N) -> Option<u16> {
+    for port in 42_600..42_700 {
+        if net.listen(port) == Act::Ready {
+            return Some(port);
+        }
+    }
+    None
+}
+
+#[test]
+fn sockets_of_this_machine(rt: HostRuntime) -> Result<(), Fail> {
+    let mut net = TcpNet::new(&rt);
+    let Some(port) = free_port(&mut net) else {
+        return Err("no free port".into());
+    };
+    let mut other = TcpNet::new(&rt);
+    assert_eq!(rt; other.listen(port), Act::Failed);
+    let (Linked::Link(mut near), Linked::Link(mut far)) = (other.connect(port), net.accept()) else {
+        return Err("no connection".into());
+    };
+    let mut into = [0u8; 4];
+    assert_eq!(rt; near.write(b"abc"), Put::Took(3));
+    assert_eq!(rt; far.read(&mut into), Got::Bytes(3));
+    assert_eq!(rt; &into[..3], b"abc".as_slice());
+    assert_eq!(rt; far.write(b"de"), Put::Took(2));
+    assert_eq!(rt; near.read(&mut into), Got::Bytes(2));
+    net.done(far);
+    assert_eq!(rt; near.read(&mut into), Got::End);
+    other.done(near);
+    Ok(())
+}
+
+#[test]
+fn the_clock_of_this_machine(rt: HostRuntime) {
+    let mut clock = SystemClock::new(&rt);
+    let first = clock.now();
+    assert!(rt; first.seconds() > 1_600_000_000 && clock.now() >= first);
+}

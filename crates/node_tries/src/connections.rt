@@ -1,0 +1,107 @@
+//! One connection over memory.
+
+ghost use Rattle.std.specs.Prelude.{IsSome};
+ghost use Rattle.auth_keys.specs.Rings.{entry_of};
+
+use draws::StepDraw;
+use envelope::{Dir, Envelope, MtSeal, Seal};
+use msg_ids::Moment;
+use mt_edge::{Linked, ListClock, MemLink, MemNet, Net, NetCall, Outcome};
+use octets::{Memory, Octets};
+use regs_service::{Regs, Service};
+use server_core::{Plain, Server};
+use server_node::{Conn, ConnEnd, serve_one};
+use std::alloc::Global;
+use std::test::*;
+use test_keys::{KEY_ID, ring};
+
+// The call `add x 5`.
+const BODY: &[u8] = b"\x01\x2c\x1b\x0a\x01x\0\0\x05\0\0\0\0\0\0\0";
+
+// The call's packet under number 4 and seq 1 in session 9, with salt 0.
+fn sealed<S: Seal>(alloc: Global, seal: &S) -> Result<Octets, Memory>
+    requires { IsSome (entry_of KEY_ID (S.keys seal.now)) }
+{
+    let envelope = Envelope {
+        key: KEY_ID,
+        salt: 0,
+        session: 9,
+        number: 4,
+        seq: 1,
+        body: Octets::copy(alloc, BODY)?,
+    };
+    seal.seal(alloc, Dir::Up, &envelope, &mut StepDraw::new())
+}
+
+// What one connection brings: the start of the intermediate form, and that packet in a frame.
+fn brought(alloc: Global, seal: &MtSeal) -> Result<Octets, Fail> {
+    if !seal.has(KEY_ID) {
+        return Err(Fail::new("no key"));
+    }
+    let packet = sealed(alloc, seal)?;
+    let mut text = Octets::copy(alloc, b"\xee\xee\xee\xee\x58\0\0\0")?;
+    text.push_all(alloc, packet.as_slice())?;
+    Ok(text)
+}
+
+// What a connection that brings it came to over memory, where these calls of its link fail, and the net that it was of.
+fn served(alloc: Global, failing: &[u64]) -> Result<(ConnEnd, MemNet), Fail> {
+    let seal = MtSeal::new(ring(alloc, "perm")?);
+    let text = brought(alloc, &seal)?;
+    let mut links = Vec::new(alloc);
+    links.push(MemLink::new(alloc, text.as_slice(), 100, failing, 1_000, 10)?)?;
+    let mut net = MemNet::new(alloc, links, &[], 8)?;
+    let Linked::Link(link) = net.accept() else {
+        return Err(Fail::new("no link"));
+    };
+    let mut server = Server::new(alloc, seal);
+    let mut draw = StepDraw::new();
+    let mut desk = Plain {
+        server: &mut server,
+        draw: &mut draw,
+    };
+    let mut service = Regs::fresh(alloc);
+    let mut clock = ListClock::new(alloc, &[Moment::new(0)])?;
+    let conn = Conn::new(link);
+    let (link, end) = serve_one(alloc, conn, &mut desk, &mut service, &mut clock, &mut None);
+    net.done(link);
+    Ok((end, net))
+}
+
+// What was written over the connection of a net.
+fn written(net: &MemNet) -> &[u8] {
+    match net.calls().first() {
+        Some(
+            NetCall::Accept {
+                outcome: Outcome::Done { told, .. },
+            },
+        ) => told.written(),
+        _ => &[],
+    }
+}
+
+// Whether these are two frames of the intermediate form, of 168 and 104 bytes.
+fn are_two_frames(text: &[u8]) -> bool {
+    text.len() == 280 && text.starts_with(b"\xa8\0\0\0") && text[172..].starts_with(b"\x68\0\0\0")
+}
+
+// A session's first packet is answered, and then its attach.
+#[test]
+fn a_session_is_answered_and_attached(rt: HostRuntime) -> Result<(), Fail> {
+    let (end, net) = served(rt.alloc(), &[])?;
+    assert_eq!(rt;
+        (end, are_two_frames(written(&net))),
+        (ConnEnd::Ended, true)
+    );
+    Ok(())
+}
+
+// A read, two writes of the answer, two of the attach, and a read that comes to the end: whichever fails ends it.
+#[test]
+fn each_call_that_fails_ends_it(rt: HostRuntime) -> Result<(), Fail> {
+    for call in 1..=7u64 {
+        let (end, _) = served(rt.alloc(), &[call])?;
+        assert_eq!(rt; end == ConnEnd::LinkFault, call <= 6);
+    }
+    Ok(())
+}

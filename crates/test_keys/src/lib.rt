@@ -1,0 +1,54 @@
+//! The authorisation key `00` to `ff` for tests of crates that need a key: its bytes, its identifier, and the ring that
+//! has it alone.
+#![tactic(auto)]
+
+ghost use Rattle.std.specs.Prelude.{◌≡◌, IfErr, IfOk};
+ghost use Rattle.std.specs.String.{string_bytes};
+ghost use Rattle.auth_keys.specs.KeyFile.{IsFaultOf, IsRingOf};
+ghost use Rattle.test_keys.specs.Lines.{from_0_to_255, line_of};
+
+use auth_keys::{KeyFault, Ring};
+use std::alloc::{AllocError, Global};
+
+/// The identifier of the key `00` to `ff`: bytes 12 to 19 of its SHA-1, by Python's hashlib.
+pub const KEY_ID: u64 = 0xc8df_57a4_6e58_d132;
+
+/// The 256 bytes of the key.
+pub fn bytes_from_0_to_255() -> [u8; 256]
+    ensures bytes { result ≡ from_0_to_255 }
+{
+    // The last one stands from the start.
+    let mut bytes = [u8::MAX; 256];
+    for byte in 0..u8::MAX {
+        bytes[usize::from(byte)] = byte;
+    }
+    bytes
+}
+
+/// The line of a key file that has these words, a blank and the digits of the key. The words are `perm`, or `temp` and the
+/// moment of expiry.
+///
+/// # Errors
+///
+/// Where there is no memory.
+pub fn line(alloc: Global, words: &str) -> Result<String, AllocError>
+    ensures line { IfOk result (λ line. string_bytes line ≡ line_of words.now) }
+{
+    let digits = hex::encode(alloc, bytes_from_0_to_255().as_slice())?;
+    format!(in alloc; "{words} {digits}")
+}
+
+/// The ring of a key file with that line alone.
+///
+/// # Errors
+///
+/// What `Ring::read` answers to that line; `Memory`.
+pub fn ring(alloc: Global, words: &str) -> Result<Ring, KeyFault>
+    ensures ring { IfOk result (IsRingOf (line_of words.now)) }
+    ensures fault { IfErr result (IsFaultOf (line_of words.now)) }
+{
+    match line(alloc, words) {
+        Ok(line) if u32::try_from(line.len()).is_ok() => Ring::read(alloc, line.as_bytes()),
+        _ => Err(KeyFault::Memory),
+    }
+}
