@@ -4,7 +4,7 @@ ghost use Rattle.std.specs.Prelude.{◌≡◌, ◌<◌, None, IfOk, IsSome};
 ghost use Rattle.auth_keys.specs.Rings.{entry_of};
 ghost use Rattle.client_core.specs.Keys.{keys_in};
 
-use client_core::{CallNo, CallState, Flush, Holder, OpeningClient};
+use client_core::{CallNo, CallState, Holder, OpeningClient};
 use client_node::{Batch, Plan, run_batch};
 use draws::{Draw, StepDraw};
 use envelope::MtSeal;
