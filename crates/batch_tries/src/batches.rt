@@ -151,6 +151,7 @@ fn ends(
 // What became of the first call.
 #[derive(Clone, Copy, Debug, PartialEq, Eq)]
 enum First {
+    Queued,
     Sent,
     Five,
     Other,
@@ -158,6 +159,7 @@ enum First {
 
 fn first_of(state: &CallState<'_>) -> First {
     match state {
+        CallState::Queued => First::Queued,
         CallState::Sent => First::Sent,
         CallState::Done(reply) if *reply == FIVE => First::Five,
         _ => First::Other,
@@ -248,7 +250,7 @@ fn end_at(alloc: Global, failing: u64) -> Result<(Batch, Option<u64>, First), Fa
 
 // Two writes, a read, a write and a read are reached.
 const ENDS: &str = "\
-1 LinkLost Some(1) Other\n\
+1 LinkLost Some(1) Queued\n\
 2 LinkLost Some(1) Sent\n\
 3 LinkLost Some(1) Sent\n\
 4 LinkLost Some(1) Sent\n\

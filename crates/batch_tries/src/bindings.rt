@@ -4,44 +4,24 @@ ghost use Rattle.std.specs.Prelude.{◌≡◌, None, Some, IfOk, IsSome};
 ghost use Rattle.auth_keys.specs.Rings.{entry_of};
 ghost use Rattle.client_core.specs.Keys.{keys_in};
 
-use auth_keys::Ring;
-use client_core::{BindState, OpenClient, OpeningClient};
+use client_core::{BindState, Flush, OpenClient, OpeningClient};
 use draws::StepDraw;
 use envelope::{MtSeal, Seal};
 use msg_ids::Moment;
 use std::alloc::Global;
 use std::test::*;
-use test_clients::{opened_by, told};
-use test_keys::{KEY_ID, bytes_from_0_to_255};
-
-// The identifier of the key `ff` to `00`: bytes 12 to 19 of its SHA-1, by Python's hashlib.
-const TEMP_ID: u64 = 0x134a_728f_0eb1_d196;
+use test_clients::{envelope_of, message_of, opened_by, told};
+use test_keys::{KEY_ID, TEMP_ID, both_keys};
 
 // The moment up to which the key `ff` to `00` is to be bound.
 const EXPIRES: u64 = 7200;
-
-// The ring of the permanent key `00` to `ff` and the temporary key `ff` to `00`.
-fn ring(alloc: Global) -> Result<Ring, Fail> {
-    let bytes = bytes_from_0_to_255();
-    let mut other = bytes;
-    other.reverse();
-    let (perm, temp) = (
-        hex::encode(alloc, bytes.as_slice())?,
-        hex::encode(alloc, other.as_slice())?,
-    );
-    let text = format!(in alloc; "perm {perm}\ntemp 7200 {temp}\n")?;
-    if u32::try_from(text.len()).is_err() {
-        return Err(Fail::new("too long"));
-    }
-    Ok(Ring::read(alloc, text.as_bytes())?)
-}
 
 // The seal of both keys.
 fn seal(alloc: Global) -> Result<MtSeal, Fail>
     ensures perm { IfOk result (λ seal. IsSome (entry_of KEY_ID seal)) }
     ensures temp { IfOk result (λ seal. IsSome (entry_of TEMP_ID seal)) }
 {
-    let seal = MtSeal::new(ring(alloc)?);
+    let seal = MtSeal::new(both_keys(alloc)?);
     if !seal.has(KEY_ID) || !seal.has(TEMP_ID) {
         return Err(Fail::new("no key"));
     }
@@ -59,25 +39,36 @@ fn temporary(alloc: Global, draw: &mut StepDraw) -> Result<OpeningClient, Fail>
     Ok(client)
 }
 
-// The same client, which asked for the binding by message 8.
-fn asking(alloc: Global, seal: &MtSeal) -> Result<OpenClient, Fail>
+// The same client, which asked for the binding by message 8, and what it sent then.
+fn asks(alloc: Global, seal: &MtSeal) -> Result<(OpenClient, Flush), Fail>
     requires perm { IsSome (entry_of KEY_ID seal.now) }
     requires temp { IsSome (entry_of TEMP_ID seal.now) }
-    ensures keys { IfOk result (λ client. keys_in client ≡ record { key = TEMP_ID; bound_to = Some (record { perm = KEY_ID; expires = EXPIRES }) }) }
+    ensures keys { IfOk result (λ asked. keys_in asked.0 ≡ record { key = TEMP_ID; bound_to = Some (record { perm = KEY_ID; expires = EXPIRES }) }) }
 {
     let mut draw = StepDraw::new();
     let client = temporary(alloc, &mut draw)?;
     let body = b"\x08\x09\xc2\x9e\x04\0\0\0\0\0\0\0\x09\0\0\0\0\0\0\0\x05\0\0\0\0\0\0\0";
     let mut client = opened_by(alloc, client, seal, TEMP_ID, (7, 1), body)?;
-    client.flush(alloc, Moment::new(0), seal, &mut draw);
-    Ok(client)
+    let flush = client.flush(alloc, Moment::new(0), seal, &mut draw);
+    Ok((client, flush))
 }
+
+// The messages of the container 12 up to the binding's constructor: the acknowledgement of 7, and 132 bytes.
+const ASKED: &[u8] = b"\xdc\xf8\xf1\x73\x02\0\0\0\
+    \x04\0\0\0\0\0\0\0\0\0\0\0\x14\0\0\0\x59\xb4\xd6\x62\x15\xc4\xb5\x1c\x01\0\0\0\x07\0\0\0\0\0\0\0\
+    \x08\0\0\0\0\0\0\0\x01\0\0\0\x84\0\0\0\x05\x2a\xd4\xcd";
 
 #[test]
 fn a_binding_is_asked_for_before_any_call(rt: HostRuntime) -> Result<(), Fail> {
     let seal = seal(rt.alloc())?;
-    let client = asking(rt.alloc(), &seal)?;
+    let (client, flush) = asks(rt.alloc(), &seal)?;
     assert_eq!(rt; client.binding(), Some(BindState::Asked(8)));
+    let sent = message_of(envelope_of(rt.alloc(), &seal, flush)?)?;
+    assert_eq!(rt;
+        (sent.named(), sent.body.as_slice().len()),
+        ((5, 12, 2), 192)
+    );
+    assert!(rt; sent.body.as_slice().starts_with(ASKED));
     Ok(())
 }
 
@@ -86,7 +77,7 @@ fn bound_by(alloc: Global, seal: &MtSeal, body: &[u8]) -> Result<Option<BindStat
     requires perm { IsSome (entry_of KEY_ID seal.now) }
     requires temp { IsSome (entry_of TEMP_ID seal.now) }
 {
-    let client = asking(alloc, seal)?;
+    let (client, _) = asks(alloc, seal)?;
     let client = told(alloc, client, seal, TEMP_ID, (9, 2), body)?;
     Ok(client.binding())
 }

@@ -11,7 +11,7 @@ use msg_ids::Moment;
 use octets::{Memory, Octets};
 use std::alloc::Global;
 use std::test::*;
-use test_clients::{Said, opened, said, seal, sent_again, told};
+use test_clients::{Said, envelope_of, message_of, seal, sent_again, told};
 use test_keys::KEY_ID;
 
 // The number of a message of the server, counted from 0.
@@ -51,7 +51,7 @@ fn acknowledges(alloc: Global) -> Result<Said, Fail> {
     let client = sent_again(alloc, &seal, &mut draw)?;
     let mut client = hears_8193(alloc, client, &seal)?;
     let flush = client.flush(alloc, Moment::new(0), &seal, &mut draw);
-    said(opened(alloc, &seal, flush)?)
+    message_of(envelope_of(alloc, &seal, flush)?)
 }
 
 // `msgs_ack` of the messages from one of these on, up to another.
@@ -66,10 +66,10 @@ fn acknowledgement(alloc: Global, from: u32, to: u32) -> Result<Octets, Memory> 
 
 #[test]
 fn the_oldest_of_8193_acknowledgements_is_dropped(rt: HostRuntime) -> Result<(), Fail> {
-    let (named, body) = acknowledges(rt.alloc())?;
-    assert_eq!(rt; named, (5, 20, 4));
+    let sent = acknowledges(rt.alloc())?;
+    assert_eq!(rt; sent.named(), (5, 20, 4));
     let due = acknowledgement(rt.alloc(), 1, 8193)?;
-    assert!(rt; body.as_slice() == due.as_slice());
+    assert!(rt; sent.body.as_slice() == due.as_slice());
     Ok(())
 }
 
@@ -93,14 +93,14 @@ fn sends_behind(alloc: Global, count: u8) -> Result<Option<Envelope>, Fail> {
     let notice = b"\x11\xf8\xef\xa7\x10\0\0\0\0\0\0\0\x04\0\0\0\x40\0\0\0";
     let mut client = told(alloc, client, &seal, KEY_ID, (17, 2), notice)?;
     let flush = client.flush(alloc, Moment::new(0), &seal, &mut draw);
-    opened(alloc, &seal, flush)
+    envelope_of(alloc, &seal, flush)
 }
 
 #[test]
 fn the_64th_packet_is_remembered_too(rt: HostRuntime) -> Result<(), Fail> {
-    let (named, body) = said(sends_behind(rt.alloc(), 63)?)?;
-    assert_eq!(rt; named, (5, 12, 3));
-    assert_eq!(rt; body.as_slice(), [1, 0, 0, 0].as_slice());
+    let sent = message_of(sends_behind(rt.alloc(), 63)?)?;
+    assert_eq!(rt; sent.named(), (5, 12, 3));
+    assert_eq!(rt; sent.body.as_slice(), [1, 0, 0, 0].as_slice());
     Ok(())
 }
 

@@ -57,7 +57,7 @@ fn answer_to_ping(alloc: Global, seal: &MtSeal) -> Result<Octets, Fail>
     requires key { IsSome (entry_of KEY_ID seal.now) }
 {
     let mut server = Server::new(alloc, MtSeal::new(ring(alloc, "perm")?));
-    let mut client = submitted(alloc, &mut StepDraw::new(), false)?;
+    let mut client = submitted(alloc, &mut StepDraw::new())?;
     let first = first_answer_to(alloc, &mut server, &mut client, seal)?;
     let mut client = opens(client.on_packet(alloc, Moment::new(0), seal, first.as_slice()))?;
     answer_to(alloc, &mut server, &mut client, seal)?;

@@ -288,7 +288,7 @@ fn one_sent(alloc: Global) -> Result<(Calls, bool), Fail> {
     Ok((calls, sent))
 }
 
-// A message is sent under 0, 5, 0 and 6.
+// A message that was sent under 0 is sent under 0, 5, 0, 6 and 5.
 #[test]
 fn salts_of_a_name(rt: HostRuntime) -> Result<(), Fail> {
     let alloc = rt.alloc();

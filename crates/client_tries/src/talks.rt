@@ -11,7 +11,8 @@ use msg_ids::Moment;
 use std::alloc::Global;
 use std::test::*;
 use test_clients::{
-    SESSION, Said, answered, calls, down, opened, said, seal, sends, sent_again, told,
+    SESSION, Said, answered, envelope_of, message_of, packet_down, seal, sends, sent_again,
+    submits, told,
 };
 use test_keys::KEY_ID;
 
@@ -23,15 +24,17 @@ fn a_call_goes_again_under_the_right_salt(rt: HostRuntime) -> Result<(), Fail> {
     let (alloc, mut draw) = (rt.alloc(), StepDraw::new());
     let seal = seal(alloc)?;
     let mut client = answered(alloc, &seal, &mut draw)?;
-    let (named, body) = sends(alloc, &mut client, &seal, &mut draw)?;
-    assert_eq!(rt; named, (5, 16, 4));
+    let sent = sends(alloc, &mut client, &seal, &mut draw)?;
+    assert_eq!(rt; sent.named(), (5, 16, 4));
     assert_eq!(rt;
-        body.as_slice(),
+        sent.body.as_slice(),
         b"\xdc\xf8\xf1\x73\x02\0\0\0\
         \x08\0\0\0\0\0\0\0\x02\0\0\0\x14\0\0\0\x59\xb4\xd6\x62\x15\xc4\xb5\x1c\x01\0\0\0\x07\0\0\0\0\0\0\0\
         \x0c\0\0\0\0\0\0\0\x03\0\0\0\x04\0\0\0\x01\0\0\0"
             .as_slice()
     );
+    let next = client.flush(alloc, Moment::new(0), &seal, &mut draw);
+    assert!(rt; envelope_of(alloc, &seal, next)?.is_none());
     Ok(())
 }
 
@@ -42,7 +45,7 @@ fn with_two_calls<D: Draw>(alloc: Global, seal: &MtSeal, draw: &mut D) -> Result
     ensures calls { IfOk result (λ client. length client.calls.rows ≡ 2) }
 {
     let mut client = sent_again(alloc, seal, draw)?;
-    calls(alloc, &mut client, &[3, 0, 0, 0])?;
+    submits(alloc, &mut client, &[3, 0, 0, 0])?;
     client.flush(alloc, Moment::new(0), seal, draw);
     Ok(client)
 }
@@ -56,7 +59,7 @@ fn with_three_calls<D: Draw>(alloc: Global, seal: &MtSeal, draw: &mut D) -> Resu
     let client = with_two_calls(alloc, seal, draw)?;
     let body = b"\x11\xf8\xef\xa7\x14\0\0\0\0\0\0\0\x05\0\0\0\x11\0\0\0";
     let mut client = told(alloc, client, seal, KEY_ID, (17, 2), body)?;
-    calls(alloc, &mut client, &[4, 0, 0, 0])?;
+    submits(alloc, &mut client, &[4, 0, 0, 0])?;
     Ok(client)
 }
 
@@ -105,15 +108,15 @@ fn renewed_sends(alloc: Global, now: Moment) -> Result<Said, Fail> {
     let seal = seal(alloc)?;
     let mut client = renewed(alloc, &seal)?;
     let flush = client.flush(alloc, now, &seal, &mut StepDraw::new());
-    said(opened(alloc, &seal, flush)?)
+    message_of(envelope_of(alloc, &seal, flush)?)
 }
 
 #[test]
 fn the_first_packet_of_a_renewed_client(rt: HostRuntime) -> Result<(), Fail> {
-    let (named, body) = renewed_sends(rt.alloc(), Moment::new(0))?;
-    assert_eq!(rt; named, (0, 12, 4));
+    let sent = renewed_sends(rt.alloc(), Moment::new(0))?;
+    assert_eq!(rt; sent.named(), (0, 12, 4));
     assert_eq!(rt;
-        body.as_slice(),
+        sent.body.as_slice(),
         b"\xdc\xf8\xf1\x73\x02\0\0\0\
         \x04\0\0\0\0\0\0\0\x01\0\0\0\x04\0\0\0\x03\0\0\0\
         \x08\0\0\0\0\0\0\0\x03\0\0\0\x04\0\0\0\x04\0\0\0"
@@ -125,10 +128,10 @@ fn the_first_packet_of_a_renewed_client(rt: HostRuntime) -> Result<(), Fail> {
 // The server's moment was 0 at the client's 0, so numbers begin at 7 times 2^32.
 #[test]
 fn the_first_packet_of_a_renewed_client_at_7(rt: HostRuntime) -> Result<(), Fail> {
-    let (named, body) = renewed_sends(rt.alloc(), Moment::new(7))?;
-    assert_eq!(rt; named, (0, 30_064_771_080, 4));
+    let sent = renewed_sends(rt.alloc(), Moment::new(7))?;
+    assert_eq!(rt; sent.named(), (0, 30_064_771_080, 4));
     assert_eq!(rt;
-        body.as_slice(),
+        sent.body.as_slice(),
         b"\xdc\xf8\xf1\x73\x02\0\0\0\
         \0\0\0\0\x07\0\0\0\x01\0\0\0\x04\0\0\0\x03\0\0\0\
         \x04\0\0\0\x07\0\0\0\x03\0\0\0\x04\0\0\0\x04\0\0\0"
@@ -196,10 +199,10 @@ fn sends_by(alloc: Global, wish: Wish) -> Result<Said, Fail> {
 
 #[test]
 fn a_tick_asks_for_the_state_of_the_call(rt: HostRuntime) -> Result<(), Fail> {
-    let (named, body) = sends_by(rt.alloc(), Wish::Tick)?;
-    assert_eq!(rt; named, (5, 20, 4));
+    let sent = sends_by(rt.alloc(), Wish::Tick)?;
+    assert_eq!(rt; sent.named(), (5, 20, 4));
     assert_eq!(rt;
-        body.as_slice(),
+        sent.body.as_slice(),
         b"\x52\xfb\x69\xda\x15\xc4\xb5\x1c\x01\0\0\0\x0c\0\0\0\0\0\0\0".as_slice()
     );
     Ok(())
@@ -207,10 +210,10 @@ fn a_tick_asks_for_the_state_of_the_call(rt: HostRuntime) -> Result<(), Fail> {
 
 #[test]
 fn a_ping_goes(rt: HostRuntime) -> Result<(), Fail> {
-    let (named, body) = sends_by(rt.alloc(), Wish::Ping)?;
-    assert_eq!(rt; named, (5, 20, 4));
+    let sent = sends_by(rt.alloc(), Wish::Ping)?;
+    assert_eq!(rt; sent.named(), (5, 20, 4));
     assert_eq!(rt;
-        body.as_slice(),
+        sent.body.as_slice(),
         b"\xec\x77\xbe\x7a\x4d\0\0\0\0\0\0\0".as_slice()
     );
     Ok(())
@@ -218,18 +221,21 @@ fn a_ping_goes(rt: HostRuntime) -> Result<(), Fail> {
 
 #[test]
 fn salts_are_asked_for(rt: HostRuntime) -> Result<(), Fail> {
-    let (named, body) = sends_by(rt.alloc(), Wish::Salts)?;
-    assert_eq!(rt; named, (5, 20, 5));
-    assert_eq!(rt; body.as_slice(), b"\x04\xbd\x21\xb9\x03\0\0\0".as_slice());
+    let sent = sends_by(rt.alloc(), Wish::Salts)?;
+    assert_eq!(rt; sent.named(), (5, 20, 5));
+    assert_eq!(rt;
+        sent.body.as_slice(),
+        b"\x04\xbd\x21\xb9\x03\0\0\0".as_slice()
+    );
     Ok(())
 }
 
 #[test]
 fn an_answer_is_to_be_dropped(rt: HostRuntime) -> Result<(), Fail> {
-    let (named, body) = sends_by(rt.alloc(), Wish::Drop)?;
-    assert_eq!(rt; named, (5, 20, 5));
+    let sent = sends_by(rt.alloc(), Wish::Drop)?;
+    assert_eq!(rt; sent.named(), (5, 20, 5));
     assert_eq!(rt;
-        body.as_slice(),
+        sent.body.as_slice(),
         b"\x40\xa7\xe4\x58\x0c\0\0\0\0\0\0\0".as_slice()
     );
     Ok(())
@@ -237,9 +243,9 @@ fn an_answer_is_to_be_dropped(rt: HostRuntime) -> Result<(), Fail> {
 
 #[test]
 fn a_call_goes_again_under_its_number(rt: HostRuntime) -> Result<(), Fail> {
-    let (named, body) = sends_by(rt.alloc(), Wish::Attach)?;
-    assert_eq!(rt; named, (5, 12, 3));
-    assert_eq!(rt; body.as_slice(), [1, 0, 0, 0].as_slice());
+    let sent = sends_by(rt.alloc(), Wish::Attach)?;
+    assert_eq!(rt; sent.named(), (5, 12, 3));
+    assert_eq!(rt; sent.body.as_slice(), [1, 0, 0, 0].as_slice());
     Ok(())
 }
 
@@ -318,7 +324,7 @@ fn told_of(alloc: Global, count: u16) -> Result<OpenStep, Fail> {
         let body = new_session(10 + u64::from(k));
         client = told(alloc, client, &seal, KEY_ID, (number, 1), &body)?;
     }
-    let packet = down(alloc, &seal, KEY_ID, SESSION, (17, 1), &new_session(9999))?;
+    let packet = packet_down(alloc, &seal, KEY_ID, SESSION, (17, 1), &new_session(9999))?;
     Ok(client.on_packet(alloc, Moment::new(0), &seal, packet.as_slice()))
 }
 

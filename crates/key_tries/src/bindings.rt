@@ -3,25 +3,21 @@
 ghost use Rattle.std.specs.Prelude.{◌≡◌, ◌<◌, ◌^◌, length, Ok, IsTrue, IfOk};
 ghost use Rattle.temp_keys.specs.Checking.{IsPermanent, is_temporary};
 
-use auth_keys::{AuthKey, KeyFault, Ring};
+use auth_keys::{AuthKey, Ring};
 use draws::{Draw, StepDraw};
 use msg_ids::Moment;
 use octets::{Memory, Octets};
 use std::alloc::Global;
 use std::test::Fail;
 use temp_keys::{BindFault, Binding, Bound, Inner, InnerField, bind_message, check};
-
-// The keys `00` to `ff` and `ff` to `00`, by their identifiers.
-const PERM: u64 = 0xc8df_57a4_6e58_d132;
-
-const TEMP: u64 = 0x134a_728f_0eb1_d196;
+use test_keys::{KEY_ID, TEMP_ID, both_keys, bytes_from_0_to_255};
 
 const NUMBER: u64 = 0x65a1_b2c3_d4e5_f608;
 
 const INNER: Inner = Inner {
     nonce: 0x0123_4567_89ab_cdef,
-    temp: TEMP,
-    perm: PERM,
+    temp: TEMP_ID,
+    perm: KEY_ID,
     session: 0xfedc_ba98_7654_3210,
     expires: 7_200,
 };
@@ -39,37 +35,11 @@ const MESSAGE: [u8; 104] = [
     0x3c, 0xfb, 0xd3, 0x4b, 0x60, 0xe3, 0xf6, 0xfb,
 ];
 
-// The ring of the permanent key `00` to `ff` and the temporary key `ff` to `00`, which expires at 7,200.
-fn ring(alloc: Global) -> Result<Ring, KeyFault> {
-    let mut up = String::new(alloc);
-    let mut down = String::new(alloc);
-    for byte in 0..=255u8 {
-        let digits = format!(in alloc; "{byte:02x}").map_err(|_| KeyFault::Memory)?;
-        up.push_str(&digits).map_err(|_| KeyFault::Memory)?;
-        let digits = format!(in alloc; "{:02x}", 255 - byte).map_err(|_| KeyFault::Memory)?;
-        down.push_str(&digits).map_err(|_| KeyFault::Memory)?;
-    }
-    let text = format!(in alloc; "perm {up}\ntemp 7200 {down}\n").map_err(|_| KeyFault::Memory)?;
-    if u32::try_from(text.len()).is_err() {
-        return Err(KeyFault::Memory);
-    }
-    Ring::read(alloc, text.as_bytes())
-}
-
-// The key `00` to `ff`.
-fn up() -> [u8; 256] {
-    let mut bytes = [0; 256];
-    for byte in 0..=255u8 {
-        bytes[usize::from(byte)] = byte;
-    }
-    bytes
-}
-
 #[test]
 fn message_made_outside(rt: HostRuntime) -> Result<(), Fail> {
     let message = bind_message(
         rt.alloc(),
-        &AuthKey::new(&up()),
+        &AuthKey::new(&bytes_from_0_to_255()),
         NUMBER,
         &INNER,
         &mut StepDraw::new(),
@@ -91,16 +61,16 @@ struct Row {
 }
 
 const BOUND: Bound = Bound {
-    temp: TEMP,
-    perm: PERM,
+    temp: TEMP_ID,
+    perm: KEY_ID,
     expires: 7_200,
 };
 
 const TAKEN: Row = Row {
-    perm: PERM,
+    perm: KEY_ID,
     number: NUMBER,
     nonce: INNER.nonce,
-    temp: TEMP,
+    temp: TEMP_ID,
     session: INNER.session,
     expires: 7_200,
     now: 7_199,
@@ -113,7 +83,7 @@ fn differs(which: InnerField) -> Result<Bound, BindFault> {
 
 #[test]
 fn calls_and_their_answers(rt: HostRuntime) -> Result<(), Fail> {
-    let ring = ring(rt.alloc())?;
+    let ring = both_keys(rt.alloc())?;
     let rows = [
         TAKEN,
         Row {
@@ -122,7 +92,7 @@ fn calls_and_their_answers(rt: HostRuntime) -> Result<(), Fail> {
             ..TAKEN
         },
         Row {
-            perm: TEMP,
+            perm: TEMP_ID,
             answer: Err(BindFault::NoPerm),
             ..TAKEN
         },
@@ -139,7 +109,7 @@ fn calls_and_their_answers(rt: HostRuntime) -> Result<(), Fail> {
             ..TAKEN
         },
         Row {
-            temp: PERM,
+            temp: KEY_ID,
             answer: differs(InnerField::Temp),
             ..TAKEN
         },
@@ -185,7 +155,7 @@ fn calls_and_their_answers(rt: HostRuntime) -> Result<(), Fail> {
 #[test]
 fn other_messages(rt: HostRuntime) -> Result<(), Fail> {
     let alloc = rt.alloc();
-    let ring = ring(alloc)?;
+    let ring = both_keys(alloc)?;
     let mut longer = Octets::copy(alloc, &MESSAGE)?;
     longer.push_all(alloc, &[0])?;
     let mut messages = vec![in alloc; Octets::copy(alloc, &MESSAGE[..103])?, longer]?;
@@ -196,12 +166,19 @@ fn other_messages(rt: HostRuntime) -> Result<(), Fail> {
     }
     for message in messages {
         let binding = Binding {
-            perm: PERM,
+            perm: KEY_ID,
             nonce: INNER.nonce,
             expires: 7_200,
             message,
         };
-        let answer = check(&ring, Moment::new(0), TEMP, INNER.session, NUMBER, &binding);
+        let answer = check(
+            &ring,
+            Moment::new(0),
+            TEMP_ID,
+            INNER.session,
+            NUMBER,
+            &binding,
+        );
         assert_eq!(rt; answer, Err(BindFault::Seal));
     }
     Ok(())

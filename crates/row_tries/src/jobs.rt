@@ -65,6 +65,14 @@ fn number_of(job: Option<Job>) -> u64 {
     }
 }
 
+// The number of the ready job of this place, 0 where there is none.
+fn ready_number(jobs: &Jobs, place: usize) -> u64 {
+    match jobs.ready_at(place) {
+        Some(job) => job.number,
+        None => 0,
+    }
+}
+
 // Jobs 8 and 12, and 16 after both, are run as they get ready; 8 and 12 are answered in an order.
 fn runs_in_order(rt: &impl Abort, alloc: Global, first: u64, second: u64) -> Result<(), Fail> {
     let mut jobs = Jobs::new(alloc);
@@ -74,6 +82,8 @@ fn runs_in_order(rt: &impl Abort, alloc: Global, first: u64, second: u64) -> Res
     assert_eq!(rt; jobs.ready(), 2);
     assert_eq!(rt; jobs.load(1, 1), (3, 28));
     assert_eq!(rt; jobs.waiting(1, 1), 1);
+    assert_eq!(rt; (ready_number(&jobs, 0), ready_number(&jobs, 1)), (8, 12));
+    assert_eq!(rt; ready_number(&jobs, 2), 0);
     assert_eq!(rt; number_of(next(&mut jobs)), 8);
     assert_eq!(rt; number_of(next(&mut jobs)), 12);
     jobs.settle(1, 1, first, true);

@@ -41,3 +41,6 @@ pub(crate) const DROP_8: &[u8] = b"\x40\xa7\xe4\x58\x08\0\0\0\0\0\0\0";
 
 /// `rpc_drop_answer` of 12.
 pub(crate) const DROP_12: &[u8] = b"\x40\xa7\xe4\x58\x0c\0\0\0\0\0\0\0";
+
+/// `get_future_salts` of 2.
+pub(crate) const TWO_SALTS: &[u8] = b"\x04\xbd\x21\xb9\x02\0\0\0";

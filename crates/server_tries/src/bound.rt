@@ -1,9 +1,9 @@
 //! Calls under a temporary key, before and after it is bound (core.telegram.org/api/pfs).
 
 use crate::bodies::ADD_X_5;
-use crate::keys::TEMP_ID;
 use crate::played::{Event, says};
 use std::test::Fail;
+use test_keys::TEMP_ID;
 
 // `auth.bindTempAuthKey` of the keys of the ring, with the nonce 0123456789abcdef, for session 9, up to 7,200. The message
 // in it was made with Python over hashlib and OpenSSL 3, from the bytes 0 to 15 and 0 to 7. The first is for message 12, and

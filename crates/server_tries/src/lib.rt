@@ -11,9 +11,9 @@ mod drops;
 #[cfg(test)]
 mod great;
 #[cfg(test)]
-mod keys;
-#[cfg(test)]
 mod many;
+#[cfg(test)]
+mod moments;
 #[cfg(test)]
 mod orders;
 #[cfg(test)]

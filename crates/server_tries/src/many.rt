@@ -53,14 +53,14 @@ fn the_session_heard_least_recently_is_lost(rt: HostRuntime) -> Result<(), Fail>
     Ok(())
 }
 
-// The calls that a session made so far, each `add x 1`, and the number of its last message.
+// A session that calls `add x 1`: how many calls it made so far, and the number of its last message.
 #[derive(Drop)]
-struct Line {
+struct Caller {
     calls: u32,
     number: u64,
 }
 
-impl Line {
+impl Caller {
     // The number and the seq of a further call.
     fn call(&mut self) -> (u64, u32) {
         let seq = self.calls.saturating_mul(2).saturating_add(1);
@@ -87,14 +87,14 @@ impl Line {
 // What a further call gives where 4,096 are unfinished, as text.
 fn one_more(alloc: Global) -> Result<String, Fail> {
     let mut server = Played::new(alloc, KEY_ID)?;
-    let mut line = Line {
+    let mut caller = Caller {
         calls: 0,
         number: 4,
     };
     for count in [1_020, 1_020, 1_020, 1_020, 16] {
-        line.comes(alloc, &mut server, count)?;
+        caller.comes(alloc, &mut server, count)?;
     }
-    let (number, seq) = line.call();
+    let (number, seq) = caller.call();
     let effects = server.hears(alloc, SESSION, SALT, (number, seq, ADD_X_1))?;
     server.told(alloc, &effects)
 }

@@ -3,7 +3,6 @@
 ghost use Rattle.std.specs.Prelude.{IsTrue};
 ghost use Rattle.containers.specs.Container.{begins_container};
 
-use crate::keys::both_keys;
 use containers::{Parts, is_container};
 use draws::StepDraw;
 use envelope::{ClearSeal, Dir, Envelope, Opened, Seal};
@@ -14,6 +13,7 @@ use rows::Entry;
 use server_core::{Effects, Reply, Server};
 use std::alloc::Global;
 use std::test::Fail;
+use test_keys::both_keys;
 
 /// The first salt of the first session: the second word of a `StepDraw`.
 pub(crate) const SALT: u64 = 12_728_272_447_693_586_010;
@@ -142,16 +142,23 @@ impl Played {
     }
 
     /// What an event gave as text: its packets with their messages, its entries, and how many jobs are ready then of
-    /// how many.
+    /// how many. A packet or an entry that isn't the session's is told to be another's.
     pub(crate) fn told(&self, alloc: Global, effects: &Effects) -> Result<String, Fail> {
         let mut text = String::new(alloc);
         for out in effects.out.as_slice() {
             let packet = out.packet.as_slice();
             let envelope = opened(alloc, self.server.seal(), packet)?;
             tell_packet(alloc, &mut text, packet.len(), &envelope)?;
+            let named = (envelope.key, envelope.session, envelope.salt);
+            if (out.key, out.session) != (self.key, SESSION) || named != (self.key, SESSION, SALT) {
+                text.push_str("of another key, session or salt\n")?;
+            }
         }
         for entry in effects.entries.as_slice() {
             tell_entry(alloc, &mut text, entry)?;
+            if (entry.key, entry.session) != (self.key, SESSION) {
+                text.push_str("of another key or session\n")?;
+            }
         }
         let (ready, all) = (self.server.ready(), self.server.unfinished());
         text.push_str(format!(in alloc; "{ready} of {all} ready\n")?.as_str())?;

@@ -15,6 +15,9 @@ use test_keys::{KEY_ID, ring};
 // The call `add x 5`.
 const BODY: &[u8] = b"\x01\x2c\x1b\x0a\x01x\0\0\x05\0\0\0\0\0\0\0";
 
+// The first salt of the session: the second word of a `StepDraw`.
+const SALT: u64 = 12_728_272_447_693_586_010;
+
 // Its packet under number 4 and seq 1 in session 9, with salt 0.
 fn sealed<S: Seal>(alloc: Global, seal: &S) -> Result<Octets, Memory>
     requires { IsSome (entry_of KEY_ID (S.keys seal.now)) }
@@ -97,6 +100,11 @@ fn it_says_that_it_is_new_and_which_salt_is_right(rt: HostRuntime) -> Result<(),
         b"\xdc\xf8\xf1\x73\x02\0\0\0\x07\0\0\0\0\0\0\0\x01\0\0\0\x1c\0\0\0\x08\x09\xc2\x9e\x04\0\0\0\0\0\0\0\x2d\x7f\x95\x4c\x2d\xf4\x51\x58\x5a\xfe\x2a\x99\x5a\xe8\xa3\xb0\x09\0\0\0\0\0\0\0\x02\0\0\0\x1c\0\0\0\x7b\x44\xab\xed\x04\0\0\0\0\0\0\0\x01\0\0\0\x30\0\0\0\x5a\xfe\x2a\x99\x5a\xe8\xa3\xb0";
     let (server, reply) = heard(rt.alloc())?;
     let envelope = opened(rt.alloc(), server.seal(), first_packet(&reply))?;
+    assert_eq!(rt;
+        (envelope.key, envelope.salt, envelope.session),
+        (KEY_ID, SALT, 9)
+    );
+    assert_eq!(rt; (envelope.number, envelope.seq), (15, 2));
     assert_eq!(rt; envelope.body.as_slice(), body.as_slice());
     Ok(())
 }

@@ -74,19 +74,29 @@ fn what_a_session_says_first_has_its_names(rt: HostRuntime) -> Result<(), Fail> 
     Ok(())
 }
 
-// A session that has judged the call 4, and how many messages it judged.
-fn judged(alloc: Global) -> Result<(Standing, usize), Memory> {
-    let now = Moment::new(0);
-    let mut standing = Standing::new(alloc, now, KEY_ID, 9, 4, &mut StepDraw::new())?;
-    // The second word of the draw, 2 times its step.
+// A session that is heard first by the message 4.
+fn fresh(alloc: Global) -> Result<Standing, Memory> {
+    Standing::new(alloc, Moment::new(0), KEY_ID, 9, 4, &mut StepDraw::new())
+}
+
+// It judges its call of this place, counted from 1, whose number is 4 times that; how many messages that judged.
+fn judges(alloc: Global, standing: &mut Standing, call: u16) -> Result<usize, Memory> {
     let call = Outer {
-        number: 4,
-        seq: 1,
+        number: 4 * u64::from(call),
+        seq: (2 * u32::from(call)).saturating_sub(1),
+        // The second word of the draw, 2 times its step.
         salt: 12_728_272_447_693_586_010,
         body: Octets::copy(alloc, &[1, 2, 3, 4])?,
     };
-    let judged = standing.judges(alloc, now, &call)?;
-    Ok((standing, judged.as_slice().len()))
+    let judged = standing.judges(alloc, Moment::new(0), &call)?;
+    Ok(judged.as_slice().len())
+}
+
+// A session that has judged the call 4, and how many messages it judged.
+fn judged(alloc: Global) -> Result<(Standing, usize), Memory> {
+    let mut standing = fresh(alloc)?;
+    let count = judges(alloc, &mut standing, 1)?;
+    Ok((standing, count))
 }
 
 #[test]
@@ -108,11 +118,12 @@ fn answers(alloc: Global, standing: &mut Standing, call: u64) -> Result<usize, M
     Ok(owing.at(0).body.len())
 }
 
-// A session that has answered the calls 4, 8 and so on, so many, and whether each answer owed 16 bytes.
+// A session that has judged and answered the calls 4, 8 and so on, so many, and whether each answer owed 16 bytes.
 fn answered(alloc: Global, count: u16) -> Result<(Standing, bool), Memory> {
-    let (mut standing, _) = judged(alloc)?;
+    let mut standing = fresh(alloc)?;
     let mut is_short = true;
     for call in 1..=count {
+        judges(alloc, &mut standing, call)?;
         let bytes = answers(alloc, &mut standing, 4 * u64::from(call))?;
         is_short = is_short && bytes == 16;
     }

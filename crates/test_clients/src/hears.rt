@@ -5,7 +5,7 @@ ghost use Rattle.auth_keys.specs.Rings.{entry_of};
 ghost use Rattle.client_core.specs.Keys.{HasKeys, keys_in};
 ghost use Rattle.client_core.specs.Took.{open_left, opening_left};
 
-use crate::sends::{Said, opened, said, submitted};
+use crate::sends::{Said, envelope_of, message_of, submitted};
 use client_core::{OpenClient, OpenStep, OpeningClient, OpeningStep};
 use draws::{Draw, StepDraw};
 use envelope::{Dir, Envelope, MtSeal, Seal};
@@ -28,7 +28,7 @@ const ANSWER: &[u8] = b"\xdc\xf8\xf1\x73\x02\0\0\0\
 /// # Errors
 ///
 /// A body of more than 65,536 bytes or of a part of a word; no memory.
-pub fn down<S: Seal>(
+pub fn packet_down<S: Seal>(
     alloc: Global,
     seal: &S,
     key: u64,
@@ -86,7 +86,7 @@ pub fn stays(step: OpenStep) -> Result<OpenClient, Fail>
 ///
 /// # Errors
 ///
-/// Those of `down` and of `opens`.
+/// Those of `packet_down` and of `opens`.
 pub fn opened_by(
     alloc: Global,
     client: OpeningClient,
@@ -99,7 +99,7 @@ pub fn opened_by(
     ensures keys { IfOk result (λ now. keys_in now ≡ keys_in client) }
     ensures calls { IfOk result (λ now. length now.calls.rows ≡ length client.calls.rows) }
 {
-    let packet = down(alloc, seal, key, SESSION, named, body)?;
+    let packet = packet_down(alloc, seal, key, SESSION, named, body)?;
     opens(client.on_packet(alloc, Moment::new(0), seal, packet.as_slice()))
 }
 
@@ -107,7 +107,7 @@ pub fn opened_by(
 ///
 /// # Errors
 ///
-/// Those of `down` and of `stays`.
+/// Those of `packet_down` and of `stays`.
 pub fn told(
     alloc: Global,
     client: OpenClient,
@@ -120,7 +120,7 @@ pub fn told(
     ensures keys { IfOk result (λ now. keys_in now ≡ keys_in client) }
     ensures calls { IfOk result (λ now. length now.calls.rows ≡ length client.calls.rows) }
 {
-    let packet = down(alloc, seal, key, SESSION, named, body)?;
+    let packet = packet_down(alloc, seal, key, SESSION, named, body)?;
     stays(client.on_packet(alloc, Moment::new(0), seal, packet.as_slice()))
 }
 
@@ -129,7 +129,7 @@ pub fn told(
 /// # Errors
 ///
 /// Where it doesn't.
-pub fn calls(alloc: Global, client: &mut OpenClient, body: &[u8]) -> Result<(), Fail>
+pub fn submits(alloc: Global, client: &mut OpenClient, body: &[u8]) -> Result<(), Fail>
     ensures keys { keys_in client.new ≡ keys_in client.old }
     ensures calls { OnOk result (length client.new.calls.rows ≡ length client.old.calls.rows + 1) }
 {
@@ -149,13 +149,9 @@ pub fn answered<D: Draw>(alloc: Global, seal: &MtSeal, draw: &mut D) -> Result<O
     ensures keys { IfOk result (λ client. keys_in client ≡ record { key = KEY_ID; bound_to = None }) }
     ensures calls { IfOk result (λ client. length client.calls.rows ≡ 1) }
 {
-    let mut client = submitted(alloc, draw, false)?;
+    let mut client = submitted(alloc, draw)?;
     client.flush(alloc, Moment::new(0), seal, draw);
-    let client = opened_by(alloc, client, seal, KEY_ID, (15, 2), ANSWER)?;
-    if client.calls() != 1 {
-        return Err(Fail::new("it hasn't one call"));
-    }
-    Ok(client)
+    opened_by(alloc, client, seal, KEY_ID, (15, 2), ANSWER)
 }
 
 /// What an open client sends at moment 0.
@@ -174,7 +170,7 @@ pub fn sends<D: Draw>(
     ensures calls { length client.new.calls.rows ≡ length client.old.calls.rows }
 {
     let flush = client.flush(alloc, Moment::new(0), seal, draw);
-    said(opened(alloc, seal, flush)?)
+    message_of(envelope_of(alloc, seal, flush)?)
 }
 
 /// A client whose call is outstanding under number 12 and salt 5, since a container of number 16.

@@ -5,5 +5,9 @@
 mod hears;
 mod sends;
 
-pub use hears::{SESSION, answered, calls, down, opened_by, opens, sends, sent_again, stays, told};
-pub use sends::{ADD_X_5, Said, adds, opened, packet, said, seal, submitted};
+pub use hears::{
+    SESSION, answered, opened_by, opens, packet_down, sends, sent_again, stays, submits, told,
+};
+pub use sends::{
+    ADD_X_5, Said, adds, envelope_of, message_of, packet, seal, submitted, submitted_two,
+};

@@ -3,42 +3,19 @@
 ghost use Rattle.std.specs.Prelude.{◌≡◌, OnOk, ℕ};
 ghost use Rattle.worlds.specs.Keys.{HasWorldKeys};
 
-use auth_keys::Ring;
 use call_table::{CallNo, CallState};
 use client_core::Holder;
 use envelope::{ClearSeal, Seal};
 use regs_service::Regs;
 use std::alloc::Global;
 use std::test::*;
+use test_keys::{KEY_ID, TEMP_ID, both_keys};
 use worlds::World;
-
-/// The identifier of the key `00` to `ff`: bytes 12 to 19 of its SHA-1, by Python's hashlib.
-const PERMANENT: u64 = 14_474_384_091_129_631_026;
-
-/// That of the key `ff` to `00`, likewise.
-const TEMPORARY: u64 = 1_390_049_393_749_643_670;
-
-// The ring of both keys.
-fn ring(alloc: Global) -> Result<Ring, Fail> {
-    let mut up = [0; 256];
-    let mut down = [0; 256];
-    for byte in 0..=255u8 {
-        up[usize::from(byte)] = byte;
-        down[usize::from(255 - byte)] = byte;
-    }
-    let one = hex::encode(alloc, up.as_slice())?;
-    let other = hex::encode(alloc, down.as_slice())?;
-    let text = format!(in alloc; "perm {one}\ntemp 7200 {other}\n")?;
-    if u32::try_from(text.len()).is_err() {
-        return Err(Fail::new("too long"));
-    }
-    Ok(Ring::read(alloc, text.as_bytes())?)
-}
 
 // A new world.
 fn world(alloc: Global) -> Result<World<ClearSeal, Regs>, Fail> {
-    let seal = ClearSeal::new(ring(alloc)?);
-    if !seal.has(PERMANENT) || !seal.has(TEMPORARY) {
+    let seal = ClearSeal::new(both_keys(alloc)?);
+    if !seal.has(KEY_ID) || !seal.has(TEMP_ID) {
         return Err(Fail::new("no key"));
     }
     Ok(World::new(alloc, seal))

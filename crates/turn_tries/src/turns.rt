@@ -1,7 +1,7 @@
 //! Calls that wait for others, that are dropped while they are unfinished, and that come under a temporary key.
 
 use answers::Short;
-use auth_keys::{KeyFault, Ring};
+use auth_keys::Ring;
 use draws::{Draw, StepDraw};
 use inbox::{Judgement, Mark, Outer, Verdict};
 use msg_ids::Moment;
@@ -13,12 +13,8 @@ use standing::Standing;
 use std::alloc::Global;
 use std::test::Fail;
 use temp_keys::Binding;
+use test_keys::{KEY_ID, TEMP_ID, both_keys};
 use waits::Jobs;
-
-// The keys `00` to `ff` and `ff` to `00`, by their identifiers: bytes 12 to 19 of their SHA-1, by Python's hashlib.
-const PERM: u64 = 0xc8df_57a4_6e58_d132;
-
-const TEMP: u64 = 0x134a_728f_0eb1_d196;
 
 // The numbers of a binding call and its message under the key `00` to `ff`, made with Python over hashlib and OpenSSL 3.
 const SESSION: u64 = 0xfedc_ba98_7654_3210;
@@ -34,23 +30,6 @@ const MESSAGE: [u8; 104] = [
     0xd0, 0xe4, 0xf2, 0xda, 0x3a, 0x05, 0xba, 0x1a, 0x6a, 0xa8, 0x7d, 0xee, 0x50, 0x82, 0x41, 0xed,
     0x3c, 0xfb, 0xd3, 0x4b, 0x60, 0xe3, 0xf6, 0xfb,
 ];
-
-// The ring of the permanent key `00` to `ff` and the temporary key `ff` to `00`, which expires at 7,200.
-fn ring(alloc: Global) -> Result<Ring, KeyFault> {
-    let mut up = String::new(alloc);
-    let mut down = String::new(alloc);
-    for byte in 0..=255u8 {
-        let digits = format!(in alloc; "{byte:02x}").map_err(|_| KeyFault::Memory)?;
-        up.push_str(&digits).map_err(|_| KeyFault::Memory)?;
-        let digits = format!(in alloc; "{:02x}", 255 - byte).map_err(|_| KeyFault::Memory)?;
-        down.push_str(&digits).map_err(|_| KeyFault::Memory)?;
-    }
-    let text = format!(in alloc; "perm {up}\ntemp 7200 {down}\n").map_err(|_| KeyFault::Memory)?;
-    if u32::try_from(text.len()).is_err() {
-        return Err(KeyFault::Memory);
-    }
-    Ring::read(alloc, text.as_bytes())
-}
 
 // A message of this number and seq under the first salt, with the request that adds 1 to the register `x`.
 fn request(alloc: Global, number: u64, seq: u32) -> Result<Outer, Memory> {
@@ -71,7 +50,7 @@ fn request(alloc: Global, number: u64, seq: u32) -> Result<Outer, Memory> {
 // entries, how many jobs were ready and how many there were before, and how many there are afterwards.
 fn drops_a_call(alloc: Global, ring: &Ring) -> Result<(Entries, usize, usize, usize), Memory> {
     let now = Moment::new(0);
-    let mut standing = Standing::new(alloc, now, PERM, 9, 8, &mut StepDraw::new())?;
+    let mut standing = Standing::new(alloc, now, KEY_ID, 9, 8, &mut StepDraw::new())?;
     standing.judges(alloc, now, &request(alloc, 8, 1)?)?;
     standing.judges(alloc, now, &request(alloc, 12, 3)?)?;
     standing.judges(alloc, now, &request(alloc, 16, 5)?)?;
@@ -101,7 +80,7 @@ fn drops_a_call(alloc: Global, ring: &Ring) -> Result<(Entries, usize, usize, us
 #[test]
 fn a_dropped_call_takes_those_with_it_that_wait_for_it(rt: HostRuntime) -> Result<(), Fail> {
     let alloc = rt.alloc();
-    let (entries, ready, before, after) = drops_a_call(alloc, &ring(alloc)?)?;
+    let (entries, ready, before, after) = drops_a_call(alloc, &both_keys(alloc)?)?;
     assert_eq!(rt; (ready, before, after), (2, 3, 1));
     let entries = entries.as_slice();
     assert_eq!(rt; entries.len(), 2);
@@ -132,7 +111,7 @@ fn binds_a_key(
     message: &[u8],
 ) -> Result<(Entries, usize, bool), Memory> {
     let now = Moment::new(0);
-    let mut standing = Standing::new(alloc, now, TEMP, SESSION, 8, &mut StepDraw::new())?;
+    let mut standing = Standing::new(alloc, now, TEMP_ID, SESSION, 8, &mut StepDraw::new())?;
     standing.reserve(alloc, 3)?;
     let mut turn = Turn {
         owing: Owing::new(alloc, 3, 144)?,
@@ -145,7 +124,7 @@ fn binds_a_key(
     let first = CallDue::new(alloc, 8, &[], b"add")?;
     turn.accepts_call::<StepDraw>(now, &mut standing, &mut jobs, &bindings, ring, first);
     let binding = Binding {
-        perm: PERM,
+        perm: KEY_ID,
         nonce: 0x0123_4567_89ab_cdef,
         expires: 7_200,
         message: Octets::copy(alloc, message)?,
@@ -153,19 +132,19 @@ fn binds_a_key(
     turn.binds::<StepDraw>(now, &mut standing, &mut bindings, ring, NUMBER, &binding);
     let second = CallDue::new(alloc, 16, &[], b"add")?;
     turn.accepts_call::<StepDraw>(now, &mut standing, &mut jobs, &bindings, ring, second);
-    Ok((turn.entries, jobs.len(), bindings.is_bound(now, TEMP)))
+    Ok((turn.entries, jobs.len(), bindings.is_bound(now, TEMP_ID)))
 }
 
 #[test]
 fn calls_under_a_temporary_key_wait_for_its_binding(rt: HostRuntime) -> Result<(), Fail> {
     let alloc = rt.alloc();
-    let ring = ring(alloc)?;
+    let ring = both_keys(alloc)?;
     let (entries, jobs, bound) = binds_a_key(alloc, &ring, &MESSAGE)?;
     assert_eq!(rt; (entries.as_slice().len(), jobs, bound), (1, 1, true));
     let entry = &entries.as_slice()[0];
     assert_eq!(rt;
         (entry.key, entry.session, entry.number),
-        (TEMP, SESSION, 8)
+        (TEMP_ID, SESSION, 8)
     );
     assert_eq!(rt;
         (entry.ran, entry.reply.as_slice()),
