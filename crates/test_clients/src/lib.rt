@@ -2,12 +2,12 @@
 //! they send, and packets for them.
 #![tactic(auto)]
 
-mod hears;
-mod sends;
+mod hearing;
+mod sending;
 
-pub use hears::{
+pub use hearing::{
     SESSION, answered, opened_by, opens, packet_down, sends, sent_again, stays, submits, told,
 };
-pub use sends::{
+pub use sending::{
     ADD_X_5, Said, adds, envelope_of, message_of, packet, seal, submitted, submitted_two,
 };

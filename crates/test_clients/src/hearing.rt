@@ -5,7 +5,7 @@ ghost use Rattle.auth_keys.specs.Rings.{entry_of};
 ghost use Rattle.client_core.specs.Keys.{HasKeys, keys_in};
 ghost use Rattle.client_core.specs.Took.{open_left, opening_left};
 
-use crate::sends::{Said, envelope_of, message_of, submitted};
+use crate::sending::{Said, envelope_of, message_of, submitted};
 use client_core::{OpenClient, OpenStep, OpeningClient, OpeningStep};
 use draws::{Draw, StepDraw};
 use envelope::{Dir, Envelope, MtSeal, Seal};
