@@ -1,7 +1,8 @@
 //! What a server does with a session that it hears first, and how long a session keeps a reply.
 
-ghost use Rattle.std.specs.Prelude.{IsSome};
+ghost use Rattle.std.specs.Prelude.{IfOk, IsSome};
 ghost use Rattle.auth_keys.specs.Rings.{entry_of};
+ghost use Rattle.standing.specs.Standing.{IsAt};
 
 use draws::{Draw, StepDraw};
 use envelope::{Dir, MtSeal, Opened, Seal};
@@ -75,12 +76,17 @@ fn what_a_session_says_first_has_its_names(rt: HostRuntime) -> Result<(), Fail> 
 }
 
 // A session that is heard first by the message 4.
-fn fresh(alloc: Global) -> Result<Standing, Memory> {
+fn fresh(alloc: Global) -> Result<Standing, Memory>
+    ensures at { IfOk result (IsAt 0) }
+{
     Standing::new(alloc, Moment::new(0), KEY_ID, 9, 4, &mut StepDraw::new())
 }
 
 // It judges its call of this place, counted from 1, whose number is 4 times that; how many messages that judged.
-fn judges(alloc: Global, standing: &mut Standing, call: u16) -> Result<usize, Memory> {
+fn judges(alloc: Global, standing: &mut Standing, call: u16) -> Result<usize, Memory>
+    requires at { IsAt 0 standing.old }
+    ensures at { IsAt 0 standing.new }
+{
     let call = Outer {
         number: 4 * u64::from(call),
         seq: (2 * u32::from(call)).saturating_sub(1),
@@ -107,7 +113,10 @@ fn a_judged_call_waits(rt: HostRuntime) -> Result<(), Fail> {
 }
 
 // Answers a call by `boolTrue`, where there are numbers left, and says how many bytes that owes.
-fn answers(alloc: Global, standing: &mut Standing, call: u64) -> Result<usize, Memory> {
+fn answers(alloc: Global, standing: &mut Standing, call: u64) -> Result<usize, Memory>
+    requires at { IsAt 0 standing.old }
+    ensures at { IsAt 0 standing.new }
+{
     if standing.numbers_left() == 0 {
         return Ok(0);
     }
