@@ -4,7 +4,6 @@ ghost use Rattle.std.specs.Prelude.{◌≡◌, ◌<◌, None, IfOk, IsSome};
 ghost use Rattle.auth_keys.specs.Rings.{entry_of};
 ghost use Rattle.client_core.specs.Keys.{keys_in};
 
-use crate::pings::server;
 use client_core::{CallNo, CallState, Holder, OpeningClient};
 use client_node::{Batch, Plan, run_batch};
 use draws::{Draw, StepDraw};
@@ -18,7 +17,7 @@ use server_core::Server;
 use std::alloc::Global;
 use std::test::*;
 use test_clients::{adds, opens, packet, seal};
-use test_keys::KEY_ID;
+use test_keys::{KEY_ID, ring};
 use transport::Form;
 
 // The reply `value 5`.
@@ -98,7 +97,7 @@ fn server_bytes(alloc: Global, seal: &MtSeal, was_lost: bool) -> Result<(Vec<u8>
     ensures some { IfOk result (λ bytes. 0 < bytes.1) }
 {
     let (mut draw, mut words) = (StepDraw::new(), StepDraw::new());
-    let mut server = server(alloc)?;
+    let mut server = Server::new(alloc, MtSeal::new(ring(alloc, "perm")?));
     let mut bytes = Vec::new(alloc);
     let (client, sent) = sends_first(alloc, seal, was_lost, &mut draw)?;
     answers(alloc, &mut server, sent.as_slice(), &mut words, &mut bytes)?;

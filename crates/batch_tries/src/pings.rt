@@ -15,11 +15,6 @@ use std::test::*;
 use test_clients::{opens, packet, seal, submitted};
 use test_keys::{KEY_ID, ring};
 
-// A fresh server of the key `00` to `ff`. A function of its own, so that the bytes of the key file stand in no other proof.
-pub(crate) fn server(alloc: Global) -> Result<Server<MtSeal>, Fail> {
-    Ok(Server::new(alloc, MtSeal::new(ring(alloc, "perm")?)))
-}
-
 // What a server answers to a packet: the first one that goes out.
 fn answer(alloc: Global, server: &mut Server<MtSeal>, packet: &[u8]) -> Result<Octets, Fail> {
     let reply = server.on_packet(alloc, Moment::new(0), packet, &mut StepDraw::new())?;
@@ -61,7 +56,7 @@ fn first_answer_to(
 fn answer_to_ping(alloc: Global, seal: &MtSeal) -> Result<Octets, Fail>
     requires key { IsSome (entry_of KEY_ID seal.now) }
 {
-    let mut server = server(alloc)?;
+    let mut server = Server::new(alloc, MtSeal::new(ring(alloc, "perm")?));
     let mut client = submitted(alloc, &mut StepDraw::new())?;
     let first = first_answer_to(alloc, &mut server, &mut client, seal)?;
     let mut client = opens(client.on_packet(alloc, Moment::new(0), seal, first.as_slice()))?;
