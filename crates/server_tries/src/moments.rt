@@ -5,7 +5,7 @@ use crate::played::{Event, says};
 use std::test::Fail;
 use test_keys::KEY_ID;
 
-// The salts of 0 to 3,600 and of 1,800 to 5,400: the second word that is drawn, and the fifth, behind two words of padding.
+// The salts of 0 to 3,600 and of 1,800 to 5,400: the second and the third word that are drawn.
 const SALTS: &str = "\
 184 bytes: 15 0\n\
 - 7 0 59b4d66215c4b51c010000000800000000000000\n\
