@@ -34,6 +34,7 @@ pub fn bytes_from_0_to_255() -> [u8; 256]
 /// # Errors
 ///
 /// Where there is no memory.
+#[tactic(auto, unfolding(crate::specs::Lines::line_of))]
 pub fn line(alloc: Global, words: &str) -> Result<String, AllocError>
     ensures line { IfOk result (λ line. string_bytes line ≡ line_of words.now) }
 {
@@ -72,6 +73,7 @@ pub fn both_keys(alloc: Global) -> Result<Ring, KeyFault>
 }
 
 // Their lines.
+#[tactic(auto, unfolding(crate::specs::Lines::both_lines))]
 fn two_lines(alloc: Global) -> Result<String, AllocError>
     ensures { IfOk result (λ lines. string_bytes lines ≡ both_lines) }
 {

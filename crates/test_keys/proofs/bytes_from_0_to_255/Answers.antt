@@ -8,6 +8,7 @@ pub loop-byte-init : goal.loop-byte-init
 loop-byte-init c = (omega arith, (λ k h. absurd (omega arith)), λ k _ h. get_or-replicate 256 k 255 0 h)
 
 pub returns : goal.returns
+unfolding from_0_to_255
 returns c = record {
   bytes =
       let at = c.loop-byte.invariant in
