@@ -19,7 +19,8 @@ pub record SimRun {S O : Type 0} (wire : Bool) (input : Outside S) (out : Outsid
   pub reported : one ≡ status.Done → IfTold input (λ text. (events : List Placed) × IsLawful text events × Writes out (report_of wire events) × ExecutesOnce events)
   -- Nothing but a fault, or want of memory, keeps a lawful schedule from its report.
   pub completeness : IfTold input (λ text. (events : List Placed) → IsLawful text events → UnlessFault one status.Done)
-  -- The input is refused exactly where it is no lawful schedule, and what is written says why.
+  -- The input is refused exactly where it is no lawful schedule for another cause than spent numbers, and what is written
+  -- says why.
   pub refused : one ≡ status.InputRefused → IfTold input (λ text. (due : List ℕ) × IsRefused text due × Writes out due)
   pub refusals : IfTold input (λ text. (due : List ℕ) → IsRefused text due → UnlessFault one status.InputRefused)
   -- Numbers are spent exactly where the first event that is refused is so for that, and what is written says where.

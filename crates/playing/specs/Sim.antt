@@ -59,7 +59,7 @@ status_of refusal = status.InputRefused
 abbrev pub Reported : Bool → List ℕ → List ℕ → Type 0
 Reported wire text due = (events : List Placed) × IsLawful text events × (due ≡ report_of wire events) × ExecutesOnce events
 
--- the text is no lawful schedule, and this says why
+-- the text is no lawful schedule for another cause than spent numbers, and this says why
 abbrev pub IsRefused : List ℕ → List ℕ → Type 0
 IsRefused text due =
     IsTooLong text due
@@ -67,7 +67,7 @@ IsRefused text due =
     ⊎ ((events : List Placed) × (line : ℕ) × (refusal : Refusal) × IsRefusedAt text events line refusal due
     × (status_of refusal ≡ status.InputRefused))
 
--- the first event that is refused is so because a client has no numbers left, and this says where
+-- the first event that is refused is so because a client has too few numbers left, and this says where
 abbrev pub RunsOut : List ℕ → List ℕ → Type 0
 RunsOut text due = (events : List Placed) × (line : ℕ) × IsRefusedAt text events line NumbersSpent due
 

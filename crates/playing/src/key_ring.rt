@@ -3,8 +3,8 @@
 ghost use Rattle.std.specs.Prelude.{◌≡◌, IfOk};
 ghost use Rattle.playing.specs.KeysOfSim.{ascending, descending, file_of, key_file, sim_ring};
 
-use auth_keys::Ring;
 use auth_keys::laws::one_reading;
+use auth_keys::{KeyFault, Ring};
 use octets::{Memory, Octets};
 use std::alloc::Global;
 
@@ -19,7 +19,11 @@ pub(crate) fn sim_keys(alloc: Global) -> Result<Ring, Memory>
     let text = key_text(alloc)?;
     match Ring::read(alloc, text.as_slice()) {
         Ok(ring) => Ok(ring),
-        Err(_) => Err(Memory),
+        Err(fault) => {
+            // The text is that of a ring, so no other fault comes.
+            prove!(matches!(fault, KeyFault::Memory));
+            Err(Memory)
+        }
     }
 }
 

@@ -13,7 +13,7 @@ use std::alloc::Global;
 /// packets.
 ///
 /// `Done`: the report is written. `InputRefused`: the input is refused, with the line and the cause. `NumbersSpent`: on the
-/// line that is told a client has something to send and no numbers left for it. `ReadFault`, `WriteFault`, `Memory`.
+/// line that is told a client has something to send and fewer than 2,048 numbers left. `ReadFault`, `WriteFault`, `Memory`.
 pub fn run_sim<S: Source, O: Sink>(alloc: Global, wire: bool, input: &mut S, out: &mut O) -> Status
     ensures { SimRun wire
         (record { told = S.left; faults = S.faults; before = input.old; after = input.new })

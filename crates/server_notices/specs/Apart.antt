@@ -4,7 +4,7 @@
 use Rattle.std.specs.Prelude.{◌≡◌, ◌≢◌, ◌<◌, ◌^◌, ⊤, ℕ, Bool, false, Some, List}
 use Rattle.std.specs.List.{AllByRecursion}
 use Rattle.service_tl.specs.declared.item.Item.{Item}
-use Rattle.service_tl.specs.declared.item.Item.TheVariants.{BadMsgNotification}
+use Rattle.service_tl.specs.declared.item.Item.TheVariants.{BadMsgNotification, MsgContainer}
 use Rattle.service_tl.specs.declared.lists.Message.{Message}
 use Rattle.service_tl.specs.Items.{spelling_of}
 use Rattle.containers.specs.Container.{begins_container}
@@ -41,9 +41,10 @@ IsEventOf kinds _ = ⊤
 abbrev pub IsOtherCode : ℕ → Type 0
 IsOtherCode code = (code ≢ 19) × (code < 2 ^ 32)
 
--- no notice 19
+-- no notice 19, and no container, which may hold one
 abbrev pub IsQuietItem : Item → Type 0
 IsQuietItem (BadMsgNotification about seq code) = IsOtherCode code
+IsQuietItem (MsgContainer messages) = ⊥
 IsQuietItem _ = ⊤
 
 -- the message spells such an item

@@ -12,7 +12,7 @@ pub record Outside (T : Type 0) : Type 0 where
   pub before : T
   pub after : T
 
--- of a source: this holds of the bytes that were left in it, where it tells them; all of them were read; none was
+-- of a source: this holds of the bytes that were left in it, where it tells them; all of them were read
 abbrev pub IfTold : {T : Type 0} → Outside T → (List ℕ → Type 0) → Type 0
 IfTold input P = IfSome (input.told input.before) P
 

@@ -26,7 +26,7 @@ pub enum Status {
     TurnsSpent,
     /// Memory ran out.
     Memory,
-    /// There are no numbers left for what a client has to send.
+    /// A client has something to send, and fewer than 2,048 numbers left.
     NumbersSpent,
     /// No connections can be taken.
     NotListening,

@@ -1,8 +1,10 @@
 use Rattle.std.proofs.Common.{◌≡◌, ◌∙◌, ℕ, List, ap, length, subst, arith}
-use Rattle.auth_keys.specs.KeyFile.{IsRingOf}
+use Rattle.auth_keys.specs.KeyFile.{IsFaultOf, IsRingOf}
+use Rattle.auth_keys.specs.declared.fault.KeyFault.TheVariants.{Memory}
 use Rattle.playing.specs.KeysOfSim.{key_file, sim_ring}
 use Rattle.playing.proofs.KeyTexts.{key_file-length, sim_ring-read}
 use Rattle.playing.proofs.key_ring.sim_keys.Goals as goal
+use Rattle.playing.proofs.key_ring.sim_keys.Goals.{in-Memory, in_default}
 
 pub read-requires : goal.read-requires
 read-requires c =
@@ -13,3 +15,12 @@ pub returns-in-Ok : goal.returns-in-Ok
 returns-in-Ok c =
     let same : c.as_slice.result.now ≡ key_file = c.as_slice.ensures.value ∙ c.in_ok-text.ensures in
     c.one_reading.ensures.ring key_file c.in-Ok.ring sim_ring (subst (λ (text : List ℕ). IsRingOf text c.in-Ok.ring) same c.in-Ok.ensures.ring) sim_ring-read
+
+pub prove-unreachable-requires : goal.prove-unreachable-requires
+prove-unreachable-requires c =
+    let same : c.as_slice.result.now ≡ key_file = c.as_slice.ensures.value ∙ c.in_ok-text.ensures in
+    let memory : c.in-Err.fault ≡ Memory = c.one_reading.ensures.no_fault key_file sim_ring c.in-Err.fault sim_ring-read (subst (λ (text : List ℕ). IsFaultOf text c.in-Err.fault) same c.in-Err.ensures.fault) in
+    elim c.match-matches.branch [
+      | in-Memory w ↦ cc
+      | in_default w ↦ w.in_default.not-Memory memory
+    ]
