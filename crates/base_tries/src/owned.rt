@@ -15,8 +15,14 @@ fn bytes_own_their_memory(rt: HostRuntime) -> Result<(), Fail> {
     text.truncate(2);
     assert_eq!(rt; text.as_slice(), b"ab".as_slice());
     assert_eq!(rt; copy.as_slice(), b"abcde".as_slice());
-    let again = Octets::from(copy.into_vec());
-    assert_eq!(rt; again.as_slice(), b"abcde".as_slice());
+    Ok(())
+}
+
+#[test]
+fn bytes_become_a_vec_and_come_back(rt: HostRuntime) -> Result<(), Fail> {
+    let alloc = rt.alloc();
+    let bytes = Octets::copy(alloc, b"abc")?.into_vec();
+    assert_eq!(rt; Octets::from(bytes).as_slice(), b"abc".as_slice());
     assert_eq!(rt; Octets::new(alloc).as_slice().len(), 0);
     Ok(())
 }
@@ -26,10 +32,16 @@ fn numbers_own_their_memory(rt: HostRuntime) -> Result<(), Fail> {
     let alloc = rt.alloc();
     let mut list = IdList::new(alloc);
     list.push_all(alloc, &[3, u64::MAX])?;
-    let other = IdList::copy(alloc, &[4])?;
-    list.push_all(alloc, other.ids())?;
+    list.push_all(alloc, &[4])?;
     assert_eq!(rt; list.clone()?.ids(), [3, u64::MAX, 4].as_slice());
+    Ok(())
+}
+
+#[test]
+fn numbers_come_from_a_vec_and_from_a_slice(rt: HostRuntime) -> Result<(), Fail> {
+    let alloc = rt.alloc();
     assert_eq!(rt; IdList::from(vec![in alloc; 7]?).ids(), [7].as_slice());
+    assert_eq!(rt; IdList::copy(alloc, &[4])?.ids(), [4].as_slice());
     Ok(())
 }
 

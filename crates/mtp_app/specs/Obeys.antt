@@ -11,7 +11,7 @@ use Rattle.commands.specs.declared.command.ServeOptions.{ServeOptions}
 use Rattle.mt_edge.specs.Files.{FilesTold}
 use Rattle.mt_edge.specs.declared.net_call.NetCall.{NetCall}
 use Rattle.playing.specs.Runs.{LoadRun, SimRun}
-use Rattle.serving.specs.Runs.{Moments, Part, ServeRun}
+use Rattle.serving.specs.Runs.{Draws, Moments, Part, ServeRun}
 use Rattle.statuses.specs.Outside.{IsUntouched, Outside, PlainRun}
 use Rattle.statuses.specs.declared.status.Status.{Status}
 use Rattle.statuses.specs.declared.status.Status.TheVariants as status
@@ -57,10 +57,13 @@ net_part around = record { told = around.calls; faults = around.faults; before =
 abbrev pub moments_of : {N C D : Type 0} → Around N C D → Moments
 moments_of around = record { before = around.given around.clock; after = around.given around.clock_then }
 
+abbrev pub draws_of : {N C D : Type 0} → Around N C D → Draws D
+draws_of around = record { before = around.draw; after = around.draw_then }
+
 abbrev pub Obeys : {S O F N C D : Type 0} → Command → Outside S → Outside O → Files F → Around N C D → Status → Type 0
 Obeys (command.Sim wire) input out files around one = SimRun wire input out one
 Obeys (command.Load calls) input out files around one = LoadRun calls out one
-Obeys (command.Serve options) input out files around one = ServeRun around.step options (files_part files) (net_part around) out (moments_of around) around.draw one
+Obeys (command.Serve options) input out files around one = ServeRun around.step options (files_part files) (net_part around) out (moments_of around) (draws_of around) one
 Obeys (command.Call options) input out files around one = CallRun options input out files around one
 Obeys (command.Help page) input out files around one = PlainRun out status.Done (page_text page) one
 Obeys command.Version input out files around one = PlainRun out status.Done version_text one

@@ -42,8 +42,8 @@ const WORDS_REFUSED: &str = "words refused\n";
 /// Status 0: what was to be written is written, and by `call` each call is done. 1: the words are refused. 2: the input is refused, with the line and the
 /// cause. 3: the input can't be read. 4: the output can't be written. 5: the key file isn't read or is refused, or lacks a
 /// key. 6: each call is decided, and one isn't done. 7: more connections were lost than may be. 8: one connection gave as
-/// many pieces as it may. 9: memory ran out. 10: a client has something to send and no numbers left for it. 11: no
-/// connections can be taken.
+/// many pieces as it may. 9: memory ran out. 10: a client has something to send and fewer than
+/// 2,048 numbers left. 11: no connections can be taken.
 pub fn run<S: Source, O: Sink, F: KeyFiles, N: Net, P: Spawner, C: Clock, D: Seeded>(
     alloc: Global,
     words: &[String],
@@ -65,7 +65,8 @@ pub fn run<S: Source, O: Sink, F: KeyFiles, N: Net, P: Spawner, C: Clock, D: See
         (record { told = F.told; faults = F.faults; before = files.old; after = files.new })
         (record { told = N.calls; faults = N.faults; before = net.old; after = net.new })
         (record { told = O.written; faults = O.faults; before = out.old; after = out.new })
-        (record { before = C.given clock.old; after = C.given clock.new }) draw.old one ⊎ IsUnbegun
+        (record { before = C.given clock.old; after = C.given clock.new })
+        (record { before = draw.old; after = draw.new }) one ⊎ IsUnbegun
         (record { told = O.written; faults = O.faults; before = out.old; after = out.new })
         (record { told = F.told; faults = F.faults; before = files.old; after = files.new })
         (record { calls = N.calls; faults = N.faults; given = C.given; step = D.step; net = net.old; net_then = net.new; clock = clock.old; clock_then = clock.new; draw = draw.old; draw_then = draw.new }) one) }

@@ -5,6 +5,7 @@ use Rattle.sched_text.specs.Schedule.{HasBadLine, Spells}
 use Rattle.world_rules.specs.Once.{InOrder, Once}
 use Rattle.world_rules.specs.Refusals.{Refusal, NumbersSpent}
 use Rattle.world_rules.specs.Report.{refusal_text, whole_report}
+use Rattle.world_notices.specs.Numbers.{GivesOnce, SaysNo19}
 use Rattle.statuses.specs.declared.status.Status.{Status}
 use Rattle.statuses.specs.declared.status.Status.TheVariants as status
 use Rattle.statuses.specs.Lines.{input_bytes_max, refusal_line, too_long}
@@ -22,11 +23,14 @@ pub record IsLawful (text : List ℕ) (events : List Placed) : Type 0 where
 abbrev pub report_of : Bool → List Placed → List ℕ
 report_of wire events = whole_report sim_setting wire (sim_world events)
 
--- in it each call executed at most once, as its client sent it, and what is told of it is so; and what ran of a call with an
--- earlier call ran behind that one
+-- in it each call executed at most once, as its client sent it, and what is told of it is so; what ran of a call with an
+-- earlier call ran behind that one; no client gave one number to two messages under one session number; and no packet of the
+-- server has notice 19
 pub record ExecutesOnce (events : List Placed) : Type 0 where
   pub once : Once sim_setting (sim_world events)
   pub in_order : InOrder (sim_world events)
+  pub numbers : GivesOnce (sim_world events)
+  pub no_notice_19 : SaysNo19 (sim_world events)
 
 -- ---- any other text
 

@@ -28,6 +28,7 @@ use packet_parts::laws::locks_keep_sizes;
 use regs_service::Regs;
 use ring_rules::laws::{packets_open_as_worked_out, rings_have_keys};
 use world_law::laws::{calls_execute_once, names_are_words_drawn};
+use world_notices::laws::{notice_19_never_comes, numbers_are_given_once};
 use world_orders::laws::calls_run_in_order;
 use world_packets::laws::registers_give_replies;
 
@@ -51,9 +52,9 @@ pub fn setting_is_sound()
     registers_give_replies();
 }
 
-/// In the world of a schedule each call executed at most once, as its client sent it, and what is told of it is so; and what
-/// ran of a call with an earlier call ran behind that one. The bodies of its calls are bytes, and the count of words isn't at
-/// its end.
+/// In the world of a schedule each call executed at most once, as its client sent it, and what is told of it is so; what ran
+/// of a call with an earlier call ran behind that one; no client gave one number to two messages under one session number, and
+/// no packet of the server has notice 19. The bodies of its calls are bytes, and the count of words isn't at its end.
 pub fn sim_executes_once()
     ensures { (events : List Placed) → All IsOfBytes (events_of events) → (sim_world events).draw < words_max → ExecutesOnce events }
 {
@@ -65,6 +66,8 @@ pub fn sim_executes_once()
     names_are_words_drawn::<CountedDraw, Regs>();
     calls_execute_once::<CountedDraw, Regs>();
     calls_run_in_order::<CountedDraw, Regs>();
+    numbers_are_given_once::<CountedDraw, Regs>();
+    notice_19_never_comes::<CountedDraw, Regs>();
 }
 
 /// The large schedule of so many calls is a schedule: its world is that of a list of events, whose bodies are bytes.
@@ -74,8 +77,7 @@ pub fn loads_are_schedules()
     bytes_stay_bytes();
 }
 
-/// In the world of `load` each call executed at most once, as its client sent it, and what is told of it is so; and what ran
-/// of a call with an earlier call ran behind that one. The count of words isn't at its end.
+/// The same of the world of `load`. The count of words isn't at its end.
 pub fn load_executes_once()
     ensures { (calls : ℕ) → (load_world calls).draw < words_max → LoadExecutesOnce calls }
 {

@@ -18,7 +18,7 @@ use Rattle.statuses.specs.declared.status.Status.TheVariants as status
 use Rattle.serving.specs.Connections.{AreNoted, AreNotedBy, Connection, CountsEnding, EndsBy}
 use Rattle.serving.specs.Inner.{IsWith, RunsWith, ServesWith}
 use Rattle.serving.specs.Lines.{listening}
-use Rattle.serving.specs.Runs.{Calls, CountsFiles, CountsNet, Course, Unread, Refused, Unbegun, Deaf, Mute, Serves, Ends, FailsNever, FailsOnce, Faulted, HasKeys, IfTold, Makes, Moments, Part, Reads, Registers, ServeRun, ServesBy, WritesFirst}
+use Rattle.serving.specs.Runs.{Calls, CountsFiles, CountsNet, Course, Draws, Unread, Refused, Unbegun, Deaf, Mute, Serves, Ends, FailsNever, FailsOnce, Faulted, HasKeys, IfTold, Makes, Moments, Part, Reads, Registers, ServeRun, ServesBy, WritesFirst}
 use Rattle.serving.specs.declared.ending.Ending.{Ending}
 use Rattle.serving.specs.declared.ending.Ending.TheVariants.{Served, Stopped, NotTaken, Memory}
 use Rattle.serving.proofs.Texts.{rose-once}
@@ -190,13 +190,13 @@ pub calls-mute : {D N : Type 0} (port : ℕ) (net : Part (List NetCall) N) (ring
     → (IsSome (net.told net.before) → net.faults net.before ≡ 0 → IsSome (net.told net.after)) → Calls {D = D} {N = N} port net (Mute ring)
 calls-mute port net ring told never tells = record { made = made-one (net.told net.before) (net.told net.after) (Listen port Ready) told; counted = never; tells = tells }
 
-pub calls-serves : {D N : Type 0} (step : D → ℕ × D) (options : ServeOptions) (told : N → Option (List NetCall)) (faults : N → ℕ) (first middle last : N) (ring : List RingKey) (moments : Moments) (draw : D) (ending : Ending)
+pub calls-serves : {D N : Type 0} (step : D → ℕ × D) (options : ServeOptions) (told : N → Option (List NetCall)) (faults : N → ℕ) (first middle last : N) (ring : List RingKey) (moments : Moments) (draws : Draws D) (ending : Ending)
     → IfSome (told middle) (λ after. IsSomeAnd (told first) (λ before. after ≡ before ++ Listen options.port Ready ∷ [])) → faults middle ≡ faults first
     → (IsSome (told first) → faults first ≡ 0 → IsSome (told middle))
-    → (serves : ServesWith step options ring (told middle) (told last) moments draw ending) → CountsEnding ending (faults middle) (faults last)
+    → (serves : ServesWith step options ring (told middle) (told last) moments draws ending) → CountsEnding ending (faults middle) (faults last)
     → (IsSome (told middle) → faults middle ≡ 0 → IsSome (told last))
     → Calls options.port (record { told = told; faults = faults; before = first; after = last }) (Serves ring serves.connections ending)
-calls-serves step options told faults first middle last ring moments draw ending listened never goes serves counted tells = record {
+calls-serves step options told faults first middle last ring moments draws ending listened never goes serves counted tells = record {
   made = made-both (told first) (told middle) (told last) (Listen options.port Ready) (AreNotedBy ending serves.connections) listened serves.noted;
   counted = subst (λ (count : ℕ). CountsEnding ending count (faults last)) never counted;
   tells = λ is none. tells (goes is none) (never ∙ none);
@@ -293,14 +293,14 @@ few-accepts conns Stopped (last ∷ earlier) calls ended noted = omega (arith, n
 few-accepts conns Memory [] calls ended noted = absurd ended
 few-accepts conns Memory (last ∷ earlier) calls ended noted = omega (arith, noted-length (last ∷ earlier) calls noted, ended.2)
 
-few-made : {D : Type 0} (step : D → ℕ × D) (options : ServeOptions) (moments : Moments) (draw : D) (course : Course D) (made : List NetCall) → Makes options.port course made → ServesBy step options moments draw course
+few-made : {D : Type 0} (step : D → ℕ × D) (options : ServeOptions) (moments : Moments) (draws : Draws D) (course : Course D) (made : List NetCall) → Makes options.port course made → ServesBy step options moments draws course
     → length made ≤ 1 + options.conns
-few-made step options moments draw Unread made is serves = omega (arith, ap length is)
-few-made step options moments draw (Refused line) made is serves = omega (arith, ap length is)
-few-made step options moments draw Unbegun made is serves = omega (arith, ap length is)
-few-made step options moments draw (Deaf ring) made is serves = omega (arith, ap length is)
-few-made step options moments draw (Mute ring) made is serves = omega (arith, ap length is)
-few-made step options moments draw (Serves ring connections ending) made is serves =
+few-made step options moments draws Unread made is serves = omega (arith, ap length is)
+few-made step options moments draws (Refused line) made is serves = omega (arith, ap length is)
+few-made step options moments draws Unbegun made is serves = omega (arith, ap length is)
+few-made step options moments draws (Deaf ring) made is serves = omega (arith, ap length is)
+few-made step options moments draws (Mute ring) made is serves = omega (arith, ap length is)
+few-made step options moments draws (Serves ring connections ending) made is serves =
     omega (arith, ap length is.1, few-accepts options.conns ending connections is.0 serves.ended is.2)
 
 few-calls : (first last : Option (List NetCall)) (most : ℕ) (P : List NetCall → Type 0) → ((made : List NetCall) → P made → length made ≤ most)
@@ -330,16 +330,16 @@ first-called (Some first) (Some last) P W written made = λ more. written made.0
 
 -- ---- all of it
 
-pub run-of : {F N O D : Type 0} (step : D → ℕ × D) (options : ServeOptions) (files : Part FilesTold F) (net : Part (List NetCall) N) (out : Outside O) (moments : Moments) (draw : D) (one : Status) (course : Course D)
-    → Reads options.keys files course → Calls options.port net course → ServesBy step options moments draw course → Ends options out course one
-    → ServeRun step options files net out moments draw one
-run-of step options files net out moments draw one course reads calls serves ends = record {
+pub run-of : {F N O D : Type 0} (step : D → ℕ × D) (options : ServeOptions) (files : Part FilesTold F) (net : Part (List NetCall) N) (out : Outside O) (moments : Moments) (draws : Draws D) (one : Status) (course : Course D)
+    → Reads options.keys files course → Calls options.port net course → ServesBy step options moments draws course → Ends options out course one
+    → ServeRun step options files net out moments draws one
+run-of step options files net out moments draws one course reads calls serves ends = record {
   course = course;
   reads = reads;
   calls = calls;
   serves = serves;
   ends = ends;
-  few = few-calls (net.told net.before) (net.told net.after) (1 + options.conns) (Makes options.port course) (λ made is. few-made step options moments draw course made is serves) calls.made;
+  few = few-calls (net.told net.before) (net.told net.after) (1 + options.conns) (Makes options.port course) (λ made is. few-made step options moments draws course made is serves) calls.made;
   first_line = first-called (net.told net.before) (net.told net.after) (Makes options.port course) (WritesFirst out (listening options.port)) (λ made is. first-made options out course one made is ends) calls.made;
   write_fault = write-fault options out course one ends;
   not_listening = not-listening options net out course one calls.counted ends;
@@ -361,29 +361,29 @@ asks-named before after name own is asked = subst (λ (some : List ℕ). IfSome 
 
 -- ---- the ways of a run
 
-pub run-with : {F N O D : Type 0} (step : D → ℕ × D) (options : ServeOptions) (files : Part FilesTold F) (net : Part (List NetCall) N) (out : Outside O) (moments : Moments) (draw : D) (one : Status) (ring : List RingKey)
-    → OneReading → GivesBy (files.told files.before) options.keys (Ok ring) → IfTold files (AsksOnce options.keys) → FailsNever files → RunsWith step options ring net out moments draw one
-    → ServeRun step options files net out moments draw one
-run-with step options files net out moments draw one ring reading has asked never runs =
-    run-of step options files net out moments draw one runs.course (reads-with options.keys files ring runs.course reading runs.own has asked never) runs.calls runs.serves runs.ends
+pub run-with : {F N O D : Type 0} (step : D → ℕ × D) (options : ServeOptions) (files : Part FilesTold F) (net : Part (List NetCall) N) (out : Outside O) (moments : Moments) (draws : Draws D) (one : Status) (ring : List RingKey)
+    → OneReading → GivesBy (files.told files.before) options.keys (Ok ring) → IfTold files (AsksOnce options.keys) → FailsNever files → RunsWith step options ring net out moments draws one
+    → ServeRun step options files net out moments draws one
+run-with step options files net out moments draws one ring reading has asked never runs =
+    run-of step options files net out moments draws one runs.course (reads-with options.keys files ring runs.course reading runs.own has asked never) runs.calls runs.serves runs.ends
 
 pub run-unread : {F N O D : Type 0} (step : D → ℕ × D) (options : ServeOptions) (files : Part FilesTold F) (told : N → Option (List NetCall)) (faults : N → ℕ) (net : N) (out : Outside O) (given : Option (List ℕ)) (draw : D) (one : Status)
     → IfTold files (AsksOnce options.keys) → FailsOnce files → Ends {D = D} {O = O} options out Unread one
-    → ServeRun step options files (record { told = told; faults = faults; before = net; after = net }) out (record { before = given; after = given }) draw one
+    → ServeRun step options files (record { told = told; faults = faults; before = net; after = net }) out (record { before = given; after = given }) (record { before = draw; after = draw }) one
 run-unread {F} {N} {O} {D} step options files told faults net out given draw one asked once ends =
-    run-of step options files (record { told = told; faults = faults; before = net; after = net }) out (record { before = given; after = given }) draw one Unread
-    (reads-unread {D = D} options.keys files asked once) (calls-unread {D = D} options.port told faults net) refl ends
+    run-of step options files (record { told = told; faults = faults; before = net; after = net }) out (record { before = given; after = given }) (record { before = draw; after = draw }) one Unread
+    (reads-unread {D = D} options.keys files asked once) (calls-unread {D = D} options.port told faults net) (refl, refl) ends
 
 pub run-refused : {F N O D : Type 0} (step : D → ℕ × D) (options : ServeOptions) (files : Part FilesTold F) (told : N → Option (List NetCall)) (faults : N → ℕ) (net : N) (out : Outside O) (given : Option (List ℕ)) (draw : D) (one : Status) (line : ℕ)
     → OneReading → HasText (files.told files.before) options.keys (λ text. IsRefusedAt text line) → IfTold files (AsksOnce options.keys) → FailsNever files → Ends {D = D} {O = O} options out (Refused line) one
-    → ServeRun step options files (record { told = told; faults = faults; before = net; after = net }) out (record { before = given; after = given }) draw one
+    → ServeRun step options files (record { told = told; faults = faults; before = net; after = net }) out (record { before = given; after = given }) (record { before = draw; after = draw }) one
 run-refused {F} {N} {O} {D} step options files told faults net out given draw one line reading has asked never ends =
-    run-of step options files (record { told = told; faults = faults; before = net; after = net }) out (record { before = given; after = given }) draw one (Refused line)
-    (reads-refused {D = D} options.keys files line reading has asked never) (calls-refused {D = D} options.port line told faults net) refl ends
+    run-of step options files (record { told = told; faults = faults; before = net; after = net }) out (record { before = given; after = given }) (record { before = draw; after = draw }) one (Refused line)
+    (reads-refused {D = D} options.keys files line reading has asked never) (calls-refused {D = D} options.port line told faults net) (refl, refl) ends
 
 pub run-unbegun : {F N O D : Type 0} (step : D → ℕ × D) (options : ServeOptions) (files : Part FilesTold F) (told : N → Option (List NetCall)) (faults : N → ℕ) (net : N) (out : Outside O) (given : Option (List ℕ)) (draw : D) (one : Status)
     → IfTold files (AsksOnce options.keys) → FailsNever files → Ends {D = D} {O = O} options out Unbegun one
-    → ServeRun step options files (record { told = told; faults = faults; before = net; after = net }) out (record { before = given; after = given }) draw one
+    → ServeRun step options files (record { told = told; faults = faults; before = net; after = net }) out (record { before = given; after = given }) (record { before = draw; after = draw }) one
 run-unbegun {F} {N} {O} {D} step options files told faults net out given draw one asked never ends =
-    run-of step options files (record { told = told; faults = faults; before = net; after = net }) out (record { before = given; after = given }) draw one Unbegun
-    (reads-unbegun {D = D} options.keys files asked never) (calls-none {D = D} options.port told faults net) refl ends
+    run-of step options files (record { told = told; faults = faults; before = net; after = net }) out (record { before = given; after = given }) (record { before = draw; after = draw }) one Unbegun
+    (reads-unbegun {D = D} options.keys files asked never) (calls-none {D = D} options.port told faults net) (refl, refl) ends

@@ -16,7 +16,7 @@ use Rattle.server_node.specs.declared.conn.ConnEnd.{ConnEnd}
 use Rattle.server_node.specs.declared.conn.ConnEnd.TheVariants as ends
 use Rattle.serving.specs.Connections.{AllGoOn, AreConnections, AreNoted, AreNotedBy, Between, Connection, EndsBy, IsConnection, IsNoted, behind_all}
 use Rattle.serving.specs.Packets.{outside_of}
-use Rattle.serving.specs.Runs.{Calls, Course, Unread, Refused, Unbegun, Deaf, Mute, Serves, Ends, IsServed, Moments, Part, Registers, ServesBy, first_of}
+use Rattle.serving.specs.Runs.{Calls, Course, Unread, Refused, Unbegun, Deaf, Mute, Serves, Draws, Ends, IsServed, Moments, Part, Registers, ServesBy, first_of}
 use Rattle.serving.specs.declared.ending.Ending.{Ending}
 use Rattle.serving.specs.declared.ending.Ending.TheVariants.{Stopped, NotTaken, Memory}
 
@@ -31,17 +31,17 @@ IsWith ring (Deaf own) = own ≡ ring
 IsWith ring (Mute own) = own ≡ ring
 IsWith ring (Serves own connections ending) = own ≡ ring
 
-pub record RunsWith {N O D : Type 0} (step : D → ℕ × D) (options : ServeOptions) (ring : List RingKey) (net : Part (List NetCall) N) (out : Outside O) (moments : Moments) (draw : D) (result : Status) : Type 0 where
+pub record RunsWith {N O D : Type 0} (step : D → ℕ × D) (options : ServeOptions) (ring : List RingKey) (net : Part (List NetCall) N) (out : Outside O) (moments : Moments) (draws : Draws D) (result : Status) : Type 0 where
   pub course : Course D
   pub own : IsWith ring course
   pub calls : Calls options.port net course
-  pub serves : ServesBy step options moments draw course
+  pub serves : ServesBy step options moments draws course
   pub ends : Ends options out course result
 
 -- the connections are served with this ring, and end so
-pub record ServesWith {D : Type 0} (step : D → ℕ × D) (options : ServeOptions) (ring : List RingKey) (calls calls_then : Option (List NetCall)) (moments : Moments) (draw : D) (ending : Ending) : Type 0 where
+pub record ServesWith {D : Type 0} (step : D → ℕ × D) (options : ServeOptions) (ring : List RingKey) (calls calls_then : Option (List NetCall)) (moments : Moments) (draws : Draws D) (ending : Ending) : Type 0 where
   pub connections : List (Connection D Registers)
-  pub are : IsServed (rules_of step registers.step (outside_of ring)) (first_of options moments draw) options.conns moments.after connections ending
+  pub are : IsServed (rules_of step registers.step (outside_of ring)) (first_of options moments draws.before) options.conns moments.after connections ending
   pub noted : IfSome calls_then (λ after. IsSomeAnd calls (λ before. (made : List NetCall) × (after ≡ before ++ made) × AreNotedBy ending connections made))
 
 -- ---- between connections

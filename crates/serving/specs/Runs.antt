@@ -140,18 +140,27 @@ pub record Moments : Type 0 where
   pub before : Option (List ℕ)
   pub after : Option (List ℕ)
 
+-- what words are drawn from, before a run and after it
+pub record Draws (D : Type 0) : Type 0 where
+  pub before : D
+  pub after : D
+
+-- the clock was asked for nothing, and no word was drawn
+abbrev pub IsUnasked : {D : Type 0} → Moments → Draws D → Type 0
+IsUnasked moments draws = (moments.after ≡ moments.before) × (draws.after ≡ draws.before)
+
 abbrev pub first_of : {D : Type 0} → ServeOptions → Moments → D → Between D Registers
 first_of options moments draw =
     record { server = fresh_server; draw = draw; service = registers.fresh; given = moments.before; left = options.stop_after }
 
-abbrev pub ServesBy : {D : Type 0} → (D → ℕ × D) → ServeOptions → Moments → D → Course D → Type 0
-ServesBy step options moments draw Unread = moments.after ≡ moments.before
-ServesBy step options moments draw (Refused line) = moments.after ≡ moments.before
-ServesBy step options moments draw Unbegun = moments.after ≡ moments.before
-ServesBy step options moments draw (Deaf ring) = moments.after ≡ moments.before
-ServesBy step options moments draw (Mute ring) = moments.after ≡ moments.before
-ServesBy step options moments draw (Serves ring connections ending) =
-    IsServed (rules_of step registers.step (outside_of ring)) (first_of options moments draw) options.conns moments.after connections ending
+abbrev pub ServesBy : {D : Type 0} → (D → ℕ × D) → ServeOptions → Moments → Draws D → Course D → Type 0
+ServesBy step options moments draws Unread = IsUnasked moments draws
+ServesBy step options moments draws (Refused line) = IsUnasked moments draws
+ServesBy step options moments draws Unbegun = IsUnasked moments draws
+ServesBy step options moments draws (Deaf ring) = IsUnasked moments draws
+ServesBy step options moments draws (Mute ring) = IsUnasked moments draws
+ServesBy step options moments draws (Serves ring connections ending) =
+    IsServed (rules_of step registers.step (outside_of ring)) (first_of options moments draws.before) options.conns moments.after connections ending
 
 -- ---- the status, and what is written
 
@@ -180,12 +189,12 @@ Ends options out (Serves ring connections ending) one = WritesFirst out (listeni
 
 -- ---- a run
 
-pub record ServeRun {F N O D : Type 0} (step : D → ℕ × D) (options : ServeOptions) (files : Part FilesTold F) (net : Part (List NetCall) N) (out : Outside O) (moments : Moments) (draw : D) (result : Status) : Type 0 where
+pub record ServeRun {F N O D : Type 0} (step : D → ℕ × D) (options : ServeOptions) (files : Part FilesTold F) (net : Part (List NetCall) N) (out : Outside O) (moments : Moments) (draws : Draws D) (result : Status) : Type 0 where
   -- how it went
   pub course : Course D
   pub reads : Reads options.keys files course
   pub calls : Calls options.port net course
-  pub serves : ServesBy step options moments draw course
+  pub serves : ServesBy step options moments draws course
   -- the status and what is written
   pub ends : Ends options out course result
   -- No more connections are asked for than there should be.

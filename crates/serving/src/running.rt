@@ -44,7 +44,8 @@ pub fn run_serve<O: Sink, F: KeyFiles, N: Net, C: Clock, D: Draw>(
         (record { told = F.told; faults = F.faults; before = files.old; after = files.new })
         (record { told = N.calls; faults = N.faults; before = net.old; after = net.new })
         (record { told = O.written; faults = O.faults; before = out.old; after = out.new })
-        (record { before = C.given clock.old; after = C.given clock.new }) draw.old result }
+        (record { before = C.given clock.old; after = C.given clock.new })
+        (record { before = draw.old; after = draw.new }) result }
 {
     one_reading();
     match read_ring(alloc, options.keys.as_str(), files) {
@@ -72,7 +73,8 @@ fn listen<O: Sink, N: Net, C: Clock, D: Draw>(
     ensures run { RunsWith D.step options.now ring
         (record { told = N.calls; faults = N.faults; before = net.old; after = net.new })
         (record { told = O.written; faults = O.faults; before = out.old; after = out.new })
-        (record { before = C.given clock.old; after = C.given clock.new }) draw.old result }
+        (record { before = C.given clock.old; after = C.given clock.new })
+        (record { before = draw.old; after = draw.new }) result }
 {
     let Ok(first) = listening_line(alloc, options.port) else {
         return Status::Memory;
@@ -106,7 +108,8 @@ fn serve<N: Net, C: Clock, D: Draw>(
 ) -> Ending
     requires some { options.now.stop_after ≢ Some 0 }
     ensures served { ServesWith D.step options.now ring (N.calls net.old) (N.calls net.new)
-        (record { before = C.given clock.old; after = C.given clock.new }) draw.old result }
+        (record { before = C.given clock.old; after = C.given clock.new })
+        (record { before = draw.old; after = draw.new }) result }
     ensures counted { CountsEnding result (N.faults net.old) (N.faults net.new) }
     ensures first_fault { IsSome (N.calls net.old) → N.faults net.old ≡ 0 → IsSome (N.calls net.new) }
 {

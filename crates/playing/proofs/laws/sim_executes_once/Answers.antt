@@ -15,4 +15,7 @@ returns c = λ events bytes few.
           c.setting_of_sim.ensures.seal.seal c.setting_is_sound.ensures bytes fresh;
       in_order = c.calls_run_in_order.ensures.schedule mt_lock sim_ring sim_setting 0 (events_of events) c.opens_what_it_sealed.ensures c.locks_keep_sizes.ensures.protocol
           c.setting_of_sim.ensures.seal.seal c.setting_is_sound.ensures bytes fresh;
+      numbers = c.numbers_are_given_once.ensures.schedule sim_setting 0 (events_of events) fresh;
+      no_notice_19 = c.notice_19_never_comes.ensures.schedule mt_lock sim_ring sim_setting 0 (events_of events) c.opens_what_it_sealed.ensures c.locks_keep_sizes.ensures.protocol
+          c.setting_of_sim.ensures.seal.seal c.setting_is_sound.ensures bytes fresh;
     }

@@ -13,7 +13,7 @@ returns-in_default g c = record {
     course = Unbegun;
     own = tt;
     calls = calls-none c.args.options.now.port g.N.Net.calls g.N.Net.faults c.args.net.now;
-    serves = refl;
+    serves = (refl, refl);
     ends = (refl, refl);
   };
 }
@@ -24,7 +24,7 @@ returns-in_default-served_line g c = record {
     course = Unbegun;
     own = tt;
     calls = calls-none c.args.options.now.port g.N.Net.calls g.N.Net.faults c.args.net.now;
-    serves = refl;
+    serves = (refl, refl);
     ends = (refl, refl);
   };
 }
@@ -36,7 +36,7 @@ returns-in-Failed g c = record {
     own = refl;
     calls = calls-deaf c.args.options.now.port (record { told = g.N.Net.calls; faults = g.N.Net.faults; before = c.args.net.now; after = c.listen.new.self }) c.args.ring
         c.in-Failed.ensures.told c.in-Failed.ensures.counted c.listen.ensures.first_fault;
-    serves = refl;
+    serves = (refl, refl);
     ends = c.say.ensures;
   };
 }
@@ -48,7 +48,7 @@ returns-in-Err g c = record {
     own = refl;
     calls = calls-mute c.args.options.now.port (record { told = g.N.Net.calls; faults = g.N.Net.faults; before = c.args.net.now; after = c.listen.new.self }) c.args.ring
         c.in-Ready.ensures.told c.in-Ready.ensures.counted c.listen.ensures.first_fault;
-    serves = refl;
+    serves = (refl, refl);
     ends = (
       refl,
       c.in-Err.ensures.failed refl,
@@ -65,7 +65,7 @@ returns-in-Served g c =
         course = Serves c.args.ring serves.connections Served;
         own = refl;
         calls = calls-serves g.D.Draw.step c.args.options.now g.N.Net.calls g.N.Net.faults c.args.net.now c.listen.new.self c.serve.new.net c.args.ring
-            (record { before = g.C.Clock.given c.args.clock.now; after = g.C.Clock.given c.serve.new.clock }) c.args.draw.now Served
+            (record { before = g.C.Clock.given c.args.clock.now; after = g.C.Clock.given c.serve.new.clock }) (record { before = c.args.draw.now; after = c.serve.new.draw }) Served
             c.in-Ready.ensures.told c.in-Ready.ensures.counted c.listen.ensures.first_fault serves c.in-Served.ensures.counted c.serve.ensures.first_fault;
         serves = serves.are;
         ends = (
@@ -86,7 +86,7 @@ returns-in-Stopped g c =
         course = Serves c.args.ring serves.connections Stopped;
         own = refl;
         calls = calls-serves g.D.Draw.step c.args.options.now g.N.Net.calls g.N.Net.faults c.args.net.now c.listen.new.self c.serve.new.net c.args.ring
-            (record { before = g.C.Clock.given c.args.clock.now; after = g.C.Clock.given c.serve.new.clock }) c.args.draw.now Stopped
+            (record { before = g.C.Clock.given c.args.clock.now; after = g.C.Clock.given c.serve.new.clock }) (record { before = c.args.draw.now; after = c.serve.new.draw }) Stopped
             c.in-Ready.ensures.told c.in-Ready.ensures.counted c.listen.ensures.first_fault serves c.in-Stopped.ensures.counted c.serve.ensures.first_fault;
         serves = serves.are;
         ends = (
@@ -107,7 +107,7 @@ returns-in-NotTaken g c =
         course = Serves c.args.ring serves.connections NotTaken;
         own = refl;
         calls = calls-serves g.D.Draw.step c.args.options.now g.N.Net.calls g.N.Net.faults c.args.net.now c.listen.new.self c.serve.new.net c.args.ring
-            (record { before = g.C.Clock.given c.args.clock.now; after = g.C.Clock.given c.serve.new.clock }) c.args.draw.now NotTaken
+            (record { before = g.C.Clock.given c.args.clock.now; after = g.C.Clock.given c.serve.new.clock }) (record { before = c.args.draw.now; after = c.serve.new.draw }) NotTaken
             c.in-Ready.ensures.told c.in-Ready.ensures.counted c.listen.ensures.first_fault serves c.in-NotTaken.ensures.counted c.serve.ensures.first_fault;
         serves = serves.are;
         ends = (
@@ -128,7 +128,7 @@ returns g c =
         course = Serves c.args.ring serves.connections Memory;
         own = refl;
         calls = calls-serves g.D.Draw.step c.args.options.now g.N.Net.calls g.N.Net.faults c.args.net.now c.listen.new.self c.serve.new.net c.args.ring
-            (record { before = g.C.Clock.given c.args.clock.now; after = g.C.Clock.given c.serve.new.clock }) c.args.draw.now Memory
+            (record { before = g.C.Clock.given c.args.clock.now; after = g.C.Clock.given c.serve.new.clock }) (record { before = c.args.draw.now; after = c.serve.new.draw }) Memory
             c.in-Ready.ensures.told c.in-Ready.ensures.counted c.listen.ensures.first_fault serves c.in-Memory.ensures.counted c.serve.ensures.first_fault;
         serves = serves.are;
         ends = (

@@ -11,7 +11,7 @@ returns-in-Ok g c = record {
       (record { told = g.F.KeyFiles.told; faults = g.F.KeyFiles.faults; before = c.args.files.now; after = c.read_ring.new.files })
       (record { told = g.N.Net.calls; faults = g.N.Net.faults; before = c.args.net.now; after = c.listen.new.net })
       (record { told = g.O.Sink.written; faults = g.O.Sink.faults; before = c.args.out.now; after = c.listen.new.out })
-      (record { before = g.C.Clock.given c.args.clock.now; after = g.C.Clock.given c.listen.new.clock }) c.args.draw.now c.listen.result c.in-Ok.ring
+      (record { before = g.C.Clock.given c.args.clock.now; after = g.C.Clock.given c.listen.new.clock }) (record { before = c.args.draw.now; after = c.listen.new.draw }) c.listen.result c.in-Ok.ring
       (record { no_fault = c.one_reading.ensures.no_fault; fault = c.one_reading.ensures.fault })
       (keys-named (g.F.KeyFiles.told c.args.files.now) c.as_str.result.now c.args.options.now.keys (Ok c.in-Ok.ring) c.as_str.ensures c.in-Ok.ensures.gives)
       (asks-named (g.F.KeyFiles.told c.args.files.now) (g.F.KeyFiles.told c.read_ring.new.files) c.as_str.result.now c.args.options.now.keys c.as_str.ensures c.read_ring.ensures.asked)
