@@ -3,8 +3,8 @@ use Rattle.std.proofs.Common.{◌≡◌, ◌∙◌, ℕ, ◌<◌, ◌≤◌, inl
 use Rattle.std.specs.List.{filter, list_any}
 use Rattle.waits.specs.declared.job.Unfinished.{Unfinished}
 use Rattle.waits.specs.declared.slot.Slot.{Slot}
-use Rattle.waits.specs.Jobs.{is_of, is_call, waits_for, told, after_answer, settled, without_session}
-use Rattle.waits.specs.Slots.{somes, job_at, passes, put_at, changed, told_at, unsettled, IsGone, IsTold}
+use Rattle.waits.specs.Jobs.{is_of, is_call, is_overdue, waits_for, told, after_answer, settled, without_session}
+use Rattle.waits.specs.Slots.{somes, job_at, passes, put_at, changed, told_at, unsettled, is_overdue_of, IsGone, IsTold}
 use Rattle.waits.proofs.Limits.{same_owner}
 use Rattle.waits.proofs.Slots.{none_total, job_beyond, job_put_here, filter_put, map_put}
 use Rattle.waits.proofs.Walks.{from_or, within_same, within_put, put_better}
@@ -16,12 +16,15 @@ and_out : (own any : Bool) → own ≡ false → (own && any) ≡ false
 and_out true any here = let clash : true ≡ false = here in cc
 and_out false any here = refl
 
--- a call of a session is one of its jobs, and so is one that waits
+-- a call of a session is one of its jobs, and so is one that waits, or waits too long
 pub calls_own : (key session number : ℕ) (x : Unfinished) → is_of key session x ≡ false → is_call key session number x ≡ false
 calls_own key session number x other = and_out (is_of key session x) (x.job.number == number) other
 
 pub unsettled_own : (key session number : ℕ) (ok : Bool) (x : Unfinished) → is_of key session x ≡ false → unsettled key session number ok x ≡ false
 unsettled_own key session number ok x other = and_out (waits_for key session number x) (ok || not x.failed) (and_out (is_of key session x) _ other)
+
+pub overdue_own : (key session now : ℕ) (x : Unfinished) → is_of key session x ≡ false → is_overdue_of key session now x ≡ false
+overdue_own key session now x other = and_out (is_of key session x) (is_overdue now x) other
 
 pub unsettled_waits : (key session number : ℕ) (ok : Bool) (one : Option Unfinished) → passes (waits_for key session number) one ≡ false → passes (unsettled key session number ok) one ≡ false
 unsettled_waits key session number ok None none = refl

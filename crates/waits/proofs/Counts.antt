@@ -1,11 +1,17 @@
 -- How many jobs are ready and how many aren't, and what follows where all are.
 use Rattle.std.proofs.Common.{◌≡◌, ℕ, ◌+◌, ◌≤◌, Bool, true, false, not, nat_le, ◌&&◌, [], ◌∷◌, length, refl, arith}
-use Rattle.waits.specs.Jobs.{Queue, is_of, is_empty, is_waiting, is_ready, one_if, ready_count, blocked_count, waiting_count, overdue_count, overdue_count_of}
+use Rattle.waits.specs.declared.job.Unfinished.{Unfinished}
+use Rattle.waits.specs.Jobs.{Queue, is_of, is_empty, is_waiting, is_ready, one_if, total, ready_count, blocked_count, waiting_count, overdue_count, overdue_count_of}
 use Rattle.waits.specs.Limits.{wait_seconds}
 
 pub one_if_le : (holds : Bool) → one_if holds ≤ 1
 one_if_le true = omega arith
 one_if_le false = omega arith
+
+-- no more are so than there are
+pub passing_le : (test : Unfinished → Bool) (xs : Queue) → total (λ x. one_if (test x)) xs ≤ length xs
+passing_le test [] = omega arith
+passing_le test (x ∷ xs) = let here = one_if_le (test x) in let others = passing_le test xs in omega arith
 
 pub one_of_two : (ready : Bool) → one_if ready + one_if (not ready) ≡ 1
 one_of_two true = refl

@@ -212,6 +212,23 @@ none_total test (s ∷ ss) none =
     let all = total_any (λ x. one_if (test x)) s.one (somes ss) in
     omega arith
 
+-- where none between two places is so, as many are in front of both
+pub front_same : (test : Unfinished → Bool) (slots : List Slot) (p b : ℕ) → p ≤ b → ((k : ℕ) → p ≤ k → k < b → passes test (job_at slots k) ≡ false) → total (λ x. one_if (test x)) (somes (take b slots)) ≡ total (λ x. one_if (test x)) (somes (take p slots))
+front_same test slots zero zero less none = refl
+front_same test slots (suc p) zero less none = absurd (omega arith)
+front_same test [] zero (suc b) less none = refl
+front_same test [] (suc p) (suc b) less none = refl
+front_same test (s ∷ ss) zero (suc b) less none =
+    let here = measured_none test s.one (none 0 (omega arith) (omega arith)) in
+    let later = front_same test ss zero b (omega arith) (λ k past below. none (suc k) (omega arith) (omega arith)) in
+    let all = total_any (λ x. one_if (test x)) s.one (somes (take b ss)) in
+    omega arith
+front_same test (s ∷ ss) (suc p) (suc b) less none =
+    let later = front_same test ss p b (omega arith) (λ k past below. none (suc k) (omega arith) (omega arith)) in
+    let new = total_any (λ x. one_if (test x)) s.one (somes (take b ss)) in
+    let old = total_any (λ x. one_if (test x)) s.one (somes (take p ss)) in
+    omega arith
+
 so_of : (so : Bool) → one_if so ≡ 0 → so ≡ false
 so_of true none = absurd (omega arith)
 so_of false none = refl

@@ -1,10 +1,11 @@
 -- Walks along the links of a session.
-use Rattle.std.proofs.Common.{◌≡◌, ◌∙◌, ℕ, zero, suc, ◌+◌, ◌-◌, ◌<◌, ◌≤◌, Bool, true, false, ◌⊎◌, inl, inr, Option, None, Some, List, [], ◌∷◌, ◌++◌, length, ap, sym, refl, subst, arith}
+use Rattle.std.proofs.Common.{◌≡◌, ◌∙◌, ℕ, zero, suc, ◌+◌, ◌-◌, ◌<◌, ◌≤◌, Bool, true, false, ◌⊎◌, inl, inr, Option, None, Some, List, [], ◌∷◌, ◌++◌, length, take, ap, sym, refl, subst, arith}
 use Rattle.waits.specs.declared.job.Unfinished.{Unfinished}
 use Rattle.waits.specs.declared.slot.Slot.{Slot}
-use Rattle.waits.specs.Slots.{job_at, link_at, passes, put_at, Walks, IsWithin}
-use Rattle.waits.specs.Jobs.{is_of}
-use Rattle.waits.proofs.Slots.{job_put_here, job_put_other, link_put, length_put, job_beyond, job_push_below, link_push_below, job_push_at, link_push_at, length_push}
+use Rattle.waits.specs.Slots.{somes, job_at, link_at, passes, put_at, Walks, IsWithin}
+use Rattle.waits.specs.Jobs.{is_of, one_if, total}
+use Rattle.waits.proofs.Slots.{job_put_here, job_put_other, link_put, length_put, job_beyond, job_push_below, link_push_below, job_push_at, link_push_at, length_push, take_all, total_take_more, front_same, somes_le, measured_one}
+use Rattle.waits.proofs.Counts.{passing_le}
 
 -- a walk stays one where the links in front stay, and no such job comes
 pub walks_kept : (own : Unfinished → Bool) (old new : List Slot) (b cursor : ℕ) → ((k : ℕ) → k < b → link_at new k ≡ link_at old k) → ((k : ℕ) → k < b → passes own (job_at old k) ≡ false → passes own (job_at new k) ≡ false) → Walks own old b cursor → Walks own new b cursor
@@ -231,6 +232,60 @@ searching_end own bad slots zero found needs none on k below = elim (from_or k o
   | inl past ↦ on.before k past below
   | inr less ↦ needs_at own bad (job_at slots k) needs (end_of own slots on.bound on.walks k less)
 ]
+
+-- ---- a walk that counts
+
+-- a walk goes on from a cursor, and with those behind it that are bad all are counted
+pub record Counting (own bad : Unfinished → Bool) (slots : List Slot) (cursor count : ℕ) : Type 0 where
+  pub bound : ℕ
+  pub within : bound ≤ length slots
+  pub walks : Walks own slots bound cursor
+  pub all : count + total (λ x. one_if (bad x)) (somes (take bound slots)) ≡ total (λ x. one_if (bad x)) (somes slots)
+
+pub counting_start : (own bad : Unfinished → Bool) (slots : List Slot) (last : ℕ) → Walks own slots (length slots) last → Counting own bad slots last 0
+counting_start own bad slots last walks = record {
+  bound = length slots;
+  within = omega arith;
+  walks = walks;
+  all = let same = ap (λ (xs : List Slot). total (λ (x : Unfinished). one_if (bad x)) (somes xs)) (take_all slots (length slots) (omega arith)) in omega arith;
+}
+
+pub record Countstep (own bad : Unfinished → Bool) (slots : List Slot) (p count : ℕ) : Type 0 where
+  pub within : p < length slots
+  pub less : link_at slots p ≤ p
+  pub onward : Counting own bad slots (link_at slots p) (count + one_if (passes bad (job_at slots p)))
+  pub fits : count + one_if (passes bad (job_at slots p)) ≤ length slots
+
+countstep_suc : (own bad : Unfinished → Bool) (slots : List Slot) (p count : ℕ) → Needs own bad → Counting own bad slots (suc p) count → Countstep own bad slots p count
+countstep_suc own bad slots p count needs on =
+    let step = step_of own slots on.bound p on.walks in
+    let within : p < length slots = omega (arith, step.below, on.within) in
+    let same = front_same bad slots (p + 1) on.bound (omega (arith, step.below)) (λ k past below. needs_at own bad (job_at slots k) needs (step.between k (omega arith) below)) in
+    let more = total_take_more (λ (x : Unfinished). one_if (bad x)) slots p within in
+    let here = measured_one bad (job_at slots p) in
+    let few = passing_le bad (somes slots) in
+    let long = somes_le slots in
+    record {
+      within = within;
+      less = cursor_le own slots p (link_at slots p) step.walks;
+      onward = record {
+        bound = p;
+        within = omega arith;
+        walks = step.walks;
+        all = omega (arith, on.all);
+      };
+      fits = omega (arith, on.all);
+    }
+
+pub countstep : (own bad : Unfinished → Bool) (slots : List Slot) (cursor count : ℕ) → Needs own bad → 0 < cursor → Counting own bad slots cursor count → Countstep own bad slots (cursor - 1) count
+countstep own bad slots zero count needs some on = absurd (omega arith)
+countstep own bad slots (suc p) count needs some on = let less : suc p - 1 ≡ p = omega arith in rw less (countstep_suc own bad slots p count needs on)
+
+pub counting_end : (own bad : Unfinished → Bool) (slots : List Slot) (cursor count : ℕ) → Needs own bad → cursor ≤ 0 → Counting own bad slots cursor count → count ≡ total (λ x. one_if (bad x)) (somes slots)
+counting_end own bad slots (suc cursor) count needs none on = absurd (omega arith)
+counting_end own bad slots zero count needs none on =
+    let front = front_same bad slots 0 on.bound (omega arith) (λ k past below. needs_at own bad (job_at slots k) needs (end_of own slots on.bound on.walks k below)) in
+    omega (arith, on.all)
 
 -- it goes on over changed places
 pub onward_within : (key session : ℕ) (bad : Unfinished → Bool) (old new : List Slot) (cursor : ℕ) → IsWithin old new → ((k : ℕ) → passes bad (job_at old k) ≡ false → passes bad (job_at new k) ≡ false) → Onward (is_of key session) bad old cursor → Onward (is_of key session) bad new cursor

@@ -5,7 +5,7 @@ use Rattle.waits.specs.declared.job.Unfinished.{Unfinished}
 use Rattle.waits.specs.declared.slot.Slot.{Slot}
 use Rattle.waits.specs.declared.line.Line.{Line}
 use Rattle.waits.specs.declared.tally.Tally.{Tally}
-use Rattle.waits.specs.Jobs.{Queue, is_of, waits_for, settled as settled_jobs, without_session, ready_count, blocked_count, failed_count, AreWithinLimits}
+use Rattle.waits.specs.Jobs.{Queue, is_of, is_overdue, waits_for, settled as settled_jobs, without_session, ready_count, blocked_count, failed_count, AreWithinLimits}
 use Rattle.waits.specs.Tallies.{tally_of, IsTallied}
 
 -- ---- what stands where
@@ -72,6 +72,10 @@ pub record IsGone (key session : ℕ) (old new : List Slot) (place : ℕ) : Type
 -- an answer would still change a job
 abbrev pub unsettled : ℕ → ℕ → ℕ → Bool → Unfinished → Bool
 unsettled key session number ok x = waits_for key session number x && (ok || not x.failed)
+
+-- a job of the session has waited too long by now
+abbrev pub is_overdue_of : ℕ → ℕ → ℕ → Unfinished → Bool
+is_overdue_of key session now x = is_of key session x && is_overdue now x
 
 -- the job at a place is told of an answer, and no other
 pub record IsTold (key session number : ℕ) (ok : Bool) (old new : List Slot) (place : ℕ) : Type 0 where

@@ -31,8 +31,8 @@ const EMPTY_MIN: usize = 64;
 /// The unfinished jobs of a server, in order of acceptance over all sessions.
 ///
 /// Each stands in a place of its own, and each place names an earlier one of the same session. A count of each session's
-/// jobs is kept beside them, with its last place. So what a session asks, or is told, looks at no job of another one, but
-/// for its overdue jobs, and a search for a ready job begins behind those that were passed.
+/// jobs is kept beside them, with its last place. So what a session asks, or is told, looks at no job of another one,
+/// and a search for a ready job begins behind those that were passed.
 #[derive(Debug, Drop)]
 pub struct Jobs {
     line: Line,
@@ -239,14 +239,15 @@ impl Jobs {
         queue::count_of(&self.line.slots, &Wanted::Overdue(now))
     }
 
-    /// How many of these a session has. Looks at no job where none of the session waits, and else at those of all sessions.
+    /// How many of these a session has. Looks at no job where none of the session waits, and at none of another session.
     pub fn overdue_of(&self, key: u64, session: u64, now: Moment) -> usize
         ensures count { result ≡ overdue_count_of key session now self.now.jobs }
     {
-        if self.waiting(key, session) == 0 {
+        let counted = tally::find(&self.tallies, key, session);
+        if counted.waiting == 0 {
             return 0;
         }
-        queue::count_of(&self.line.slots, &Wanted::OverdueOf(key, session, now))
+        self.line.overdue_of(key, session, now, counted.last)
     }
 
     /// Whether an unfinished job has this number in this session.

@@ -4,13 +4,14 @@ ghost use Rattle.std.specs.Prelude.{◌≡◌, ◌+◌, ◌<◌, ◌≤◌, ◌�
 ghost use Rattle.std.specs.List.{list_any};
 ghost use Rattle.std.specs.Option.{option_copied};
 ghost use Rattle.waits.specs.Limits.{most_jobs, most_job_bytes};
-ghost use Rattle.waits.specs.Jobs.{is_call, is_of, waits_for, settled, without_session, after_answer, one_if};
+ghost use Rattle.waits.specs.Jobs.{is_call, is_of, waits_for, settled, without_session, after_answer, overdue_count_of, one_if};
 ghost use Rattle.waits.specs.Tallies.{IsRight};
 ghost use Rattle.waits.specs.Slots.{somes, job_at, link_at, put_at, passes, changed, told_at, Walks, IsWithin, IsLine, IsSameSession, IsGone, IsTold};
 
 use crate::job::{Job, Unfinished};
 use crate::slot::{self, Slot};
 use crate::tally::Tally;
+use msg_ids::Moment;
 use octets::Memory;
 use std::alloc::Global;
 
@@ -148,6 +149,21 @@ impl Line {
             cursor = slot.earlier;
         }
         false
+    }
+
+    /// How many jobs of a session have waited too long at this moment, along the links from its last place.
+    pub(crate) fn overdue_of(&self, key: u64, session: u64, now: Moment, last: usize) -> usize
+        requires { Walks (is_of key session) self.now.slots.items (length self.now.slots.items) last }
+        ensures { result ≡ overdue_count_of key session now (somes self.now.slots.items) }
+    {
+        let mut count = 0;
+        let mut cursor = last;
+        while cursor > 0 {
+            let slot = &self.slots[cursor - 1];
+            count += one_if(slot.is_overdue_of(key, session, now));
+            cursor = slot.earlier;
+        }
+        count
     }
 
     /// The first place in which a session has the call of this number, and how many places there are where it has none.

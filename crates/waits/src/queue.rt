@@ -21,8 +21,6 @@ pub(crate) enum Wanted {
     Failed,
     /// A job that has waited too long at this moment.
     Overdue(Moment),
-    /// Such a job of a key and a session.
-    OverdueOf(u64, u64, Moment),
 }
 
 /// Whether a job is what is looked for.
@@ -32,7 +30,6 @@ fn is_wanted(wanted: &Wanted, one: &Unfinished) -> bool
     match *wanted {
         Wanted::Failed => one.failed,
         Wanted::Overdue(now) => one.is_overdue(now),
-        Wanted::OverdueOf(key, session, now) => one.is_of(key, session) && one.is_overdue(now),
     }
 }
 

@@ -2,9 +2,10 @@
 
 ghost use Rattle.std.specs.Prelude.{◌≡◌, ◌<◌, length, vec_len, vec_capacity};
 ghost use Rattle.waits.specs.Jobs.{is_call, waits_for, is_ready, is_of};
-ghost use Rattle.waits.specs.Slots.{job_at, put_at, passes};
+ghost use Rattle.waits.specs.Slots.{job_at, put_at, passes, is_overdue_of};
 
 use crate::job::Unfinished;
+use msg_ids::Moment;
 use std::mem;
 
 /// A place of a job.
@@ -45,6 +46,16 @@ impl Slot {
         match &self.one {
             None => false,
             Some(one) => one.waits_for(key, session, number),
+        }
+    }
+
+    /// Whether it has a job of this session of this key that has waited too long at this moment.
+    pub(crate) fn is_overdue_of(&self, key: u64, session: u64, now: Moment) -> bool
+        ensures { result ≡ passes (is_overdue_of key session now) self.now.one }
+    {
+        match &self.one {
+            None => false,
+            Some(one) => one.is_of(key, session) && one.is_overdue(now),
         }
     }
 
