@@ -148,3 +148,13 @@ stands_new line none counted =
       tracked = λ key session. subst (λ (xs : List Slot). Walks (is_of key session) xs (length xs) 0) (sym none) refl;
       counted = counted;
     }
+
+-- where only what is counted of all jobs is other, and right
+
+pub stands_with : (old new : Line) (ts : List Tally) → new.slots.items ≡ old.slots.items → IsLine new → Stands old ts → Stands new ts
+stands_with old new ts same counted stands = record {
+  limits = subst (λ (xs : List Slot). AreWithinLimits (somes xs)) (sym same) stands.limits;
+  tallied = subst (λ (xs : List Slot). IsTallied (somes xs) ts) (sym same) stands.tallied;
+  tracked = subst (λ (xs : List Slot). Tracked xs ts) (sym same) stands.tracked;
+  counted = counted;
+}

@@ -1,12 +1,13 @@
 -- What is counted of all jobs, where one place changes.
-use Rattle.std.proofs.Common.{◌≡◌, ℕ, zero, suc, ◌+◌, ◌-◌, ◌<◌, ◌≤◌, Bool, true, false, not, Option, None, Some, List, [], ◌∷◌, ◌++◌, length, take, ap, sym, refl, subst, arith}
+use Rattle.std.proofs.Common.{◌≡◌, ◌∙◌, ℕ, zero, suc, ◌+◌, ◌-◌, ◌<◌, ◌≤◌, Bool, true, false, not, Option, None, Some, List, [], ◌∷◌, ◌++◌, length, take, ap, sym, refl, subst, arith}
 use Rattle.waits.specs.declared.job.Unfinished.{Unfinished}
 use Rattle.waits.specs.declared.slot.Slot.{Slot}
 use Rattle.waits.specs.Jobs.{Queue, is_ready, has_failed, one_if, total, ready_count, blocked_count, failed_count}
-use Rattle.waits.specs.Slots.{with_any, somes, job_at, put_at}
+use Rattle.waits.specs.Slots.{with_any, somes, job_at, passes, put_at, IsClear}
 use Rattle.waits.proofs.Totals.{total_push}
 use Rattle.waits.proofs.Tallies.{Gains}
-use Rattle.waits.proofs.Slots.{measured, total_put, total_take_less, total_length, take_put, take_push}
+use Rattle.waits.proofs.Slots.{measured, total_put, total_take_less, total_length, take_put, take_push, job_push_below, job_put_other, length_push, length_put}
+use Rattle.waits.proofs.Walks.{put_better}
 
 -- the counts of all jobs
 pub record Sums (xs : Queue) (c b f : ℕ) : Type 0 where
@@ -97,6 +98,30 @@ passed_put slots n m p one less here none =
 
 pub passed_push : (slots : List Slot) (s : Slot) (n : ℕ) → n ≤ length slots → ready_count (somes (take n slots)) ≡ 0 → ready_count (somes (take n (slots ++ s ∷ []))) ≡ 0
 passed_push slots s n within none = subst (λ (xs : List Slot). ready_count (somes xs) ≡ 0) (sym (take_push slots s n within)) none
+
+-- ---- in front none is so
+
+pub clear_start : (test : Unfinished → Bool) (slots : List Slot) → IsClear test slots 0
+clear_start test slots = record { none = λ k below. absurd (omega arith); within = omega arith }
+
+pub clear_push : (test : Unfinished → Bool) (slots : List Slot) (s : Slot) (n : ℕ) → IsClear test slots n → IsClear test (slots ++ s ∷ []) n
+clear_push test slots s n clear = record {
+  none = λ k below. ap (passes test) (job_push_below slots s k (omega (arith, clear.within))) ∙ clear.none k below;
+  within = omega (arith, clear.within, length_push slots s);
+}
+
+-- also in front of an earlier place, whatever comes there
+pub clear_put : (test : Unfinished → Bool) (slots : List Slot) (n m p : ℕ) (one : Option Unfinished) → m ≤ n → m ≤ p → IsClear test slots n → IsClear test (put_at p one slots) m
+clear_put test slots n m p one less here clear = record {
+  none = λ k below. ap (passes test) (job_put_other slots p k one (omega arith)) ∙ clear.none k (omega arith);
+  within = omega (arith, clear.within, length_put slots p one);
+}
+
+pub clear_taken : (test : Unfinished → Bool) (slots : List Slot) (n p : ℕ) → p < length slots → IsClear test slots n → IsClear test (put_at p None slots) n
+clear_taken test slots n p within clear = record {
+  none = λ k below. put_better test slots p k None (λ is. refl) within (clear.none k below);
+  within = omega (arith, clear.within, length_put slots p None);
+}
 
 failed_one : (failed : Bool) → one_if failed ≤ 1
 failed_one true = omega arith

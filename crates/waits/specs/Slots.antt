@@ -1,11 +1,11 @@
 -- The places in which jobs stand, and the links between those of a session: words of private contracts, which are no
 -- promise of this crate.
-use Rattle.std.specs.Prelude.{◌≡◌, ℕ, zero, suc, ◌≤◌, Bool, false, not, ◌&&◌, ◌||◌, ◌⊎◌, Option, None, Some, List, [], ◌∷◌, length, take}
+use Rattle.std.specs.Prelude.{◌≡◌, ℕ, zero, suc, ◌<◌, ◌≤◌, Bool, false, not, ◌&&◌, ◌||◌, ◌⊎◌, Option, None, Some, List, [], ◌∷◌, length, take}
 use Rattle.waits.specs.declared.job.Unfinished.{Unfinished}
 use Rattle.waits.specs.declared.slot.Slot.{Slot}
 use Rattle.waits.specs.declared.line.Line.{Line}
 use Rattle.waits.specs.declared.tally.Tally.{Tally}
-use Rattle.waits.specs.Jobs.{Queue, is_of, is_overdue, waits_for, settled as settled_jobs, without_session, ready_count, blocked_count, failed_count, AreWithinLimits}
+use Rattle.waits.specs.Jobs.{Queue, is_of, is_ready, is_overdue, has_failed, waits_for, settled as settled_jobs, without_session, ready_count, blocked_count, failed_count, AreWithinLimits}
 use Rattle.waits.specs.Tallies.{tally_of, IsTallied}
 
 -- ---- what stands where
@@ -50,6 +50,15 @@ changed change (Some one) = Some (change one)
 abbrev pub told_at : ℕ → (Unfinished → Unfinished) → List Slot → List Slot
 told_at k change slots = put_at k (changed change (job_at slots k)) slots
 
+-- it isn't ready
+abbrev pub is_blocked : Unfinished → Bool
+is_blocked one = not (is_ready one)
+
+-- none in so many places in front is so
+pub record IsClear (test : Unfinished → Bool) (slots : List Slot) (n : ℕ) : Type 0 where
+  pub none : (k : ℕ) → k < n → passes test (job_at slots k) ≡ false
+  pub within : n ≤ length slots
+
 -- ---- links
 
 -- a walk along the links from a cursor, which is 1 and a place, or 0, comes by all such jobs in front of a place
@@ -91,13 +100,15 @@ Tracked slots tallies = (key session : ℕ) → Walks (is_of key session) slots 
 -- ---- all of it
 
 -- what is counted of all jobs is right: how many there are, how many aren't ready, how many have failed, and in how many
--- places in front none is ready
+-- places in front none is ready, all are, and none has failed
 pub record IsLine (line : Line) : Type 0 where
   pub count : line.count ≡ length (somes line.slots.items)
   pub blocked : line.blocked ≡ blocked_count (somes line.slots.items)
   pub failing : line.failing ≡ failed_count (somes line.slots.items)
   pub passed : ready_count (somes (take line.passed line.slots.items)) ≡ 0
   pub within : line.passed ≤ length line.slots.items
+  pub unblocked : IsClear is_blocked line.slots.items line.unblocked
+  pub unfailed : IsClear has_failed line.slots.items line.unfailed
 
 -- each session is within its limits, and what is kept beside the jobs is right
 pub record Stands (line : Line) (tallies : List Tally) : Type 0 where

@@ -32,7 +32,7 @@ const EMPTY_MIN: usize = 64;
 ///
 /// Each stands in a place of its own, and each place names an earlier one of the same session. A count of each session's
 /// jobs is kept beside them, with its last place. So what a session asks, or is told, looks at no job of another one,
-/// and a search for a ready job begins behind those that were passed.
+/// and a search for a ready, a failed or an overdue job begins behind those that were passed.
 #[derive(Debug, Drop)]
 pub struct Jobs {
     line: Line,
@@ -296,7 +296,7 @@ impl Jobs {
         ensures job { result ≡ first_job (is_wanted wanted.now) self.old.jobs }
         ensures others { self.new ≡ record self.old { jobs = without_first (is_wanted wanted.now) self.old.jobs } }
     {
-        let place = queue::first_place(&self.line.slots, wanted);
+        let place = queue::first_wanted(&mut self.line, wanted);
         if place == self.line.slots.len() {
             return None;
         }

@@ -27,6 +27,10 @@ pub(crate) struct Line {
     pub failing: usize,
     /// None in so many places in front is ready, so a search for a ready one begins behind them.
     pub passed: usize,
+    /// All in so many places in front are ready, so a search for an overdue one begins behind them.
+    pub unblocked: usize,
+    /// None in so many places in front has failed, so a search for one that has begins behind them.
+    pub unfailed: usize,
 }
 
 /// 1 where this holds.
@@ -49,6 +53,8 @@ impl Line {
             blocked: 0,
             failing: 0,
             passed: 0,
+            unblocked: 0,
+            unfailed: 0,
         }
     }
 
@@ -65,6 +71,8 @@ impl Line {
             blocked: 0,
             failing: 0,
             passed: 0,
+            unblocked: 0,
+            unfailed: 0,
         })
     }
 
@@ -121,6 +129,8 @@ impl Line {
         self.blocked += one_if(!one.is_ready());
         self.failing += one_if(one.failed);
         self.passed = self.passed.min(place);
+        self.unblocked = self.unblocked.min(place);
+        self.unfailed = self.unfailed.min(place);
         slot::replace(&mut self.slots, place, Some(one));
     }
 

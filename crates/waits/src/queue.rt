@@ -3,7 +3,7 @@
 ghost use Rattle.std.specs.Prelude.{◌≡◌, ◌+◌, ◌<◌, ◌≤◌, ◌∷◌, ◌++◌, [], ℕ, None, Some, true, false, length, take, vec_len, vec_capacity, IfOk, IsSome};
 ghost use Rattle.waits.specs.Limits.{most_jobs, most_job_bytes};
 ghost use Rattle.waits.specs.Jobs.{is_ready, one_if, total, load_of, ready_count, job_count, job_bytes, settled, without_session, AreWithinLimits};
-ghost use Rattle.waits.specs.Slots.{somes, job_at, put_at, passes, IsLine, Stands};
+ghost use Rattle.waits.specs.Slots.{somes, job_at, put_at, passes, IsClear, IsLine, Stands};
 ghost use Rattle.waits.specs.Wanted.{is_wanted};
 
 use crate::job::Unfinished;
@@ -19,6 +19,8 @@ use std::alloc::Global;
 pub(crate) enum Wanted {
     /// A job that has failed.
     Failed,
+    /// A job that isn't ready.
+    Blocked,
     /// A job that has waited too long at this moment.
     Overdue(Moment),
 }
@@ -29,6 +31,7 @@ fn is_wanted(wanted: &Wanted, one: &Unfinished) -> bool
 {
     match *wanted {
         Wanted::Failed => one.failed,
+        Wanted::Blocked => !one.is_ready(),
         Wanted::Overdue(now) => one.is_overdue(now),
     }
 }
@@ -43,18 +46,42 @@ fn is_wanted_in(wanted: &Wanted, slot: &Slot) -> bool
     }
 }
 
-/// The place of the first job that is wanted, and how many places there are where none is.
-pub(crate) fn first_place(slots: &Vec<Slot>, wanted: &Wanted) -> usize
+/// The place of the first job that is wanted, and how many places there are where none is. None in front of a place is
+/// wanted, and the search begins there.
+fn first_place(slots: &Vec<Slot>, passed: usize, wanted: &Wanted) -> usize
+    requires { IsClear (is_wanted wanted.now) slots.now.items passed }
     ensures within { result ≤ length slots.now.items }
     ensures before { (k : ℕ) → k < result → passes (is_wanted wanted.now) (job_at slots.now.items k) ≡ false }
     ensures found { result < length slots.now.items → passes (is_wanted wanted.now) (job_at slots.now.items result) ≡ true }
 {
-    for place in 0..slots.len() {
+    for place in passed..slots.len() {
         if is_wanted_in(wanted, &slots[place]) {
             return place;
         }
     }
     slots.len()
+}
+
+/// The place of the first job that is wanted, and how many places there are where none is. Notes how many places in
+/// front no later search for such a job has to look at.
+pub(crate) fn first_wanted(line: &mut Line, wanted: &Wanted) -> usize
+    requires { IsLine line.old }
+    ensures within { result ≤ length line.new.slots.items }
+    ensures before { (k : ℕ) → k < result → passes (is_wanted wanted.now) (job_at line.new.slots.items k) ≡ false }
+    ensures found { result < length line.new.slots.items → passes (is_wanted wanted.now) (job_at line.new.slots.items result) ≡ true }
+    ensures slots { line.new.slots ≡ line.old.slots }
+    ensures line { IsLine line.new }
+{
+    match *wanted {
+        Wanted::Failed => {
+            line.unfailed = first_place(&line.slots, line.unfailed, wanted);
+            line.unfailed
+        }
+        Wanted::Blocked | Wanted::Overdue(_) => {
+            line.unblocked = first_place(&line.slots, line.unblocked, &Wanted::Blocked);
+            first_place(&line.slots, line.unblocked, wanted)
+        }
+    }
 }
 
 /// How many jobs are so.

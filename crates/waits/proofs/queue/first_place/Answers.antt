@@ -5,6 +5,9 @@ use Rattle.waits.proofs.Slots.{slot_at}
 use Rattle.waits.proofs.Walks.{lt_or}
 use Rattle.waits.proofs.queue.first_place.Goals as goal
 
+pub loop-place-init : goal.loop-place-init
+loop-place-init c = c.requires.none
+
 pub loop-place-preserved : goal.loop-place-preserved
 loop-place-preserved c k below =
     let xs = c.args.slots.now.items in

@@ -32,7 +32,7 @@ invariant_of-self c =
         limits = stands.limits;
         tallied = stands.tallied;
         tracked = stands.tracked;
-        counted = record { count = stands.counted.count; blocked = stands.counted.blocked; failing = stands.counted.failing; passed = passed; within = omega (arith, c.ready_place-place.ensures.within, long) };
+        counted = record { count = stands.counted.count; blocked = stands.counted.blocked; failing = stands.counted.failing; passed = passed; within = omega (arith, c.ready_place-place.ensures.within, long); unblocked = stands.counted.unblocked; unfailed = stands.counted.unfailed };
       },
       omega (arith, c.take_out-one.ensures.len, c.take_out-one.ensures.capacity, c.self.invariant.1),
       omega (arith, c.take_out-one.ensures.tallies_len, c.take_out-one.ensures.tallies_capacity, c.self.invariant.2),

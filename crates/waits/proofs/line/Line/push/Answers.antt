@@ -1,10 +1,10 @@
 use Rattle.std.proofs.Common.{◌≡◌, ◌∙◌, ◌++◌, ◌∷◌, [], Bool, not, Some, List, length, take, ap, sym, refl, subst, arith}
 use Rattle.waits.specs.declared.slot.Slot.{Slot}
-use Rattle.waits.specs.Jobs.{is_ready, one_if, ready_count, blocked_count, failed_count}
-use Rattle.waits.specs.Slots.{somes}
+use Rattle.waits.specs.Jobs.{is_ready, has_failed, one_if, ready_count, blocked_count, failed_count}
+use Rattle.waits.specs.Slots.{somes, is_blocked, IsClear}
 use Rattle.waits.proofs.Counts.{counts_all, one_if_le}
 use Rattle.waits.proofs.Slots.{somes_le, somes_push, length_push}
-use Rattle.waits.proofs.Standing.{failed_le, sums_more, gains_pushed, passed_push}
+use Rattle.waits.proofs.Standing.{failed_le, sums_more, gains_pushed, passed_push, clear_push}
 use Rattle.waits.proofs.line.Line.push.Goals as goal
 
 pub overflow_add-self : goal.overflow_add-self
@@ -42,4 +42,6 @@ returns-clause-line c =
       failing = omega (arith, sums.failing, c.one_if-2.ensures, ap failed_count jobs);
       passed = subst (λ (zs : List Slot). ready_count (somes (take c.args.self.now.passed zs)) ≡ 0) (sym c.push_reserved.ensures.items) (passed_push xs s c.args.self.now.passed line.within line.passed);
       within = omega (arith, line.within, long);
+      unblocked = subst (λ (zs : List Slot). IsClear is_blocked zs c.args.self.now.unblocked) (sym c.push_reserved.ensures.items) (clear_push is_blocked xs s c.args.self.now.unblocked line.unblocked);
+      unfailed = subst (λ (zs : List Slot). IsClear has_failed zs c.args.self.now.unfailed) (sym c.push_reserved.ensures.items) (clear_push has_failed xs s c.args.self.now.unfailed line.unfailed);
     }

@@ -1,10 +1,10 @@
 use Rattle.std.proofs.Common.{◌≡◌, ◌∙◌, Bool, not, Some, List, length, take, ap, sym, subst, arith}
 use Rattle.waits.specs.declared.slot.Slot.{Slot}
-use Rattle.waits.specs.Jobs.{is_ready, one_if, ready_count, blocked_count, failed_count}
-use Rattle.waits.specs.Slots.{somes, put_at}
+use Rattle.waits.specs.Jobs.{is_ready, has_failed, one_if, ready_count, blocked_count, failed_count}
+use Rattle.waits.specs.Slots.{somes, put_at, is_blocked, IsClear}
 use Rattle.waits.proofs.Counts.{counts_all, one_if_le}
 use Rattle.waits.proofs.Slots.{length_put, somes_le}
-use Rattle.waits.proofs.Standing.{failed_le, sums_more, gains_filled, passed_put}
+use Rattle.waits.proofs.Standing.{failed_le, sums_more, gains_filled, passed_put, clear_put}
 use Rattle.waits.proofs.line.Line.put_back.Goals as goal
 
 pub overflow_add-self : goal.overflow_add-self
@@ -42,4 +42,6 @@ returns-clause-line c =
       failing = omega (arith, sums.failing, c.one_if-2.ensures, ap failed_count jobs);
       passed = subst (λ (zs : List Slot). ready_count (somes (take c.min-self.result zs)) ≡ 0) (sym c.replace.ensures.left) (passed_put xs c.args.self.now.passed c.min-self.result c.args.place (Some one) (omega (arith, c.min-self.ensures)) (omega (arith, c.min-self.ensures)) line.passed);
       within = omega (arith, line.within, long, c.min-self.ensures);
+      unblocked = subst (λ (zs : List Slot). IsClear is_blocked zs c.min-self-2.result) (sym c.replace.ensures.left) (clear_put is_blocked xs c.args.self.now.unblocked c.min-self-2.result c.args.place (Some one) (omega (arith, c.min-self-2.ensures)) (omega (arith, c.min-self-2.ensures)) line.unblocked);
+      unfailed = subst (λ (zs : List Slot). IsClear has_failed zs c.min-self-3.result) (sym c.replace.ensures.left) (clear_put has_failed xs c.args.self.now.unfailed c.min-self-3.result c.args.place (Some one) (omega (arith, c.min-self-3.ensures)) (omega (arith, c.min-self-3.ensures)) line.unfailed);
     }

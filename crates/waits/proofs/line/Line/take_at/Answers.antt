@@ -1,9 +1,9 @@
 use Rattle.std.proofs.Common.{◌≡◌, ◌∙◌, Bool, not, None, List, length, take, ap, sym, subst, arith}
 use Rattle.waits.specs.declared.slot.Slot.{Slot}
-use Rattle.waits.specs.Jobs.{is_ready, one_if, ready_count, blocked_count, failed_count}
-use Rattle.waits.specs.Slots.{somes, put_at}
+use Rattle.waits.specs.Jobs.{is_ready, has_failed, one_if, ready_count, blocked_count, failed_count}
+use Rattle.waits.specs.Slots.{somes, put_at, is_blocked, IsClear}
 use Rattle.waits.proofs.Slots.{length_put}
-use Rattle.waits.proofs.Standing.{put_same, sums_less, sums_some, gains_taken, passed_taken}
+use Rattle.waits.proofs.Standing.{put_same, sums_less, sums_some, gains_taken, passed_taken, clear_taken}
 use Rattle.waits.proofs.line.Line.take_at.Goals as goal
 
 pub overflow_sub-self : goal.overflow_sub-self
@@ -48,6 +48,8 @@ returns-in-None-clause-line c =
       failing = line.failing ∙ sym (ap failed_count jobs);
       passed = subst (λ (ys : List Slot). ready_count (somes (take c.args.self.now.passed ys)) ≡ 0) (sym same) line.passed;
       within = omega (arith, line.within, ap length same);
+      unblocked = subst (λ (ys : List Slot). IsClear is_blocked ys c.args.self.now.unblocked) (sym same) line.unblocked;
+      unfailed = subst (λ (ys : List Slot). IsClear has_failed ys c.args.self.now.unfailed) (sym same) line.unfailed;
     }
 
 pub returns-in-Some-clause-line : goal.returns-in-Some-clause-line
@@ -66,4 +68,6 @@ returns-in-Some-clause-line c =
       failing = omega (arith, sums.failing, c.one_if-in-Some.ensures, ap failed_count jobs);
       passed = subst (λ (zs : List Slot). ready_count (somes (take c.args.self.now.passed zs)) ≡ 0) (sym c.replace.ensures.left) (passed_taken xs c.args.self.now.passed c.args.place line.passed);
       within = omega (arith, line.within, long);
+      unblocked = subst (λ (zs : List Slot). IsClear is_blocked zs c.args.self.now.unblocked) (sym c.replace.ensures.left) (clear_taken is_blocked xs c.args.self.now.unblocked c.args.place c.requires.within line.unblocked);
+      unfailed = subst (λ (zs : List Slot). IsClear has_failed zs c.args.self.now.unfailed) (sym c.replace.ensures.left) (clear_taken has_failed xs c.args.self.now.unfailed c.args.place c.requires.within line.unfailed);
     }
