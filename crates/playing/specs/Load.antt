@@ -22,6 +22,6 @@ pub record AreOfLoad (calls : ℕ) (events : List Placed) : Type 0 where
   pub world : load_world calls ≡ sim_world events
   pub bytes : All IsOfBytes (events_of events)
 
--- in that world each call executed at most once, as its client sent it, and what is told of it is so
+-- of that world it holds that each call executes once, with what stands beside it
 abbrev pub LoadExecutesOnce : ℕ → Type 0
 LoadExecutesOnce calls = (events : List Placed) × AreOfLoad calls events × ExecutesOnce events

@@ -13,8 +13,8 @@ use Rattle.playing.specs.Sim.{ExecutesOnce, IsDue, IsLawful, IsOfSim, IsRefused,
 pub record SimRun {S O : Type 0} (wire : Bool) (input : Outside S) (out : Outside O) (one : Status) : Type 0 where
   -- it ends by one of these
   pub ends : IsOfSim one ⊎ (one ≡ status.ReadFault) ⊎ (one ≡ status.WriteFault) ⊎ (one ≡ status.Memory)
-  -- Done: the input was read to its end and spells a lawful schedule, and the report of its world is written. In that world
-  -- each call executed at most once, as its client sent it, what is told of it is so, and calls ran behind their earlier calls.
+  -- Done: the input was read to its end and spells a lawful schedule, and the report of its world is written. Of that world
+  -- `ExecutesOnce` holds.
   pub read : one ≡ status.Done → IsReadToTheEnd input
   pub reported : one ≡ status.Done → IfTold input (λ text. (events : List Placed) × IsLawful text events × Writes out (report_of wire events) × ExecutesOnce events)
   -- Nothing but a fault, or want of memory, keeps a lawful schedule from its report.
@@ -39,6 +39,5 @@ pub record LoadRun {O : Type 0} (calls : ℕ) (out : Outside O) (one : Status) :
   -- It writes the line that sums up the world after the large schedule of so many calls, unless a write failed or memory ran
   -- out.
   pub written : PlainRun out status.Done (summary_of calls) one
-  -- Done: in that world each call executed at most once, as its client sent it, what is told of it is so, and calls ran behind
-  -- their earlier calls.
+  -- Done: of that world `ExecutesOnce` holds.
   pub once : one ≡ status.Done → LoadExecutesOnce calls

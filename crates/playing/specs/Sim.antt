@@ -52,14 +52,14 @@ pub record IsRefusedAt (text : List ℕ) (events : List Placed) (line : ℕ) (re
   pub refused : sim_refused events ≡ Some (line, refusal)
   pub told : due ≡ refusal_line line (refusal_text refusal)
 
--- the status of a refusal: where a client has no numbers left it is one of its own
+-- the status of a refusal: where a client has too few numbers left it is one of its own
 abbrev pub status_of : Refusal → Status
 status_of NumbersSpent = status.NumbersSpent
 status_of refusal = status.InputRefused
 
 -- ---- the text that is due
 
--- the text is a lawful schedule, this is the report of its world, and there each call executed at most once
+-- the text is a lawful schedule, this is the report of its world, and of that `ExecutesOnce` holds
 abbrev pub Reported : Bool → List ℕ → List ℕ → Type 0
 Reported wire text due = (events : List Placed) × IsLawful text events × (due ≡ report_of wire events) × ExecutesOnce events
 
