@@ -19,7 +19,7 @@ use Rattle.client_rules.specs.Client.{Client, after_message, calls_of, is_open, 
 use Rattle.client_rules.specs.Filling.{Filling, changes, Turn, Goes as Going, body_behind, goes, says, says_acks, says_call, says_call_at, says_destroyed, says_drop, says_drop_of, says_resent, number_of, sends_call, takes_turn, turn_of, undropped}
 use Rattle.client_core.specs.Kept.{Contents, Stands}
 use Rattle.client_core.specs.Draft.{Draft, Goes, Holds, LeavesQueue, drops, queue, enters, filled_up, item_of, needs_answer, said_bytes, said_message}
-use Rattle.client_core.specs.declared.saying.Said.{Said}
+use Rattle.client_core.specs.declared.saying.Outgoing.{Outgoing}
 use Rattle.client_core.specs.Calling.{call_message, living_of}
 use Rattle.client_core.proofs.CallLemmas.{same_at, value}
 use Rattle.client_core.proofs.QueueLemmas.{left_group}
@@ -163,7 +163,7 @@ resent_go (number ∷ numbers) filling some = refl
 -- ---- what is said
 
 -- it fits: the client changes besides
-pub said_in : {S : Type 0} (core inside new : Contents) (draft after : Draft) (filling : Filling S) (change : Client → Client) (said : Said) (at : ℕ)
+pub said_in : {S : Type 0} (core inside new : Contents) (draft after : Draft) (filling : Filling S) (change : Client → Client) (said : Outgoing) (at : ℕ)
     → inside ≡ core → Goes core draft filling → at ≡ time_of filling.client
     → length (spelling_of (item_of said)) ≡ said_bytes said → enters (said_bytes said) draft ≡ true
     → ((messages : List Message) → Holds draft messages → Holds after (messages ++ said_message at inside.rest.counters said ∷ []))

@@ -19,7 +19,7 @@ use Rattle.client_rules.specs.Learning.{each_becomes, ended, fate_at_end, fate_l
 use Rattle.client_rules.specs.Taking.{Notice, alone_among, alone_call, alone_number, asks_answer, binding_noticed, goes_again, has_asked, is_asked_by, is_for, is_odd, message_in, messages_of, noticed_by, packet_noticed, take, takes_message, takes_over, told_of, told_state, told_states, with_notice_clock, with_notice_salt, without_idle_wish}
 use Rattle.client_core.specs.declared.brought.Brought.{Brought}
 use Rattle.client_core.specs.declared.brought.Brought.TheVariants as brought
-use Rattle.client_core.specs.declared.brought.Lesson.{Lesson}
+use Rattle.client_core.specs.declared.brought.Incoming.{Incoming}
 use Rattle.client_core.specs.Brought.{acknowledges_number, answered_as, binding_by, lesson_of, row_of, takes_lesson}
 use Rattle.client_core.specs.Keys.{BoundTo, Keys, bound_to_of, keys_of}
 use Rattle.client_core.specs.Kept.{Contents, Stands, at_end}
@@ -188,13 +188,13 @@ row_own outer number brought.Nothing client = refl
 acks_own : (number seq : ℕ) (client : Client) → own_of (acknowledges_number number seq client) ≡ own_of client
 acks_own number seq client = if_own (is_odd seq) _ client (own_of client) refl refl
 
-lesson_own : (outer : ℕ) (client : Client) (lesson : Lesson) → own_of (takes_lesson outer client lesson) ≡ own_of client
+lesson_own : (outer : ℕ) (client : Client) (lesson : Incoming) → own_of (takes_lesson outer client lesson) ≡ own_of client
 lesson_own outer client lesson =
     let acked = acknowledges_number lesson.number lesson.seq client in
     if_own client.has_ended client (row_of outer lesson.number lesson.brought acked) (own_of client) refl
     (row_own outer lesson.number lesson.brought acked ∙ acks_own lesson.number lesson.seq client)
 
-lessons_own : (outer : ℕ) (client : Client) (lessons : List Lesson) → own_of (fold (takes_lesson outer) client lessons) ≡ own_of client
+lessons_own : (outer : ℕ) (client : Client) (lessons : List Incoming) → own_of (fold (takes_lesson outer) client lessons) ≡ own_of client
 lessons_own outer client [] = refl
 lessons_own outer client (lesson ∷ lessons) = lessons_own outer (takes_lesson outer client lesson) lessons ∙ lesson_own outer client lesson
 

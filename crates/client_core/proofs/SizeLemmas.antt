@@ -10,8 +10,8 @@ use Rattle.service_tl.specs.Items.{Values, fields_spelling, spelling_of}
 use Rattle.service_tl.specs.Words.{ItemIsWords}
 use Rattle.service_tl.specs.Schema.{rpc_drop_answer, get_future_salts, ping, destroy_session, msgs_ack, msgs_state_req, msgs_state_info, msg_resend_req, invoke_after_msg, auth_bind_temp_auth_key}
 use Rattle.service_tl.specs.declared.item.Item.TheVariants.{AuthBindTempAuthKey}
-use Rattle.client_core.specs.declared.saying.Said.{Said}
-use Rattle.client_core.specs.declared.saying.Said.TheVariants.{Acks, Told, Resent, States, Pings, Salts as SaltsSaid, Destroys, Drops}
+use Rattle.client_core.specs.declared.saying.Outgoing.{Outgoing}
+use Rattle.client_core.specs.declared.saying.Outgoing.TheVariants.{Acks, Told, Resent, States, Pings, Salts as SaltsSaid, Destroys, Drops}
 use Rattle.client_rules.specs.Filling.{body_behind}
 use Rattle.client_core.specs.Calling.{wrap_bytes}
 use Rattle.client_core.specs.Draft.{CanBeSaid, item_of, said_bytes}
@@ -71,7 +71,7 @@ module _ (sizes : (form : Form) (value : Of form) → Fits form value → length
   boxed-size number fields values counted =
       omega (arith, length-append (spelling Int number) (fields_spelling fields values), form-size Int number tt, fields-size fields values counted)
 
-  pub said-size : (said : Said) → CanBeSaid said → length (spelling_of (item_of said)) ≡ said_bytes said
+  pub said-size : (said : Outgoing) → CanBeSaid said → length (spelling_of (item_of said)) ≡ said_bytes said
   said-size (Acks ids) can = omega (arith, boxed-size msgs_ack.number msgs_ack.fields (ids.now, tt) (tt, tt))
   said-size (Told request info) can = omega (arith, boxed-size msgs_state_info.number msgs_state_info.fields (request, (info.now, tt)) (tt, (omega (arith, can), tt)))
   said-size (Resent ids) can = omega (arith, boxed-size msg_resend_req.number msg_resend_req.fields (ids.now, tt) (tt, tt))
@@ -90,7 +90,7 @@ module _ (sizes : (form : Form) (value : Of form) → Fits form value → length
       boxed-size auth_bind_temp_auth_key.number auth_bind_temp_auth_key.fields (perm, (nonce, (expires, (message, tt)))) (tt, (tt, (tt, (omega (arith, size), tt))))
       ∙ ap (λ n. 4 + (8 + (8 + (4 + (string_size n + 0))))) size
 
-pub said-is_words : (said : Said) → ItemIsWords (item_of said)
+pub said-is_words : (said : Outgoing) → ItemIsWords (item_of said)
 said-is_words (Acks ids) = (tt, tt)
 said-is_words (Told request info) = (tt, (tt, tt))
 said-is_words (Resent ids) = (tt, tt)
@@ -100,7 +100,7 @@ said-is_words (SaltsSaid count) = (tt, tt)
 said-is_words (Destroys session) = (tt, tt)
 said-is_words (Drops number) = (tt, tt)
 
-pub said-few : (said : Said) → CanBeSaid said → said_bytes said ≤ 65548
+pub said-few : (said : Outgoing) → CanBeSaid said → said_bytes said ≤ 65548
 said-few (Acks ids) can = omega (arith, can)
 said-few (Told request info) can = grind (arith, can)
 said-few (Resent ids) can = omega (arith, can)

@@ -13,7 +13,7 @@ use Rattle.client_rules.specs.Client.{Client, at_moment, calls_of, is_open}
 use Rattle.client_rules.specs.Learning.{ended, learn, learnt_max, learns, with_clock}
 use Rattle.envelope.specs.declared.parts.Envelope.{Envelope}
 use Rattle.client_rules.specs.Taking.{answered_by, binding_error, has_asked, is_for, message_in, messages_of, row, take, takes_message, acknowledges, without_idle_wish}
-use Rattle.client_core.specs.declared.brought.Lesson.{Lesson}
+use Rattle.client_core.specs.declared.brought.Incoming.{Incoming}
 use Rattle.client_core.specs.Brought.{IsFit, acknowledges_number, answered_as, brought_of, lesson_of, row_of, takes_lesson}
 use Rattle.client_core.specs.Kept.{Contents, Stands, at_end}
 use Rattle.client_core.specs.Took.{Took, TookBy}
@@ -66,7 +66,7 @@ messages_same outer client (message ∷ messages) =
     ap (λ now. fold (takes_message outer) now messages) (message_same outer client message) ∙ messages_same outer (takes_lesson outer client (lesson_of message)) messages
 
 -- an ended client takes nothing more
-pub ended_stays : (outer : ℕ) (client : Client) (lessons : List Lesson) → client.has_ended ≡ true → fold (takes_lesson outer) client lessons ≡ client
+pub ended_stays : (outer : ℕ) (client : Client) (lessons : List Incoming) → client.has_ended ≡ true → fold (takes_lesson outer) client lessons ≡ client
 ended_stays outer client [] ended = refl
 ended_stays outer client (lesson ∷ lessons) ended =
     ap (λ now. fold (takes_lesson outer) now lessons)
@@ -77,7 +77,7 @@ ended_stays outer client (lesson ∷ lessons) ended =
 pub lives : (contents : Contents) (client : Client) → contents.rest.has_ended ≡ false → Stands contents client → client.has_ended ≡ false
 lives contents client told stands = sym (ap (λ rest. rest.has_ended) stands.rest) ∙ told
 
-pub takes_living : (outer : ℕ) (client : Client) (lesson : Lesson) → client.has_ended ≡ false
+pub takes_living : (outer : ℕ) (client : Client) (lesson : Incoming) → client.has_ended ≡ false
     → row_of outer lesson.number lesson.brought (acknowledges_number lesson.number lesson.seq client) ≡ takes_lesson outer client lesson
 takes_living outer client lesson lives =
     sym (ap (λ b. if b then client else row_of outer lesson.number lesson.brought (acknowledges_number lesson.number lesson.seq client)) lives)
@@ -85,7 +85,7 @@ takes_living outer client lesson lives =
 -- ---- a loop over what messages bring
 
 -- what is left can be taken, and leads to what all lead to
-pub record IsUnderWay (outer : ℕ) (old now : Contents) (all left : List Lesson) : Type 0 where
+pub record IsUnderWay (outer : ℕ) (old now : Contents) (all left : List Incoming) : Type 0 where
   pub resent : length left ≤ now.room.resent
   pub learnt : length left ≤ now.room.learnt
   pub sessions : 0 < now.room.sessions
@@ -94,7 +94,7 @@ pub record IsUnderWay (outer : ℕ) (old now : Contents) (all left : List Lesson
   pub grows : length now.rest.learnt + length left ≤ length old.rest.learnt + length all
   pub stands : (client : Client) → Stands old client → (mid : Client) × (Stands now mid × (fold (takes_lesson outer) mid left ≡ fold (takes_lesson outer) client all))
 
-pub sets_out : (outer : ℕ) (old : Contents) (all left : List Lesson) → left ≡ all → length all ≤ old.room.resent → length all ≤ old.room.learnt → 0 < old.room.sessions
+pub sets_out : (outer : ℕ) (old : Contents) (all left : List Incoming) → left ≡ all → length all ≤ old.room.resent → length all ≤ old.room.learnt → 0 < old.room.sessions
     → AllByRecursion (λ lesson. IsFit lesson.brought) all → IsUnderWay outer old old all left
 sets_out outer old all left same resent learnt sessions fit = record {
   resent = rw same resent;
@@ -106,7 +106,7 @@ sets_out outer old all left same resent learnt sessions fit = record {
   stands = λ client stands. (client, (stands, rw same refl));
 }
 
-pub goes_on : (outer : ℕ) (old now after : Contents) (all left : List Lesson) (lesson : Lesson) → IsUnderWay outer old now all (lesson ∷ left)
+pub goes_on : (outer : ℕ) (old now after : Contents) (all left : List Incoming) (lesson : Incoming) → IsUnderWay outer old now all (lesson ∷ left)
     → now.room.resent ≤ after.room.resent + 1 → now.room.learnt ≤ after.room.learnt + 1 → after.room.sessions ≡ now.room.sessions
     → length after.rest.learnt ≤ length now.rest.learnt + 1 → (is_open now.rest ≡ true → is_open after.rest ≡ true)
     → ((client : Client) → Stands now client → Stands after (takes_lesson outer client lesson))
@@ -122,7 +122,7 @@ goes_on outer old now after all left lesson way resent learnt sessions grows sta
 }
 
 -- the client has ended by this message
-pub ends : (outer : ℕ) (old now after : Contents) (all left : List Lesson) (lesson : Lesson) → IsUnderWay outer old now all (lesson ∷ left)
+pub ends : (outer : ℕ) (old now after : Contents) (all left : List Incoming) (lesson : Incoming) → IsUnderWay outer old now all (lesson ∷ left)
     → ((client : Client) → Stands now client → Stands (at_end after) (takes_lesson outer client lesson))
     → (client : Client) → Stands old client → Stands (at_end after) (fold (takes_lesson outer) client all)
 ends outer old now after all left lesson way stands client was =
@@ -132,7 +132,7 @@ ends outer old now after all left lesson way stands client was =
     rw (sym mid.1.1, ended_stays outer (takes_lesson outer mid.0 lesson) left over) last
 
 -- nothing is left
-pub arrives : (outer : ℕ) (old now : Contents) (all left : List Lesson) → IsUnderWay outer old now all left → length left ≡ 0
+pub arrives : (outer : ℕ) (old now : Contents) (all left : List Incoming) → IsUnderWay outer old now all left → length left ≡ 0
     → (client : Client) → Stands old client → Stands now (fold (takes_lesson outer) client all)
 arrives outer old now all [] way none client was =
     let mid = way.stands client was in rw (sym mid.1.1) mid.1.0
@@ -164,7 +164,7 @@ pub took_ok : (ended : Bool) (now : Contents) (before after : Client) → now.re
 took_ok false now before after living took = (lives now after living took, took)
 took_ok true now before after living took = (sym (ap (λ rest. rest.has_ended) took.rest), took)
 
-pub takes_envelope : (moment : ℕ) (envelope : Envelope) (client : Client) (after now : Contents) (lessons : List Lesson) (ended : Bool) → is_for client envelope ≡ true
+pub takes_envelope : (moment : ℕ) (envelope : Envelope) (client : Client) (after now : Contents) (lessons : List Incoming) (ended : Bool) → is_for client envelope ≡ true
     → lessons ≡ map lesson_of (messages_of (message_in envelope)) → now.rest.has_ended ≡ false
     → ((client : Client) → Stands after client → Stands now (without_idle_wish client))
     → ((client : Client) → Stands (at_end after) client → Stands (at_end now) (without_idle_wish client))

@@ -15,7 +15,7 @@ use Rattle.client_rules.specs.Learning.{learn}
 use Rattle.client_rules.specs.Taking.{alone_number, asks_answer, becomes, binding_error, has_asked, is_odd, noticed, told_of, told_states}
 use Rattle.client_core.specs.declared.brought.Brought.{Brought}
 use Rattle.client_core.specs.declared.brought.Brought.TheVariants as brought
-use Rattle.client_core.specs.declared.brought.Lesson.{Lesson}
+use Rattle.client_core.specs.declared.brought.Incoming.{Incoming}
 
 -- ---- what it brings, by kinds of items
 
@@ -41,7 +41,7 @@ brought_of (NewSessionCreated first unique salt) = brought.Session unique salt
 brought_of (RpcResult about result) = brought.Answer about result (binding_error (item_of result))
 brought_of item = notice_of item
 
-abbrev pub lesson_of : Message → Lesson
+abbrev pub lesson_of : Message → Incoming
 lesson_of message = record { number = message.number; seq = message.seq; brought = brought_of (item_of message.body) }
 
 -- the states that are to be told can be sent: there are as many as a list may have
@@ -88,6 +88,6 @@ acknowledges_number number seq client =
     then record client { table = record client.table { acks = acknowledged number client.table.acks } }
     else client
 
-abbrev pub takes_lesson : ℕ → Client → Lesson → Client
+abbrev pub takes_lesson : ℕ → Client → Incoming → Client
 takes_lesson outer client lesson =
     if client.has_ended then client else row_of outer lesson.number lesson.brought (acknowledges_number lesson.number lesson.seq client)

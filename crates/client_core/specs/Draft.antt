@@ -15,8 +15,8 @@ use Rattle.call_table.specs.Table.{group_of}
 use Rattle.client_rules.specs.Client.{calls_of}
 use Rattle.client_rules.specs.Filling.{Filling, says_call, says_drop}
 use Rattle.client_core.specs.Kept.{Contents, Stands}
-use Rattle.client_core.specs.declared.saying.Said.{Said}
-use Rattle.client_core.specs.declared.saying.Said.TheVariants.{Acks, Told, Resent, States, Pings, Salts, Destroys, Drops}
+use Rattle.client_core.specs.declared.saying.Outgoing.{Outgoing}
+use Rattle.client_core.specs.declared.saying.Outgoing.TheVariants.{Acks, Told, Resent, States, Pings, Salts, Destroys, Drops}
 
 -- what contracts see of it: the messages as they stand in a container, how many, the numbers of calls among them and of the
 -- binding, whether an item didn't fit, and the last message's number and seq
@@ -55,7 +55,7 @@ pub record Goes {S : Type 0} (core : Contents) (draft : Draft) (filling : Fillin
 
 -- ---- what a client says beside calls
 
-abbrev pub item_of : Said → Item
+abbrev pub item_of : Outgoing → Item
 item_of (Acks ids) = MsgsAck ids.now
 item_of (Told request info) = MsgsStateInfo request info.now
 item_of (Resent ids) = MsgResendReq ids.now
@@ -65,14 +65,14 @@ item_of (Salts count) = GetFutureSalts count
 item_of (Destroys session) = DestroySession session
 item_of (Drops number) = RpcDropAnswer number
 
-abbrev pub needs_answer : Said → Bool
+abbrev pub needs_answer : Outgoing → Bool
 needs_answer (Salts count) = true
 needs_answer (Destroys session) = true
 needs_answer (Drops number) = true
 needs_answer _ = false
 
 -- how many bytes its body has: 4 for its constructor, 4 for an int, 8 for a long, 8 more in front of a vector's longs
-abbrev pub said_bytes : Said → ℕ
+abbrev pub said_bytes : Outgoing → ℕ
 said_bytes (Acks ids) = 12 + 8 * length ids.now
 said_bytes (Told request info) = 12 + string_size (length info.now)
 said_bytes (Resent ids) = 12 + 8 * length ids.now
@@ -82,7 +82,7 @@ said_bytes (Salts count) = 8
 said_bytes (Destroys session) = 12
 said_bytes (Drops number) = 12
 
-abbrev pub CanBeSaid : Said → Type 0
+abbrev pub CanBeSaid : Outgoing → Type 0
 CanBeSaid (Acks ids) = length ids.now ≤ longs_max
 CanBeSaid (Told request info) = length info.now ≤ longs_max
 CanBeSaid (Resent ids) = length ids.now ≤ longs_max
@@ -90,7 +90,7 @@ CanBeSaid (States ids) = length ids.now ≤ longs_max
 CanBeSaid _ = ⊤
 
 -- the message of it under a sender's next number
-abbrev pub said_message : ℕ → Counters → Said → Message
+abbrev pub said_message : ℕ → Counters → Outgoing → Message
 said_message now counters said =
     record {
       number = next_number counters.last now;

@@ -66,7 +66,7 @@ pub(crate) enum Brought {
 
 /// A message, by what it brings.
 #[derive(Debug, Drop)]
-pub(crate) struct Lesson {
+pub(crate) struct Incoming {
     pub(crate) number: u64,
     pub(crate) seq: u32,
     pub(crate) brought: Brought,
@@ -235,11 +235,11 @@ fn read_body(alloc: Global, body: &[u8]) -> Result<Brought, Memory>
 }
 
 /// A message of a container.
-fn read_part(alloc: Global, part: &Part<'_>) -> Result<Lesson, Memory>
+fn read_part(alloc: Global, part: &Part<'_>) -> Result<Incoming, Memory>
     ensures lesson { IfOk result (λ lesson. lesson ≡ lesson_of (message_of part.now)) }
     ensures fit { IfOk result (λ lesson. IsFit lesson.brought) }
 {
-    Ok(Lesson {
+    Ok(Incoming {
         number: part.number,
         seq: part.seq,
         brought: read_body(alloc, part.body)?,
@@ -247,7 +247,7 @@ fn read_part(alloc: Global, part: &Part<'_>) -> Result<Lesson, Memory>
 }
 
 /// The messages of a container, behind those that are read already.
-fn read_parts(alloc: Global, parts: Parts<'_>, lessons: &mut Vec<Lesson>) -> Result<(), Memory>
+fn read_parts(alloc: Global, parts: Parts<'_>, lessons: &mut Vec<Incoming>) -> Result<(), Memory>
     ensures lessons { OnOk result (lessons.new.items ≡ lessons.old.items ++ map lesson_of parts.entry) }
     ensures few { OnOk result (length lessons.new.items ≤ length lessons.old.items + messages_max) }
     ensures fit { OnOk result (AllByRecursion (λ lesson. IsFit lesson.brought) lessons.old.items → AllByRecursion (λ lesson. IsFit lesson.brought) lessons.new.items) }
@@ -261,14 +261,14 @@ fn read_parts(alloc: Global, parts: Parts<'_>, lessons: &mut Vec<Lesson>) -> Res
 
 /// The message in an envelope, and those inside it where it is a container; none where it isn't a lawful one. Each result
 /// is copied once.
-pub(crate) fn read_envelope(alloc: Global, envelope: &Envelope) -> Result<Vec<Lesson>, Memory>
+pub(crate) fn read_envelope(alloc: Global, envelope: &Envelope) -> Result<Vec<Incoming>, Memory>
     ensures lessons { IfOk result (λ lessons. lessons.items ≡ map lesson_of (messages_of (message_in envelope.now))) }
     ensures fit { IfOk result (λ lessons. AllByRecursion (λ lesson. IsFit lesson.brought) lessons.items) }
     ensures few { IfOk result (λ lessons. length lessons.items ≤ messages_max + 1) }
 {
     let body = envelope.body.as_slice();
     let mut lessons = Vec::new(alloc);
-    let first = Lesson {
+    let first = Incoming {
         number: envelope.number,
         seq: envelope.seq,
         brought: read_body(alloc, body)?,

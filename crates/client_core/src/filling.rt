@@ -14,7 +14,7 @@ ghost use Rattle.client_core.specs.Calling.{call_message, wrap_bytes};
 ghost use Rattle.client_core.specs.Draft.{CanBeSaid, Holds, enters, filled_up, item_of, needs_answer, nothing_yet, said_bytes, said_message};
 
 use crate::calling::{put_call, sizes_of_calls, wrap_size};
-use crate::saying::{Said, needs_answer, said_size, sizes_of_said, spell};
+use crate::saying::{Outgoing, needs_answer, said_size, sizes_of_said, spell};
 use containers::laws::container_sizes;
 use containers::{
     CONTAINER_BYTES_MAX, CONTAINER_HEAD_BYTES, CONTAINER_MESSAGES_MAX, MESSAGE_HEAD_BYTES, fits,
@@ -102,7 +102,7 @@ impl Draft {
 
     /// Says an item under the next number, where it fits, and whether it does. The packet is full from then on where it
     /// doesn't.
-    pub(crate) fn say(&mut self, at: Moment, numbers: &mut Numbers, said: &Said<'_>) -> bool
+    pub(crate) fn say(&mut self, at: Moment, numbers: &mut Numbers, said: &Outgoing<'_>) -> bool
         requires lawful { CanBeSaid said.now }
         requires numbers { messages_max < self.old.count + room numbers.old }
         ensures told { result ≡ enters (said_bytes said.now) self.old }
@@ -248,7 +248,7 @@ fn put_sent(rows: &mut Buffer, number: u64, seq: u32, wrap: Option<u64>, body: &
 }
 
 // Puts a message of this item at the end, as it stands in a container.
-fn put_said(rows: &mut Buffer, number: u64, seq: u32, said: &Said<'_>)
+fn put_said(rows: &mut Buffer, number: u64, seq: u32, said: &Outgoing<'_>)
     requires lawful { CanBeSaid said.now }
     requires room { message_head + said_bytes said.now ≤ rows.old.room }
     ensures written { rows.new.bytes ≡ rows.old.bytes ++ row (record { number = number; seq = seq; body = spelling_of (item_of said.now) }) }

@@ -3,7 +3,7 @@
 ghost use Rattle.std.specs.Prelude.{◌≡◌, ◌≤◌, ◌++◌, ◌+◌, length};
 ghost use Rattle.service_tl.specs.Items.{ItemFits, spelling_of};
 ghost use Rattle.service_tl.specs.Words.{IsWords};
-ghost use Rattle.client_core.specs.declared.saying.Said.{Said};
+ghost use Rattle.client_core.specs.declared.saying.Outgoing.{Outgoing};
 ghost use Rattle.client_core.specs.Draft.{CanBeSaid, item_of, needs_answer, said_bytes};
 
 use octets::Buffer;
@@ -17,7 +17,7 @@ use tl_codec::laws::sizes_of_spellings;
 
 /// An item that a client says, lent.
 #[derive(Clone, Copy, Debug)]
-pub(crate) enum Said<'a> {
+pub(crate) enum Outgoing<'a> {
     Acks(&'a [u64]),
     Told { request: u64, info: &'a [u8] },
     Resent(&'a [u64]),
@@ -29,30 +29,30 @@ pub(crate) enum Said<'a> {
 }
 
 /// Whether the message needs an acknowledgement.
-pub(crate) fn needs_answer(said: &Said<'_>) -> bool
+pub(crate) fn needs_answer(said: &Outgoing<'_>) -> bool
     ensures { result ≡ needs_answer said.now }
 {
     matches!(
         said,
-        Said::Salts { .. } | Said::Destroys { .. } | Said::Drops { .. }
+        Outgoing::Salts { .. } | Outgoing::Destroys { .. } | Outgoing::Drops { .. }
     )
 }
 
 /// How many bytes the body has.
-pub(crate) fn said_size(said: &Said<'_>) -> usize
+pub(crate) fn said_size(said: &Outgoing<'_>) -> usize
     requires lawful { CanBeSaid said.now }
     ensures { result ≡ said_bytes said.now }
 {
     match said {
-        Said::Acks(ids) | Said::Resent(ids) | Said::States(ids) => 12 + 8 * ids.len(),
-        Said::Told { info, .. } => 12 + fill::string_size(info.len()),
-        Said::Salts { .. } => 8,
-        Said::Pings { .. } | Said::Destroys { .. } | Said::Drops { .. } => 12,
+        Outgoing::Acks(ids) | Outgoing::Resent(ids) | Outgoing::States(ids) => 12 + 8 * ids.len(),
+        Outgoing::Told { info, .. } => 12 + fill::string_size(info.len()),
+        Outgoing::Salts { .. } => 8,
+        Outgoing::Pings { .. } | Outgoing::Destroys { .. } | Outgoing::Drops { .. } => 12,
     }
 }
 
 /// Writes the item's body at the end.
-pub(crate) fn spell(into: &mut Buffer, said: &Said<'_>)
+pub(crate) fn spell(into: &mut Buffer, said: &Outgoing<'_>)
     requires lawful { CanBeSaid said.now }
     requires room { said_bytes said.now ≤ into.old.room }
     ensures written { into.new.bytes ≡ into.old.bytes ++ spelling_of (item_of said.now) }
@@ -60,36 +60,36 @@ pub(crate) fn spell(into: &mut Buffer, said: &Said<'_>)
     ensures fits { ItemFits (item_of said.now) }
 {
     match said {
-        Said::Acks(ids) => {
+        Outgoing::Acks(ids) => {
             fill::int(into, MSGS_ACK);
             fill::longs(into, ids);
         }
-        Said::Told { request, info } => {
+        Outgoing::Told { request, info } => {
             fill::int(into, MSGS_STATE_INFO);
             fill::long(into, *request);
             fill::bytes(into, info);
         }
-        Said::Resent(ids) => {
+        Outgoing::Resent(ids) => {
             fill::int(into, MSG_RESEND_REQ);
             fill::longs(into, ids);
         }
-        Said::States(ids) => {
+        Outgoing::States(ids) => {
             fill::int(into, MSGS_STATE_REQ);
             fill::longs(into, ids);
         }
-        Said::Pings { id } => {
+        Outgoing::Pings { id } => {
             fill::int(into, PING);
             fill::long(into, *id);
         }
-        Said::Salts { count } => {
+        Outgoing::Salts { count } => {
             fill::int(into, GET_FUTURE_SALTS);
             fill::int(into, *count);
         }
-        Said::Destroys { session } => {
+        Outgoing::Destroys { session } => {
             fill::int(into, DESTROY_SESSION);
             fill::long(into, *session);
         }
-        Said::Drops { number } => {
+        Outgoing::Drops { number } => {
             fill::int(into, RPC_DROP_ANSWER);
             fill::long(into, *number);
         }
@@ -98,9 +98,9 @@ pub(crate) fn spell(into: &mut Buffer, said: &Said<'_>)
 
 /// The body of an item has as many bytes as is counted, and these are whole words of 4 bytes. Does nothing.
 pub(crate) fn sizes_of_said()
-    ensures sizes { (said : Said) → CanBeSaid said → length (spelling_of (item_of said)) ≡ said_bytes said }
-    ensures words { (said : Said) → ItemFits (item_of said) → IsWords (spelling_of (item_of said)) }
-    ensures few { (said : Said) → CanBeSaid said → said_bytes said ≤ 65548 }
+    ensures sizes { (said : Outgoing) → CanBeSaid said → length (spelling_of (item_of said)) ≡ said_bytes said }
+    ensures words { (said : Outgoing) → ItemFits (item_of said) → IsWords (spelling_of (item_of said)) }
+    ensures few { (said : Outgoing) → CanBeSaid said → said_bytes said ≤ 65548 }
 {
     sizes_of_spellings();
     items_are_words();

@@ -22,7 +22,7 @@ use crate::binding::Binding;
 use crate::core_client::Core;
 use crate::filling::Draft;
 use crate::rebinding::{Needed, need_of, set_binding};
-use crate::saying::Said;
+use crate::saying::Outgoing;
 use crate::waiting::{Asked, Waiting};
 use auth_keys::AuthKey;
 use call_table::{CallNo, Calls, Flags, Group};
@@ -48,7 +48,7 @@ impl Core {
     }
 
     /// Says an item in the packet, where it fits, and whether it does.
-    pub(crate) fn say<D: Draw>(&mut self, draft: &mut Draft, said: &Said<'_>) -> bool
+    pub(crate) fn say<D: Draw>(&mut self, draft: &mut Draft, said: &Outgoing<'_>) -> bool
         requires lawful { CanBeSaid said.now }
         requires numbers { HasNumbers self.old draft.old }
         ensures goes { IsTrue result → (filling : Filling D) → Goes self.old draft.old filling
@@ -79,7 +79,7 @@ impl Core {
         ensures calls { self.new.calls ≡ self.old.calls }
     {
         if let Some(id) = self.waiting.ping {
-            if self.say::<D>(draft, &Said::Pings { id }) {
+            if self.say::<D>(draft, &Outgoing::Pings { id }) {
                 self.waiting.ping = None;
             }
         }
@@ -95,7 +95,7 @@ impl Core {
         ensures calls { self.new.calls ≡ self.old.calls }
     {
         if let Some(count) = self.waiting.salts {
-            if self.say::<D>(draft, &Said::Salts { count }) {
+            if self.say::<D>(draft, &Outgoing::Salts { count }) {
                 self.waiting.salts = None;
             }
         }
@@ -114,7 +114,7 @@ impl Core {
             return;
         }
         if let Some(session) = self.waiting.destroyed {
-            if self.say::<D>(draft, &Said::Destroys { session }) {
+            if self.say::<D>(draft, &Outgoing::Destroys { session }) {
                 self.waiting.destroyed = None;
             }
         }
@@ -131,7 +131,7 @@ impl Core {
     {
         let at = self.time();
         if let Some(states) = &self.waiting.told {
-            let said = Said::Told {
+            let said = Outgoing::Told {
                 request: states.request,
                 info: states.info.as_slice(),
             };
@@ -155,7 +155,7 @@ impl Core {
         if numbers.is_empty() {
             return;
         }
-        if draft.say(at, &mut self.numbers, &Said::Resent(numbers)) {
+        if draft.say(at, &mut self.numbers, &Outgoing::Resent(numbers)) {
             self.waiting.resent.clear();
         }
     }
@@ -175,7 +175,7 @@ impl Core {
             return;
         }
         let acks = acks_in(&self.calls, list);
-        if self.say::<D>(draft, &Said::Acks(&acks)) {
+        if self.say::<D>(draft, &Outgoing::Acks(&acks)) {
             self.calls.clear_acks();
         }
     }
@@ -195,7 +195,7 @@ impl Core {
             return;
         }
         let numbers = living_in(&self.calls, list);
-        if self.say::<D>(draft, &Said::States(&numbers)) {
+        if self.say::<D>(draft, &Outgoing::States(&numbers)) {
             self.waiting.states = false;
             asks(&mut self.asked, draft.number(), numbers);
         }
@@ -288,7 +288,7 @@ impl Core {
             return true;
         };
         let number = living.number;
-        if !self.say::<D>(draft, &Said::Drops { number }) {
+        if !self.say::<D>(draft, &Outgoing::Drops { number }) {
             return false;
         }
         let flags = self.calls.flags(call);

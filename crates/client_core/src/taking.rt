@@ -3,7 +3,7 @@
 ghost use Rattle.std.specs.Prelude.{◌≡◌, max};
 
 use crate::binding::Binding;
-use crate::brought::{Brought, Lesson};
+use crate::brought::{Brought, Incoming};
 use crate::core_client::Core;
 use crate::marking::{mark_asked_states, mark_numbers, mark_states};
 use crate::rebinding::{binding_by, has_asked, set_binding};
@@ -194,7 +194,7 @@ impl Core {
     }
 
     /// A message of a packet with this outer number. It answers whether the client has ended.
-    fn take_lesson(&mut self, outer: u64, lesson: Lesson) -> bool
+    fn take_lesson(&mut self, outer: u64, lesson: Incoming) -> bool
         requires resent { 0 < self.old.room.resent }
         requires learnt { 0 < self.old.room.learnt }
         requires sessions { 0 < self.old.room.sessions }
@@ -213,7 +213,7 @@ impl Core {
 
     /// The messages of a packet with this outer number, one after the other, until the client ends, if it does. It
     /// answers whether it has ended.
-    pub(crate) fn take_lessons(&mut self, outer: u64, lessons: Vec<Lesson>) -> bool
+    pub(crate) fn take_lessons(&mut self, outer: u64, lessons: Vec<Incoming>) -> bool
         requires resent { length lessons.items ≤ self.old.room.resent }
         requires learnt { length lessons.items ≤ self.old.room.learnt }
         requires sessions { 0 < self.old.room.sessions }

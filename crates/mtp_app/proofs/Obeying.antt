@@ -1,8 +1,8 @@
 -- What a run promises, by the command that was carried out.
 use Rattle.std.proofs.Common.{◌≡◌, ◌≢◌, ◌⊎◌, ℕ, List, Bool, Option, Some, None, codes, inl, subst, ap, arith}
 use Rattle.clap.specs.Words.{Row}
-use Rattle.calling.specs.Owed.{Around, Files}
-use Rattle.calling.specs.Runs.{CallRun}
+use Rattle.cmd_call.specs.Owed.{Around, Files}
+use Rattle.cmd_call.specs.Runs.{CallRun}
 use Rattle.commands.specs.Pages.{page_text, version_text}
 use Rattle.commands.specs.Says.{Says, SaysServe}
 use Rattle.commands.specs.Values.{MayHaveNumber}
@@ -11,8 +11,8 @@ use Rattle.commands.specs.declared.command.Command.{Command}
 use Rattle.commands.specs.declared.command.Command.TheVariants as command
 use Rattle.commands.specs.declared.command.ServeOptions.{ServeOptions}
 use Rattle.commands.specs.declared.page.Page.{Page}
-use Rattle.playing.specs.Runs.{LoadRun, SimRun}
-use Rattle.serving.specs.Runs.{ServeRun}
+use Rattle.cmd_sim.specs.Runs.{LoadRun, SimRun}
+use Rattle.cmd_serve.specs.Runs.{ServeRun}
 use Rattle.statuses.specs.Outside.{IsUntouched, Outside, PlainRun}
 use Rattle.statuses.specs.Statuses.{EndsBy, number_of}
 use Rattle.statuses.specs.declared.status.Status.{Status}

@@ -1,7 +1,7 @@
 -- What the program promises, by the command that the words say.
 use Rattle.std.specs.Prelude.{◌≡◌, ◌≢◌, ℕ, Bool, true, List, Some, ⊤}
-use Rattle.calling.specs.Owed.{Around, Files, IsIdle}
-use Rattle.calling.specs.Runs.{CallRun}
+use Rattle.cmd_call.specs.Owed.{Around, Files, IsIdle}
+use Rattle.cmd_call.specs.Runs.{CallRun}
 use Rattle.commands.specs.Pages.{page_text, version_text}
 use Rattle.commands.specs.Says.{Says}
 use Rattle.commands.specs.declared.command.CallOptions.{CallOptions}
@@ -10,8 +10,8 @@ use Rattle.commands.specs.declared.command.Command.TheVariants as command
 use Rattle.commands.specs.declared.command.ServeOptions.{ServeOptions}
 use Rattle.mt_edge.specs.Files.{FilesTold}
 use Rattle.mt_edge.specs.declared.net_call.NetCall.{NetCall}
-use Rattle.playing.specs.Runs.{LoadRun, SimRun}
-use Rattle.serving.specs.Runs.{Draws, Moments, Part, ServeRun}
+use Rattle.cmd_sim.specs.Runs.{LoadRun, SimRun}
+use Rattle.cmd_serve.specs.Runs.{Draws, Moments, Part, ServeRun}
 use Rattle.statuses.specs.Outside.{IsUntouched, Outside, PlainRun}
 use Rattle.statuses.specs.declared.status.Status.{Status}
 use Rattle.statuses.specs.declared.status.Status.TheVariants as status

@@ -1,7 +1,7 @@
 //! The top call.
 
 ghost use Rattle.std.specs.Prelude.{◌≡◌, ◌⊎◌, ℕ, Bool, map, string_bytes};
-ghost use Rattle.calling.specs.Runs.{CallRun};
+ghost use Rattle.cmd_call.specs.Runs.{CallRun};
 ghost use Rattle.commands.specs.Pages.{page_text, version_text};
 ghost use Rattle.commands.specs.Says.{Says};
 ghost use Rattle.commands.specs.declared.command.CallOptions.{CallOptions};
@@ -9,21 +9,21 @@ ghost use Rattle.commands.specs.declared.command.Command.{Command as Said};
 ghost use Rattle.commands.specs.declared.command.Command.TheVariants as command;
 ghost use Rattle.commands.specs.declared.command.ServeOptions.{ServeOptions};
 ghost use Rattle.commands.specs.declared.page.Page.{Page};
-ghost use Rattle.playing.specs.Runs.{LoadRun, SimRun};
-ghost use Rattle.serving.specs.Runs.{ServeRun};
+ghost use Rattle.cmd_sim.specs.Runs.{LoadRun, SimRun};
+ghost use Rattle.cmd_serve.specs.Runs.{ServeRun};
 ghost use Rattle.statuses.specs.Lines.{words_refused};
 ghost use Rattle.statuses.specs.Outside.{PlainRun};
 ghost use Rattle.statuses.specs.Statuses.{EndsBy};
 ghost use Rattle.statuses.specs.declared.status.Status.TheVariants as status;
 ghost use Rattle.mtp_app.specs.Obeys.{AreOffline, AreWithoutInput, IsLawful, IsUnbegun, Obeys, Stays};
 
-use calling::run_call;
+use cmd_call::run_call;
+use cmd_serve::run_serve;
+use cmd_sim::laws::memory_may_run_out;
+use cmd_sim::{run_load, run_sim};
 use commands::laws::one_reading;
 use commands::{Command, WordsFault, read, version};
 use mt_edge::{Clock, KeyFiles, Net, Seeded, Sink, Source, Spawner};
-use playing::laws::memory_may_run_out;
-use playing::{run_load, run_sim};
-use serving::run_serve;
 use statuses::{Answer, Status, tell};
 use std::alloc::Global;
 

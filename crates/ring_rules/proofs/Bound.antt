@@ -14,8 +14,8 @@ use Rattle.temp_keys.specs.declared.binding.Inner.{Inner}
 use Rattle.temp_keys.specs.declared.fault.BindFault.{BindFault}
 use Rattle.temp_keys.specs.declared.fault.InnerField.{InnerField}
 use Rattle.server_rules.specs.Server.{Binding}
-use Rattle.rows.specs.Bindings.{binding_told}
-use Rattle.rows.specs.Rings.{AreOf, checked}
+use Rattle.server_dispatch.specs.Bindings.{binding_told}
+use Rattle.server_dispatch.specs.Rings.{AreOf, checked}
 use Rattle.ring_rules.specs.Binding.{binds, is_inner, is_said_by, is_said_under, is_said_with, keys_of, plain_under}
 use Rattle.ring_rules.proofs.BindingTexts.{padding-part, plain-bytes, plain_under-sealed, random-part}
 use Rattle.ring_rules.proofs.Bytes.{bytes-has, bytes-same, has-bytes, same-bytes}

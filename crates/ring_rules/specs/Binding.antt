@@ -11,9 +11,9 @@ use Rattle.temp_keys.specs.Checking.{Call, bound_of, inner_of, is_temporary}
 use Rattle.temp_keys.specs.Derivation.{aes_iv, aes_key}
 use Rattle.temp_keys.specs.Messages.{binding_message}
 use Rattle.temp_keys.specs.declared.binding.Inner.{Inner}
-use Rattle.standing.specs.Says.{Keys}
-use Rattle.rows.specs.Bindings.{binding_told}
-use Rattle.rows.specs.Rings.{checked}
+use Rattle.server_session.specs.Says.{Keys}
+use Rattle.server_dispatch.specs.Bindings.{binding_told}
+use Rattle.server_dispatch.specs.Rings.{checked}
 use Rattle.ring_rules.specs.Bytes.{are_bytes, is_int, is_long}
 
 -- an inner object whose fields have their sizes

@@ -6,7 +6,7 @@ ghost use Rattle.envelope.specs.declared.parts.Dir.{Dir};
 ghost use Rattle.envelope.specs.declared.parts.Envelope.{Envelope};
 ghost use Rattle.envelope.specs.Lock.{clear_lock, mt_lock};
 ghost use Rattle.envelope.specs.Opening.{Opens};
-ghost use Rattle.rows.specs.Rings.{AreOf};
+ghost use Rattle.server_dispatch.specs.Rings.{AreOf};
 ghost use Rattle.ring_rules.specs.Binding.{keys_of};
 ghost use Rattle.ring_rules.specs.Opening.{opened};
 

@@ -17,7 +17,7 @@ use Rattle.server_rules.specs.Event.{Envelope, Owed, Sent, Setting, Speaker, Sta
 use Rattle.server_rules.specs.Speaking.{needs_salts}
 use Rattle.server_rules.specs.Sending.{all_sent, envelope_of, messages_by, names_in, padding_bytes, seals, sends}
 use Rattle.server_rules.specs.Answer.{after_packet, is_spent, name_in, without_spent}
-use Rattle.server_bounds.specs.Taking.{IsAcknowledged, IsTaken}
+use Rattle.law_server_bounds.specs.Taking.{IsAcknowledged, IsTaken}
 use Rattle.server_core.specs.declared.effects.Effects.{Effects}
 use Rattle.server_core.specs.Acceptance.{Acknowledges, WasTaken}
 use Rattle.server_core.specs.Effects.{Gives}

@@ -11,13 +11,13 @@ use Rattle.inbox.specs.declared.judged.Judgement.{Judgement}
 use Rattle.waits.specs.Jobs.{Queue}
 use Rattle.server_rules.specs.Server.{Binding, Name}
 use Rattle.server_rules.specs.Event.{Setting}
-use Rattle.server_laws.specs.Order.{IsSpeaking, IsTold, jobs_of, opens_of}
-use Rattle.standing.specs.declared.standing.Standing.{Standing}
-use Rattle.rows.specs.declared.due.Due.{Due}
-use Rattle.rows.specs.declared.turn.Turn.{Turn}
-use Rattle.rows.specs.Due.{due_by, due_bytes, due_of, due_repeats}
-use Rattle.rows.specs.Spare.{HasSpare, Uses, where_again}
-use Rattle.standing.specs.Unsaid.{unsaid_bytes, unsaid_count}
+use Rattle.law_server.specs.Order.{IsSpeaking, IsTold, jobs_of, opens_of}
+use Rattle.server_session.specs.declared.session.SessionState.{SessionState}
+use Rattle.server_dispatch.specs.declared.action.Action.{Action}
+use Rattle.server_dispatch.specs.declared.turn.Turn.{Turn}
+use Rattle.server_dispatch.specs.Action.{due_by, due_bytes, due_of, due_repeats}
+use Rattle.server_dispatch.specs.Spare.{HasSpare, Uses, where_again}
+use Rattle.server_session.specs.Unsaid.{unsaid_bytes, unsaid_count}
 use Rattle.server_core.specs.Among.{Among, IsAlone, IsInOrder, settles_among}
 use Rattle.server_core.specs.Failures.{blocked_of}
 use Rattle.server_core.specs.Settling.{IsSettling, SpeaksAmong, settled_among}
@@ -38,8 +38,8 @@ StaysInOrder S = (setting : Setting S) (name : Name) (others : Name → Queue) (
     → IsInOrder name past (opens_of judged) (settles_among setting among (judgement, body)).speaker
 
 -- the judgements that are left lead to what all lead to
-pub record IsUnderWay (S : Type 0) (now : ℕ) (setting : Setting S) (name : Name) (past : History) (limit : ℕ) (all : Among S) (judged : List Judgement) (dues : List Due)
-    (others : List Standing) (standing : Standing) (turn : Turn) (queue : Queue) (bound : List Binding) (draw : S) : Type 0 where
+pub record IsUnderWay (S : Type 0) (now : ℕ) (setting : Setting S) (name : Name) (past : History) (limit : ℕ) (all : Among S) (judged : List Judgement) (dues : List Action)
+    (others : List SessionState) (standing : SessionState) (turn : Turn) (queue : Queue) (bound : List Binding) (draw : S) : Type 0 where
   pub bodies : List (List ℕ)
   pub among : Among S
   pub due : AreDue judged bodies dues
@@ -48,9 +48,9 @@ pub record IsUnderWay (S : Type 0) (now : ℕ) (setting : Setting S) (name : Nam
   pub same : all_settled setting judged bodies among ≡ all
 
 -- what the first judgement that is left promises
-pub record FirstSettles (S : Type 0) (now : ℕ) (name : Name) (past : History) (limit answered : ℕ) (setting : Setting S) (number : ℕ) (due : Due)
-    (others : List Standing) (standing : Standing) (turn : Turn) (queue : Queue) (bound : List Binding) (draw : S)
-    (others_after : List Standing) (after : Standing) (turn_after : Turn) (queue_after : Queue) (bound_after : List Binding) (draw_after : S) : Type 0 where
+pub record FirstSettles (S : Type 0) (now : ℕ) (name : Name) (past : History) (limit answered : ℕ) (setting : Setting S) (number : ℕ) (due : Action)
+    (others : List SessionState) (standing : SessionState) (turn : Turn) (queue : Queue) (bound : List Binding) (draw : S)
+    (others_after : List SessionState) (after : SessionState) (turn_after : Turn) (queue_after : Queue) (bound_after : List Binding) (draw_after : S) : Type 0 where
   pub settled : (seq : ℕ) (verdict : Verdict) (body opened : List ℕ) (among : Among S) → due ≡ due_of number seq verdict body → IsSettling name past number verdict opened among
       → blocked_of name among.speaker.jobs + 1 ≤ limit → SpeaksAmong now others standing turn queue bound draw among
       → SpeaksAmong now others_after after turn_after queue_after bound_after draw_after (settled_among setting number seq verdict body among)
@@ -59,10 +59,10 @@ pub record FirstSettles (S : Type 0) (now : ℕ) (name : Name) (past : History) 
       → blocked_of name queue_after + answered ≤ blocked_of name among.speaker.jobs + 1
 
 first-settled : {S : Type 0} → StaysAlone S → StaysInOrder S → (now : ℕ) (setting : Setting S) (name : Name) (past : History) (limit answered left : ℕ) (all : Among S)
-    (judgement : Judgement) (judged : List Judgement) (due : Due) (dues : List Due)
-    (others : List Standing) (standing : Standing) (turn : Turn) (queue : Queue) (bound : List Binding) (draw : S)
-    (others_after : List Standing) (after : Standing) (turn_after : Turn) (queue_after : Queue) (bound_after : List Binding) (draw_after : S)
-    (bodies : List (List ℕ)) (among : Among S) (given : Due) → AreDue (judgement ∷ judged) bodies (due ∷ dues) → AreSettling name past limit (judgement ∷ judged) among
+    (judgement : Judgement) (judged : List Judgement) (due : Action) (dues : List Action)
+    (others : List SessionState) (standing : SessionState) (turn : Turn) (queue : Queue) (bound : List Binding) (draw : S)
+    (others_after : List SessionState) (after : SessionState) (turn_after : Turn) (queue_after : Queue) (bound_after : List Binding) (draw_after : S)
+    (bodies : List (List ℕ)) (among : Among S) (given : Action) → AreDue (judgement ∷ judged) bodies (due ∷ dues) → AreSettling name past limit (judgement ∷ judged) among
     → SpeaksAmong now others standing turn queue bound draw among → all_settled setting (judgement ∷ judged) bodies among ≡ all → left + answered ≡ limit
     → given ≡ due_judged judgement due → FirstSettles S now name past limit answered setting judgement.number given others standing turn queue bound draw others_after after turn_after queue_after bound_after draw_after
     → IsUnderWay S now setting name past left all judged dues others_after after turn_after queue_after bound_after draw_after
@@ -94,29 +94,29 @@ first-settled {S} alone order now setting name past limit answered left all judg
     }
 
 pub goes-on : {S : Type 0} → StaysAlone S → StaysInOrder S → (now : ℕ) (setting : Setting S) (name : Name) (past : History) (limit answered left : ℕ) (all : Among S)
-    (judgement : Judgement) (judged next : List Judgement) (due : Due) (dues left_dues : List Due)
-    (others : List Standing) (standing : Standing) (turn : Turn) (queue : Queue) (bound : List Binding) (draw : S)
-    (others_after : List Standing) (after : Standing) (turn_after : Turn) (queue_after : Queue) (bound_after : List Binding) (draw_after : S)
-    (given : Due) → given ≡ due_judged judgement due → judged ≡ judgement ∷ next → dues ≡ due ∷ left_dues → left + answered ≡ limit
+    (judgement : Judgement) (judged next : List Judgement) (due : Action) (dues left_dues : List Action)
+    (others : List SessionState) (standing : SessionState) (turn : Turn) (queue : Queue) (bound : List Binding) (draw : S)
+    (others_after : List SessionState) (after : SessionState) (turn_after : Turn) (queue_after : Queue) (bound_after : List Binding) (draw_after : S)
+    (given : Action) → given ≡ due_judged judgement due → judged ≡ judgement ∷ next → dues ≡ due ∷ left_dues → left + answered ≡ limit
     → IsUnderWay S now setting name past limit all judged dues others standing turn queue bound draw
     → FirstSettles S now name past limit answered setting judgement.number given others standing turn queue bound draw others_after after turn_after queue_after bound_after draw_after
     → IsUnderWay S now setting name past left all next left_dues others_after after turn_after queue_after bound_after draw_after
 goes-on {S} alone order now setting name past limit answered left all judgement judged next due dues left_dues others standing turn queue bound draw
     others_after after turn_after queue_after bound_after draw_after given given_is first_is due_is enough under first =
     let J : List Judgement → Type 0 = λ judged. IsUnderWay S now setting name past limit all judged dues others standing turn queue bound draw in
-    let D : List Due → Type 0 = λ dues. IsUnderWay S now setting name past limit all (judgement ∷ next) dues others standing turn queue bound draw in
+    let D : List Action → Type 0 = λ dues. IsUnderWay S now setting name past limit all (judgement ∷ next) dues others standing turn queue bound draw in
     let begins : IsUnderWay S now setting name past limit all (judgement ∷ next) (due ∷ left_dues) others standing turn queue bound draw = subst D due_is (subst J first_is under) in
     first-settled alone order now setting name past limit answered left all judgement next due left_dues others standing turn queue bound draw
     others_after after turn_after queue_after bound_after draw_after begins.bodies begins.among given begins.due begins.settling begins.speaks begins.same enough given_is first
 
-pub all-begin : {S : Type 0} (now : ℕ) (setting : Setting S) (name : Name) (past : History) (limit : ℕ) (judged first : List Judgement) (dues second : List Due)
-    (others : List Standing) (standing : Standing) (turn : Turn) (queue : Queue) (bound : List Binding) (draw : S) (bodies : List (List ℕ)) (among : Among S)
+pub all-begin : {S : Type 0} (now : ℕ) (setting : Setting S) (name : Name) (past : History) (limit : ℕ) (judged first : List Judgement) (dues second : List Action)
+    (others : List SessionState) (standing : SessionState) (turn : Turn) (queue : Queue) (bound : List Binding) (draw : S) (bodies : List (List ℕ)) (among : Among S)
     → first ≡ judged → second ≡ dues → AreDue judged bodies dues → AreSettling name past limit judged among → SpeaksAmong now others standing turn queue bound draw among
     → IsUnderWay S now setting name past limit (all_settled setting judged bodies among) first second others standing turn queue bound draw
 all-begin {S} now setting name past limit judged first dues second others standing turn queue bound draw bodies among first_is second_is are is speaks =
     let all : Among S = all_settled setting judged bodies among in
     let J : List Judgement → Type 0 = λ judged. IsUnderWay S now setting name past limit all judged second others standing turn queue bound draw in
-    let D : List Due → Type 0 = λ dues. IsUnderWay S now setting name past limit all judged dues others standing turn queue bound draw in
+    let D : List Action → Type 0 = λ dues. IsUnderWay S now setting name past limit all judged dues others standing turn queue bound draw in
     subst J (sym first_is) (subst D (sym second_is) (record { bodies = bodies; among = among; due = are; settling = is; speaks = speaks; same = refl }))
 
 -- none is left
@@ -124,8 +124,8 @@ nothing-left : {S : Type 0} (setting : Setting S) (judged : List Judgement) (bod
 nothing-left setting [] bodies among none = refl
 nothing-left setting (judgement ∷ judged) bodies among none = absurd (omega arith)
 
-pub ends : {S : Type 0} (now : ℕ) (setting : Setting S) (name : Name) (past : History) (limit : ℕ) (all : Among S) (judged : List Judgement) (dues : List Due)
-    (others : List Standing) (standing : Standing) (turn : Turn) (queue : Queue) (bound : List Binding) (draw : S)
+pub ends : {S : Type 0} (now : ℕ) (setting : Setting S) (name : Name) (past : History) (limit : ℕ) (all : Among S) (judged : List Judgement) (dues : List Action)
+    (others : List SessionState) (standing : SessionState) (turn : Turn) (queue : Queue) (bound : List Binding) (draw : S)
     → IsUnderWay S now setting name past limit all judged dues others standing turn queue bound draw → length judged ≡ 0
     → SpeaksAmong now others standing turn queue bound draw all
 ends {S} now setting name past limit all judged dues others standing turn queue bound draw under none =
@@ -134,13 +134,13 @@ ends {S} now setting name past limit all judged dues others standing turn queue 
 
 -- ---- what it has used up
 
-due-most : (seq : ℕ) (verdict : Verdict) (due : Due) → due_bytes (due_by seq verdict due) ≤ due_most due
+due-most : (seq : ℕ) (verdict : Verdict) (due : Action) → due_bytes (due_by seq verdict due) ≤ due_most due
 due-most seq (Noticed code) due = omega arith
 due-most seq (Again mark) due = omega arith
 due-most seq (Accepted item) due = omega arith
 
 -- what is used of the room for these dues and for so many answers, where these are left
-pub record HasUsed (now limit : ℕ) (repeats : Bool) (all dues : List Due) (left : ℕ) (standing : Standing) (turn : Turn) (after : Standing) (turn_after : Turn) : Type 0 where
+pub record HasUsed (now limit : ℕ) (repeats : Bool) (all dues : List Action) (left : ℕ) (standing : SessionState) (turn : Turn) (after : SessionState) (turn_after : Turn) : Type 0 where
   pub settled : ℕ
   pub size : ℕ
   pub answered : ℕ
@@ -156,14 +156,14 @@ again-weaker true other n is = let so : where_again other n ≡ n = ap (λ (so :
 again-weaker false other n is = omega arith
 
 -- the first due's share of all bytes
-bytes-first : (due : Due) (dues left_dues : List Due) → dues ≡ due ∷ left_dues → sum_by due_most dues ≡ due_most due + sum_by due_most left_dues
+bytes-first : (due : Action) (dues left_dues : List Action) → dues ≡ due ∷ left_dues → sum_by due_most dues ≡ due_most due + sum_by due_most left_dues
 bytes-first due dues left_dues is = ap (sum_by due_most) is ∙ sum_by-cons due_most due left_dues
 
-length-first : (due : Due) (dues left_dues : List Due) → dues ≡ due ∷ left_dues → length dues ≡ length left_dues + 1
-length-first due dues left_dues is = ap (λ (dues : List Due). length dues) is ∙ omega arith
+length-first : (due : Action) (dues left_dues : List Action) → dues ≡ due ∷ left_dues → length dues ≡ length left_dues + 1
+length-first due dues left_dues is = ap (λ (dues : List Action). length dues) is ∙ omega arith
 
 -- room that is left, of all room
-spare-left : (again weaker : Bool) (now messages size answers kept used bytes given more part portion share further : ℕ) (standing : Standing) (turn : Turn) (after : Standing) (turn_after : Turn)
+spare-left : (again weaker : Bool) (now messages size answers kept used bytes given more part portion share further : ℕ) (standing : SessionState) (turn : Turn) (after : SessionState) (turn_after : Turn)
     → HasSpare again messages size answers kept standing turn → Uses again now used bytes given more standing turn after turn_after
     → (weaker ≡ true → again ≡ true)
     → used + part ≤ messages → bytes + portion ≤ size → given + share ≤ answers → more + further ≤ kept → HasSpare weaker part portion share further after turn_after
@@ -179,12 +179,12 @@ spare-left again weaker now messages size answers kept used bytes given more par
     }
 
 -- room for the first of them
-pub spare-first : (now limit : ℕ) (repeats : Bool) (judgement : Judgement) (all dues left_dues : List Due) (due given : Due) (left : ℕ) (standing : Standing) (turn : Turn) (after : Standing) (turn_after : Turn)
+pub spare-first : (now limit : ℕ) (repeats : Bool) (judgement : Judgement) (all dues left_dues : List Action) (due given : Action) (left : ℕ) (standing : SessionState) (turn : Turn) (after : SessionState) (turn_after : Turn)
     → given ≡ due_judged judgement due → HasSpare repeats (2 * length all + limit) (sum_by due_most all + limit * 48) (length all + limit) (2 * length all + limit) standing turn
     → HasUsed now limit repeats all dues left standing turn after turn_after → dues ≡ due ∷ left_dues → (due_repeats (due_judged judgement due) ≡ true → repeats ≡ true)
     → HasSpare (due_repeats given) (2 + left) (due_bytes given + left * 48) (1 + left) (2 + left) after turn_after
 spare-first now limit repeats judgement all dues left_dues due given left standing turn after turn_after given_is spare used is again =
-    let P : Due → Type 0 = λ given. HasSpare (due_repeats given) (2 + left) (due_bytes given + left * 48) (1 + left) (2 + left) after turn_after in
+    let P : Action → Type 0 = λ given. HasSpare (due_repeats given) (2 + left) (due_bytes given + left * 48) (1 + left) (2 + left) after turn_after in
     let count = used.count in
     let bytes = used.bytes in
     let answers = used.answers in
@@ -197,15 +197,15 @@ spare-first now limit repeats judgement all dues left_dues due given left standi
     (2 + left) (due_bytes (due_judged judgement due) + left * 48) (1 + left) (2 + left) standing turn after turn_after spare (used.uses repeats (λ is. is)) again
     (omega (arith, count, answers, long)) (omega (arith, bytes, answers, first, most)) (omega (arith, count, answers, long)) (omega (arith, count, answers, long)))
 
-pub uses-first : (now limit : ℕ) (repeats : Bool) (judgement : Judgement) (all dues left_dues : List Due) (due given : Due) (left answered less : ℕ)
-    (standing : Standing) (turn : Turn) (after : Standing) (turn_after : Turn) (last : Standing) (turn_last : Turn)
+pub uses-first : (now limit : ℕ) (repeats : Bool) (judgement : Judgement) (all dues left_dues : List Action) (due given : Action) (left answered less : ℕ)
+    (standing : SessionState) (turn : Turn) (after : SessionState) (turn_after : Turn) (last : SessionState) (turn_last : Turn)
     → given ≡ due_judged judgement due → HasUsed now limit repeats all dues left standing turn after turn_after → dues ≡ due ∷ left_dues → (due_repeats (due_judged judgement due) ≡ true → repeats ≡ true)
     → less + answered ≡ left
     → ((again : Bool) → (due_repeats given ≡ true → again ≡ true)
     → Uses again now (2 + answered) (due_bytes given + answered * 48) (1 + answered) (2 + answered) after turn_after last turn_last)
     → HasUsed now limit repeats all left_dues less standing turn last turn_last
 uses-first now limit repeats judgement all dues left_dues due given left answered less standing turn after turn_after last turn_last given_is used is again enough uses_given =
-    let P : Due → Type 0 = λ given. (again : Bool) → (due_repeats given ≡ true → again ≡ true)
+    let P : Action → Type 0 = λ given. (again : Bool) → (due_repeats given ≡ true → again ≡ true)
     → Uses again now (2 + answered) (due_bytes given + answered * 48) (1 + answered) (2 + answered) after turn_after last turn_last in
     let uses = subst P given_is uses_given in
     let count = used.count in
@@ -230,7 +230,7 @@ uses-first now limit repeats judgement all dues left_dues due given left answere
     }
 
 -- all that is used in the end
-pub uses-all : (now limit : ℕ) (repeats : Bool) (all dues : List Due) (left : ℕ) (standing : Standing) (turn : Turn) (after : Standing) (turn_after : Turn)
+pub uses-all : (now limit : ℕ) (repeats : Bool) (all dues : List Action) (left : ℕ) (standing : SessionState) (turn : Turn) (after : SessionState) (turn_after : Turn)
     → HasUsed now limit repeats all dues left standing turn after turn_after → (again : Bool) → (repeats ≡ true → again ≡ true)
     → Uses again now (2 * length all + limit) (sum_by due_most all + limit * 48) (length all + limit) (2 * length all + limit) standing turn after turn_after
 uses-all now limit repeats all dues left standing turn after turn_after used again implied =
@@ -242,7 +242,7 @@ uses-all now limit repeats all dues left standing turn after turn_after used aga
     (used.uses again implied) (nothing-used again now after turn_after)
     (omega (arith, count, answers)) (omega (arith, bytes, answers)) (omega (arith, count, answers)) (omega (arith, count, answers))
 
-pub nothing-yet : (now limit : ℕ) (repeats : Bool) (all : List Due) (standing : Standing) (turn : Turn) → HasUsed now limit repeats all all limit standing turn standing turn
+pub nothing-yet : (now limit : ℕ) (repeats : Bool) (all : List Action) (standing : SessionState) (turn : Turn) → HasUsed now limit repeats all all limit standing turn standing turn
 nothing-yet now limit repeats all standing turn = record {
   settled = 0;
   size = 0;
@@ -255,13 +255,13 @@ nothing-yet now limit repeats all standing turn = record {
 
 -- ---- one of them may say kept replies again
 
-pub repeats-first : (repeats : Bool) (judgement : Judgement) (judged next : List Judgement) (due : Due) (dues left_dues : List Due) → judged ≡ judgement ∷ next → dues ≡ due ∷ left_dues
+pub repeats-first : (repeats : Bool) (judgement : Judgement) (judged next : List Judgement) (due : Action) (dues left_dues : List Action) → judged ≡ judgement ∷ next → dues ≡ due ∷ left_dues
     → (some_repeats judged dues ≡ true → repeats ≡ true) → due_repeats (due_judged judgement due) ≡ true → repeats ≡ true
 repeats-first repeats judgement judged next due dues left_dues first_is due_is all is =
     let same : some_repeats judged dues ≡ some_repeats (judgement ∷ next) (due ∷ left_dues) = ap (λ (judged : List Judgement). some_repeats judged dues) first_is ∙ ap (some_repeats (judgement ∷ next)) due_is in
     all (same ∙ or_left (due_repeats (due_judged judgement due)) (some_repeats next left_dues) is)
 
-pub repeats-next : (repeats : Bool) (judgement : Judgement) (judged next : List Judgement) (due : Due) (dues left_dues : List Due) → judged ≡ judgement ∷ next → dues ≡ due ∷ left_dues
+pub repeats-next : (repeats : Bool) (judgement : Judgement) (judged next : List Judgement) (due : Action) (dues left_dues : List Action) → judged ≡ judgement ∷ next → dues ≡ due ∷ left_dues
     → (some_repeats judged dues ≡ true → repeats ≡ true) → some_repeats next left_dues ≡ true → repeats ≡ true
 repeats-next repeats judgement judged next due dues left_dues first_is due_is all is =
     let same : some_repeats judged dues ≡ some_repeats (judgement ∷ next) (due ∷ left_dues) = ap (λ (judged : List Judgement). some_repeats judged dues) first_is ∙ ap (some_repeats (judgement ∷ next)) due_is in

@@ -24,7 +24,7 @@ use Rattle.server_rules.specs.Waiting.{after_failures, gives_up, tells_of}
 use Rattle.server_rules.specs.Rows.{acks_of, acknowledges, destroys, owes, row, settles}
 use Rattle.server_rules.specs.Sending.{all_sent}
 use Rattle.server_rules.specs.Answer.{after_packet, begun, ended, hears_by, is_spent, message_in, messages_judged, name_in, opens, takes_by, with_place, without_first as without_first_session, without_spent}
-use Rattle.server_laws.specs.Speech.{SaidFor}
+use Rattle.law_server.specs.Speech.{SaidFor}
 use Rattle.server_core.specs.One.{AreOwnFailures, answer_of, fails_all, given_up_by, says_its_own}
 use Rattle.server_core.specs.Among.{Among, IsAlone, destroys_another, ended_among, heard_among, heard_by, left_where, loses_another, packet_among, row_among, settles_among, speaks_among, state_of, takes_among}
 use Rattle.server_core.proofs.Failing.{all-by_one, given-own, rest-own}

@@ -11,18 +11,18 @@ use Rattle.server_rules.specs.Event.{Owed, Setting, Speaker, State, speaker_in, 
 use Rattle.server_rules.specs.Speaking.{has_said, message_of, needs_salts, owes_message, says_again, says_it_is_new}
 use Rattle.server_rules.specs.Sending.{messages_by, seals, sends}
 use Rattle.server_rules.specs.Answer.{after_attach, attaches, begun, ended, is_spent}
-use Rattle.server_laws.specs.Speech.{SaidFor}
-use Rattle.owing.specs.Dues.{Dues}
-use Rattle.standing.specs.Says.{Says}
-use Rattle.standing.specs.Repeats.{says_all_again}
-use Rattle.standing.specs.declared.standing.Standing.{Standing}
+use Rattle.law_server.specs.Speech.{SaidFor}
+use Rattle.server_output.specs.Dues.{Dues}
+use Rattle.server_session.specs.Says.{Says}
+use Rattle.server_session.specs.Repeats.{says_all_again}
+use Rattle.server_session.specs.declared.session.SessionState.{SessionState}
 use Rattle.server_core.specs.One.{answer_of, lost_where, says_its_own, sends_all}
 use Rattle.server_core.specs.Sessions.{AreKept}
 use Rattle.server_core.specs.Server.{Stands, without_jobs_where, without_kept_where}
 use Rattle.server_core.specs.Speech.{attached}
 use Rattle.server_core.proofs.Names.{name-by, found-named}
 use Rattle.server_core.proofs.Spent.{AreOthers, HasRoom, none-ends, one-ends, own-name}
-use Rattle.server_core.proofs.Standing.{HasItsName, others-kept}
+use Rattle.server_core.proofs.SessionState.{HasItsName, others-kept}
 
 -- ---- what a session leaves alone when it says messages that it has, and sends them
 
@@ -108,7 +108,7 @@ attaches-sent {S} setting speaker =
 
 -- ---- what an event of one session leaves
 
-pub ends-so : HasItsName → {S D : Type 0} (setting : Setting D) (state : State D) (done : Speaker D) (name : Name) (so : Bool) (seal : S) (standings : List Standing)
+pub ends-so : HasItsName → {S D : Type 0} (setting : Setting D) (state : State D) (done : Speaker D) (name : Name) (so : Bool) (seal : S) (standings : List SessionState)
     (jobs : Queue) (bindings : List Binding) → AreKept setting.now standings (with_session done.session state.sessions) → jobs ≡ done.jobs → bindings ≡ done.bindings
     → Stands {S = S} (record {
       seal = seal;
@@ -193,10 +193,10 @@ all-again {S} setting speaker =
     ap (λ (replies : List Reply). fold (λ (so_far : Speaker S) (reply : Reply). says_again reply so_far) (begun_so setting speaker) (filter is_kept replies))
     (new-replies setting speaker (has_accepted speaker.session))
 
-pub said-as : {S : Type 0} (now : ℕ) (standing other : Standing) (owing more : Dues) (draw next : S) (speaker said : Speaker S) → other ≡ standing → more ≡ owing
+pub said-as : {S : Type 0} (now : ℕ) (standing other : SessionState) (owing more : Dues) (draw next : S) (speaker said : Speaker S) → other ≡ standing → more ≡ owing
     → next ≡ draw → said ≡ speaker → Says now standing owing draw speaker → Says now other more next said
 said-as {S} now standing other owing more draw next speaker said same_standing same_owing same_draw same says =
-    subst (λ (one : Standing). Says now one more next said) (sym same_standing)
+    subst (λ (one : SessionState). Says now one more next said) (sym same_standing)
     (subst (λ (dues : Dues). Says now standing dues next said) (sym same_owing)
     (subst (λ (one : S). Says now standing owing one said) (sym same_draw)
     (subst (λ (one : Speaker S). Says now standing owing draw one) (sym same) says)))

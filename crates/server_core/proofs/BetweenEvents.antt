@@ -10,9 +10,9 @@ use Rattle.server_rules.specs.Server.{Name, Server, Session, kept_replies}
 use Rattle.server_rules.specs.Event.{Envelope, Setting}
 use Rattle.server_rules.specs.Events.{Course, Event, Attach, Packet, Tick, Work, after_event, worked}
 use Rattle.server_rules.specs.Answer.{Answer, after_attach, after_packet, after_run, after_tick, after_work}
-use Rattle.server_bounds.specs.Giving as bounds
-use Rattle.server_bounds.specs.Runs.{IsShortRun}
-use Rattle.server_laws.specs.Order.{AreOrdered}
+use Rattle.law_server_bounds.specs.Giving as bounds
+use Rattle.law_server_bounds.specs.Runs.{IsShortRun}
+use Rattle.law_server.specs.Order.{AreOrdered}
 use Rattle.server_core.specs.Desks.{GivesFew, IsBetweenEvents, IsShortRunAt}
 
 abbrev pub IsOrdered : Server → Type 0

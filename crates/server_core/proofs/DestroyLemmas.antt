@@ -3,19 +3,19 @@ use Rattle.std.proofs.Common.{◌≡◌, ◌∙◌, ℕ, Bool, true, false, cond
 use Rattle.std.specs.Prelude.{is_some}
 use Rattle.std.proofs.lemmas.Bool.{cases_Bool, false≢true}
 use Rattle.waits.specs.Jobs.{Queue, without_session as without_jobs_of}
-use Rattle.owing.specs.Items.{destroyed_item}
+use Rattle.server_output.specs.Items.{destroyed_item}
 use Rattle.server_rules.specs.Server.{Binding, Name, Session, is_named, session_named, without_session}
 use Rattle.server_rules.specs.Event.{Setting}
 use Rattle.server_rules.specs.Speaking.{says}
-use Rattle.standing.specs.declared.standing.Standing.{Standing}
-use Rattle.standing.specs.Standing.{key_of}
-use Rattle.rows.specs.declared.turn.Turn.{Turn}
-use Rattle.rows.specs.Speaks.{Speaks}
+use Rattle.server_session.specs.declared.session.SessionState.{SessionState}
+use Rattle.server_session.specs.SessionState.{key_of}
+use Rattle.server_dispatch.specs.declared.turn.Turn.{Turn}
+use Rattle.server_dispatch.specs.Speaks.{Speaks}
 use Rattle.server_core.specs.Among.{Among, destroys_another, loses_another, speaks_among}
 use Rattle.server_core.specs.Server.{without_jobs_where}
 use Rattle.server_core.specs.Sessions.{AreKept, kept_as, without_kept}
 use Rattle.server_core.proofs.Names.{find-first, find-other, named}
-use Rattle.server_core.proofs.Standing.{HasItsName, others-kept, same-found}
+use Rattle.server_core.proofs.SessionState.{HasItsName, others-kept, same-found}
 
 -- where there is one, it is lost
 abbrev pub lost_if : {S : Type 0} → Bool → Name → Among S → Among S
@@ -45,7 +45,7 @@ lost-others : {S : Type 0} (so : Bool) (name : Name) (among : Among S) → is_so
 lost-others true name among is = refl
 lost-others false name among is = none-lost name among.others is
 
-lost-speaks : {S : Type 0} (now : ℕ) (so : Bool) (name : Name) (standing : Standing) (turn : Turn) (jobs later : Queue) (bindings : List Binding) (draw : S) (among : Among S)
+lost-speaks : {S : Type 0} (now : ℕ) (so : Bool) (name : Name) (standing : SessionState) (turn : Turn) (jobs later : Queue) (bindings : List Binding) (draw : S) (among : Among S)
     → later ≡ without_jobs_where so name jobs → Speaks now standing turn jobs bindings draw among.speaker
     → Speaks now standing turn later bindings draw (lost_if so name among).speaker
 lost-speaks now true name standing turn jobs later bindings draw among is speaks =
@@ -54,12 +54,12 @@ lost-speaks now false name standing turn jobs later bindings draw among is speak
     record { says = speaks.says; jobs = is ∙ speaks.jobs; bindings = speaks.bindings; entries = speaks.entries }
 
 -- what was lost of what is kept was lost of what it stands for
-pub record IsLost (S : Type 0) (now : ℕ) (so : Bool) (destroyed : ℕ) (standing : Standing) (others : List Standing) (turn : Turn) (later : Queue) (bindings : List Binding) (draw : S) (among : Among S) : Type 0 where
+pub record IsLost (S : Type 0) (now : ℕ) (so : Bool) (destroyed : ℕ) (standing : SessionState) (others : List SessionState) (turn : Turn) (later : Queue) (bindings : List Binding) (draw : S) (among : Among S) : Type 0 where
   pub found : is_some (session_named (other_of destroyed among) among.others) ≡ so
   pub speaks : Speaks now standing turn later bindings draw (lost_if so (other_of destroyed among) among).speaker
   pub kept : AreKept now others (lost_if so (other_of destroyed among) among).others
 
-pub lost-kept : {S : Type 0} → HasItsName → (now : ℕ) (so : Bool) (destroyed : ℕ) (standing : Standing) (others left : List Standing) (turn : Turn) (jobs later : Queue) (bindings : List Binding) (draw : S)
+pub lost-kept : {S : Type 0} → HasItsName → (now : ℕ) (so : Bool) (destroyed : ℕ) (standing : SessionState) (others left : List SessionState) (turn : Turn) (jobs later : Queue) (bindings : List Binding) (draw : S)
     (among : Among S) → so ≡ is_some (kept_as (named (key_of standing) destroyed) others) → left ≡ without_kept (named (key_of standing) destroyed) others
     → later ≡ without_jobs_where so (named (key_of standing) destroyed) jobs → AreKept now others among.others
     → Speaks now standing turn jobs bindings draw among.speaker → IsLost S now so destroyed standing left turn later bindings draw among
@@ -71,7 +71,7 @@ lost-kept {S} names now so destroyed standing others left turn jobs later bindin
     sym (is ∙ (same-found names now name others among.others are ∙ ap (λ (name : Name). is_some (session_named name among.others)) same)) in
     let J : Name → Type 0 = λ name. later ≡ without_jobs_where so name jobs in
     let K : List Session → Type 0 = λ sessions. AreKept now left sessions in
-    let L : List Standing → Type 0 = λ standings. AreKept now standings (without_session other among.others) in
+    let L : List SessionState → Type 0 = λ standings. AreKept now standings (without_session other among.others) in
     let N : Name → Type 0 = λ name. left ≡ without_kept name others in
     record {
       found = found;

@@ -11,9 +11,9 @@ use Rattle.server_rules.specs.Server.{Name, Session, name_of}
 use Rattle.server_rules.specs.Event.{Setting, Speaker}
 use Rattle.server_rules.specs.Speaking.{answers_in_place}
 use Rattle.server_rules.specs.Waiting.{Outlook, Over, InVain, GoesOn, gives_up, outlook, told as told_of}
-use Rattle.server_laws.specs.Order.{jobs_of}
-use Rattle.server_core.specs.declared.voices.Cause.{Cause}
-use Rattle.server_core.specs.declared.voices.Cause.TheVariants.{Overdue, Failed}
+use Rattle.law_server.specs.Order.{jobs_of}
+use Rattle.server_core.specs.declared.tick_turns.Cause.{Cause}
+use Rattle.server_core.specs.declared.tick_turns.Cause.TheVariants.{Overdue, Failed}
 use Rattle.server_core.specs.Answering.{IsDueTest, answers_left, is_due, most_answers, test_of}
 use Rattle.server_core.proofs.Names.{none-some}
 use Rattle.server_core.proofs.Running.{IsUnfailed}

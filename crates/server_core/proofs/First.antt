@@ -11,7 +11,7 @@ use Rattle.server_rules.specs.Event.{Entry, Owed, Setting, Speaker, State, lost,
 use Rattle.server_rules.specs.Sending.{all_sent, messages_by, names_in, sends}
 use Rattle.server_rules.specs.Speaking.{msg_wait_failed}
 use Rattle.server_rules.specs.Answer.{after_run, after_work, begun, ended, finishes, is_spent, runs}
-use Rattle.server_laws.specs.Order.{AreOrdered}
+use Rattle.law_server.specs.Order.{AreOrdered}
 use Rattle.server_core.specs.One.{fails_all, fails_first, given_up_by}
 use Rattle.server_core.specs.Working.{ran, run_entry}
 use Rattle.server_core.proofs.Attached.{sends-rest}

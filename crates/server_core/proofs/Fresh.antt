@@ -15,8 +15,8 @@ use Rattle.inbox.specs.declared.judged.Judgement.{Judgement}
 use Rattle.inbox.specs.Kinds.{inner_messages, item_told, kind_of}
 use Rattle.inbox.specs.Refusals.{Way, InContainer, refusal}
 use Rattle.inbox.specs.Judging.{Session, first_mark, inner_judgements, judge, judged_session, judgement_on, judgements, recorded, remembered, unfolded, verdict_by}
-use Rattle.rows.specs.declared.due.Due.{Due}
-use Rattle.rows.specs.Due.{due_by, due_repeats}
+use Rattle.server_dispatch.specs.declared.action.Action.{Action}
+use Rattle.server_dispatch.specs.Action.{due_by, due_repeats}
 use Rattle.server_core.specs.SettlingAll.{some_repeats}
 use Rattle.server_core.specs.Room.{AreFresh, is_again}
 
@@ -175,12 +175,12 @@ packet-new way session message none fresh =
 
 -- ---- nothing is said again
 
-by-verdict : (seq : ℕ) (verdict : Verdict) (due : Due) → is_again verdict ≡ false → due_repeats due ≡ false → due_repeats (due_by seq verdict due) ≡ false
+by-verdict : (seq : ℕ) (verdict : Verdict) (due : Action) → is_again verdict ≡ false → due_repeats due ≡ false → due_repeats (due_by seq verdict due) ≡ false
 by-verdict seq (Noticed code) due new silent = refl
 by-verdict seq (Again mark) due new silent = absurd (false≢true (sym new))
 by-verdict seq (Accepted item) due new silent = silent
 
-pub none-repeats : (judged : List Judgement) (dues : List Due) → All (λ judgement. is_again judgement.verdict ≡ false) judged → list_any due_repeats dues ≡ false
+pub none-repeats : (judged : List Judgement) (dues : List Action) → All (λ judgement. is_again judgement.verdict ≡ false) judged → list_any due_repeats dues ≡ false
     → some_repeats judged dues ≡ false
 none-repeats [] dues new silent = refl
 none-repeats (judgement ∷ judged) [] new silent = refl

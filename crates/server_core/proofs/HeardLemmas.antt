@@ -12,9 +12,9 @@ use Rattle.waits.specs.Jobs.{Queue, is_of}
 use Rattle.server_rules.specs.Server.{Binding, Name, Server as Rules, Session, session_named, sessions_max}
 use Rattle.server_rules.specs.Event.{Envelope, Setting, State}
 use Rattle.server_rules.specs.Answer.{begun, name_in, session_for, with_place as place_made, without_first}
-use Rattle.standing.specs.declared.standing.Standing.{Standing}
-use Rattle.standing.specs.Names.{name_kept}
-use Rattle.standing.specs.Standing.{IsAt, Stands, numbers_left}
+use Rattle.server_session.specs.declared.session.SessionState.{SessionState}
+use Rattle.server_session.specs.Names.{name_kept}
+use Rattle.server_session.specs.SessionState.{IsAt, Stands, numbers_left}
 use Rattle.server_core.specs.Among.{Among, IsAlone, IsOrderlySpeaker, heard_among, heard_by}
 use Rattle.server_core.specs.Failures.{blocked_of}
 use Rattle.server_core.specs.Hearing.{IsHeard}
@@ -28,7 +28,7 @@ use Rattle.server_core.proofs.Places.{StaysAt, can-still, speaking-later}
 use Rattle.server_core.proofs.Settled.{blocked-left}
 
 -- a session that was heard has judged
-pub judged-so : {S : Type 0} (setting : Setting S) (envelope : Envelope) (kept : List Standing) (standing after : Standing) (queue later : Queue) (bound bindings : List Binding) (draw : S)
+pub judged-so : {S : Type 0} (setting : Setting S) (envelope : Envelope) (kept : List SessionState) (standing after : SessionState) (queue later : Queue) (bound bindings : List Binding) (draw : S)
     (judged : List Judgement) (among : Among S) → IsHeard setting.now kept standing queue bound draw among
     → Stands setting.now after (record among.speaker.session { history = history_of setting envelope among.speaker.session })
     → later ≡ queue → bindings ≡ bound → judged ≡ judged_of setting envelope among.speaker.session → IsAlone (name_in envelope) among
@@ -82,7 +82,7 @@ place-made {S} state =
     (λ few. as-it_is state) (λ full. first-placed state.sessions state)
 
 -- a session that is made is heard
-pub heard-new : {S : Type 0} (setting : Setting S) (envelope : Envelope) (server : Rules) (draw later : S) (kept : List Standing) (standing : Standing) (queue : Queue)
+pub heard-new : {S : Type 0} (setting : Setting S) (envelope : Envelope) (server : Rules) (draw later : S) (kept : List SessionState) (standing : SessionState) (queue : Queue)
     → session_named (name_in envelope) server.sessions ≡ None → AreKept setting.now kept (place_made (begun server draw)).sessions
     → queue ≡ (place_made (begun server draw)).jobs → Stands setting.now standing (session_for setting envelope draw)
     → later ≡ draw_after setting.step 2 draw
@@ -113,58 +113,58 @@ heard-blocked setting envelope None state = (place-made state).blocked (name_in 
 
 -- ---- the others then
 
-rest-each : (P : Standing → Type 0) (standings : List Standing) → All P standings → All P (rest_of standings)
+rest-each : (P : SessionState → Type 0) (standings : List SessionState) → All P standings → All P (rest_of standings)
 rest-each P [] all = all
 rest-each P (standing ∷ standings) all = All-tail P standing standings all
 
-pub placed-each : (P : Standing → Type 0) (standings : List Standing) → All P standings → All P (with_place standings)
+pub placed-each : (P : SessionState → Type 0) (standings : List SessionState) → All P standings → All P (with_place standings)
 placed-each P standings all =
     cond_both (nat_lt (length standings) sessions_max) standings (rest_of standings) (All P) (λ few. all) (λ full. rest-each P standings all)
 
-rest-few : (standings : List Standing) → length standings ≤ sessions_max → length (rest_of standings) < sessions_max
+rest-few : (standings : List SessionState) → length standings ≤ sessions_max → length (rest_of standings) < sessions_max
 rest-few [] few = omega arith
 rest-few (standing ∷ standings) few = omega arith
 
-pub placed-few : (standings : List Standing) → length standings ≤ sessions_max → length (with_place standings) < sessions_max
+pub placed-few : (standings : List SessionState) → length standings ≤ sessions_max → length (with_place standings) < sessions_max
 placed-few standings few =
     cond_both (nat_lt (length standings) sessions_max) standings (rest_of standings) (λ standings. length standings < sessions_max)
     (λ is. ltb-true (length standings) sessions_max is) (λ full. rest-few standings few)
 
 -- one that was removed is back at its place
-pub back-at : (standings : List Standing) (place : ℕ) (standing : Standing) → place < length standings → standing ≡ get_or standings place standing
+pub back-at : (standings : List SessionState) (place : ℕ) (standing : SessionState) → place < length standings → standing ≡ get_or standings place standing
     → insert (remove standings place) place standing ≡ standings
 back-at [] place standing within is = absurd (omega arith)
-back-at (first ∷ standings) zero standing within is = ap (λ (standing : Standing). standing ∷ standings) is
+back-at (first ∷ standings) zero standing within is = ap (λ (standing : SessionState). standing ∷ standings) is
 back-at (first ∷ standings) (suc place) standing within is =
-    ap (λ (rest : List Standing). first ∷ rest) (back-at standings place standing (omega arith) is)
+    ap (λ (rest : List SessionState). first ∷ rest) (back-at standings place standing (omega arith) is)
 
 -- those beside one that is lent
 
-pub beside-known : StaysAt → (keys : List RingKey) (moment later : ℕ) (name : Name) (standings others : List Standing) (place : ℕ) (one : Standing) → moment ≤ later
+pub beside-known : StaysAt → (keys : List RingKey) (moment later : ℕ) (name : Name) (standings others : List SessionState) (place : ℕ) (one : SessionState) → moment ≤ later
     → IsSound keys moment standings → place < length standings → others ≡ remove standings place → others ≡ without_kept name standings → name_kept one ≡ name
     → AreBeside keys later (name_kept one) others
 beside-known stay keys moment later name standings others place one lt sound within removed left is =
-    let N : Name → Type 0 = λ name. All (λ (other : Standing). name_kept other ≢ name) others in
-    let A : List Standing → Type 0 = λ standings. All (λ (other : Standing). name_kept other ≢ name) standings in
-    let C : List Standing → Type 0 = λ standings. All (CanSpeak keys later) standings in
-    let long : length others ≡ length (remove standings place) = ap (λ (standings : List Standing). length standings) removed in
+    let N : Name → Type 0 = λ name. All (λ (other : SessionState). name_kept other ≢ name) others in
+    let A : List SessionState → Type 0 = λ standings. All (λ (other : SessionState). name_kept other ≢ name) standings in
+    let C : List SessionState → Type 0 = λ standings. All (CanSpeak keys later) standings in
+    let long : length others ≡ length (remove standings place) = ap (λ (standings : List SessionState). length standings) removed in
     let one_less = length-remove standings place within in
     record {
       few = omega (arith, sound.few);
       apart = subst N (sym is) (subst A (sym left) (others-apart name standings));
       speaking = subst C (sym left)
-          (All-filter (λ (standing : Standing). not (is_kept_as name standing)) (CanSpeak keys later) standings (speaking-later stay keys moment later standings lt sound.speaking));
+          (All-filter (λ (standing : SessionState). not (is_kept_as name standing)) (CanSpeak keys later) standings (speaking-later stay keys moment later standings lt sound.speaking));
     }
 
-pub beside-new : StaysAt → (keys : List RingKey) (moment later : ℕ) (name : Name) (standings others : List Standing) (one : Standing) → moment ≤ later
+pub beside-new : StaysAt → (keys : List RingKey) (moment later : ℕ) (name : Name) (standings others : List SessionState) (one : SessionState) → moment ≤ later
     → IsSound keys moment standings → length standings ≤ position_or_len (is_kept_as name) standings → others ≡ with_place standings → name_kept one ≡ name
     → AreBeside keys later (name_kept one) others
 beside-new stay keys moment later name standings others one lt sound none placed is =
-    let P : Standing → Type 0 = λ other. name_kept other ≢ name in
-    let N : Name → Type 0 = λ name. All (λ (other : Standing). name_kept other ≢ name) others in
-    let A : List Standing → Type 0 = λ standings. All (λ (other : Standing). name_kept other ≢ name) standings in
-    let C : List Standing → Type 0 = λ standings. All (CanSpeak keys later) standings in
-    let F : List Standing → Type 0 = λ standings. length standings < sessions_max in
+    let P : SessionState → Type 0 = λ other. name_kept other ≢ name in
+    let N : Name → Type 0 = λ name. All (λ (other : SessionState). name_kept other ≢ name) others in
+    let A : List SessionState → Type 0 = λ standings. All (λ (other : SessionState). name_kept other ≢ name) standings in
+    let C : List SessionState → Type 0 = λ standings. All (CanSpeak keys later) standings in
+    let F : List SessionState → Type 0 = λ standings. length standings < sessions_max in
     record {
       few = subst F (sym placed) (placed-few standings sound.few);
       apart = subst N (sym is) (subst A (sym placed) (placed-each P standings (subst A (none-out (is_kept_as name) standings none) (others-apart name standings))));
@@ -172,7 +172,7 @@ beside-new stay keys moment later name standings others one lt sound none placed
     }
 
 -- it can speak with as many numbers as before
-pub can-judged : (keys : List RingKey) (moment later : ℕ) (before after : Standing) → CanSpeak keys moment before → name_kept after ≡ name_kept before
+pub can-judged : (keys : List RingKey) (moment later : ℕ) (before after : SessionState) → CanSpeak keys moment before → name_kept after ≡ name_kept before
     → numbers_left after ≡ numbers_left before → IsAt later after → CanSpeak keys later after
 can-judged keys moment later before after can same left at = can-still keys moment later before after can same at (omega (arith, left, can.numbers))
 
@@ -181,6 +181,6 @@ pub fits-few : (before after judged dues limit : ℕ) → limit ≡ before + due
 fits-few before after judged dues limit is fewer enough = omega arith
 
 -- one that is lent can speak
-pub can-lent : (keys : List RingKey) (moment : ℕ) (standings : List Standing) (place : ℕ) (one : Standing) → All (CanSpeak keys moment) standings → place < length standings
+pub can-lent : (keys : List RingKey) (moment : ℕ) (standings : List SessionState) (place : ℕ) (one : SessionState) → All (CanSpeak keys moment) standings → place < length standings
     → one ≡ get_or standings place one → CanSpeak keys moment one
 can-lent keys moment standings place one all within is = subst (CanSpeak keys moment) (sym is) (all place one within)

@@ -9,7 +9,7 @@ pub mod Rooms
 pub mod Running
 pub mod Sending
 pub mod Spent
-pub mod Standing
+pub mod SessionState
 pub mod Speaking
 pub mod Steps
 pub mod Taking
@@ -33,7 +33,7 @@ pub mod Settled
 pub mod Due
 pub mod TickSteps
 pub mod SendSteps
-pub mod VoiceSteps
+pub mod TickTurnSteps
 pub mod LoseLemmas
 pub mod Lent
 pub mod TickStart

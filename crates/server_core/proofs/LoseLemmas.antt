@@ -9,24 +9,24 @@ use Rattle.waits.specs.Jobs.{Queue, without_session as without_jobs_of}
 use Rattle.server_rules.specs.Server.{Name, Session, is_named, name_of, without_session}
 use Rattle.server_rules.specs.Event.{State, lost}
 use Rattle.server_rules.specs.Answer.{is_spent, room_min, without_spent}
-use Rattle.standing.specs.declared.standing.Standing.{Standing}
-use Rattle.standing.specs.Standing.{Stands, key_of, number_of, numbers_left}
-use Rattle.standing.specs.Names.{name_kept}
+use Rattle.server_session.specs.declared.session.SessionState.{SessionState}
+use Rattle.server_session.specs.SessionState.{Stands, key_of, number_of, numbers_left}
+use Rattle.server_session.specs.Names.{name_kept}
 use Rattle.server_core.specs.Losing.{is_spent_kept}
 use Rattle.server_core.specs.Sessions.{AreApart, AreKept, is_kept_as, without_kept}
 use Rattle.server_core.proofs.Lists.{pairs-head, pairs-tail}
 use Rattle.server_core.proofs.Names.{apart-names, find-first, find-other, names-same, none-some, some-same}
 use Rattle.server_core.proofs.Spent.{AreOthers}
 use Rattle.server_core.proofs.Speaking.{HasItsRoom, sessions-apart}
-use Rattle.server_core.proofs.Standing.{HasItsName, others-kept}
+use Rattle.server_core.proofs.SessionState.{HasItsName, others-kept}
 
 -- the first session without room, at its place
-pub record IsSpentAt (now : ℕ) (standing : Standing) (sessions : List Session) : Type 0 where
+pub record IsSpentAt (now : ℕ) (standing : SessionState) (sessions : List Session) : Type 0 where
   pub session : Session
   pub found : find is_spent sessions ≡ Some session
   pub stands : Stands now standing session
 
-pub spent-at : HasItsRoom → (now : ℕ) (standings : List Standing) (sessions : List Session) (d : Standing) → AreKept now standings sessions
+pub spent-at : HasItsRoom → (now : ℕ) (standings : List SessionState) (sessions : List Session) (d : SessionState) → AreKept now standings sessions
     → position_or_len is_spent_kept standings < length standings → IsSpentAt now (get_or standings (position_or_len is_spent_kept standings) d) sessions
 spent-at rooms now [] sessions d are within = absurd (omega arith)
 spent-at rooms now (standing ∷ standings) [] d are within = absurd are
@@ -44,21 +44,21 @@ spent-at rooms now (standing ∷ standings) (session ∷ sessions) d are within 
 
 -- none is without room
 
-all-room : (standings : List Standing) → length standings ≤ position_or_len is_spent_kept standings → All (λ standing. room_min ≤ numbers_left standing) standings
-all-room [] none = All-nil (λ (standing : Standing). room_min ≤ numbers_left standing)
+all-room : (standings : List SessionState) → length standings ≤ position_or_len is_spent_kept standings → All (λ standing. room_min ≤ numbers_left standing) standings
+all-room [] none = All-nil (λ (standing : SessionState). room_min ≤ numbers_left standing)
 all-room (standing ∷ standings) none =
     elim (cases_Bool (is_spent_kept standing)) [
       | inl is ↦ let first : position_or_len is_spent_kept (standing ∷ standings) ≡ 0 = rw is refl in absurd (omega arith)
       | inr not_so ↦
           let later : position_or_len is_spent_kept (standing ∷ standings) ≡ suc (position_or_len is_spent_kept standings) = rw (not_so, one-add) refl in
-          All-cons (λ (standing : Standing). room_min ≤ numbers_left standing) standing standings (ltb-false (numbers_left standing) room_min not_so)
+          All-cons (λ (standing : SessionState). room_min ≤ numbers_left standing) standing standings (ltb-false (numbers_left standing) room_min not_so)
           (all-room standings (omega arith))
     ]
 
-pub room-left : (standings : List Standing) → length standings ≤ position_or_len is_spent_kept standings → All (λ standing. room_min ≤ numbers_left standing) standings
+pub room-left : (standings : List SessionState) → length standings ≤ position_or_len is_spent_kept standings → All (λ standing. room_min ≤ numbers_left standing) standings
 room-left standings none = all-room standings none
 
-none-spent : HasItsRoom → (now : ℕ) (standings : List Standing) (sessions : List Session) → AreKept now standings sessions
+none-spent : HasItsRoom → (now : ℕ) (standings : List SessionState) (sessions : List Session) → AreKept now standings sessions
     → length standings ≤ position_or_len is_spent_kept standings → filter is_spent sessions ≡ []
 none-spent rooms now [] [] are none = refl
 none-spent rooms now [] (session ∷ sessions) are none = absurd are
@@ -73,7 +73,7 @@ none-spent rooms now (standing ∷ standings) (session ∷ sessions) are none =
           ∙ none-spent rooms now standings sessions are.1 (omega arith)
     ]
 
-pub none-lost : {S : Type 0} → HasItsRoom → (now : ℕ) (standings : List Standing) (state : State S) → AreKept now standings state.sessions
+pub none-lost : {S : Type 0} → HasItsRoom → (now : ℕ) (standings : List SessionState) (state : State S) → AreKept now standings state.sessions
     → length standings ≤ position_or_len is_spent_kept standings → without_spent state ≡ state
 none-lost {S} rooms now standings state are none =
     ap (λ (spent : List Session). fold (λ (so_far : State S) (session : Session). lost (name_of session) so_far) state spent) (none-spent rooms now standings state.sessions are none)
@@ -133,13 +133,13 @@ lost-first {S} state session apart is =
 
 -- ---- one step
 
-pub record AreLost (S : Type 0) (now : ℕ) (standings : List Standing) (queue : Queue) (start : State S) : Type 0 where
+pub record AreLost (S : Type 0) (now : ℕ) (standings : List SessionState) (queue : Queue) (start : State S) : Type 0 where
   pub state : State S
   pub kept : AreKept now standings state.sessions
   pub jobs : queue ≡ state.jobs
   pub same : without_spent state ≡ without_spent start
 
-pub lose-step : {S : Type 0} → HasItsName → HasItsRoom → (now : ℕ) (standings : List Standing) (queue : Queue) (start : State S) (place : ℕ) (d : Standing)
+pub lose-step : {S : Type 0} → HasItsName → HasItsRoom → (now : ℕ) (standings : List SessionState) (queue : Queue) (start : State S) (place : ℕ) (d : SessionState)
     → AreLost S now standings queue start → AreApart standings → position_or_len is_spent_kept standings ≡ place → place < length standings
     → AreLost S now (without_kept (name_kept (get_or standings place d)) standings)
     (without_jobs_of (key_of (get_or standings place d)) (number_of (get_or standings place d)) queue) start
@@ -159,15 +159,15 @@ lose-step {S} names rooms now standings queue start place d so_far apart at with
       same = lost-first state session (sessions-apart names now standings state.sessions so_far.kept apart) there.found ∙ so_far.same;
     }
 
-pub one-fewer : (standings : List Standing) (place : ℕ) (d : Standing) → place < length standings
+pub one-fewer : (standings : List SessionState) (place : ℕ) (d : SessionState) → place < length standings
     → length (without_kept (name_kept (get_or standings place d)) standings) < length standings
 one-fewer [] place d within = absurd (omega arith)
 one-fewer (standing ∷ standings) zero d within =
     let name = name_kept standing in
     let own : is_kept_as name standing ≡ true = names-same name name refl in
-    let fewer = length-filter_both (λ (standing : Standing). not (is_kept_as name standing)) (λ (standing : Standing). not (not (is_kept_as name standing))) (λ standing. refl) standings in
+    let fewer = length-filter_both (λ (standing : SessionState). not (is_kept_as name standing)) (λ (standing : SessionState). not (not (is_kept_as name standing))) (λ standing. refl) standings in
     let out : without_kept name (standing ∷ standings) ≡ without_kept name standings = rw own refl in
-    let long : length (without_kept name (standing ∷ standings)) ≡ length (without_kept name standings) = ap (λ (some : List Standing). length some) out in
+    let long : length (without_kept name (standing ∷ standings)) ≡ length (without_kept name standings) = ap (λ (some : List SessionState). length some) out in
     omega arith
 one-fewer (standing ∷ standings) (suc place) d within =
     let name = name_kept (get_or standings place d) in
@@ -176,10 +176,10 @@ one-fewer (standing ∷ standings) (suc place) d within =
     elim (cases_Bool (is_kept_as name standing)) [
       | inl is ↦
           let out : without_kept name (standing ∷ standings) ≡ left = rw is refl in
-          let long : length (without_kept name (standing ∷ standings)) ≡ length left = ap (λ (some : List Standing). length some) out in
+          let long : length (without_kept name (standing ∷ standings)) ≡ length left = ap (λ (some : List SessionState). length some) out in
           omega arith
       | inr off ↦
           let out : without_kept name (standing ∷ standings) ≡ standing ∷ left = rw off refl in
-          let long : length (without_kept name (standing ∷ standings)) ≡ length (standing ∷ left) = ap (λ (some : List Standing). length some) out in
+          let long : length (without_kept name (standing ∷ standings)) ≡ length (standing ∷ left) = ap (λ (some : List SessionState). length some) out in
           omega arith
     ]

@@ -21,7 +21,7 @@ use Rattle.server_rules.specs.Speaking.{msg_wait_failed, says, says_it_is_new}
 use Rattle.server_rules.specs.Waiting.{tells_of}
 use Rattle.server_rules.specs.Rows.{accepts, acknowledges, acks_of, came_again, notices}
 use Rattle.server_rules.specs.Answer.{begun, name_in, opens, with_place, without_first as without_first_session}
-use Rattle.server_laws.specs.Order.{AreOrdered, IsMidway, IsOrderly, IsOrderlyAt, IsSpeaking, IsTold, IsUnanswered, WasAccepted, WasCalled, is_for_service, jobs_of, opens_of}
+use Rattle.law_server.specs.Order.{AreOrdered, IsMidway, IsOrderly, IsOrderlyAt, IsSpeaking, IsTold, IsUnanswered, WasAccepted, WasCalled, is_for_service, jobs_of, opens_of}
 use Rattle.server_core.specs.One.{AreOwnFailures, fails_all, given_up_by}
 use Rattle.server_core.specs.Among.{Among, IsAlone, IsInOrder, IsOrderlySpeaker, destroys_another, heard_among, heard_by, loses_another, row_among, settles_among, speaks_among, tells_all}
 use Rattle.server_core.proofs.Among.{OwesForItself, found-another, row-alone, told-alone}

@@ -7,22 +7,22 @@ use Rattle.std.proofs.lemmas.List.Elements.{All-head, All-tail}
 use Rattle.std.proofs.lemmas.List.Sums.{sum_by-cons, sum_by_more, sum_by_more_le}
 use Rattle.waits.specs.declared.job.Unfinished.{Unfinished}
 use Rattle.waits.specs.Jobs.{Queue, is_of, is_overdue, one_if, overdue_count, overdue_count_of}
-use Rattle.standing.specs.declared.standing.Standing.{Standing}
-use Rattle.standing.specs.Standing.{key_of, number_of}
-use Rattle.standing.specs.Names.{name_kept}
+use Rattle.server_session.specs.declared.session.SessionState.{SessionState}
+use Rattle.server_session.specs.SessionState.{key_of, number_of}
+use Rattle.server_session.specs.Names.{name_kept}
 use Rattle.server_core.specs.Sessions.{AreApart, HaveOtherNames}
 use Rattle.server_core.proofs.Lists.{pairs-head, pairs-tail}
 use Rattle.server_core.proofs.Names.{named, same-names}
 
 -- it is one of the session's, and overdue
-abbrev one_of : ℕ → Unfinished → Standing → ℕ
+abbrev one_of : ℕ → Unfinished → SessionState → ℕ
 one_of now one standing = one_if (is_of (key_of standing) (number_of standing) one && is_overdue now one)
 
 -- how many jobs of the session are
-abbrev pub overdue_at : ℕ → Queue → Standing → ℕ
+abbrev pub overdue_at : ℕ → Queue → SessionState → ℕ
 overdue_at now jobs standing = overdue_count_of (key_of standing) (number_of standing) now jobs
 
-none-at_all : (now : ℕ) (standings : List Standing) → sum_by (overdue_at now []) standings ≡ 0
+none-at_all : (now : ℕ) (standings : List SessionState) → sum_by (overdue_at now []) standings ≡ 0
 none-at_all now [] = refl
 none-at_all now (standing ∷ standings) =
     let rest = none-at_all now standings in
@@ -30,7 +30,7 @@ none-at_all now (standing ∷ standings) =
     omega arith
 
 -- it is of no session of another name
-none-other : (now : ℕ) (one : Unfinished) (first : Standing) (standings : List Standing) → is_of (key_of first) (number_of first) one ≡ true
+none-other : (now : ℕ) (one : Unfinished) (first : SessionState) (standings : List SessionState) → is_of (key_of first) (number_of first) one ≡ true
     → All (HaveOtherNames first) standings → sum_by (one_of now one) standings ≡ 0
 none-other now one first [] is apart = refl
 none-other now one first (standing ∷ standings) is apart =
@@ -46,7 +46,7 @@ none-other now one first (standing ∷ standings) is apart =
           omega arith)
     ]
 
-one-at_most : (now : ℕ) (one : Unfinished) (standings : List Standing) → AreApart standings → sum_by (one_of now one) standings ≤ one_if (is_overdue now one)
+one-at_most : (now : ℕ) (one : Unfinished) (standings : List SessionState) → AreApart standings → sum_by (one_of now one) standings ≤ one_if (is_overdue now one)
 one-at_most now one [] apart = omega arith
 one-at_most now one (standing ∷ standings) apart =
     let sum = sum_by-cons (one_of now one) standing standings in
@@ -62,7 +62,7 @@ one-at_most now one (standing ∷ standings) apart =
     ]
 
 -- the first job, and the others
-sum-first : (now : ℕ) (one : Unfinished) (jobs : Queue) (standings : List Standing)
+sum-first : (now : ℕ) (one : Unfinished) (jobs : Queue) (standings : List SessionState)
     → sum_by (overdue_at now (one ∷ jobs)) standings ≡ sum_by (one_of now one) standings + sum_by (overdue_at now jobs) standings
 sum-first now one jobs [] = refl
 sum-first now one jobs (standing ∷ standings) =
@@ -73,7 +73,7 @@ sum-first now one jobs (standing ∷ standings) =
     let here : overdue_at now (one ∷ jobs) standing ≡ one_of now one standing + overdue_at now jobs standing = refl in
     omega arith
 
-pub overdue-sum : (now : ℕ) (jobs : Queue) (standings : List Standing) → AreApart standings → sum_by (overdue_at now jobs) standings ≤ overdue_count now jobs
+pub overdue-sum : (now : ℕ) (jobs : Queue) (standings : List SessionState) → AreApart standings → sum_by (overdue_at now jobs) standings ≤ overdue_count now jobs
 overdue-sum now [] standings apart =
     let none = none-at_all now standings in
     omega arith
@@ -84,14 +84,14 @@ overdue-sum now (one ∷ jobs) standings apart =
     omega arith
 
 -- where all that are overdue were counted in front, the session at this place has none
-pub none-behind : (now : ℕ) (jobs : Queue) (standings : List Standing) (place : ℕ) (d : Standing) → AreApart standings → place < length standings
+pub none-behind : (now : ℕ) (jobs : Queue) (standings : List SessionState) (place : ℕ) (d : SessionState) → AreApart standings → place < length standings
     → overdue_count now jobs ≤ sum_by (overdue_at now jobs) (take place standings) → overdue_at now jobs (get_or standings place d) ≡ 0
 none-behind now jobs standings place d apart within counted =
     let all = overdue-sum now jobs standings apart in
     let more = sum_by_more_le (overdue_at now jobs) standings place d within in
     omega arith
 
-pub counted-more : (now : ℕ) (jobs : Queue) (standings : List Standing) (place : ℕ) (d : Standing) (due left overdue : ℕ) → place < length standings
+pub counted-more : (now : ℕ) (jobs : Queue) (standings : List SessionState) (place : ℕ) (d : SessionState) (due left overdue : ℕ) → place < length standings
     → overdue_count now jobs ≤ due + sum_by (overdue_at now jobs) (take place standings) → overdue ≤ overdue_at now jobs (get_or standings place d) → due ≤ left + overdue
     → overdue_count now jobs ≤ left + sum_by (overdue_at now jobs) (take (place + 1) standings)
 counted-more now jobs standings place d due left overdue within counted few fewer =

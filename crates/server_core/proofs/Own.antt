@@ -10,8 +10,8 @@ use Rattle.server_rules.specs.Event.{Owed, Setting, Speaker}
 use Rattle.server_rules.specs.Speaking.{answers, msg_wait_failed, records}
 use Rattle.server_rules.specs.Waiting.{gives_up, outlook}
 use Rattle.server_rules.specs.Answer.{finishes}
-use Rattle.server_laws.specs.Order.{IsSpeaking}
-use Rattle.server_laws.specs.Speech.{SaidFor}
+use Rattle.law_server.specs.Order.{IsSpeaking}
+use Rattle.law_server.specs.Speech.{SaidFor}
 use Rattle.server_core.specs.One.{AreOwnFailures, fails_all, fails_first, given_up_by}
 use Rattle.server_core.specs.Failures.{HasFailures, blocked_of}
 use Rattle.server_core.specs.Working.{IsRunning, ran}

@@ -9,7 +9,7 @@ use Rattle.inbox.specs.Kinds.{inner_messages, item_told, kind_of}
 use Rattle.inbox.specs.Judging.{Session, inner_judgements, is_container, is_uncontained, judge, judged_session, judgements, unfolded, verdict_by}
 use Rattle.inbox.specs.Refusals.{Way, InContainer, refusal}
 use Rattle.id_window.specs.History.{found}
-use Rattle.rows.specs.Due.{due_by, due_of, needed_of}
+use Rattle.server_dispatch.specs.Action.{due_by, due_of, needed_of}
 use Rattle.server_core.specs.SettlingAll.{AreDue}
 
 due-by : (mark : Option Mark) (code : Option ℕ) (message : Message)

@@ -6,20 +6,20 @@ use Rattle.std.proofs.lemmas.List.Sums.{sum_by-cons, sum_by-le-sum_by}
 use Rattle.outbox.specs.declared.kept.Kept.{Kept}
 use Rattle.outbox.specs.Replies.{Contents, Replies, bytes_of}
 use Rattle.octets.specs.declared.memory.Memory.{Memory}
-use Rattle.owing.specs.Batch.{Batch, is_one, packets_most, with_heads}
-use Rattle.owing.specs.Dues.{Dues, has_number}
-use Rattle.owing.specs.Items.{acks_bytes, ids_max, new_session_bytes}
-use Rattle.owing.specs.Outs.{Going}
+use Rattle.server_output.specs.Batch.{Batch, is_one, packets_most, with_heads}
+use Rattle.server_output.specs.Dues.{Dues, has_number}
+use Rattle.server_output.specs.Items.{acks_bytes, ids_max, new_session_bytes}
+use Rattle.server_output.specs.Outs.{Going}
 use Rattle.server_rules.specs.Answer.{room_min}
 use Rattle.service_tl.specs.declared.lists.Message.{Message}
-use Rattle.standing.specs.declared.standing.Standing.{Standing}
-use Rattle.standing.specs.Repeats.{kept_bytes, kept_count}
-use Rattle.standing.specs.Standing.{numbers_left, outbox_of}
-use Rattle.standing.specs.Unsaid.{NoMoreUnsaid, unsaid_bytes, unsaid_count, unsaid_weight}
-use Rattle.rows.specs.declared.turn.Turn.{Turn}
-use Rattle.rows.specs.Entries.{Held}
-use Rattle.rows.specs.Spare.{HasSpare, Uses, where_again}
-use Rattle.rows.specs.Speaks.{HasRoom, Spends}
+use Rattle.server_session.specs.declared.session.SessionState.{SessionState}
+use Rattle.server_session.specs.Repeats.{kept_bytes, kept_count}
+use Rattle.server_session.specs.SessionState.{numbers_left, outbox_of}
+use Rattle.server_session.specs.Unsaid.{NoMoreUnsaid, unsaid_bytes, unsaid_count, unsaid_weight}
+use Rattle.server_dispatch.specs.declared.turn.Turn.{Turn}
+use Rattle.server_dispatch.specs.Entries.{Held}
+use Rattle.server_dispatch.specs.Spare.{HasSpare, Uses, where_again}
+use Rattle.server_dispatch.specs.Speaks.{HasRoom, Spends}
 use Rattle.server_core.specs.declared.room.PacketRoom.{PacketRoom}
 use Rattle.server_core.specs.declared.speech.Speech.{Speech}
 use Rattle.server_core.specs.Speech.{IsRoomFor}
@@ -38,13 +38,13 @@ one-each (kept ∷ replies) =
     let first = sum_by-cons (λ (one : Kept). 1) kept replies in
     omega (arith, first, rest)
 
-unsaid-few : (standing : Standing) (owing : Dues) → unsaid_count standing owing ≤ kept_count standing
+unsaid-few : (standing : SessionState) (owing : Dues) → unsaid_count standing owing ≤ kept_count standing
 unsaid-few standing owing =
     let less = unsaid-less (λ kept. 1) owing.messages standing.outbox.replies in
     let all = one-each standing.outbox.replies in
     omega (arith, less, all)
 
-unsaid-short : (standing : Standing) (owing : Dues) → unsaid_bytes standing owing ≤ kept_bytes standing
+unsaid-short : (standing : SessionState) (owing : Dues) → unsaid_bytes standing owing ≤ kept_bytes standing
 unsaid-short standing owing = unsaid-less (λ kept. length kept.body) owing.messages standing.outbox.replies
 
 -- no more may be said again, where no more is asked for
@@ -81,7 +81,7 @@ numbers-fit count limit messages bytes result few few_jobs few_messages short is
 
 -- ---- it stays
 
-room-later : (standing after : Standing) (room : PacketRoom) → outbox_of after ≡ outbox_of standing → IsPacketRoom standing room → IsPacketRoom after room
+room-later : (standing after : SessionState) (room : PacketRoom) → outbox_of after ≡ outbox_of standing → IsPacketRoom standing room → IsPacketRoom after room
 room-later standing after room same is =
     let count = length room.dues.items in
     let R : Contents → Type 0 = λ outbox.
@@ -97,7 +97,7 @@ room-later standing after room same is =
     }
 
 -- where the session keeps the same replies, and there is as much room for jobs and bindings
-pub can-take-later : (standing after : Standing) (jobs more bindings others : ℕ) (room : PacketRoom) → outbox_of after ≡ outbox_of standing
+pub can-take-later : (standing after : SessionState) (jobs more bindings others : ℕ) (room : PacketRoom) → outbox_of after ≡ outbox_of standing
     → jobs ≤ more → bindings ≤ others → CanTake standing jobs bindings room → CanTake after more others room
 can-take-later standing after jobs more bindings others room same enough_jobs enough_bindings is =
     let replies = ap (λ (outbox : Contents). outbox.room) same in
@@ -110,22 +110,22 @@ can-take-later standing after jobs more bindings others room same enough_jobs en
 
 -- ---- as the event goes on
 
-pub acks-short : (acks : ℕ) (standing : Standing) (jobs bindings : ℕ) (room : PacketRoom) → CanTake standing jobs bindings room → acks ≤ length room.dues.items → acks ≤ ids_max
+pub acks-short : (acks : ℕ) (standing : SessionState) (jobs bindings : ℕ) (room : PacketRoom) → CanTake standing jobs bindings room → acks ≤ length room.dues.items → acks ≤ ids_max
 acks-short acks standing jobs bindings room is few = omega (arith, few, is.taken.few)
 
-places-are : (standing : Standing) (room : PacketRoom) → IsPacketRoom standing room
+places-are : (standing : SessionState) (room : PacketRoom) → IsPacketRoom standing room
     → room.speech.owing.places ≡ packet_messages (length room.dues.items) room.limit + where_again room.again (kept_count standing)
 places-are standing room is = ap (λ (dues : Dues). dues.places) is.speech.owing
 
-bytes-are : (standing : Standing) (room : PacketRoom) → IsPacketRoom standing room
+bytes-are : (standing : SessionState) (room : PacketRoom) → IsPacketRoom standing room
     → room.speech.owing.room ≡ packet_bytes room.dues.items room.limit + where_again room.again (kept_bytes standing)
 bytes-are standing room is = ap (λ (dues : Dues). dues.room) is.speech.owing
 
-entries-are : (standing : Standing) (room : PacketRoom) → IsPacketRoom standing room → room.entries.room ≡ length room.dues.items + room.limit
+entries-are : (standing : SessionState) (room : PacketRoom) → IsPacketRoom standing room → room.entries.room ≡ length room.dues.items + room.limit
 entries-are standing room is = ap (λ (held : Held). held.room) is.entries
 
 -- for what is owed first
-pub opening-room : (acks : ℕ) (standing : Standing) (jobs bindings : ℕ) (room : PacketRoom) → CanTake standing jobs bindings room → acks ≤ length room.dues.items
+pub opening-room : (acks : ℕ) (standing : SessionState) (jobs bindings : ℕ) (room : PacketRoom) → CanTake standing jobs bindings room → acks ≤ length room.dues.items
     → room_min ≤ numbers_left standing → HasRoom 2 (new_session_bytes + acks_bytes acks) 0 standing (turn_in room)
 opening-room acks standing jobs bindings room is few numbers =
     let places = places-are standing room is.taken in
@@ -138,7 +138,7 @@ opening-room acks standing jobs bindings room is few numbers =
     }
 
 -- for the judgements after it
-pub settling-room : (again : Bool) (now acks : ℕ) (standing after : Standing) (jobs bindings : ℕ) (room : PacketRoom) (left : Turn) → CanTake standing jobs bindings room
+pub settling-room : (again : Bool) (now acks : ℕ) (standing after : SessionState) (jobs bindings : ℕ) (room : PacketRoom) (left : Turn) → CanTake standing jobs bindings room
     → acks ≤ length room.dues.items → room_min ≤ numbers_left standing → (again ≡ true → room.again ≡ true)
     → Spends now 2 (new_session_bytes + acks_bytes acks) 0 standing (turn_in room) after left → NoMoreUnsaid standing room.speech.owing after left.owing
     → outbox_of after ≡ outbox_of standing
@@ -164,7 +164,7 @@ settling-room again now acks standing after jobs bindings room left is few numbe
     }
 
 -- for sending all of it
-pub sending-room : (again : Bool) (now acks size answers kept : ℕ) (standing after last : Standing) (jobs bindings : ℕ) (room : PacketRoom) (left end : Turn) → CanTake standing jobs bindings room
+pub sending-room : (again : Bool) (now acks size answers kept : ℕ) (standing after last : SessionState) (jobs bindings : ℕ) (room : PacketRoom) (left end : Turn) → CanTake standing jobs bindings room
     → room_min ≤ numbers_left standing → Spends now 2 (new_session_bytes + acks_bytes acks) 0 standing (turn_in room) after left
     → Uses again now (settling_messages (length room.dues.items) room.limit) size answers kept after left last end → CanSend now standing last room end
 sending-room again now acks size answers kept standing after last jobs bindings room left end is numbers spends uses =

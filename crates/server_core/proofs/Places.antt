@@ -10,20 +10,20 @@ use Rattle.auth_keys.specs.declared.ring.RingKey.{RingKey}
 use Rattle.auth_keys.specs.Rings.{entry_of}
 use Rattle.server_rules.specs.Server.{Name}
 use Rattle.server_rules.specs.Answer.{room_min}
-use Rattle.standing.specs.declared.standing.Standing.{Standing}
-use Rattle.standing.specs.Standing.{IsAt, numbers_left}
-use Rattle.standing.specs.Names.{name_kept}
+use Rattle.server_session.specs.declared.session.SessionState.{SessionState}
+use Rattle.server_session.specs.SessionState.{IsAt, numbers_left}
+use Rattle.server_session.specs.Names.{name_kept}
 use Rattle.server_core.specs.Sessions.{AreApart, is_kept_as, without_kept}
 use Rattle.server_core.specs.Server.{CanSpeak, IsSound, without_kept_where}
 
 -- some session, where there is a place
-pub one-of : (standings : List Standing) (n : ℕ) → n < length standings → Standing
+pub one-of : (standings : List SessionState) (n : ℕ) → n < length standings → SessionState
 one-of [] n within = absurd (omega arith)
 one-of (standing ∷ standings) n within = standing
 
 -- ---- names
 
-pub names-set : (standings : List Standing) (n : ℕ) (standing : Standing) (i : ℕ) (d : Standing) → n < length standings
+pub names-set : (standings : List SessionState) (n : ℕ) (standing : SessionState) (i : ℕ) (d : SessionState) → n < length standings
     → name_kept standing ≡ name_kept (get_or standings n d) → name_kept (get_or (set standings n standing) i d) ≡ name_kept (get_or standings i d)
 names-set standings n standing i d within same =
     elim (cases_Bool (i == n)) [
@@ -36,8 +36,8 @@ names-set standings n standing i d within same =
           ap name_kept (get_or-set_other standings n i standing d (λ at. false≢true (sym other ∙ eq-eqb i n at)))
     ]
 
-pub apart-set : (standings : List Standing) (n : ℕ) (standing : Standing) → n < length standings
-    → ((d : Standing) → name_kept standing ≡ name_kept (get_or standings n d)) → AreApart standings → AreApart (set standings n standing)
+pub apart-set : (standings : List SessionState) (n : ℕ) (standing : SessionState) → n < length standings
+    → ((d : SessionState) → name_kept standing ≡ name_kept (get_or standings n d)) → AreApart standings → AreApart (set standings n standing)
 apart-set standings n standing within same apart = λ i j d lt inside.
     let long : length (set standings n standing) ≡ length standings = length-set standings n standing in
     let first = names-set standings n standing i d within (same d) in
@@ -49,15 +49,15 @@ apart-set standings n standing within same apart = λ i j d lt inside.
 
 -- what the crate below says of later moments
 abbrev pub StaysAt : Type 0
-StaysAt = (moment later : ℕ) (standing : Standing) → moment ≤ later → IsAt moment standing → IsAt later standing
+StaysAt = (moment later : ℕ) (standing : SessionState) → moment ≤ later → IsAt moment standing → IsAt later standing
 
-pub speaking-later : StaysAt → (keys : List RingKey) (moment later : ℕ) (standings : List Standing) → moment ≤ later → All (CanSpeak keys moment) standings
+pub speaking-later : StaysAt → (keys : List RingKey) (moment later : ℕ) (standings : List SessionState) → moment ≤ later → All (CanSpeak keys moment) standings
     → All (CanSpeak keys later) standings
 speaking-later stay keys moment later standings lt all =
     All-weaker (CanSpeak keys moment) (CanSpeak keys later)
     (λ standing can. record { key = can.key; numbers = can.numbers; at = stay moment later standing lt can.at }) standings all
 
-out-set : (P : Standing → Type 0) (name : Name) (standings : List Standing) (standing : Standing) → All P standings
+out-set : (P : SessionState → Type 0) (name : Name) (standings : List SessionState) (standing : SessionState) → All P standings
     → position_or_len (is_kept_as name) standings < length standings → is_kept_as name standing ≡ true
     → All P (without_kept name (set standings (position_or_len (is_kept_as name) standings) standing))
 out-set P name [] standing all within is = absurd (omega arith)
@@ -75,7 +75,7 @@ out-set P name (first ∷ standings) standing all within is =
           (All-cons P first (without_kept name others) (All-head P first standings all) (out-set P name standings standing rest (omega arith) is))
     ]
 
-pub sound-set : StaysAt → (keys : List RingKey) (moment later : ℕ) (name : Name) (standings : List Standing) (standing : Standing) (so : Bool) → moment ≤ later
+pub sound-set : StaysAt → (keys : List RingKey) (moment later : ℕ) (name : Name) (standings : List SessionState) (standing : SessionState) (so : Bool) → moment ≤ later
     → IsSound keys moment standings → position_or_len (is_kept_as name) standings < length standings → is_kept_as name standing ≡ true
     → (so ≡ false → CanSpeak keys later standing)
     → IsSound keys later (without_kept_where so name (set standings (position_or_len (is_kept_as name) standings) standing))
@@ -83,7 +83,7 @@ sound-set stay keys moment later name standings standing true lt sound within is
     let at = position_or_len (is_kept_as name) standings in
     let now = set standings at standing in
     let long : length now ≡ length standings = length-set standings at standing in
-    let fewer = length-filter_both (λ (standing : Standing). not (is_kept_as name standing)) (λ (standing : Standing). not (not (is_kept_as name standing))) (λ standing. refl) now in
+    let fewer = length-filter_both (λ (standing : SessionState). not (is_kept_as name standing)) (λ (standing : SessionState). not (not (is_kept_as name standing))) (λ standing. refl) now in
     record {
       few = omega (arith, sound.few);
       speaking = out-set (CanSpeak keys later) name standings standing (speaking-later stay keys moment later standings lt sound.speaking) within is;
@@ -97,7 +97,7 @@ sound-set stay keys moment later name standings standing false lt sound within i
     }
 
 -- a session of this name can speak with as many numbers as it has left
-pub can-still : (keys : List RingKey) (moment later : ℕ) (before after : Standing) → CanSpeak keys moment before → name_kept after ≡ name_kept before → IsAt later after
+pub can-still : (keys : List RingKey) (moment later : ℕ) (before after : SessionState) → CanSpeak keys moment before → name_kept after ≡ name_kept before → IsAt later after
     → room_min ≤ numbers_left after → CanSpeak keys later after
 can-still keys moment later before after can same at left =
     let K : ℕ → Type 0 = λ key. IsSome (entry_of key keys) in

@@ -3,10 +3,10 @@ use Rattle.std.proofs.Common.{◌≡◌, ◌∙◌, ℕ, zero, suc, ◌<◌, ◌
 use Rattle.std.specs.Prelude.{◌==◌, is_err, min, nat_lt, OnErr, OnOk}
 use Rattle.std.proofs.lemmas.Bool.{cases_Bool, eqb-true, eq-eqb, false≢true, ltb-true, ltb-false}
 use Rattle.std.proofs.lemmas.List.{get_or-set_same, get_or-set_other, length-set, set-get_or}
-use Rattle.standing.specs.declared.standing.Standing.{Standing}
-use Rattle.standing.specs.Rooms.{with_replies_left}
-use Rattle.standing.specs.Standing.{replies_left}
-use Rattle.server_core.specs.declared.voices.Voice.{Voice}
+use Rattle.server_session.specs.declared.session.SessionState.{SessionState}
+use Rattle.server_session.specs.Rooms.{with_replies_left}
+use Rattle.server_session.specs.SessionState.{replies_left}
+use Rattle.server_core.specs.declared.tick_turns.TickTurn.{TickTurn}
 use Rattle.server_core.specs.Reserving.{AreReserved, IsReserved}
 use Rattle.server_core.proofs.Places.{one-of}
 use Rattle.server_core.proofs.Rooms.{given-back}
@@ -19,33 +19,33 @@ pub ok-so : {A E : Type 0} (result : Result A E) (P : Type 0) → is_err result 
 ok-so (Ok x) P is holds = holds
 ok-so (Err error) P is holds = absurd (false≢true (sym is))
 
-set-twice : (items : List Standing) (place : ℕ) (one other : Standing) → set (set items place one) place other ≡ set items place other
+set-twice : (items : List SessionState) (place : ℕ) (one other : SessionState) → set (set items place one) place other ≡ set items place other
 set-twice [] place one other = refl
 set-twice (item ∷ items) zero one other = refl
-set-twice (item ∷ items) (suc place) one other = ap (λ (items : List Standing). item ∷ items) (set-twice items place one other)
+set-twice (item ∷ items) (suc place) one other = ap (λ (items : List SessionState). item ∷ items) (set-twice items place one other)
 
 -- what a session becomes whose room is reserved
-abbrev pub reserved : ℕ → Standing → Standing
+abbrev pub reserved : ℕ → SessionState → SessionState
 reserved answers standing = with_replies_left (max (replies_left standing) answers) standing
 
-pub back-so : (items : List Standing) (place : ℕ) (d : Standing) (answers before : ℕ) (new last : List Standing) → place < length items
+pub back-so : (items : List SessionState) (place : ℕ) (d : SessionState) (answers before : ℕ) (new last : List SessionState) → place < length items
     → new ≡ set items place (reserved answers (get_or items place d)) → before ≡ replies_left (get_or items place d)
     → last ≡ set new place (with_replies_left (min (replies_left (get_or new place d)) before) (get_or new place d)) → last ≡ items
 back-so items place d answers before new last within is was back =
     let standing = get_or items place d in
     let first = reserved answers standing in
-    let lent : get_or new place d ≡ first = ap (λ (new : List Standing). get_or new place d) is ∙ get_or-set_same items place first d within in
+    let lent : get_or new place d ≡ first = ap (λ (new : List SessionState). get_or new place d) is ∙ get_or-set_same items place first d within in
     let given : with_replies_left (min (replies_left (get_or new place d)) before) (get_or new place d) ≡ standing =
     given-back standing (get_or new place d) (with_replies_left (min (replies_left (get_or new place d)) before) (get_or new place d)) before answers was lent refl in
     back
-    ∙ (ap (λ (standing : Standing). set new place standing) given
-    ∙ (ap (λ (new : List Standing). set new place standing) is
+    ∙ (ap (λ (standing : SessionState). set new place standing) given
+    ∙ (ap (λ (new : List SessionState). set new place standing) is
     ∙ (set-twice items place first standing ∙ set-get_or items place d)))
 
 most-room : (room answers : ℕ) → answers ≤ max room answers
 most-room room answers = omega arith
 
-pub none-reserved : (place : ℕ) (items : List Standing) (voices : List Voice) → length items ≤ place → AreReserved place items voices items
+pub none-reserved : (place : ℕ) (items : List SessionState) (voices : List TickTurn) → length items ≤ place → AreReserved place items voices items
 none-reserved place items voices over =
     record {
       long = refl;
@@ -63,13 +63,13 @@ next-place place i from differ =
 less-same : (i place : ℕ) → i < place → i ≡ place → ⊥
 less-same i place lt same = absurd (omega arith)
 
-pub reserved-more : (place : ℕ) (items : List Standing) (voices : List Voice) (new after : List Standing) (voice : Voice) → place < length items
-    → ((d : Standing) → new ≡ set items place (reserved voice.left (get_or items place d))) → ((e : Voice) → get_or voices place e ≡ voice)
+pub reserved-more : (place : ℕ) (items : List SessionState) (voices : List TickTurn) (new after : List SessionState) (voice : TickTurn) → place < length items
+    → ((d : SessionState) → new ≡ set items place (reserved voice.left (get_or items place d))) → ((e : TickTurn) → get_or voices place e ≡ voice)
     → AreReserved (place + 1) new voices after → AreReserved place items voices after
 reserved-more place items voices new after voice within is its are =
-    let long_new : (d : Standing) → length new ≡ length items = λ d. ap (λ (items : List Standing). length items) (is d) ∙ length-set items place (reserved voice.left (get_or items place d)) in
-    let other : (i : ℕ) (d : Standing) → (i ≡ place → ⊥) → get_or new i d ≡ get_or items i d = λ i d differ.
-    ap (λ (items : List Standing). get_or items i d) (is d) ∙ get_or-set_other items place i (reserved voice.left (get_or items place d)) d differ in
+    let long_new : (d : SessionState) → length new ≡ length items = λ d. ap (λ (items : List SessionState). length items) (is d) ∙ length-set items place (reserved voice.left (get_or items place d)) in
+    let other : (i : ℕ) (d : SessionState) → (i ≡ place → ⊥) → get_or new i d ≡ get_or items i d = λ i d differ.
+    ap (λ (items : List SessionState). get_or items i d) (is d) ∙ get_or-set_other items place i (reserved voice.left (get_or items place d)) d differ in
     record {
       long = are.long ∙ long_new (one-of items place within);
       front = λ i d lt. are.front i d (omega (arith, lt)) ∙ other i d (λ same. less-same i place lt same);
@@ -80,17 +80,17 @@ reserved-more place items voices new after voice within is its are =
                 let standing = get_or items place d in
                 let done : get_or after place d ≡ reserved voice.left standing =
                 are.front place d (omega arith)
-                ∙ (ap (λ (items : List Standing). get_or items place d) (is d) ∙ get_or-set_same items place (reserved voice.left standing) d within) in
+                ∙ (ap (λ (items : List SessionState). get_or items place d) (is d) ∙ get_or-set_same items place (reserved voice.left standing) d within) in
                 subst (λ (i : ℕ). IsReserved (get_or voices i e).left (get_or items i d) (get_or after i d)) (sym at)
                 (record {
                   room = max (replies_left standing) voice.left;
-                  enough = subst (λ (voice' : Voice). voice'.left ≤ max (replies_left standing) voice.left) (sym (its e)) (most-room (replies_left standing) voice.left);
+                  enough = subst (λ (voice' : TickTurn). voice'.left ≤ max (replies_left standing) voice.left) (sym (its e)) (most-room (replies_left standing) voice.left);
                   same = done;
                 })
             | inr off ↦
                 let differ : (i ≡ place) → ⊥ = λ same. false≢true (sym off ∙ eq-eqb i place same) in
                 let long = long_new d in
-                subst (λ (standing : Standing). IsReserved (get_or voices i e).left standing (get_or after i d)) (other i d differ)
+                subst (λ (standing : SessionState). IsReserved (get_or voices i e).left standing (get_or after i d)) (other i d differ)
                 (are.each i d e (next-place place i from differ) (omega (arith, lt, long)))
           ];
     }

@@ -6,13 +6,13 @@ use Rattle.inbox.specs.declared.judged.Verdict.{Verdict}
 use Rattle.inbox.specs.declared.judged.Verdict.TheVariants as verdict
 use Rattle.server_rules.specs.Event.{Setting}
 use Rattle.server_rules.specs.Rows.{owes}
-use Rattle.rows.specs.declared.due.Due.{Due}
-use Rattle.rows.specs.declared.due.Due.TheVariants.{Notice, CameAgain, Tells, Answers, Destroys, Nothing}
-use Rattle.rows.specs.Due.{accepted_needed, due_of}
+use Rattle.server_dispatch.specs.declared.action.Action.{Action}
+use Rattle.server_dispatch.specs.declared.action.Action.TheVariants.{Notice, CameAgain, Tells, Answers, Destroys, Nothing}
+use Rattle.server_dispatch.specs.Action.{accepted_needed, due_of}
 use Rattle.server_core.specs.Among.{Among, destroys_another, row_among, speaks_among}
 
 -- where this is needed, the row is this: another session is destroyed, or the session alone speaks
-abbrev pub RowIs : {S : Type 0} → Setting S → ℕ → ℕ → Verdict → List ℕ → Among S → Due → Type 0
+abbrev pub RowIs : {S : Type 0} → Setting S → ℕ → ℕ → Verdict → List ℕ → Among S → Action → Type 0
 RowIs setting number seq judged body among (Destroys session) = row_among setting number seq judged body among ≡ destroys_another setting session among
 RowIs setting number seq judged body among _ = row_among setting number seq judged body among ≡ speaks_among (owes setting number seq judged body) among
 
@@ -59,10 +59,10 @@ row-is setting number seq (verdict.Accepted one) body among = accepted-is settin
 pub row-destroys : {S : Type 0} (setting : Setting S) (number seq : ℕ) (judged : Verdict) (body : List ℕ) (among : Among S) (session : ℕ)
     → Destroys session ≡ due_of number seq judged body → destroys_another setting session among ≡ row_among setting number seq judged body among
 row-destroys {S} setting number seq judged body among session is =
-    let P : Due → Type 0 = λ due. RowIs setting number seq judged body among due in
+    let P : Action → Type 0 = λ due. RowIs setting number seq judged body among due in
     sym (subst P (sym is) (row-is setting number seq judged body among))
 
-others-own : {S : Type 0} (setting : Setting S) (number seq : ℕ) (judged : Verdict) (body : List ℕ) (among : Among S) (due : Due)
+others-own : {S : Type 0} (setting : Setting S) (number seq : ℕ) (judged : Verdict) (body : List ℕ) (among : Among S) (due : Action)
     → ((session : ℕ) → due ≡ Destroys session → ⊥) → RowIs setting number seq judged body among due
     → speaks_among (owes setting number seq judged body) among ≡ row_among setting number seq judged body among
 others-own setting number seq judged body among (Destroys session) other is = absurd (other session refl)
@@ -72,9 +72,9 @@ others-own setting number seq judged body among (Tells a) other is = sym is
 others-own setting number seq judged body among (Answers a) other is = sym is
 others-own setting number seq judged body among Nothing other is = sym is
 
-pub row-speaks : {S : Type 0} (setting : Setting S) (number seq : ℕ) (judged : Verdict) (body : List ℕ) (among : Among S) (due : Due)
+pub row-speaks : {S : Type 0} (setting : Setting S) (number seq : ℕ) (judged : Verdict) (body : List ℕ) (among : Among S) (due : Action)
     → ((session : ℕ) → due ≡ Destroys session → ⊥) → due ≡ due_of number seq judged body
     → speaks_among (owes setting number seq judged body) among ≡ row_among setting number seq judged body among
 row-speaks {S} setting number seq judged body among due other is =
-    let P : Due → Type 0 = λ due. RowIs setting number seq judged body among due in
+    let P : Action → Type 0 = λ due. RowIs setting number seq judged body among due in
     others-own setting number seq judged body among due other (subst P (sym is) (row-is setting number seq judged body among))

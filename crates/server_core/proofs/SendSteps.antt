@@ -8,8 +8,8 @@ use Rattle.std.proofs.lemmas.List.{get_or_default, get_or-map, get_or-set_same, 
 use Rattle.std.proofs.lemmas.List.Elements.{All-cons, All-nil, All-tail}
 use Rattle.auth_keys.specs.declared.ring.RingKey.{RingKey}
 use Rattle.envelope.specs.Packet.{Lock}
-use Rattle.owing.specs.declared.outs.Out.{Out}
-use Rattle.owing.specs.Outs.{AreSent}
+use Rattle.server_output.specs.declared.outs.Out.{Out}
+use Rattle.server_output.specs.Outs.{AreSent}
 use Rattle.service_tl.specs.declared.lists.Message.{Message}
 use Rattle.salt_line.specs.Line.{current_salt}
 use Rattle.packing.specs.Packing.{packets_of, after_packets}
@@ -17,11 +17,11 @@ use Rattle.server_rules.specs.Server.{Name, Session, is_same, name_of, with_sess
 use Rattle.server_rules.specs.Event.{Owed, Setting, Speaker, State, speaker_in, speaks, spoken, spoken_by}
 use Rattle.server_rules.specs.Speaking.{needs_salts}
 use Rattle.server_rules.specs.Sending.{messages_by, names_in, seals, sends}
-use Rattle.standing.specs.declared.standing.Standing.{Standing}
-use Rattle.standing.specs.Standing.{Stands}
-use Rattle.standing.specs.Names.{name_kept}
-use Rattle.standing.specs.Says.{Says}
-use Rattle.server_core.specs.declared.voices.Voice.{Voice}
+use Rattle.server_session.specs.declared.session.SessionState.{SessionState}
+use Rattle.server_session.specs.SessionState.{Stands}
+use Rattle.server_session.specs.Names.{name_kept}
+use Rattle.server_session.specs.Says.{Says}
+use Rattle.server_core.specs.declared.tick_turns.TickTurn.{TickTurn}
 use Rattle.server_core.specs.Answering.{name_at, no_name}
 use Rattle.server_core.specs.Outgoing.{IsSending, sent_by}
 use Rattle.server_core.specs.Sessions.{AreApart, AreKept, HaveOtherNames, is_kept_as}
@@ -32,7 +32,7 @@ use Rattle.server_core.proofs.One.{sends-name}
 use Rattle.server_core.proofs.Pairs.{pairs-filter}
 use Rattle.server_core.proofs.Places.{names-set, one-of}
 use Rattle.server_core.proofs.Speaking.{found-at, kept-set}
-use Rattle.server_core.proofs.Standing.{HasItsName}
+use Rattle.server_core.proofs.SessionState.{HasItsName}
 use Rattle.server_core.proofs.TickSteps.{map-same}
 
 -- ---- each name comes once
@@ -79,7 +79,7 @@ sends-owed setting messages speaker =
 
 -- ---- the session at a place is the first of its name
 
-pub place-first : (standings : List Standing) (place : ℕ) (d : Standing) → AreApart standings → place < length standings
+pub place-first : (standings : List SessionState) (place : ℕ) (d : SessionState) → AreApart standings → place < length standings
     → position_or_len (is_kept_as (name_kept (get_or standings place d))) standings ≡ place
 place-first [] place d apart within = absurd (omega arith)
 place-first (first ∷ standings) zero d apart within =
@@ -94,16 +94,16 @@ place-first (first ∷ standings) (suc place) d apart within =
 
 -- ---- the step
 
-pub send-step : {S : Type 0} → HasItsName → (lock : Lock) (ring : List RingKey) (setting : Setting S) (standings : List Standing) (voices : List Voice) (place : ℕ) (later : List ℕ)
+pub send-step : {S : Type 0} → HasItsName → (lock : Lock) (ring : List RingKey) (setting : Setting S) (standings : List SessionState) (voices : List TickTurn) (place : ℕ) (later : List ℕ)
     (draw : S) (outs : List Out) (start : State S) → IsSending lock ring setting standings voices (place ∷ later) draw outs start → AreApart standings
     → length voices ≡ length standings → place < length standings
-    → (after : Standing) (voice : Voice) (next : S) (more : List Out)
-    → ((e : Voice) → voice.turn.owing.messages ≡ (get_or voices place e).turn.owing.messages)
-    → ((d : Standing) (e : Voice) (speaker : Speaker S) → Says setting.now (get_or standings place d) (get_or voices place e).turn.owing draw speaker
+    → (after : SessionState) (voice : TickTurn) (next : S) (more : List Out)
+    → ((e : TickTurn) → voice.turn.owing.messages ≡ (get_or voices place e).turn.owing.messages)
+    → ((d : SessionState) (e : TickTurn) (speaker : Speaker S) → Says setting.now (get_or standings place d) (get_or voices place e).turn.owing draw speaker
     → Stands setting.now after (sends setting (get_or voices place e).turn.owing.messages speaker).session)
-    → ((d : Standing) (e : Voice) (speaker : Speaker S) → Says setting.now (get_or standings place d) (get_or voices place e).turn.owing draw speaker
+    → ((d : SessionState) (e : TickTurn) (speaker : Speaker S) → Says setting.now (get_or standings place d) (get_or voices place e).turn.owing draw speaker
     → next ≡ (sends setting (get_or voices place e).turn.owing.messages speaker).draw)
-    → ((d : Standing) (e : Voice) (speaker : Speaker S) → Says setting.now (get_or standings place d) (get_or voices place e).turn.owing draw speaker
+    → ((d : SessionState) (e : TickTurn) (speaker : Speaker S) → Says setting.now (get_or standings place d) (get_or voices place e).turn.owing draw speaker
     → AreSent lock ring speaker.sent outs → AreSent lock ring (sends setting (get_or voices place e).turn.owing.messages speaker).sent more)
     → IsSending lock ring setting (set standings place after) (set voices place voice) later next more start
 send-step {S} names lock ring setting standings voices place later draw outs start going apart long within after voice next more same_owing stands drawn sent =
@@ -128,19 +128,19 @@ send-step {S} names lock ring setting standings voices place later draw outs sta
     let stands_now : Stands now after done.session = stands d voice speaker says in
     let done_name : name_of done.session ≡ name = sends-name setting messages speaker ∙ of_name in
     let after_name : name_kept after ≡ name = names now after done.session stands_now ∙ done_name in
-    let any : (d' : Standing) → name_kept (get_or standings place d') ≡ name = λ d'. ap name_kept (get_or_default standings place d' d within) in
-    let named_at : (i : ℕ) (d' : Standing) → name_kept (get_or (set standings place after) i d') ≡ name_kept (get_or standings i d') = λ i d'.
+    let any : (d' : SessionState) → name_kept (get_or standings place d') ≡ name = λ d'. ap name_kept (get_or_default standings place d' d within) in
+    let named_at : (i : ℕ) (d' : SessionState) → name_kept (get_or (set standings place after) i d') ≡ name_kept (get_or standings i d') = λ i d'.
     names-set standings place after i d' within (after_name ∙ sym (any d')) in
     let rest = sends-rest setting messages speaker in
     let within_voices : place < length voices = omega (arith, long, within) in
-    let owing_at : (i : ℕ) (e : Voice) → (get_or (set voices place voice) i e).turn.owing.messages ≡ (get_or voices i e).turn.owing.messages = λ i e.
+    let owing_at : (i : ℕ) (e : TickTurn) → (get_or (set voices place voice) i e).turn.owing.messages ≡ (get_or voices i e).turn.owing.messages = λ i e.
     elim (cases_Bool (i == place)) [
       | inl same ↦
           let is : i ≡ place = eqb-true i place same in
-          ap (λ (voice : Voice). voice.turn.owing.messages) (ap (λ (n : ℕ). get_or (set voices place voice) n e) is ∙ get_or-set_same voices place voice e within_voices)
+          ap (λ (voice : TickTurn). voice.turn.owing.messages) (ap (λ (n : ℕ). get_or (set voices place voice) n e) is ∙ get_or-set_same voices place voice e within_voices)
           ∙ (same_owing e ∙ ap (λ (n : ℕ). (get_or voices n e).turn.owing.messages) (sym is))
       | inr off ↦
-          ap (λ (voice : Voice). voice.turn.owing.messages) (get_or-set_other voices place i voice e (λ same. false≢true (sym off ∙ eq-eqb i place same)))
+          ap (λ (voice : TickTurn). voice.turn.owing.messages) (get_or-set_other voices place i voice e (λ same. false≢true (sym off ∙ eq-eqb i place same)))
     ] in
     let f : ℕ → Name = name_at standings in
     let g : ℕ → Name = name_at (set standings place after) in
@@ -170,7 +170,7 @@ send-step {S} names lock ring setting standings voices place later draw outs sta
           λ k n0 lt.
           let n = get_or later k n0 in
           let differ : n ≢ place = λ same. apart_first k n0 lt (ap f (sym same)) in
-          subst (λ (voice : Voice). IsSome voice.packets) (sym (get_or-set_other voices place n voice e differ)) (some k n0 lt);
+          subst (λ (voice : TickTurn). IsSome voice.packets) (sym (get_or-set_other voices place n voice e differ)) (some k n0 lt);
       apart = λ i j n0 lt within same.
           pairs-tail (λ (one other : ℕ). f one ≢ f other) place later going.apart i j n0 lt within
           (sym (same_at (get_or later i n0)) ∙ (same ∙ same_at (get_or later j n0)));

@@ -3,8 +3,8 @@ use Rattle.std.proofs.Common.{◌≡◌, ◌<◌, ◌≤◌, List, [], ◌∷◌
 use Rattle.service_tl.specs.declared.lists.Message.{Message}
 use Rattle.auth_keys.specs.declared.ring.RingKey.{RingKey}
 use Rattle.envelope.specs.Packet.{Lock}
-use Rattle.owing.specs.declared.outs.Out.{Out}
-use Rattle.owing.specs.Outs.{AreSent}
+use Rattle.server_output.specs.declared.outs.Out.{Out}
+use Rattle.server_output.specs.Outs.{AreSent}
 use Rattle.server_rules.specs.Server.{name_of}
 use Rattle.server_rules.specs.Event.{Sent, Setting, Speaker}
 use Rattle.server_rules.specs.Sending.{messages_by, sends}

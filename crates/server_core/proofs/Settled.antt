@@ -12,10 +12,10 @@ use Rattle.waits.specs.Jobs.{Queue, is_of}
 use Rattle.server_rules.specs.Server.{Binding, Name, session_named}
 use Rattle.server_rules.specs.Event.{Setting, Speaker}
 use Rattle.server_rules.specs.Waiting.{outlook, tells_of}
-use Rattle.server_laws.specs.Order.{IsSpeaking, jobs_of}
-use Rattle.standing.specs.declared.standing.Standing.{Standing}
-use Rattle.rows.specs.declared.turn.Turn.{Turn}
-use Rattle.rows.specs.Speaks.{Speaks}
+use Rattle.law_server.specs.Order.{IsSpeaking, jobs_of}
+use Rattle.server_session.specs.declared.session.SessionState.{SessionState}
+use Rattle.server_dispatch.specs.declared.turn.Turn.{Turn}
+use Rattle.server_dispatch.specs.Speaks.{Speaks}
 use Rattle.server_core.specs.Among.{Among, IsAlone, destroys_another, row_among, speaks_among}
 use Rattle.server_core.specs.Failures.{HasFailures, blocked_of}
 use Rattle.server_core.specs.Settling.{IsSettling}
@@ -86,7 +86,7 @@ is-rowed {S} keeps owed setting name past number seq verdict body opened among i
       few = omega arith;
     }
 
-pub told-speaks : {S : Type 0} (now number : ℕ) (standing : Standing) (turn : Turn) (queue later : Queue) (bound : List Binding) (draw : S) (speaker : Speaker S)
+pub told-speaks : {S : Type 0} (now number : ℕ) (standing : SessionState) (turn : Turn) (queue later : Queue) (bound : List Binding) (draw : S) (speaker : Speaker S)
     → Speaks now standing turn queue bound draw speaker → later ≡ (tells_of number speaker).jobs → Speaks now standing turn later bound draw (tells_of number speaker)
 told-speaks now number standing turn queue later bound draw speaker speaks told =
     record {

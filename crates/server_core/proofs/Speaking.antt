@@ -7,24 +7,24 @@ use Rattle.auth_keys.specs.declared.ring.RingKey.{RingKey}
 use Rattle.msg_ids.specs.Counters.{room}
 use Rattle.server_rules.specs.Server.{Name, Session, is_named, is_same, name_of, session_named, with_session}
 use Rattle.server_rules.specs.Answer.{room_min}
-use Rattle.standing.specs.declared.standing.Standing.{Standing}
-use Rattle.standing.specs.Standing.{Stands, numbers_left}
-use Rattle.standing.specs.Names.{name_kept}
+use Rattle.server_session.specs.declared.session.SessionState.{SessionState}
+use Rattle.server_session.specs.SessionState.{Stands, numbers_left}
+use Rattle.server_session.specs.Names.{name_kept}
 use Rattle.server_core.specs.Sessions.{AreApart, AreKept, HaveOtherNames, is_kept_as}
 use Rattle.server_core.specs.Server.{CanSpeak}
 use Rattle.server_core.proofs.Lists.{pairs-cons, pairs-head, pairs-nil, pairs-tail}
 use Rattle.server_core.proofs.Names.{find-first, find-other, same-names}
 use Rattle.server_core.proofs.Spent.{AreOthers, HasRoom, no-other}
-use Rattle.server_core.proofs.Standing.{HasItsName}
+use Rattle.server_core.proofs.SessionState.{HasItsName}
 
 -- what the crate below says of the room of sessions, and of later moments
 abbrev pub HasItsRoom : Type 0
-HasItsRoom = (moment : ℕ) (standing : Standing) (session : Session) → Stands moment standing session → numbers_left standing ≡ room session.counters
+HasItsRoom = (moment : ℕ) (standing : SessionState) (session : Session) → Stands moment standing session → numbers_left standing ≡ room session.counters
 
 abbrev pub StandsLater : Type 0
-StandsLater = (moment later : ℕ) (standing : Standing) (session : Session) → moment ≤ later → Stands moment standing session → Stands later standing session
+StandsLater = (moment later : ℕ) (standing : SessionState) (session : Session) → moment ≤ later → Stands moment standing session → Stands later standing session
 
-pub kept-later : StandsLater → (moment later : ℕ) (standings : List Standing) (sessions : List Session) → moment ≤ later → AreKept moment standings sessions
+pub kept-later : StandsLater → (moment later : ℕ) (standings : List SessionState) (sessions : List Session) → moment ≤ later → AreKept moment standings sessions
     → AreKept later standings sessions
 kept-later stay moment later [] [] lt are = are
 kept-later stay moment later [] (session ∷ sessions) lt are = are
@@ -33,12 +33,12 @@ kept-later stay moment later (standing ∷ standings) (session ∷ sessions) lt 
     (stay moment later standing session lt are.0, kept-later stay moment later standings sessions lt are.1)
 
 -- a session that is found is kept at its place
-pub record IsAtPlace (moment : ℕ) (name : Name) (standing : Standing) (sessions : List Session) : Type 0 where
+pub record IsAtPlace (moment : ℕ) (name : Name) (standing : SessionState) (sessions : List Session) : Type 0 where
   pub session : Session
   pub found : session_named name sessions ≡ Some session
   pub stands : Stands moment standing session
 
-pub found-at : HasItsName → (moment : ℕ) (name : Name) (standings : List Standing) (sessions : List Session) (d : Standing) → AreKept moment standings sessions
+pub found-at : HasItsName → (moment : ℕ) (name : Name) (standings : List SessionState) (sessions : List Session) (d : SessionState) → AreKept moment standings sessions
     → position_or_len (is_kept_as name) standings < length standings
     → IsAtPlace moment name (get_or standings (position_or_len (is_kept_as name) standings) d) sessions
 found-at names moment name [] sessions d are within = absurd (omega arith)
@@ -56,7 +56,7 @@ found-at names moment name (standing ∷ standings) (session ∷ sessions) d are
           rw later (record { session = rest.session; found = find-other (is_named name) session sessions (sym same ∙ not_so) ∙ rest.found; stands = rest.stands })
     ]
 
-pub none-at : HasItsName → (moment : ℕ) (name : Name) (standings : List Standing) (sessions : List Session) → AreKept moment standings sessions
+pub none-at : HasItsName → (moment : ℕ) (name : Name) (standings : List SessionState) (sessions : List Session) → AreKept moment standings sessions
     → length standings ≤ position_or_len (is_kept_as name) standings → session_named name sessions ≡ None
 none-at names moment name [] [] are outside = refl
 none-at names moment name [] (session ∷ sessions) are outside = absurd are
@@ -73,19 +73,19 @@ none-at names moment name (standing ∷ standings) (session ∷ sessions) are ou
 
 -- sessions have other names where what is kept of them has
 
-others-named : HasItsName → (moment : ℕ) (name : Name) (standings : List Standing) (sessions : List Session) → AreKept moment standings sessions
+others-named : HasItsName → (moment : ℕ) (name : Name) (standings : List SessionState) (sessions : List Session) → AreKept moment standings sessions
     → All (λ other. name ≢ name_kept other) standings → All (λ other. name ≢ name_of other) sessions
 others-named names moment name [] [] are apart = All-nil (λ (other : Session). name ≢ name_of other)
 others-named names moment name [] (session ∷ sessions) are apart = absurd are
 others-named names moment name (standing ∷ standings) [] are apart = absurd are
 others-named names moment name (standing ∷ standings) (session ∷ sessions) are apart =
-    let P : Standing → Type 0 = λ other. name ≢ name_kept other in
+    let P : SessionState → Type 0 = λ other. name ≢ name_kept other in
     let N : Name → Type 0 = λ other. name ≢ other in
     All-cons (λ (other : Session). name ≢ name_of other) session sessions
     (subst N (names moment standing session are.0) (All-head P standing standings apart))
     (others-named names moment name standings sessions are.1 (All-tail P standing standings apart))
 
-pub sessions-apart : HasItsName → (moment : ℕ) (standings : List Standing) (sessions : List Session) → AreKept moment standings sessions
+pub sessions-apart : HasItsName → (moment : ℕ) (standings : List SessionState) (sessions : List Session) → AreKept moment standings sessions
     → AreApart standings → AllPairs AreOthers sessions
 sessions-apart names moment [] [] are apart = pairs-nil AreOthers
 sessions-apart names moment [] (session ∷ sessions) are apart = absurd are
@@ -99,7 +99,7 @@ sessions-apart names moment (standing ∷ standings) (session ∷ sessions) are 
 
 -- sessions that can speak have room
 
-pub sessions-have_room : HasItsRoom → (keys : List RingKey) (moment at : ℕ) (standings : List Standing) (sessions : List Session) → AreKept at standings sessions
+pub sessions-have_room : HasItsRoom → (keys : List RingKey) (moment at : ℕ) (standings : List SessionState) (sessions : List Session) → AreKept at standings sessions
     → All (CanSpeak keys moment) standings → All HasRoom sessions
 sessions-have_room rooms keys moment at [] [] are all = All-nil HasRoom
 sessions-have_room rooms keys moment at [] (session ∷ sessions) are all = absurd are
@@ -112,7 +112,7 @@ sessions-have_room rooms keys moment at (standing ∷ standings) (session ∷ se
 
 -- one takes its own place
 
-pub kept-set : HasItsName → (moment : ℕ) (name : Name) (standings : List Standing) (sessions : List Session) (standing : Standing) (session : Session)
+pub kept-set : HasItsName → (moment : ℕ) (name : Name) (standings : List SessionState) (sessions : List Session) (standing : SessionState) (session : Session)
     → AreKept moment standings sessions → AreApart standings → position_or_len (is_kept_as name) standings < length standings
     → Stands moment standing session → name_of session ≡ name
     → AreKept moment (set standings (position_or_len (is_kept_as name) standings) standing) (with_session session sessions)
@@ -125,7 +125,7 @@ kept-set names moment name (first ∷ standings) (before ∷ sessions) standing 
     elim (cases_Bool (test first)) [
       | inl holds ↦
           let at : position_or_len test (first ∷ standings) ≡ 0 = rw holds refl in
-          let N : Name → Type 0 = λ other. All (λ (other_one : Standing). other ≢ name_kept other_one) standings in
+          let N : Name → Type 0 = λ other. All (λ (other_one : SessionState). other ≢ name_kept other_one) standings in
           let others : All (λ (other : Session). own ≢ name_of other) sessions =
           others-named names moment own standings sessions are.1
           (subst N (sym (same-names name (name_kept first) holds) ∙ sym is) (pairs-head HaveOtherNames first standings apart)) in

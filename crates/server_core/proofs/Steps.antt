@@ -9,11 +9,11 @@ use Rattle.server_rules.specs.Server.{Binding, Name, name_of}
 use Rattle.server_rules.specs.Event.{Setting, Speaker}
 use Rattle.server_rules.specs.Speaking.{msg_wait_failed}
 use Rattle.server_rules.specs.Waiting.{gives_up}
-use Rattle.server_laws.specs.Order.{IsSpeaking, IsUnanswered}
-use Rattle.standing.specs.declared.standing.Standing.{Standing}
-use Rattle.rows.specs.declared.turn.Turn.{Turn}
+use Rattle.law_server.specs.Order.{IsSpeaking, IsUnanswered}
+use Rattle.server_session.specs.declared.session.SessionState.{SessionState}
+use Rattle.server_dispatch.specs.declared.turn.Turn.{Turn}
 use Rattle.waits.specs.Held.{Held}
-use Rattle.rows.specs.Speaks.{Speaks, Spends}
+use Rattle.server_dispatch.specs.Speaks.{Speaks, Spends}
 use Rattle.server_core.specs.One.{AreOwnFailures, fails_all, fails_first, given_up_by}
 use Rattle.server_core.specs.Failures.{HasFailures, SoFar, blocked_of}
 use Rattle.server_core.proofs.Names.{named}
@@ -51,7 +51,7 @@ taken takes name others past job speaker has found =
 
 -- the first that has failed was given up
 pub after-some : {S : Type 0} → TakesOut S → GivesUp S → (now : ℕ) (setting : Setting S) (bindings : List Binding) (draw : S) (name : Name) (others : Name → Queue) (past : History)
-    (start : Speaker S) (steps : ℕ) (standing after : Standing) (turn next : Turn) (jobs later : Queue) (job : Job) (before : SoFar now setting bindings draw name others past start steps standing turn jobs)
+    (start : Speaker S) (steps : ℕ) (standing after : SessionState) (turn next : Turn) (jobs later : Queue) (job : Job) (before : SoFar now setting bindings draw name others past start steps standing turn jobs)
     → first_job has_failed before.speaker.jobs ≡ Some job
     → Speaks now after next later bindings draw (gives_up setting msg_wait_failed job (record before.speaker { jobs = without_first has_failed before.speaker.jobs }))
     → SoFar now setting bindings draw name others past start (steps + 1) after next later
@@ -84,7 +84,7 @@ after-some {S} takes gives now setting bindings draw name others past start step
 
 -- ---- what the steps use up
 
-pub spends-more : (now place : ℕ) (standing after last : Standing) (turn next end : Turn) → Spends now place (place * 48) place standing turn after next
+pub spends-more : (now place : ℕ) (standing after last : SessionState) (turn next end : Turn) → Spends now place (place * 48) place standing turn after next
     → Spends now 1 48 1 after next last end → Spends now (place + 1) ((place + 1) * 48) (place + 1) standing turn last end
 spends-more now place standing after last turn next end one two =
     record {
@@ -99,7 +99,7 @@ spends-more now place standing after last turn next end one two =
       at = λ is. two.at (one.at is);
     }
 
-pub spends-few : (now place limit : ℕ) (standing after : Standing) (turn next : Turn) → place ≤ limit → Spends now place (place * 48) place standing turn after next
+pub spends-few : (now place limit : ℕ) (standing after : SessionState) (turn next : Turn) → place ≤ limit → Spends now place (place * 48) place standing turn after next
     → Spends now limit (limit * 48) limit standing turn after next
 spends-few now place limit standing after turn next few one =
     record {
@@ -115,9 +115,9 @@ spends-few now place limit standing after turn next few one =
     }
 
 -- what stands for a speaker under other names of the same values
-pub speaks-as : {S : Type 0} (now : ℕ) (standing other : Standing) (turn next : Turn) (jobs later : Held) (bindings : List Binding) (draw : S) (speaker : Speaker S)
+pub speaks-as : {S : Type 0} (now : ℕ) (standing other : SessionState) (turn next : Turn) (jobs later : Held) (bindings : List Binding) (draw : S) (speaker : Speaker S)
     → other ≡ standing → next ≡ turn → later ≡ jobs → Speaks now standing turn jobs.jobs bindings draw speaker → Speaks now other next later.jobs bindings draw speaker
 speaks-as now standing other turn next jobs later bindings draw speaker same_standing same_turn same_jobs speaks =
-    subst (λ (one : Standing). Speaks now one next later.jobs bindings draw speaker) (sym same_standing)
+    subst (λ (one : SessionState). Speaks now one next later.jobs bindings draw speaker) (sym same_standing)
     (subst (λ (one : Turn). Speaks now standing one later.jobs bindings draw speaker) (sym same_turn)
     (subst (λ (held : Held). Speaks now standing turn held.jobs bindings draw speaker) (sym same_jobs) speaks))

@@ -23,12 +23,12 @@ use Rattle.server_rules.specs.Speaking.{msg_wait_failed, says_it_is_new}
 use Rattle.server_rules.specs.Waiting.{tells_of}
 use Rattle.server_rules.specs.Rows.{acks_of, acknowledges}
 use Rattle.server_rules.specs.Answer.{message_in, name_in, opens}
-use Rattle.server_laws.specs.Order.{IsMidway, IsOrderly, IsTold, jobs_of, opens_of}
-use Rattle.rows.specs.declared.due.Due.{Due}
-use Rattle.rows.specs.declared.turn.Turn.{Turn}
-use Rattle.rows.specs.Speaks.{Speaks}
-use Rattle.standing.specs.declared.standing.Standing.{Standing}
-use Rattle.standing.specs.Names.{name_kept}
+use Rattle.law_server.specs.Order.{IsMidway, IsOrderly, IsTold, jobs_of, opens_of}
+use Rattle.server_dispatch.specs.declared.action.Action.{Action}
+use Rattle.server_dispatch.specs.declared.turn.Turn.{Turn}
+use Rattle.server_dispatch.specs.Speaks.{Speaks}
+use Rattle.server_session.specs.declared.session.SessionState.{SessionState}
+use Rattle.server_session.specs.Names.{name_kept}
 use Rattle.server_core.specs.Among.{Among, IsAlone, IsOrderlySpeaker, destroys_another, left_where, remembers_among, row_among, settles_among, speaks_among, takes_among}
 use Rattle.server_core.specs.Failures.{blocked_of}
 use Rattle.server_core.specs.One.{fails_all, fails_first, given_up_by}
@@ -42,7 +42,7 @@ use Rattle.server_core.proofs.Ordered.{KeepsOrder, opened-order}
 use Rattle.server_core.proofs.Own.{GivesUpFor}
 
 -- each judgement has something that its message needs
-pub due-few : (judged : List Judgement) (bodies : List (List ℕ)) (dues : List Due) → AreDue judged bodies dues → length judged ≤ length dues
+pub due-few : (judged : List Judgement) (bodies : List (List ℕ)) (dues : List Action) → AreDue judged bodies dues → length judged ≤ length dues
 due-few [] bodies dues are = omega arith
 due-few (judgement ∷ judged) [] dues are = absurd are
 due-few (judgement ∷ judged) (body ∷ bodies) [] are = absurd are
@@ -98,7 +98,7 @@ opened-settling {S} keeps open_so tells setting envelope limit judged among alon
     }
 
 -- as it begins to owe
-pub begins-taking : {S : Type 0} (setting : Setting S) (envelope : Envelope) (kept : List Standing) (standing : Standing) (turn : Turn) (queue : Queue) (bound : List Binding) (draw : S)
+pub begins-taking : {S : Type 0} (setting : Setting S) (envelope : Envelope) (kept : List SessionState) (standing : SessionState) (turn : Turn) (queue : Queue) (bound : List Binding) (draw : S)
     (judged : List Judgement) (among : Among S) → HasJudged setting envelope kept standing queue bound draw judged among → turn.owing.messages ≡ [] → turn.entries.entries ≡ []
     → Speaks setting.now standing turn queue bound draw (remembers_among (history_of setting envelope among.speaker.session) among).speaker
 begins-taking setting envelope kept standing turn queue bound draw judged among has none nothing =
@@ -187,14 +187,14 @@ left-entered true among = refl
 left-entered false among = refl
 
 -- of the sessions beside one that spoke, those that are left have other names still
-pub left-apart : (keys : List RingKey) (moment : ℕ) (name : Name) (others left : List Standing) (standing : Standing) → AreBeside keys moment name others → AreLeft others left
+pub left-apart : (keys : List RingKey) (moment : ℕ) (name : Name) (others left : List SessionState) (standing : SessionState) → AreBeside keys moment name others → AreLeft others left
     → name_kept standing ≡ name → All (λ other. name_kept other ≢ name_kept standing) left
 left-apart keys moment name others left standing beside are is =
-    let P : Name → Type 0 = λ name. All (λ (other : Standing). name_kept other ≢ name) left in
-    subst P (sym is) (left-each (λ (other : Standing). name_kept other ≢ name) others left are beside.apart)
+    let P : Name → Type 0 = λ name. All (λ (other : SessionState). name_kept other ≢ name) left in
+    subst P (sym is) (left-each (λ (other : SessionState). name_kept other ≢ name) others left are beside.apart)
 
 -- and with it they are a server's
-pub sound-last : (keys : List RingKey) (moment : ℕ) (name : Name) (others left : List Standing) (standing : Standing) (so : Bool) → AreBeside keys moment name others
+pub sound-last : (keys : List RingKey) (moment : ℕ) (name : Name) (others left : List SessionState) (standing : SessionState) (so : Bool) → AreBeside keys moment name others
     → AreLeft others left → (so ≡ false → CanSpeak keys moment standing) → IsSound keys moment (with_last_where so standing left)
 sound-last keys moment name others left standing true beside are can =
     let fewer = left-few others left are in

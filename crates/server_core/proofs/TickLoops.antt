@@ -4,9 +4,9 @@ use Rattle.waits.specs.Jobs.{Queue, first_job}
 use Rattle.server_rules.specs.Server.{Binding}
 use Rattle.server_rules.specs.Event.{Entry, Setting, State}
 use Rattle.server_rules.specs.Waiting.{all_given_up, first_given_up}
-use Rattle.standing.specs.declared.standing.Standing.{Standing}
-use Rattle.server_core.specs.declared.voices.Cause.{Cause}
-use Rattle.server_core.specs.declared.voices.Voice.{Voice}
+use Rattle.server_session.specs.declared.session.SessionState.{SessionState}
+use Rattle.server_core.specs.declared.tick_turns.Cause.{Cause}
+use Rattle.server_core.specs.declared.tick_turns.TickTurn.{TickTurn}
 use Rattle.server_core.specs.Answering.{GoesOn, IsInTick, content_for, first_for, test_of}
 use Rattle.server_core.proofs.Quiet.{first-same, none-given}
 
@@ -17,7 +17,7 @@ all_for setting cause n state = all_given_up setting (content_for cause) (first_
 abbrev pub one_for : {S : Type 0} → Setting S → Cause → State S → State S
 one_for setting cause state = first_given_up setting (content_for cause) (first_for setting.now cause) state
 
-step-more : {S : Type 0} (setting : Setting S) (cause : Cause) (steps all left : ℕ) (standings : List Standing) (voices : List Voice) (order : List ℕ) (made : List Entry) (queue : Queue)
+step-more : {S : Type 0} (setting : Setting S) (cause : Cause) (steps all left : ℕ) (standings : List SessionState) (voices : List TickTurn) (order : List ℕ) (made : List Entry) (queue : Queue)
     (bound : List Binding) (draw : S) (start state : State S) → left + steps ≡ all → steps < all
     → IsInTick setting.now standings voices order made queue bound draw (one_for setting cause state) → all_for setting cause left state ≡ all_for setting cause all start
     → GoesOn setting cause (steps + 1) all standings voices order made queue bound draw start
@@ -26,7 +26,7 @@ step-more setting cause steps all (suc left) standings voices order made queue b
     record { state = one_for setting cause state; left = left; rest = omega arith; is = is; same = same }
 
 -- what is so of a state before a step
-pub goes-on : {S : Type 0} (setting : Setting S) (cause : Cause) (steps all : ℕ) (standings after : List Standing) (voices next : List Voice) (order later : List ℕ) (made more : List Entry)
+pub goes-on : {S : Type 0} (setting : Setting S) (cause : Cause) (steps all : ℕ) (standings after : List SessionState) (voices next : List TickTurn) (order later : List ℕ) (made more : List Entry)
     (queue left : Queue) (bound : List Binding) (draw : S) (start : State S) (so_far : GoesOn setting cause steps all standings voices order made queue bound draw start) → steps < all
     → IsInTick setting.now after next later more left bound draw (one_for setting cause so_far.state) → GoesOn setting cause (steps + 1) all after next later more left bound draw start
 goes-on setting cause steps all standings after voices next order later made more queue left bound draw start so_far some is =
@@ -37,7 +37,7 @@ over : {S : Type 0} (setting : Setting S) (cause : Cause) (steps all left : ℕ)
 over setting cause steps all zero start state rest none same = same
 over setting cause steps all (suc left) start state rest none same = absurd (omega arith)
 
-pub goes-over : {S : Type 0} (setting : Setting S) (cause : Cause) (steps all : ℕ) (standings : List Standing) (voices : List Voice) (order : List ℕ) (made : List Entry) (queue : Queue)
+pub goes-over : {S : Type 0} (setting : Setting S) (cause : Cause) (steps all : ℕ) (standings : List SessionState) (voices : List TickTurn) (order : List ℕ) (made : List Entry) (queue : Queue)
     (bound : List Binding) (draw : S) (start : State S) → GoesOn setting cause steps all standings voices order made queue bound draw start → all ≤ steps
     → IsInTick setting.now standings voices order made queue bound draw (all_for setting cause all start)
 goes-over {S} setting cause steps all standings voices order made queue bound draw start so_far none =
@@ -45,7 +45,7 @@ goes-over {S} setting cause steps all standings voices order made queue bound dr
     (over setting cause steps all so_far.left start so_far.state so_far.rest none so_far.same) so_far.is
 
 -- where none is left to be answered, all were
-pub goes-none : {S : Type 0} (setting : Setting S) (cause : Cause) (steps all : ℕ) (standings after : List Standing) (voices next : List Voice) (order later : List ℕ) (made more : List Entry)
+pub goes-none : {S : Type 0} (setting : Setting S) (cause : Cause) (steps all : ℕ) (standings after : List SessionState) (voices next : List TickTurn) (order later : List ℕ) (made more : List Entry)
     (queue left : Queue) (bound : List Binding) (draw : S) (start : State S) (so_far : GoesOn setting cause steps all standings voices order made queue bound draw start)
     → first_job (test_of setting.now cause) queue ≡ None
     → IsInTick setting.now after next later more left bound draw (one_for setting cause so_far.state)

@@ -7,21 +7,21 @@ use Rattle.std.proofs.lemmas.List.Elements.{All-cons, All-filter, All-nil, All-w
 use Rattle.std.proofs.lemmas.List.Sums.{sum_by-cons}
 use Rattle.auth_keys.specs.declared.ring.RingKey.{RingKey}
 use Rattle.envelope.specs.Packet.{Lock}
-use Rattle.owing.specs.Batch.{packets_most}
-use Rattle.owing.specs.Dues.{Dues}
-use Rattle.owing.specs.declared.outs.Out.{Out}
-use Rattle.owing.specs.Outs.{AreSent}
+use Rattle.server_output.specs.Batch.{packets_most}
+use Rattle.server_output.specs.Dues.{Dues}
+use Rattle.server_output.specs.declared.outs.Out.{Out}
+use Rattle.server_output.specs.Outs.{AreSent}
 use Rattle.waits.specs.Jobs.{Queue, one_if}
 use Rattle.server_rules.specs.Server.{Binding, Name, Server as Rules, Session, is_same, name_of}
 use Rattle.server_rules.specs.Event.{Entry, Owed, Sent, Setting, State, lost}
 use Rattle.server_rules.specs.Sending.{names_in}
 use Rattle.server_rules.specs.Answer.{begun, is_spent, room_min, without_spent}
-use Rattle.server_laws.specs.Order.{AreOrdered}
-use Rattle.standing.specs.declared.standing.Standing.{Standing}
-use Rattle.standing.specs.Standing.{Stands, numbers_left, replies_left}
-use Rattle.standing.specs.Names.{name_kept}
-use Rattle.standing.specs.Rooms.{with_replies_left}
-use Rattle.server_core.specs.declared.voices.Voice.{Voice}
+use Rattle.law_server.specs.Order.{AreOrdered}
+use Rattle.server_session.specs.declared.session.SessionState.{SessionState}
+use Rattle.server_session.specs.SessionState.{Stands, numbers_left, replies_left}
+use Rattle.server_session.specs.Names.{name_kept}
+use Rattle.server_session.specs.Rooms.{with_replies_left}
+use Rattle.server_core.specs.declared.tick_turns.TickTurn.{TickTurn}
 use Rattle.server_core.specs.Answering.{AreVoices, IsInTick, IsVoice, answers_left, name_at, no_name, silent}
 use Rattle.server_core.specs.Losing.{IsHere}
 use Rattle.server_core.specs.Outgoing.{CanSend, IsSending, sent_by}
@@ -37,39 +37,39 @@ use Rattle.server_core.proofs.SendSteps.{names-apart, places-apart}
 -- ---- room that was reserved
 
 -- what holds of a session with any room for answers, and of it as it was before
-reserved-one : (P : Standing → Type 0) → ((room : ℕ) (standing : Standing) → P standing → P (with_replies_left room standing)) → (most : ℕ) (before after : Standing)
+reserved-one : (P : SessionState → Type 0) → ((room : ℕ) (standing : SessionState) → P standing → P (with_replies_left room standing)) → (most : ℕ) (before after : SessionState)
     → IsReserved most before after → P before → P after
 reserved-one P stays most before after is holds = subst P (sym is.same) (stays is.room before holds)
 
-some-voice : (voices : List Voice) (n : ℕ) → n < length voices → Voice
+some-voice : (voices : List TickTurn) (n : ℕ) → n < length voices → TickTurn
 some-voice [] n within = absurd (omega arith)
 some-voice (voice ∷ voices) n within = voice
 
-pub reserved-all : (P : Standing → Type 0) → ((room : ℕ) (standing : Standing) → P standing → P (with_replies_left room standing)) → (before : List Standing) (voices : List Voice)
-    (after : List Standing) → length voices ≡ length before → AreReserved 0 before voices after → All P before → All P after
+pub reserved-all : (P : SessionState → Type 0) → ((room : ℕ) (standing : SessionState) → P standing → P (with_replies_left room standing)) → (before : List SessionState) (voices : List TickTurn)
+    (after : List SessionState) → length voices ≡ length before → AreReserved 0 before voices after → All P before → All P after
 reserved-all P stays before voices after same are all = λ i d lt.
     let long = are.long in
     let e = some-voice voices i (omega arith) in
     reserved-one P stays (get_or voices i e).left (get_or before i d) (get_or after i d) (are.each i d e (omega arith) (omega arith)) (all i d (omega arith))
 
 -- those that can send are there
-pub can-here : (ring : List RingKey) (now : ℕ) (standings : List Standing) (voices : List Voice) → CanSend ring now standings voices → All (IsHere ring now) standings
+pub can-here : (ring : List RingKey) (now : ℕ) (standings : List SessionState) (voices : List TickTurn) → CanSend ring now standings voices → All (IsHere ring now) standings
 can-here ring now standings voices can = λ i d lt.
     let long = can.long in
     let its = can.each i d (some-voice voices i (omega arith)) lt in
     record { key = its.key; at = its.at }
 
-pub speaking-here : StaysAt → (ring : List RingKey) (moment now : ℕ) (standings : List Standing) → moment ≤ now → All (CanSpeak ring moment) standings → All (IsHere ring now) standings
+pub speaking-here : StaysAt → (ring : List RingKey) (moment now : ℕ) (standings : List SessionState) → moment ≤ now → All (CanSpeak ring moment) standings → All (IsHere ring now) standings
 speaking-here stay ring moment now standings lt all =
     All-weaker (CanSpeak ring moment) (IsHere ring now) (λ standing can. record { key = can.key; at = stay moment now standing lt can.at }) standings all
 
-pub here-speaking : (ring : List RingKey) (now : ℕ) (standings : List Standing) → All (IsHere ring now) standings → All (λ standing. room_min ≤ numbers_left standing) standings
+pub here-speaking : (ring : List RingKey) (now : ℕ) (standings : List SessionState) → All (IsHere ring now) standings → All (λ standing. room_min ≤ numbers_left standing) standings
     → All (CanSpeak ring now) standings
 here-speaking ring now standings here left = λ i d lt.
     let its : IsHere ring now (get_or standings i d) = here i d lt in
     record { key = its.key; numbers = left i d lt; at = its.at }
 
-reserved-tail : (standing first : Standing) (before after : List Standing) (voice : Voice) (voices : List Voice) → AreReserved 0 (standing ∷ before) (voice ∷ voices) (first ∷ after)
+reserved-tail : (standing first : SessionState) (before after : List SessionState) (voice : TickTurn) (voices : List TickTurn) → AreReserved 0 (standing ∷ before) (voice ∷ voices) (first ∷ after)
     → AreReserved 0 before voices after
 reserved-tail standing first before after voice voices are =
     let long = are.long in
@@ -79,7 +79,7 @@ reserved-tail standing first before after voice voices are =
       each = λ i d e from lt. are.each (suc i) d e (omega arith) (omega arith);
     }
 
-pub reserved-kept : (now : ℕ) (before : List Standing) (voices : List Voice) (after : List Standing) (sessions : List Session) → length voices ≡ length before
+pub reserved-kept : (now : ℕ) (before : List SessionState) (voices : List TickTurn) (after : List SessionState) (sessions : List Session) → length voices ≡ length before
     → AreReserved 0 before voices after → AreKept now before sessions → AreKept now after sessions
 reserved-kept now [] voices [] sessions same are kept = kept
 reserved-kept now [] voices (first ∷ after) sessions same are kept = absurd (let long = are.long in omega arith)
@@ -88,19 +88,19 @@ reserved-kept now (standing ∷ before) [] (first ∷ after) sessions same are k
 reserved-kept now (standing ∷ before) (voice ∷ voices) (first ∷ after) [] same are kept = kept
 reserved-kept now (standing ∷ before) (voice ∷ voices) (first ∷ after) (session ∷ sessions) same are kept =
     let one = are.each 0 standing voice (omega arith) (omega arith) in (
-      subst (λ (standing : Standing). Stands now standing session) (sym one.same) (stands-with one.room now standing session kept.0),
+      subst (λ (standing : SessionState). Stands now standing session) (sym one.same) (stands-with one.room now standing session kept.0),
       reserved-kept now before voices after sessions (omega arith) (reserved-tail standing first before after voice voices are) kept.1,
     )
 
-reserved-name : (most : ℕ) (before after : Standing) → IsReserved most before after → name_kept after ≡ name_kept before
+reserved-name : (most : ℕ) (before after : SessionState) → IsReserved most before after → name_kept after ≡ name_kept before
 reserved-name most before after is = ap name_kept is.same
 
-pub here-with : (ring : List RingKey) (now room : ℕ) (standing : Standing) → IsHere ring now standing → IsHere ring now (with_replies_left room standing)
+pub here-with : (ring : List RingKey) (now room : ℕ) (standing : SessionState) → IsHere ring now standing → IsHere ring now (with_replies_left room standing)
 here-with ring now room standing is = record { key = is.key; at = is.at }
 
 -- ---- the tick begins
 
-fresh-voice : (standing after : Standing) (voice : Voice) → IsFresh voice.left voice → voice.left ≤ 4096 → IsReserved voice.left standing after → room_min ≤ numbers_left standing
+fresh-voice : (standing after : SessionState) (voice : TickTurn) → IsFresh voice.left voice → voice.left ≤ 4096 → IsReserved voice.left standing after → room_min ≤ numbers_left standing
     → IsVoice after voice
 fresh-voice standing after voice fresh few is numbers =
     let places : voice.turn.owing.places ≡ voice.left = ap (λ (dues : Dues). dues.places) fresh.owing in
@@ -126,7 +126,7 @@ fresh-voice standing after voice fresh few is numbers =
     }
 
 -- so many voices, and none has spoken
-all-silent : (voices : List Voice) → ((i : ℕ) (e : Voice) → i < length voices → (get_or voices i e).spoke ≡ false) → sum_by silent voices ≡ length voices
+all-silent : (voices : List TickTurn) → ((i : ℕ) (e : TickTurn) → i < length voices → (get_or voices i e).spoke ≡ false) → sum_by silent voices ≡ length voices
 all-silent [] quiet = refl
 all-silent (voice ∷ voices) quiet =
     let first : silent voice ≡ 1 = ap (λ (b : Bool). one_if (not b)) (quiet 0 voice (omega arith)) in
@@ -134,7 +134,7 @@ all-silent (voice ∷ voices) quiet =
     let sum = sum_by-cons silent voice voices in
     omega arith
 
-pub tick-room : (now : ℕ) (jobs : Queue) (ring : List RingKey) (moment : ℕ) (standings after : List Standing) (voices : List Voice) (room : ℕ) → AreFresh now jobs standings voices
+pub tick-room : (now : ℕ) (jobs : Queue) (ring : List RingKey) (moment : ℕ) (standings after : List SessionState) (voices : List TickTurn) (room : ℕ) → AreFresh now jobs standings voices
     → AreReserved 0 standings voices after → All (CanSpeak ring moment) standings → sum_by (λ voice. voice.left) voices ≡ room → AreVoices after voices [] room
 tick-room now jobs ring moment standings after voices room fresh are can sums =
     let long = fresh.long in
@@ -151,7 +151,7 @@ tick-room now jobs ring moment standings after voices room fresh are can sums =
       silent = omega arith;
     }
 
-pub tick-starts : {S : Type 0} (now : ℕ) (standings after : List Standing) (voices : List Voice) (bound : List Binding) (draw : S) (server : Rules) (entries : List Entry)
+pub tick-starts : {S : Type 0} (now : ℕ) (standings after : List SessionState) (voices : List TickTurn) (bound : List Binding) (draw : S) (server : Rules) (entries : List Entry)
     → AreFresh now server.jobs standings voices → AreReserved 0 standings voices after → AreKept now standings server.sessions → AreOrdered server.sessions server.jobs
     → bound ≡ server.bindings → entries ≡ []
     → IsInTick now after voices [] entries server.jobs bound draw (begun server draw)
@@ -200,7 +200,7 @@ places-spoke f places owed are = λ i d lt.
     let all = subst (λ (names : List Name). All (λ (name : Name). has_spoken name owed ≡ true) names) (sym are) (names-spoke owed) in
     subst (λ (name : Name). has_spoken name owed ≡ true) (get_or-map f places i d (f d) lt) (all i (f d) (omega (arith, lt, long)))
 
-pub sending-starts : {S : Type 0} (lock : Lock) (ring : List RingKey) (setting : Setting S) (standings : List Standing) (voices : List Voice) (order : List ℕ) (entries : List Entry) (room : ℕ)
+pub sending-starts : {S : Type 0} (lock : Lock) (ring : List RingKey) (setting : Setting S) (standings : List SessionState) (voices : List TickTurn) (order : List ℕ) (entries : List Entry) (room : ℕ)
     (queue : Queue) (bound : List Binding) (draw : S) (outs : List Out) (state : State S) → IsInTick setting.now standings voices order entries queue bound draw state
     → AreVoices standings voices order room → outs ≡ [] → IsSending lock ring setting standings voices order draw outs state
 sending-starts {S} lock ring setting standings voices order entries room queue bound draw outs state tick are none =

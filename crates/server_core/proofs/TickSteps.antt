@@ -11,17 +11,17 @@ use Rattle.packing.specs.Numbering.{numbered}
 use Rattle.waits.specs.declared.job.Job.{Job}
 use Rattle.waits.specs.declared.job.Unfinished.{Unfinished}
 use Rattle.waits.specs.Jobs.{Queue, first_job, without_first}
-use Rattle.rows.specs.Entries.{Held}
-use Rattle.rows.specs.Speaks.{Speaks}
+use Rattle.server_dispatch.specs.Entries.{Held}
+use Rattle.server_dispatch.specs.Speaks.{Speaks}
 use Rattle.server_rules.specs.Server.{Binding, Name, Session, is_named, is_same, name_of, session_named, with_session}
 use Rattle.server_rules.specs.Event.{Owed, Setting, Speaker, State, speaker_in, spoken, spoken_by}
 use Rattle.server_rules.specs.Sending.{messages_by, names_in}
 use Rattle.server_rules.specs.Waiting.{given_up, gives_up}
-use Rattle.server_laws.specs.Order.{HasNoJob, IsOrderlyAt, IsSpeaking, IsUnanswered, WasAccepted, jobs_of}
-use Rattle.standing.specs.declared.standing.Standing.{Standing}
-use Rattle.standing.specs.Standing.{Stands}
-use Rattle.standing.specs.Names.{name_kept}
-use Rattle.server_core.specs.declared.voices.Voice.{Voice}
+use Rattle.law_server.specs.Order.{HasNoJob, IsOrderlyAt, IsSpeaking, IsUnanswered, WasAccepted, jobs_of}
+use Rattle.server_session.specs.declared.session.SessionState.{SessionState}
+use Rattle.server_session.specs.SessionState.{Stands}
+use Rattle.server_session.specs.Names.{name_kept}
+use Rattle.server_core.specs.declared.tick_turns.TickTurn.{TickTurn}
 use Rattle.server_core.specs.Answering.{IsDueTest, IsInTick, answers_left, name_at, no_name, turn_with}
 use Rattle.server_core.specs.Sessions.{AreApart, AreKept, is_kept_as}
 use Rattle.server_core.specs.Ticking.{has_spoken, with_name}
@@ -32,7 +32,7 @@ use Rattle.server_core.proofs.Names.{apart-names, find-first, find-other, found-
 use Rattle.server_core.proofs.Places.{names-set, one-of}
 use Rattle.server_core.proofs.Shares.{filter-push_off, owner, taken-own}
 use Rattle.server_core.proofs.Speaking.{found-at, kept-set}
-use Rattle.server_core.proofs.Standing.{HasItsName}
+use Rattle.server_core.proofs.SessionState.{HasItsName}
 use Rattle.server_core.proofs.Steps.{GivesUp, TakesOut}
 
 -- ---- lists
@@ -178,7 +178,7 @@ above n i le differ =
     ]
 
 -- the session at another place has another name
-pub other-place : (standings : List Standing) (i n : ℕ) (d : Standing) → AreApart standings → i < length standings → n < length standings → (i == n) ≡ false
+pub other-place : (standings : List SessionState) (i n : ℕ) (d : SessionState) → AreApart standings → i < length standings → n < length standings → (i == n) ≡ false
     → name_kept (get_or standings i d) ≢ name_kept (get_or standings n d)
 other-place standings i n d apart within at off =
     elim (cases_Bool (nat_lt i n)) [
@@ -199,15 +199,15 @@ first-step f false order place name names are is =
 -- ---- the step
 
 pub tick-step : {S : Type 0} → TakesOut S → GivesUp S → HasItsName → (setting : Setting S) (content : List ℕ) (test : Unfinished → Bool) → IsDueTest setting.now test
-    → (standings : List Standing) (voices : List Voice) (order : List ℕ) (entries : Held) (bound : List Binding) (draw : S) (state : State S)
+    → (standings : List SessionState) (voices : List TickTurn) (order : List ℕ) (entries : Held) (bound : List Binding) (draw : S) (state : State S)
     → IsInTick setting.now standings voices order entries.entries state.jobs bound draw state → AreApart standings → length voices ≡ length standings
     → (job : Job) → first_job test state.jobs ≡ Some job → (place : ℕ) → Some place ≡ position (is_kept_as (owner job)) standings
-    → (after : Standing) (voice : Voice) (more : Held) (queue : Queue)
-    → ((d : Standing) (e : Voice) (speaker : Speaker S) → IsUnanswered speaker.session.replies job.number
+    → (after : SessionState) (voice : TickTurn) (more : Held) (queue : Queue)
+    → ((d : SessionState) (e : TickTurn) (speaker : Speaker S) → IsUnanswered speaker.session.replies job.number
     → Speaks setting.now (get_or standings place d) (turn_with (get_or voices place e) entries) (without_first test state.jobs) bound draw speaker
     → Speaks setting.now after (turn_with voice more) queue bound draw (gives_up setting content job speaker))
-    → ((e : Voice) → voice.left + 1 ≡ (get_or voices place e).left) → voice.spoke ≡ true
-    → (spoke : Bool) → ((e : Voice) → (get_or voices place e).spoke ≡ spoke)
+    → ((e : TickTurn) → voice.left + 1 ≡ (get_or voices place e).left) → voice.spoke ≡ true
+    → (spoke : Bool) → ((e : TickTurn) → (get_or voices place e).spoke ≡ spoke)
     → IsInTick setting.now (set standings place after) (set voices place voice) (cond spoke order (order ++ place ∷ [])) more.entries queue bound draw
     (given_up setting content (Some job) (record state { jobs = without_first test state.jobs }))
 tick-step {S} takes gives names setting content test due standings voices order entries bound draw state tick apart long job is place placed after voice more queue speaks left spoke_now spoke spoke_was =
@@ -228,10 +228,10 @@ tick-step {S} takes gives names setting content test due standings voices order 
     let of_name : name_of session ≡ name = found-named name state.sessions session there.found in
     let stands : Stands now (get_or standings place d) session = subst (λ (n : ℕ). Stands now (get_or standings n d) session) at.0 there.stands in
     let here : name_kept (get_or standings place d) ≡ name_of session = names now (get_or standings place d) session stands in
-    let here_any : (d' : Standing) → name_kept (get_or standings place d') ≡ name_of session = λ d'.
+    let here_any : (d' : SessionState) → name_kept (get_or standings place d') ≡ name_of session = λ d'.
     ap name_kept (get_or_default standings place d' d at.1) ∙ here in
     let within_voices : place < length voices = omega (arith, long, at.1) in
-    let begins : (e : Voice) → Speaks now (get_or standings place d) (turn_with (get_or voices place e) entries) rest.jobs bound draw speaker = λ e. record {
+    let begins : (e : TickTurn) → Speaks now (get_or standings place d) (turn_with (get_or voices place e) entries) rest.jobs bound draw speaker = λ e. record {
       says = record {
         stands = stands;
         owed = tick.owed place d e at.1 ∙ ap (λ (name : Name). messages_by name state.owed) here;
@@ -241,17 +241,17 @@ tick-step {S} takes gives names setting content test due standings voices order 
       bindings = tick.bindings;
       entries = tick.entries;
     } in
-    let ends : (e : Voice) → Speaks now after (turn_with voice more) queue bound draw done = λ e. speaks d e speaker out.unanswered (begins e) in
+    let ends : (e : TickTurn) → Speaks now after (turn_with voice more) queue bound draw done = λ e. speaks d e speaker out.unanswered (begins e) in
     let ended = ends voice in
     let last : name_kept after ≡ name_of session = names now after done.session ended.says.stands in
-    let last_any : (d' : Standing) → name_kept after ≡ name_kept (get_or standings place d') = λ d'. last ∙ sym (here_any d') in
+    let last_any : (d' : SessionState) → name_kept after ≡ name_kept (get_or standings place d') = λ d'. last ∙ sym (here_any d') in
     let then : given_up setting content (Some job) rest ≡ spoken rest done =
     ap (λ (found : Option Session). spoken_by found (gives_up setting content job) rest) there.found in
     let said : Owed = record { name = name_of session; message = numbered setting.now session.counters (RpcResult job.number content) } in
     let P : State S → Type 0 = λ state. IsInTick now (set standings place after) (set voices place voice) (cond spoke order (order ++ place ∷ [])) more.entries queue bound draw state in
-    let named_at : (i : ℕ) (d' : Standing) → name_kept (get_or (set standings place after) i d') ≡ name_kept (get_or standings i d') = λ i d'.
+    let named_at : (i : ℕ) (d' : SessionState) → name_kept (get_or (set standings place after) i d') ≡ name_kept (get_or standings i d') = λ i d'.
     names-set standings place after i d' at.1 (last_any d') in
-    let other : (i : ℕ) (d' : Standing) → i < length (set standings place after) → (i == place) ≡ false → name_kept (get_or (set standings place after) i d') ≢ name_of session =
+    let other : (i : ℕ) (d' : SessionState) → i < length (set standings place after) → (i == place) ≡ false → name_kept (get_or (set standings place after) i d') ≢ name_of session =
     λ i d' inside off same.
     let still : length (set standings place after) ≡ length standings = length-set standings place after in
     other-place standings i place d' apart (omega (arith, inside, still)) at.1 off (sym (named_at i d') ∙ (same ∙ sym (here_any d'))) in
@@ -271,11 +271,11 @@ tick-step {S} takes gives names setting content test due standings voices order 
           elim (cases_Bool (i == place)) [
             | inl same ↦
                 let is_place : i ≡ place = eqb-true i place same in
-                ap (λ (voice : Voice). voice.turn.owing.messages) (ap (λ (n : ℕ). get_or (set voices place voice) n e) is_place ∙ get_or-set_same voices place voice e within_voices)
+                ap (λ (voice : TickTurn). voice.turn.owing.messages) (ap (λ (n : ℕ). get_or (set voices place voice) n e) is_place ∙ get_or-set_same voices place voice e within_voices)
                 ∙ (ended.says.owed ∙ ap (λ (name : Name). messages_by name done.owed)
                 (sym (named_at i d' ∙ (ap (λ (n : ℕ). name_kept (get_or standings n d')) is_place ∙ here_any d'))))
             | inr off ↦
-                ap (λ (voice : Voice). voice.turn.owing.messages) (get_or-set_other voices place i voice e (λ same. false≢true (sym off ∙ eq-eqb i place same)))
+                ap (λ (voice : TickTurn). voice.turn.owing.messages) (get_or-set_other voices place i voice e (λ same. false≢true (sym off ∙ eq-eqb i place same)))
                 ∙ (tick.owed i d' e (inside i lt) ∙ (ap (λ (name : Name). messages_by name state.owed) (sym (named_at i d'))
                 ∙ sym (owed-other (name_kept (get_or (set standings place after) i d')) state.owed said (other i d' lt off))))
           ];
@@ -283,11 +283,11 @@ tick-step {S} takes gives names setting content test due standings voices order 
           elim (cases_Bool (i == place)) [
             | inl same ↦
                 let is_place : i ≡ place = eqb-true i place same in
-                ap (λ (voice : Voice). voice.spoke) (ap (λ (n : ℕ). get_or (set voices place voice) n e) is_place ∙ get_or-set_same voices place voice e within_voices)
+                ap (λ (voice : TickTurn). voice.spoke) (ap (λ (n : ℕ). get_or (set voices place voice) n e) is_place ∙ get_or-set_same voices place voice e within_voices)
                 ∙ (spoke_now ∙ sym (spoken-own (name_kept (get_or (set standings place after) i d')) state.owed said
                 (sym (named_at i d' ∙ (ap (λ (n : ℕ). name_kept (get_or standings n d')) is_place ∙ here_any d')))))
             | inr off ↦
-                ap (λ (voice : Voice). voice.spoke) (get_or-set_other voices place i voice e (λ same. false≢true (sym off ∙ eq-eqb i place same)))
+                ap (λ (voice : TickTurn). voice.spoke) (get_or-set_other voices place i voice e (λ same. false≢true (sym off ∙ eq-eqb i place same)))
                 ∙ (tick.spoke i d' e (inside i lt) ∙ (ap (λ (name : Name). has_spoken name state.owed) (sym (named_at i d'))
                 ∙ sym (spoken-other (name_kept (get_or (set standings place after) i d')) state.owed said (other i d' lt off))))
           ];
@@ -301,14 +301,14 @@ tick-step {S} takes gives names setting content test due standings voices order 
                 let has = left e in
                 let few : answers_left now done.jobs (name_of session) ≤ voice.left = omega arith in
                 let of_voice : get_or (set voices place voice) i e ≡ voice = ap (λ (n : ℕ). get_or (set voices place voice) n e) is_place ∙ get_or-set_same voices place voice e within_voices in
-                subst (λ (one : Voice). answers_left now done.jobs (name_kept (get_or (set standings place after) i d')) ≤ one.left) (sym of_voice)
+                subst (λ (one : TickTurn). answers_left now done.jobs (name_kept (get_or (set standings place after) i d')) ≤ one.left) (sym of_voice)
                 (subst (λ (name : Name). answers_left now done.jobs name ≤ voice.left) (sym its) few)
             | inr off ↦
                 let of_voice : get_or (set voices place voice) i e ≡ get_or voices i e = get_or-set_other voices place i voice e (λ same. false≢true (sym off ∙ eq-eqb i place same)) in
                 let one_name = name_kept (get_or (set standings place after) i d') in
                 let had = subst (λ (name : Name). answers_left now state.jobs name ≤ (get_or voices i e).left) (sym (named_at i d')) (tick.enough i d' e (inside i lt)) in
                 let same_left = other-left setting content now test job one_name before is (sym of_name) (other i d' lt off) in
-                subst (λ (one : Voice). answers_left now done.jobs one_name ≤ one.left) (sym of_voice)
+                subst (λ (one : TickTurn). answers_left now done.jobs one_name ≤ one.left) (sym of_voice)
                 (subst (λ (n : ℕ). n ≤ (get_or voices i e).left) (sym same_left) had)
           ];
       first =

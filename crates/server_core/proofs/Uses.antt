@@ -1,18 +1,18 @@
 -- What steps use up together.
 use Rattle.std.proofs.Common.{◌∙◌, ℕ, Bool, true, false, ◌+◌, ◌*◌, ◌≤◌, refl, arith}
-use Rattle.standing.specs.declared.standing.Standing.{Standing}
-use Rattle.standing.specs.Standing.{replies_left}
-use Rattle.standing.specs.Unsaid.{NoMoreUnsaid}
-use Rattle.rows.specs.declared.turn.Turn.{Turn}
-use Rattle.rows.specs.Speaks.{Spends}
-use Rattle.rows.specs.Spare.{Uses, where_again}
+use Rattle.server_session.specs.declared.session.SessionState.{SessionState}
+use Rattle.server_session.specs.SessionState.{replies_left}
+use Rattle.server_session.specs.Unsaid.{NoMoreUnsaid}
+use Rattle.server_dispatch.specs.declared.turn.Turn.{Turn}
+use Rattle.server_dispatch.specs.Speaks.{Spends}
+use Rattle.server_dispatch.specs.Spare.{Uses, where_again}
 
 -- no more may be said again
 again-less : (again : Bool) (few many : ℕ) → few ≤ many → where_again again few ≤ where_again again many
 again-less true few many less = less
 again-less false few many less = omega arith
 
-pub used : (again : Bool) (now messages size answers kept : ℕ) (standing : Standing) (turn : Turn) (after : Standing) (left : Turn)
+pub used : (again : Bool) (now messages size answers kept : ℕ) (standing : SessionState) (turn : Turn) (after : SessionState) (left : Turn)
     → Spends now messages size answers standing turn after left → NoMoreUnsaid standing turn.owing after left.owing
     → replies_left standing ≤ replies_left after + kept → Uses again now messages size answers kept standing turn after left
 used again now messages size answers kept standing turn after left spends unsaid replies =
@@ -32,7 +32,7 @@ used again now messages size answers kept standing turn after left spends unsaid
     }
 
 -- nothing is used
-pub nothing-used : (again : Bool) (now : ℕ) (standing : Standing) (turn : Turn) → Uses again now 0 0 0 0 standing turn standing turn
+pub nothing-used : (again : Bool) (now : ℕ) (standing : SessionState) (turn : Turn) → Uses again now 0 0 0 0 standing turn standing turn
 nothing-used again now standing turn =
     record {
       places = omega arith;
@@ -48,7 +48,7 @@ nothing-used again now standing turn =
     }
 
 -- one more message that was given up
-pub uses-more : (again : Bool) (now place : ℕ) (standing after last : Standing) (turn next end : Turn) → Uses again now place (place * 48) place place standing turn after next
+pub uses-more : (again : Bool) (now place : ℕ) (standing after last : SessionState) (turn next end : Turn) → Uses again now place (place * 48) place place standing turn after next
     → Uses again now 1 48 1 1 after next last end → Uses again now (place + 1) ((place + 1) * 48) (place + 1) (place + 1) standing turn last end
 uses-more again now place standing after last turn next end one two =
     record {
@@ -65,8 +65,8 @@ uses-more again now place standing after last turn next end one two =
     }
 
 -- what two steps use is no more than this
-pub uses-both : (again : Bool) (now messages size answers kept more larger further longer both_messages both_size both_answers both_kept : ℕ) (standing : Standing) (turn : Turn)
-    (after : Standing) (next : Turn) (last : Standing) (end : Turn) → Uses again now messages size answers kept standing turn after next
+pub uses-both : (again : Bool) (now messages size answers kept more larger further longer both_messages both_size both_answers both_kept : ℕ) (standing : SessionState) (turn : Turn)
+    (after : SessionState) (next : Turn) (last : SessionState) (end : Turn) → Uses again now messages size answers kept standing turn after next
     → Uses again now more larger further longer after next last end → messages + more ≤ both_messages → size + larger ≤ both_size → answers + further ≤ both_answers
     → kept + longer ≤ both_kept → Uses again now both_messages both_size both_answers both_kept standing turn last end
 uses-both again now messages size answers kept more larger further longer both_messages both_size both_answers both_kept standing turn after next last end one two of_messages of_size of_answers of_kept =

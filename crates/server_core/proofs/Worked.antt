@@ -12,7 +12,7 @@ use Rattle.regs_service.specs.Served.{Step}
 use Rattle.server_rules.specs.Server.{Name, Server as Rules, Session, name_of, session_named}
 use Rattle.server_rules.specs.Event.{Owed, Setting, Speaker, State, speaker_in, speaks, spoken, spoken_by}
 use Rattle.server_rules.specs.Answer.{after_run, after_work, begun, ended, finishes, is_spent, runs}
-use Rattle.server_laws.specs.Order.{AreOrdered, HasNoJob, IsOrderlyAt, IsSpeaking, IsUnanswered, WasAccepted, jobs_of}
+use Rattle.law_server.specs.Order.{AreOrdered, HasNoJob, IsOrderlyAt, IsSpeaking, IsUnanswered, WasAccepted, jobs_of}
 use Rattle.server_core.specs.One.{answer_of, fails_all, fails_first, given_up_by, lost_where}
 use Rattle.server_core.specs.Failures.{blocked_of, is_blocked}
 use Rattle.server_core.specs.Working.{IsRunning, ran, worked}

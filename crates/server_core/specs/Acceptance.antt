@@ -8,12 +8,12 @@ use Rattle.service_tl.specs.Items.{spelling_of}
 use Rattle.id_window.specs.Crossing.{is_odd}
 use Rattle.inbox.specs.Kinds.{item_told}
 use Rattle.packing.specs.Packing.{packed}
-use Rattle.owing.specs.Outs.{AreSent}
+use Rattle.server_output.specs.Outs.{AreSent}
 use Rattle.server_rules.specs.Answer.{name_in}
 use Rattle.server_rules.specs.Event.{Envelope, Sent}
 use Rattle.server_rules.specs.Server.{Name, Server, Session, session_named}
-use Rattle.server_laws.specs.Order.{WasAccepted, is_for_service}
-use Rattle.server_bounds.specs.Taking.{Taken}
+use Rattle.law_server.specs.Order.{WasAccepted, is_for_service}
+use Rattle.law_server_bounds.specs.Taking.{Taken}
 use Rattle.server_core.specs.declared.effects.Effects.{Effects}
 use Rattle.server_core.specs.Server.{Kept, Stands}
 

@@ -16,7 +16,7 @@ use Rattle.server_rules.specs.Waiting.{tells_of}
 use Rattle.server_rules.specs.Rows.{owes}
 use Rattle.server_rules.specs.Answer.{Answer, begun, is_spent, message_in, messages_judged, name_in, opens, session_for, with_place}
 use Rattle.id_window.specs.History.{History}
-use Rattle.server_laws.specs.Order.{IsOrderly, IsSpeaking, jobs_of}
+use Rattle.law_server.specs.Order.{IsOrderly, IsSpeaking, jobs_of}
 use Rattle.server_core.specs.One.{AreOwnFailures, answer_of, fails_all, says_its_own}
 
 -- the other sessions, the one heard least recently first, and the session that speaks, which was heard last

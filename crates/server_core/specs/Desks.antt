@@ -4,13 +4,13 @@ use Rattle.auth_keys.specs.declared.ring.RingKey.{RingKey}
 use Rattle.envelope.specs.Packet.{Lock}
 use Rattle.msg_ids.specs.Moments.{latest_moment}
 use Rattle.outbox.specs.Replies.{IsWithin}
-use Rattle.owing.specs.Outs.{AreSent}
+use Rattle.server_output.specs.Outs.{AreSent}
 use Rattle.regs_service.specs.Served.{Step, reply_bytes_max}
 use Rattle.waits.specs.declared.job.Job.{Job}
 use Rattle.waits.specs.Jobs.{AreWithinLimits, ready_job}
 use Rattle.server_rules.specs.Answer.{Answer}
 use Rattle.server_rules.specs.Server.{Server, kept_replies}
-use Rattle.server_laws.specs.Order.{AreOrdered}
+use Rattle.law_server.specs.Order.{AreOrdered}
 use Rattle.server_core.specs.declared.desk.Reply.{Reply}
 use Rattle.server_core.specs.declared.effects.Effects.{Effects}
 

@@ -2,7 +2,7 @@
 use Rattle.std.specs.Prelude.{◌≡◌, List}
 use Rattle.auth_keys.specs.declared.ring.RingKey.{RingKey}
 use Rattle.envelope.specs.Packet.{Lock}
-use Rattle.owing.specs.Outs.{AreSent}
+use Rattle.server_output.specs.Outs.{AreSent}
 use Rattle.server_rules.specs.Answer.{Answer}
 use Rattle.server_core.specs.declared.effects.Effects.{Effects}
 use Rattle.server_core.specs.Server.{Kept, Stands}

@@ -5,10 +5,10 @@ use Rattle.waits.specs.declared.job.Unfinished.{Unfinished}
 use Rattle.waits.specs.Jobs.{Queue, is_of, is_ready, one_if, total}
 use Rattle.server_rules.specs.Server.{Binding, Name, name_of}
 use Rattle.server_rules.specs.Event.{Setting, Speaker}
-use Rattle.server_laws.specs.Order.{IsSpeaking}
-use Rattle.standing.specs.declared.standing.Standing.{Standing}
-use Rattle.rows.specs.declared.turn.Turn.{Turn}
-use Rattle.rows.specs.Speaks.{Speaks}
+use Rattle.law_server.specs.Order.{IsSpeaking}
+use Rattle.server_session.specs.declared.session.SessionState.{SessionState}
+use Rattle.server_dispatch.specs.declared.turn.Turn.{Turn}
+use Rattle.server_dispatch.specs.Speaks.{Speaks}
 use Rattle.server_core.specs.One.{AreOwnFailures, fails_all}
 
 -- a job of the session that isn't ready: only such a one fails
@@ -26,7 +26,7 @@ pub record HasFailures {S : Type 0} (name : Name) (others : Name → Queue) (pas
   pub own : AreOwnFailures name speaker.jobs
 
 -- Scaffolding, and no promise: how far the jobs that have failed were answered after so many steps.
-pub record SoFar {S : Type 0} (now : ℕ) (setting : Setting S) (bindings : List Binding) (draw : S) (name : Name) (others : Name → Queue) (past : History) (start : Speaker S) (steps : ℕ) (standing : Standing) (turn : Turn) (jobs : Queue) : Type 0 where
+pub record SoFar {S : Type 0} (now : ℕ) (setting : Setting S) (bindings : List Binding) (draw : S) (name : Name) (others : Name → Queue) (past : History) (start : Speaker S) (steps : ℕ) (standing : SessionState) (turn : Turn) (jobs : Queue) : Type 0 where
   pub speaker : Speaker S
   pub speaks : Speaks now standing turn jobs bindings draw speaker
   pub has : HasFailures name others past speaker

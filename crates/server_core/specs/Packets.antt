@@ -10,14 +10,14 @@ use Rattle.inbox.specs.declared.judged.Judgement.{Judgement}
 use Rattle.inbox.specs.declared.outer.Outer.{Outer}
 use Rattle.inbox.specs.Judging.{judgements, session_after}
 use Rattle.inbox.specs.Refusals.{Way, InEnvelope}
-use Rattle.owing.specs.Outs.{AreSent}
+use Rattle.server_output.specs.Outs.{AreSent}
 use Rattle.waits.specs.Jobs.{Queue}
 use Rattle.server_rules.specs.Answer.{message_in, messages_judged, name_in}
 use Rattle.server_rules.specs.Event.{Envelope, Setting}
 use Rattle.server_rules.specs.Server.{Binding, Name, Session, remembered, sessions_max}
-use Rattle.standing.specs.declared.standing.Standing.{Standing}
-use Rattle.standing.specs.Names.{name_kept}
-use Rattle.standing.specs.Standing.{Stands}
+use Rattle.server_session.specs.declared.session.SessionState.{SessionState}
+use Rattle.server_session.specs.Names.{name_kept}
+use Rattle.server_session.specs.SessionState.{Stands}
 use Rattle.server_core.specs.declared.desk.Heard.{Heard}
 use Rattle.server_core.specs.declared.desk.Heard.TheVariants.{Judged, NotOpened}
 use Rattle.server_core.specs.declared.desk.Reply.{Reply}
@@ -89,7 +89,7 @@ bodies_of setting envelope session = map (λ one. one.body) (messages_judged (wa
 
 -- What is kept is that of a session among the others that was heard and remembers what it judged, and these are its
 -- judgements.
-pub record HasJudged {S : Type 0} (setting : Setting S) (envelope : Envelope) (kept : List Standing) (standing : Standing) (queue : Queue) (bound : List Binding) (draw : S) (judged : List Judgement) (among : Among S) : Type 0 where
+pub record HasJudged {S : Type 0} (setting : Setting S) (envelope : Envelope) (kept : List SessionState) (standing : SessionState) (queue : Queue) (bound : List Binding) (draw : S) (judged : List Judgement) (among : Among S) : Type 0 where
   pub heard : IsHeard setting.now kept standing queue bound draw (remembers_among (history_of setting envelope among.speaker.session) among)
   pub are : judged ≡ judged_of setting envelope among.speaker.session
   pub alone : IsAlone (name_in envelope) among
@@ -106,7 +106,7 @@ pub record Fits {S : Type 0} (setting : Setting S) (envelope : Envelope) (judged
 
 -- What is kept of the others, of the session that spoke, the jobs, the bindings and the draw, and what the event gives, are
 -- those of this session among the others.
-pub record EndsAmong {S : Type 0} (lock : Lock) (keys : List RingKey) (now : ℕ) (kept : List Standing) (standing : Standing) (queue : Queue) (bound : List Binding) (draw : S) (effects : Effects) (among : Among S) : Type 0 where
+pub record EndsAmong {S : Type 0} (lock : Lock) (keys : List RingKey) (now : ℕ) (kept : List SessionState) (standing : SessionState) (queue : Queue) (bound : List Binding) (draw : S) (effects : Effects) (among : Among S) : Type 0 where
   pub others : AreKept now kept among.others
   pub stands : Stands now standing among.speaker.session
   pub jobs : queue ≡ among.speaker.jobs
@@ -116,11 +116,11 @@ pub record EndsAmong {S : Type 0} (lock : Lock) (keys : List RingKey) (now : ℕ
   pub entered : effects.entries.entries ≡ among.speaker.entries
 
 -- the server then, by its parts
-abbrev pub kept_so : {S : Type 0} → S → ℕ → List Standing → Queue → List Binding → Kept S
+abbrev pub kept_so : {S : Type 0} → S → ℕ → List SessionState → Queue → List Binding → Kept S
 kept_so seal moment sessions jobs bindings = record { seal = seal; moment = moment; sessions = sessions; jobs = jobs; bindings = bindings }
 
 -- the sessions beside one of this name: there is a place for that one, none has its name, and each can speak
-pub record AreBeside (keys : List RingKey) (moment : ℕ) (name : Name) (others : List Standing) : Type 0 where
+pub record AreBeside (keys : List RingKey) (moment : ℕ) (name : Name) (others : List SessionState) : Type 0 where
   pub few : length others < sessions_max
   pub apart : All (λ other. name_kept other ≢ name) others
   pub speaking : All (CanSpeak keys moment) others

@@ -5,8 +5,8 @@ use Rattle.auth_keys.specs.Rings.{entry_of}
 use Rattle.waits.specs.Jobs.{Queue, without_session}
 use Rattle.server_rules.specs.Server.{Binding, Name, Server, sessions_max}
 use Rattle.server_rules.specs.Answer.{room_min}
-use Rattle.standing.specs.declared.standing.Standing.{Standing}
-use Rattle.standing.specs.Standing.{IsAt, key_of, numbers_left}
+use Rattle.server_session.specs.declared.session.SessionState.{SessionState}
+use Rattle.server_session.specs.SessionState.{IsAt, key_of, numbers_left}
 use Rattle.server_core.specs.Sessions.{AreKept, without_kept}
 
 -- What contracts see of a server: what seals its packets, the greatest moment that it was given, its sessions, the one heard
@@ -14,19 +14,19 @@ use Rattle.server_core.specs.Sessions.{AreKept, without_kept}
 pub record Kept (S : Type 0) : Type 0 where
   pub seal : S
   pub moment : ℕ
-  pub sessions : List Standing
+  pub sessions : List SessionState
   pub jobs : Queue
   pub bindings : List Binding
 
 -- A session can speak in an event: its key is there, it has numbers for an event, and its salts were needed at no later
 -- moment.
-pub record CanSpeak (keys : List RingKey) (moment : ℕ) (standing : Standing) : Type 0 where
+pub record CanSpeak (keys : List RingKey) (moment : ℕ) (standing : SessionState) : Type 0 where
   pub key : IsSome (entry_of (key_of standing) keys)
   pub numbers : room_min ≤ numbers_left standing
   pub at : IsAt moment standing
 
 -- what holds of each server
-pub record IsSound (keys : List RingKey) (moment : ℕ) (standings : List Standing) : Type 0 where
+pub record IsSound (keys : List RingKey) (moment : ℕ) (standings : List SessionState) : Type 0 where
   pub few : length standings ≤ sessions_max
   pub speaking : All (CanSpeak keys moment) standings
 
@@ -40,7 +40,7 @@ pub record Stands {S : Type 0} (kept : Kept S) (server : Server) : Type 0 where
 
 -- the sessions and the jobs without those of this name, where this is so
 
-abbrev pub without_kept_where : Bool → Name → List Standing → List Standing
+abbrev pub without_kept_where : Bool → Name → List SessionState → List SessionState
 without_kept_where so name standings = if so then without_kept name standings else standings
 
 abbrev pub without_jobs_where : Bool → Name → Queue → Queue

@@ -5,17 +5,17 @@ use Rattle.inbox.specs.declared.judged.Verdict.{Verdict}
 use Rattle.waits.specs.Jobs.{Queue}
 use Rattle.server_rules.specs.Server.{Binding, Name}
 use Rattle.server_rules.specs.Event.{Setting}
-use Rattle.server_laws.specs.Order.{IsTold}
-use Rattle.standing.specs.declared.standing.Standing.{Standing}
-use Rattle.rows.specs.declared.turn.Turn.{Turn}
-use Rattle.rows.specs.Owed.{open_with}
-use Rattle.rows.specs.Speaks.{Speaks}
+use Rattle.law_server.specs.Order.{IsTold}
+use Rattle.server_session.specs.declared.session.SessionState.{SessionState}
+use Rattle.server_dispatch.specs.declared.turn.Turn.{Turn}
+use Rattle.server_dispatch.specs.Owed.{open_with}
+use Rattle.server_dispatch.specs.Speaks.{Speaks}
 use Rattle.server_core.specs.Among.{Among, IsAlone, IsInOrder, row_among, speaks_among, tells_all}
 use Rattle.server_core.specs.Sessions.{AreKept}
 
 -- What is kept of the others, of a session, what it owes and records so far, the jobs, the bindings and the draw are those of
 -- a speaker among the others.
-pub record SpeaksAmong {S : Type 0} (now : ℕ) (kept : List Standing) (standing : Standing) (turn : Turn) (queue : Queue) (bound : List Binding) (draw : S) (among : Among S) : Type 0 where
+pub record SpeaksAmong {S : Type 0} (now : ℕ) (kept : List SessionState) (standing : SessionState) (turn : Turn) (queue : Queue) (bound : List Binding) (draw : S) (among : Among S) : Type 0 where
   pub others : AreKept now kept among.others
   pub speaks : Speaks now standing turn queue bound draw among.speaker
 

@@ -1,12 +1,12 @@
 -- What one session says in an event, in room that was taken before.
 use Rattle.std.specs.Prelude.{◌≡◌, ◌≤◌, ℕ, ◌+◌, []}
-use Rattle.owing.specs.Batch.{packets_most}
-use Rattle.owing.specs.Items.{new_session_bytes}
+use Rattle.server_output.specs.Batch.{packets_most}
+use Rattle.server_output.specs.Items.{new_session_bytes}
 use Rattle.server_rules.specs.Event.{Setting, Speaker}
 use Rattle.server_rules.specs.Answer.{attaches}
-use Rattle.standing.specs.declared.standing.Standing.{Standing}
-use Rattle.standing.specs.Standing.{Stands}
-use Rattle.standing.specs.Repeats.{kept_bytes, kept_count}
+use Rattle.server_session.specs.declared.session.SessionState.{SessionState}
+use Rattle.server_session.specs.SessionState.{Stands}
+use Rattle.server_session.specs.Repeats.{kept_bytes, kept_count}
 use Rattle.server_core.specs.declared.speech.Speech.{Speech}
 use Rattle.server_core.specs.One.{says_its_own}
 
@@ -17,7 +17,7 @@ pub record IsRoomFor (messages bytes : ℕ) (speech : Speech) : Type 0 where
   pub outs : speech.outs ≡ record { outs = []; room = packets_most messages bytes }
 
 -- there is room for all that a session says when a connection is opened for it: that it is new, and all kept replies
-pub record CanAttach (standing : Standing) (speech : Speech) : Type 0 where
+pub record CanAttach (standing : SessionState) (speech : Speech) : Type 0 where
   pub room : IsRoomFor (kept_count standing + 1) (kept_bytes standing + new_session_bytes) speech
   pub few : kept_count standing ≤ 4096
   pub short : kept_bytes standing ≤ 4194304
@@ -27,7 +27,7 @@ abbrev pub attached : {S : Type 0} → Setting S → Speaker S → Speaker S
 attached setting speaker = says_its_own setting (attaches setting speaker)
 
 -- What is kept of a session, as an event begins, is that of a speaker, who owes and has sent nothing.
-pub record Begins {S : Type 0} (moment : ℕ) (standing : Standing) (draw : S) (speaker : Speaker S) : Type 0 where
+pub record Begins {S : Type 0} (moment : ℕ) (standing : SessionState) (draw : S) (speaker : Speaker S) : Type 0 where
   pub stands : Stands moment standing speaker.session
   pub draws : draw ≡ speaker.draw
   pub owed : speaker.owed ≡ []

@@ -3,7 +3,7 @@ use Rattle.std.specs.Prelude.{◌==◌, ◌&&◌, Bool, true, false, List, [], �
 use Rattle.std.specs.List.{filter, list_any}
 use Rattle.server_rules.specs.Server.{Name, is_named, is_same}
 use Rattle.server_rules.specs.Event.{Entry, Owed, State}
-use Rattle.server_laws.specs.Order.{jobs_of}
+use Rattle.law_server.specs.Order.{jobs_of}
 
 -- the session of this name owes it
 abbrev pub is_owed_by : Name → Owed → Bool

@@ -5,15 +5,15 @@ use Rattle.envelope.specs.Packet.{Lock}
 use Rattle.id_window.specs.History.{History}
 use Rattle.waits.specs.declared.job.Job.{Job}
 use Rattle.waits.specs.Jobs.{Queue}
-use Rattle.answers.specs.Contents.{short_bytes_max}
-use Rattle.owing.specs.Items.{IsContent, result_bytes}
-use Rattle.owing.specs.Outs.{AreSent}
+use Rattle.server_answers.specs.Contents.{short_bytes_max}
+use Rattle.server_output.specs.Items.{IsContent, result_bytes}
+use Rattle.server_output.specs.Outs.{AreSent}
 use Rattle.server_rules.specs.Server.{Name, name_of}
 use Rattle.server_rules.specs.Event.{Entry, Setting, Speaker}
 use Rattle.server_rules.specs.Answer.{finishes}
-use Rattle.server_laws.specs.Order.{IsSpeaking}
-use Rattle.standing.specs.declared.standing.Standing.{Standing}
-use Rattle.standing.specs.Standing.{Stands}
+use Rattle.law_server.specs.Order.{IsSpeaking}
+use Rattle.server_session.specs.declared.session.SessionState.{SessionState}
+use Rattle.server_session.specs.SessionState.{Stands}
 use Rattle.server_core.specs.declared.effects.Effects.{Effects}
 use Rattle.server_core.specs.declared.working.Work.{Work}
 use Rattle.server_core.specs.One.{fails_all, says_its_own}
@@ -59,7 +59,7 @@ abbrev pub run_entry : Job → List ℕ → Entry
 run_entry job reply = record { key = job.key; session = job.session; number = job.number; request = job.request; reply = reply; ran = true }
 
 -- What is kept of a session and of the jobs after an event, the draw, and what the event gives, are those of this speaker.
-pub record Ends {S : Type 0} (lock : Lock) (keys : List RingKey) (moment : ℕ) (standing : Standing) (queue : Queue) (draw : S) (effects : Effects) (speaker : Speaker S) : Type 0 where
+pub record Ends {S : Type 0} (lock : Lock) (keys : List RingKey) (moment : ℕ) (standing : SessionState) (queue : Queue) (draw : S) (effects : Effects) (speaker : Speaker S) : Type 0 where
   pub stands : Stands moment standing speaker.session
   pub jobs : queue ≡ speaker.jobs
   pub drawn : draw ≡ speaker.draw

@@ -7,19 +7,19 @@ ghost use Rattle.inbox.specs.Judging.{judgements};
 ghost use Rattle.inbox.specs.Kinds.{inner_messages};
 ghost use Rattle.inbox.specs.Refusals.{Way};
 ghost use Rattle.server_rules.specs.Server.{Session, mark_in, remembered};
-ghost use Rattle.rows.specs.Due.{due_repeats};
-ghost use Rattle.standing.specs.Standing.{Stands};
+ghost use Rattle.server_dispatch.specs.Action.{due_repeats};
+ghost use Rattle.server_session.specs.SessionState.{Stands};
 ghost use Rattle.server_core.specs.SettlingAll.{some_repeats};
 ghost use Rattle.server_core.specs.Room.{AreFresh, is_again};
 
 use containers::{Parts, is_container};
 use inbox::Outer;
-use rows::Due;
-use standing::Standing;
+use server_dispatch::Action;
+use server_session::SessionState;
 
 /// Whether a packet may have kept replies said again, where its messages need this: one of them asks for that, or may have
 /// come before. None came before where their numbers ascend and none is kept. Takes no memory.
-pub(crate) fn may_repeat(standing: &Standing, outer: &Outer, dues: &[Due]) -> bool
+pub(crate) fn may_repeat(standing: &SessionState, outer: &Outer, dues: &[Action]) -> bool
     ensures { (now : ℕ) (session : Session) (way : Way) → Stands now standing.now session
         → some_repeats (judgements way (remembered session) (message_in outer.now)) dues.now ≡ true → result ≡ true }
 {
@@ -27,14 +27,14 @@ pub(crate) fn may_repeat(standing: &Standing, outer: &Outer, dues: &[Due]) -> bo
 }
 
 // Whether one of these says kept replies again.
-fn some_repeat(dues: &[Due]) -> bool
+fn some_repeat(dues: &[Action]) -> bool
     ensures { result ≡ list_any due_repeats dues.now }
 {
     dues.iter().any(|due| due.repeats())
 }
 
 // Whether one of a packet's messages may have come before.
-fn may_come_again(standing: &Standing, outer: &Outer) -> bool
+fn may_come_again(standing: &SessionState, outer: &Outer) -> bool
     ensures { (now : ℕ) (session : Session) (way : Way) → Stands now standing.now session → result ≡ false
         → All (λ judgement. is_again judgement.verdict ≡ false) (judgements way (remembered session) (message_in outer.now)) }
 {
@@ -42,7 +42,7 @@ fn may_come_again(standing: &Standing, outer: &Outer) -> bool
 }
 
 // Whether no message inside the one that an envelope brought can have come before.
-fn are_inner_fresh(standing: &Standing, outer: &Outer) -> bool
+fn are_inner_fresh(standing: &SessionState, outer: &Outer) -> bool
     ensures { (now : ℕ) (session : Session) → Stands now standing.now session → result ≡ true
         → AreFresh (remembered session) outer.now.number 0 (inner_messages (message_in outer.now)) }
 {
@@ -56,7 +56,7 @@ fn are_inner_fresh(standing: &Standing, outer: &Outer) -> bool
     }
 }
 
-fn are_fresh(standing: &Standing, outer: u64, parts: Parts<'_>) -> bool
+fn are_fresh(standing: &SessionState, outer: u64, parts: Parts<'_>) -> bool
     ensures { (now : ℕ) (session : Session) → Stands now standing.now session → result ≡ true
         → AreFresh (remembered session) outer 0 parts.entry }
 {
@@ -71,7 +71,7 @@ fn are_fresh(standing: &Standing, outer: u64, parts: Parts<'_>) -> bool
 }
 
 // Whether this number is above the last one, isn't that of the message around it, and isn't kept.
-fn is_fresh(standing: &Standing, outer: u64, last: u64, number: u64) -> bool
+fn is_fresh(standing: &SessionState, outer: u64, last: u64, number: u64) -> bool
     ensures { (now : ℕ) (session : Session) → Stands now standing.now session → result ≡ true
         → (last < number) × (number ≢ outer) × (mark_in session number ≡ None) }
 {

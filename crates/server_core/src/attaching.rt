@@ -1,11 +1,11 @@
 //! A connection is opened for a session (core.telegram.org/mtproto/service_messages, "New Session Creation Notification").
 
 ghost use Rattle.std.specs.Prelude.{◌≡◌, ◌+◌, [], IfOk};
-ghost use Rattle.owing.specs.Outs.{AreSent};
+ghost use Rattle.server_output.specs.Outs.{AreSent};
 ghost use Rattle.server_rules.specs.Event.{Speaker};
-ghost use Rattle.standing.specs.Names.{name_kept};
-ghost use Rattle.standing.specs.Says.{Keys, setting_of};
-ghost use Rattle.standing.specs.Standing.{IsAt, Stands};
+ghost use Rattle.server_session.specs.Names.{name_kept};
+ghost use Rattle.server_session.specs.Says.{Keys, setting_of};
+ghost use Rattle.server_session.specs.SessionState.{IsAt, Stands};
 ghost use Rattle.server_core.specs.Server.{CanSpeak};
 ghost use Rattle.server_core.specs.Speech.{Begins, CanAttach, attached};
 
@@ -14,8 +14,8 @@ use draws::Draw;
 use envelope::Seal;
 use msg_ids::Moment;
 use octets::Memory;
-use owing::Outs;
-use standing::Standing;
+use server_output::Outs;
+use server_session::SessionState;
 use std::alloc::Global;
 
 /// The bytes of the body by which a session says that it is new.
@@ -26,7 +26,7 @@ const NEW_SESSION_BYTES: usize = 28;
 /// # Errors
 ///
 /// `Memory`.
-pub(crate) fn room_to_attach(alloc: Global, standing: &Standing) -> Result<Speech, Memory>
+pub(crate) fn room_to_attach(alloc: Global, standing: &SessionState) -> Result<Speech, Memory>
     ensures { IfOk result (CanAttach standing.now) }
 {
     Speech::new(
@@ -39,7 +39,7 @@ pub(crate) fn room_to_attach(alloc: Global, standing: &Standing) -> Result<Speec
 /// The session says that it is new as long as it has accepted nothing, and then all kept replies, in order of making. Takes no
 /// memory.
 pub(crate) fn attaches<S: Seal, D: Draw>(
-    standing: &mut Standing,
+    standing: &mut SessionState,
     now: Moment,
     speech: Speech,
     seal: &S,

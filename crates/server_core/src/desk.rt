@@ -5,8 +5,8 @@ ghost use Rattle.server_core.specs.declared.desk.DeskFault.TheVariants as faults
 
 use envelope::Refusal;
 use octets::Memory;
-use owing::Outs;
-use rows::Entries;
+use server_dispatch::Entries;
+use server_output::Outs;
 use thiserror::Error;
 
 /// What a server heard of a packet.

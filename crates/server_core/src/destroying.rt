@@ -2,11 +2,11 @@
 
 ghost use Rattle.std.specs.Prelude.{◌≡◌, List, is_some};
 ghost use Rattle.server_rules.specs.Server.{Binding};
-ghost use Rattle.owing.specs.Items.{destroyed_bytes};
-ghost use Rattle.standing.specs.Standing.{key_of, outbox_of};
-ghost use Rattle.standing.specs.Unsaid.{NoMoreUnsaid};
-ghost use Rattle.standing.specs.Says.{Keys, setting_of};
-ghost use Rattle.rows.specs.Speaks.{HasRoom, Speaks, Spends};
+ghost use Rattle.server_output.specs.Items.{destroyed_bytes};
+ghost use Rattle.server_session.specs.SessionState.{key_of, outbox_of};
+ghost use Rattle.server_session.specs.Unsaid.{NoMoreUnsaid};
+ghost use Rattle.server_session.specs.Says.{Keys, setting_of};
+ghost use Rattle.server_dispatch.specs.Speaks.{HasRoom, Speaks, Spends};
 ghost use Rattle.server_core.specs.Sessions.{AreKept, kept_as, without_kept};
 ghost use Rattle.server_core.specs.Server.{without_jobs_where};
 ghost use Rattle.server_core.specs.Among.{Among, destroys_another};
@@ -14,9 +14,9 @@ ghost use Rattle.server_core.specs.Among.{Among, destroys_another};
 use crate::others::Others;
 use draws::Draw;
 use msg_ids::Moment;
-use rows::Turn;
-use standing::Standing;
-use standing::laws::sessions_stand_later;
+use server_dispatch::Turn;
+use server_session::SessionState;
+use server_session::laws::sessions_stand_later;
 use waits::Jobs;
 
 /// The other session of its key with this number is lost with its jobs, where there is one, and the session says whether there
@@ -24,7 +24,7 @@ use waits::Jobs;
 pub(crate) fn destroys<D: Draw>(
     turn: &mut Turn,
     now: Moment,
-    standing: &mut Standing,
+    standing: &mut SessionState,
     others: &mut Others,
     jobs: &mut Jobs,
     destroyed: u64,

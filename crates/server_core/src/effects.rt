@@ -3,8 +3,8 @@
 ghost use Rattle.std.specs.Prelude.{◌≡◌, [], IfOk};
 
 use octets::Memory;
-use owing::Outs;
-use rows::Entries;
+use server_dispatch::Entries;
+use server_output::Outs;
 use std::alloc::Global;
 
 /// What an event of a server gives.

@@ -5,21 +5,21 @@ ghost use Rattle.id_window.specs.History.{History};
 ghost use Rattle.waits.specs.Jobs.{Queue};
 ghost use Rattle.server_rules.specs.Server.{Binding, Name};
 ghost use Rattle.server_rules.specs.Event.{Speaker};
-ghost use Rattle.answers.specs.Contents.{short_bytes_max};
-ghost use Rattle.owing.specs.Items.{result_bytes};
-ghost use Rattle.standing.specs.Standing.{replies_left};
-ghost use Rattle.standing.specs.Says.{Keys, setting_of};
-ghost use Rattle.rows.specs.Spare.{Uses};
-ghost use Rattle.rows.specs.Speaks.{HasRoom, Speaks, Spends};
+ghost use Rattle.server_answers.specs.Contents.{short_bytes_max};
+ghost use Rattle.server_output.specs.Items.{result_bytes};
+ghost use Rattle.server_session.specs.SessionState.{replies_left};
+ghost use Rattle.server_session.specs.Says.{Keys, setting_of};
+ghost use Rattle.server_dispatch.specs.Spare.{Uses};
+ghost use Rattle.server_dispatch.specs.Speaks.{HasRoom, Speaks, Spends};
 ghost use Rattle.server_core.specs.One.{fails_all};
 ghost use Rattle.server_core.specs.Failures.{HasFailures, blocked_of};
 
-use answers::Short;
 use draws::Draw;
+use law_server::laws::{rows_keep_order, taken_jobs_are_open};
 use msg_ids::Moment;
-use rows::Turn;
-use server_laws::laws::{rows_keep_order, taken_jobs_are_open};
-use standing::Standing;
+use server_answers::Short;
+use server_dispatch::Turn;
+use server_session::SessionState;
 use waits::Jobs;
 
 /// Each job of the session that has failed is answered in place of a run, the first in order of acceptance first, and one
@@ -28,7 +28,7 @@ use waits::Jobs;
 pub(crate) fn answers_failed<D: Draw>(
     turn: &mut Turn,
     now: Moment,
-    standing: &mut Standing,
+    standing: &mut SessionState,
     jobs: &mut Jobs,
     limit: usize,
 ) -> usize

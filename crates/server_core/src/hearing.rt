@@ -5,8 +5,8 @@ ghost use Rattle.std.specs.List.{position, remove};
 ghost use Rattle.server_rules.specs.Server.{Name, Server as Rules};
 ghost use Rattle.server_rules.specs.Event.{Envelope, Setting, State};
 ghost use Rattle.server_rules.specs.Answer.{begun, name_in, with_place as place_made};
-ghost use Rattle.standing.specs.declared.standing.Standing.{Standing as One};
-ghost use Rattle.standing.specs.Names.{name_kept};
+ghost use Rattle.server_session.specs.declared.session.SessionState.{SessionState as One};
+ghost use Rattle.server_session.specs.Names.{name_kept};
 ghost use Rattle.server_core.specs.Sessions.{AreApart, AreKept, is_kept_as, without_kept};
 ghost use Rattle.server_core.specs.Among.{heard_among};
 ghost use Rattle.server_core.specs.Hearing.{IsHeard};
@@ -16,8 +16,8 @@ use crate::others::Others;
 use crate::sessions::Sessions;
 use draws::Draw;
 use octets::Memory;
-use standing::Standing;
-use standing::laws::sessions_stand_later;
+use server_session::SessionState;
+use server_session::laws::sessions_stand_later;
 use std::alloc::Global;
 use waits::Jobs;
 
@@ -26,7 +26,7 @@ pub(crate) fn hears_known<D: Draw>(
     sessions: &mut Sessions,
     alloc: Global,
     place: usize,
-) -> (Others, Standing)
+) -> (Others, SessionState)
     requires place { place < length sessions.old }
     ensures heard { (setting : Setting D) (envelope : Envelope) (server : Rules) (draw : D) → AreKept setting.now sessions.old server.sessions
         → position (is_kept_as (name_in envelope)) sessions.old ≡ Some place

@@ -7,23 +7,23 @@ ghost use Rattle.inbox.specs.declared.judged.Judgement.{Judgement};
 ghost use Rattle.regs_service.specs.Served.{Step};
 ghost use Rattle.waits.specs.Jobs.{Queue, ready_job};
 ghost use Rattle.waits.specs.declared.job.Job.{Job};
-ghost use Rattle.server_laws.specs.Order.{AreOrdered, IsMidway, IsSpeaking, IsTold, jobs_of, opens_of};
+ghost use Rattle.law_server.specs.Order.{AreOrdered, IsMidway, IsSpeaking, IsTold, jobs_of, opens_of};
 ghost use Rattle.server_rules.specs.Event.{Entry, Envelope, Sent, Setting, Speaker, State, speaker_in, spoken};
 ghost use Rattle.server_rules.specs.Server.{Name, Server, Session, name_of, session_named};
 ghost use Rattle.server_rules.specs.Waiting.{after_failures};
 ghost use Rattle.server_rules.specs.Answer.{after_packet, after_work, begun, is_spent, name_in, opens, runs};
-ghost use Rattle.server_bounds.specs.Taking.{IsTaken};
+ghost use Rattle.law_server_bounds.specs.Taking.{IsTaken};
 ghost use Rattle.server_core.specs.Acceptance.{Acknowledges};
 ghost use Rattle.server_core.specs.Working.{run_entry};
 ghost use Rattle.server_core.specs.One.{AreOwnFailures, fails_all, finishes_all};
 ghost use Rattle.server_core.specs.Among.{Among, IsAlone, IsInOrder, IsOrderlySpeaker, heard_among, packet_among, settles_among, speaks_among};
 
 use draws::Draw;
-use packing::laws::packets_have_all_messages;
-use server_laws::laws::{
+use law_server::laws::{
     rows_keep_order, sessions_speak, sessions_speak_for_themselves, speech_keeps_order,
     taken_jobs_are_open,
 };
+use packing::laws::packets_have_all_messages;
 
 /// Where all jobs that have failed are those of the session that speaks, that session answers them all.
 pub fn one_session_fails<D: Draw>()

@@ -2,8 +2,8 @@
 
 ghost use Rattle.std.specs.Prelude.{◌≡◌, ◌≢◌, ℕ, All, nat_lt};
 ghost use Rattle.server_rules.specs.Answer.{is_spent, room_min};
-ghost use Rattle.standing.specs.Names.{name_kept};
-ghost use Rattle.standing.specs.Standing.{Stands, numbers_left};
+ghost use Rattle.server_session.specs.Names.{name_kept};
+ghost use Rattle.server_session.specs.SessionState.{Stands, numbers_left};
 ghost use Rattle.server_core.specs.Among.{Among, left_where};
 ghost use Rattle.server_core.specs.Others.{with_last_where};
 ghost use Rattle.server_core.specs.Server.{without_jobs_where};
@@ -12,8 +12,8 @@ ghost use Rattle.server_core.specs.Sessions.{AreKept};
 use crate::others::Others;
 use crate::sessions::{ROOM_MIN, Sessions};
 use draws::Draw;
-use standing::Standing;
-use standing::laws::sessions_stand_later;
+use server_session::SessionState;
+use server_session::laws::sessions_stand_later;
 use waits::Jobs;
 
 /// The session that spoke is the one heard last, or is lost with its jobs where it has no room for the numbers of a further
@@ -22,7 +22,7 @@ pub(crate) fn goes_back<D: Draw>(
     sessions: &mut Sessions,
     jobs: &mut Jobs,
     others: Others,
-    standing: Standing,
+    standing: SessionState,
 )
     requires apart { All (λ other. name_kept other ≢ name_kept standing) others }
     ensures kept { (now : ℕ) (among : Among D) → AreKept now others among.others → Stands now standing among.speaker.session
@@ -49,7 +49,7 @@ fn forgets(jobs: &mut Jobs, so: bool, key: u64, number: u64)
 }
 
 // All sessions, and last the one that spoke, unless it is lost.
-fn back(lost: bool, others: Others, standing: Standing) -> Sessions
+fn back(lost: bool, others: Others, standing: SessionState) -> Sessions
     requires { All (λ other. name_kept other ≢ name_kept standing) others }
     ensures { result ≡ with_last_where lost standing others }
 {

@@ -28,8 +28,8 @@ mod settling;
 mod settling_all;
 mod speech;
 pub mod tick_laws;
+mod tick_turns;
 mod ticking;
-mod voices;
 mod work;
 mod working;
 

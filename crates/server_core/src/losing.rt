@@ -6,15 +6,15 @@ ghost use Rattle.auth_keys.specs.declared.ring.RingKey.{RingKey};
 ghost use Rattle.waits.specs.Jobs.{without_session};
 ghost use Rattle.server_rules.specs.Answer.{room_min, without_spent};
 ghost use Rattle.server_rules.specs.Event.{State};
-ghost use Rattle.standing.specs.declared.standing.Standing.{Standing};
-ghost use Rattle.standing.specs.Names.{name_kept};
-ghost use Rattle.standing.specs.Standing.{key_of, number_of, numbers_left};
+ghost use Rattle.server_session.specs.declared.session.SessionState.{SessionState};
+ghost use Rattle.server_session.specs.Names.{name_kept};
+ghost use Rattle.server_session.specs.SessionState.{key_of, number_of, numbers_left};
 ghost use Rattle.server_core.specs.Losing.{IsHere, is_spent_kept};
 ghost use Rattle.server_core.specs.Sessions.{AreApart, AreKept, without_kept};
 
 use crate::sessions::{ROOM_MIN, Sessions};
 use draws::Draw;
-use standing::laws::sessions_stand_later;
+use server_session::laws::sessions_stand_later;
 use waits::Jobs;
 
 impl Sessions {
@@ -30,8 +30,8 @@ impl Sessions {
     // The key and the number of the session at this place.
     fn name_at(&self, place: usize) -> (u64, u64)
         requires { place < length self.now }
-        ensures key { (d : Standing) → result.0 ≡ key_of (slice_index_or self.now place d) }
-        ensures number { (d : Standing) → result.1 ≡ number_of (slice_index_or self.now place d) }
+        ensures key { (d : SessionState) → result.0 ≡ key_of (slice_index_or self.now place d) }
+        ensures number { (d : SessionState) → result.1 ≡ number_of (slice_index_or self.now place d) }
         ensures apart { AreApart self.now }
     {
         let standing = &self.list[place];
@@ -49,8 +49,8 @@ impl Sessions {
 // The session at this place is lost with its jobs.
 fn lose_at(sessions: &mut Sessions, jobs: &mut Jobs, place: usize)
     requires { place < length sessions.old }
-    ensures sessions { (d : Standing) → sessions.new ≡ without_kept (name_kept (slice_index_or sessions.old place d)) sessions.old }
-    ensures jobs { (d : Standing) → jobs.new.jobs ≡ without_session (key_of (slice_index_or sessions.old place d)) (number_of (slice_index_or sessions.old place d)) jobs.old.jobs }
+    ensures sessions { (d : SessionState) → sessions.new ≡ without_kept (name_kept (slice_index_or sessions.old place d)) sessions.old }
+    ensures jobs { (d : SessionState) → jobs.new.jobs ≡ without_session (key_of (slice_index_or sessions.old place d)) (number_of (slice_index_or sessions.old place d)) jobs.old.jobs }
     ensures apart { AreApart sessions.old }
 {
     let (key, number) = sessions.name_at(place);

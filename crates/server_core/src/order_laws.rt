@@ -9,8 +9,8 @@ ghost use Rattle.server_rules.specs.Server.{Name, Server, fresh_server};
 ghost use Rattle.server_core.specs.Desks.{GivesFew, IsBetweenEvents, IsShortRunAt};
 
 use draws::Draw;
-use server_bounds::laws as bounds;
-use server_laws::laws::servers_stay_in_order;
+use law_server::laws::servers_stay_in_order;
+use law_server_bounds::laws as bounds;
 
 /// A fresh server is in order and within its limits, and after a packet, a tick and an attach a server that was so is so.
 pub fn events_keep_order<D: Draw>()

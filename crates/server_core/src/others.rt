@@ -2,12 +2,12 @@
 
 ghost use Rattle.std.specs.Prelude.{◌≡◌, ◌≢◌, ◌≤◌, ◌++◌, ◌∷◌, [], All, length};
 ghost use Rattle.std.specs.List.{insert};
-ghost use Rattle.standing.specs.Names.{name_kept};
+ghost use Rattle.server_session.specs.Names.{name_kept};
 ghost use Rattle.server_core.specs.Sessions.{AreApart, kept_as, without_kept};
 ghost use Rattle.server_core.specs.Others.{first_lost, with_place};
 
 use crate::sessions::{Sessions, out_of};
-use standing::Standing;
+use server_session::SessionState;
 use std::marker::Model;
 
 /// Most sessions of a server.
@@ -17,15 +17,15 @@ const SESSIONS_MAX: usize = 256;
 /// one. Contracts see the list.
 #[derive(Debug, Drop)]
 pub(crate) struct Others {
-    pub(crate) list: Vec<Standing>,
+    pub(crate) list: Vec<SessionState>,
 }
 
 impl Model for Others {
     ghost use Rattle.std.specs.Prelude.{List, ◌<◌, vec_capacity, vec_len};
-    ghost use Rattle.standing.specs.declared.standing.Standing.{Standing};
+    ghost use Rattle.server_session.specs.declared.session.SessionState.{SessionState};
     ghost use Rattle.server_core.specs.Sessions.{AreApart};
 
-    ghost Value = { List Standing };
+    ghost Value = { List SessionState };
 
     ghost view = { λ others. others.list.items };
 
@@ -34,7 +34,7 @@ impl Model for Others {
 
 impl Others {
     /// Takes out the session of this name; `None` where there is none. Takes no memory.
-    pub(crate) fn take_out(&mut self, key: u64, number: u64) -> Option<Standing>
+    pub(crate) fn take_out(&mut self, key: u64, number: u64) -> Option<SessionState>
         ensures found { result ≡ kept_as (record { key = key; session = number }) self.old }
         ensures others { self.new ≡ without_kept (record { key = key; session = number }) self.old }
     {
@@ -42,7 +42,7 @@ impl Others {
     }
 
     /// Where there are as many sessions as a server may have, takes out the one heard least recently. Takes no memory.
-    pub(crate) fn make_place(&mut self) -> Option<Standing>
+    pub(crate) fn make_place(&mut self) -> Option<SessionState>
         ensures lost { result ≡ first_lost self.old }
         ensures others { self.new ≡ with_place self.old }
     {
@@ -53,7 +53,7 @@ impl Others {
     }
 
     /// All of them, with one of a name of its own back at this place. Takes no memory.
-    pub(crate) fn with_it_at(self, place: usize, standing: Standing) -> Sessions
+    pub(crate) fn with_it_at(self, place: usize, standing: SessionState) -> Sessions
         requires place { place ≤ length self }
         requires apart { AreApart (insert self place standing) }
         ensures { result ≡ insert self place standing }
@@ -71,7 +71,7 @@ impl Others {
     }
 
     /// All of them, and last the one that spoke, which has a name of its own. Takes no memory.
-    pub(crate) fn with_it(self, standing: Standing) -> Sessions
+    pub(crate) fn with_it(self, standing: SessionState) -> Sessions
         requires { All (λ other. name_kept other ≢ name_kept standing) self }
         ensures { result ≡ self ++ standing ∷ [] }
     {

@@ -2,24 +2,24 @@
 
 ghost use Rattle.std.specs.Prelude.{◌≡◌, ◌≤◌, ◌<◌, ◌*◌, ◌+◌, ℕ, List, ◌∷◌, [], All, IsSome, length, slice_index_or, slice_set};
 ghost use Rattle.auth_keys.specs.Rings.{entry_of};
-ghost use Rattle.owing.specs.Batch.{packets_most};
-ghost use Rattle.owing.specs.Outs.{AreSent};
+ghost use Rattle.server_output.specs.Batch.{packets_most};
+ghost use Rattle.server_output.specs.Outs.{AreSent};
 ghost use Rattle.server_rules.specs.Event.{Speaker, State};
 ghost use Rattle.server_rules.specs.Sending.{sends};
-ghost use Rattle.standing.specs.declared.standing.Standing.{Standing};
-ghost use Rattle.standing.specs.Names.{name_kept};
-ghost use Rattle.standing.specs.Standing.{IsAt, Stands, key_of, numbers_left};
-ghost use Rattle.standing.specs.Says.{Keys, Says, setting_of};
+ghost use Rattle.server_session.specs.declared.session.SessionState.{SessionState};
+ghost use Rattle.server_session.specs.Names.{name_kept};
+ghost use Rattle.server_session.specs.SessionState.{IsAt, Stands, key_of, numbers_left};
+ghost use Rattle.server_session.specs.Says.{Keys, Says, setting_of};
 ghost use Rattle.server_core.specs.Outgoing.{CanSend, IsSending};
 ghost use Rattle.server_core.specs.Sessions.{AreApart};
 
 use crate::sessions::Sessions;
-use crate::voices::Voices;
+use crate::tick_turns::TickTurns;
 use draws::Draw;
 use envelope::Seal;
 use msg_ids::Moment;
-use owing::{Outs, Owing, Packets};
-use standing::laws::sessions_stand_later;
+use server_output::{OutgoingMessages, Outs, Packets};
+use server_session::laws::sessions_stand_later;
 
 impl Sessions {
     /// The session at this place sends all that it owes. Takes no memory.
@@ -27,7 +27,7 @@ impl Sessions {
         &mut self,
         place: usize,
         now: Moment,
-        owing: &Owing,
+        owing: &OutgoingMessages,
         packets: Packets,
         seal: &S,
         draw: &mut D,
@@ -36,21 +36,21 @@ impl Sessions {
         requires place { place < length self.old }
         requires few { owing.now.places_taken ≤ packets.messages }
         requires short { owing.now.bytes_taken ≤ packets.bytes }
-        requires key { (d : Standing) → IsSome (entry_of (key_of (slice_index_or self.old place d)) (S.keys seal.now)) }
-        requires numbers { (d : Standing) → packets_most packets.messages packets.bytes ≤ numbers_left (slice_index_or self.old place d) }
+        requires key { (d : SessionState) → IsSome (entry_of (key_of (slice_index_or self.old place d)) (S.keys seal.now)) }
+        requires numbers { (d : SessionState) → packets_most packets.messages packets.bytes ≤ numbers_left (slice_index_or self.old place d) }
         requires outs { packets_most packets.messages packets.bytes ≤ outs.old.room }
-        requires at { (d : Standing) → IsAt now (slice_index_or self.old place d) }
-        ensures others { (d : Standing) → self.new ≡ slice_set self.old place (slice_index_or self.new place d) }
-        ensures stands { (d : Standing) (keys : Keys) (speaker : Speaker D) → Says now (slice_index_or self.old place d) owing.now draw.old speaker
+        requires at { (d : SessionState) → IsAt now (slice_index_or self.old place d) }
+        ensures others { (d : SessionState) → self.new ≡ slice_set self.old place (slice_index_or self.new place d) }
+        ensures stands { (d : SessionState) (keys : Keys) (speaker : Speaker D) → Says now (slice_index_or self.old place d) owing.now draw.old speaker
             → Stands now (slice_index_or self.new place d) (sends (setting_of now D.step keys) owing.now.messages speaker).session }
-        ensures drawn { (d : Standing) (keys : Keys) (speaker : Speaker D) → Says now (slice_index_or self.old place d) owing.now draw.old speaker
+        ensures drawn { (d : SessionState) (keys : Keys) (speaker : Speaker D) → Says now (slice_index_or self.old place d) owing.now draw.old speaker
             → draw.new ≡ (sends (setting_of now D.step keys) owing.now.messages speaker).draw }
-        ensures sent { (d : Standing) (keys : Keys) (speaker : Speaker D) → Says now (slice_index_or self.old place d) owing.now draw.old speaker
+        ensures sent { (d : SessionState) (keys : Keys) (speaker : Speaker D) → Says now (slice_index_or self.old place d) owing.now draw.old speaker
             → AreSent S.lock (S.keys seal.now) speaker.sent outs.old.outs
             → AreSent S.lock (S.keys seal.now) (sends (setting_of now D.step keys) owing.now.messages speaker).sent outs.new.outs }
         ensures room_lasts { outs.old.room ≤ outs.new.room + packets_most packets.messages packets.bytes }
-        ensures same_name { (d : Standing) → name_kept (slice_index_or self.new place d) ≡ name_kept (slice_index_or self.old place d) }
-        ensures at { (d : Standing) → IsAt now (slice_index_or self.new place d) }
+        ensures same_name { (d : SessionState) → name_kept (slice_index_or self.new place d) ≡ name_kept (slice_index_or self.old place d) }
+        ensures at { (d : SessionState) → IsAt now (slice_index_or self.new place d) }
         ensures apart { AreApart self.old }
     {
         let standing = &mut self.list[place];
@@ -58,7 +58,7 @@ impl Sessions {
     }
 }
 
-impl Voices {
+impl TickTurns {
     // The session at this place sends all that it owes, unless it has sent already.
     fn sends_at<S: Seal, D: Draw>(
         &mut self,

@@ -1,12 +1,12 @@
 //! A session that has judged a packet answers it, in room that was taken before.
 
 ghost use Rattle.std.specs.Prelude.{◌≡◌, ◌≤◌, true, length};
-ghost use Rattle.rows.specs.Due.{due_repeats};
-ghost use Rattle.rows.specs.Rings.{AreOf};
+ghost use Rattle.server_dispatch.specs.Action.{due_repeats};
+ghost use Rattle.server_dispatch.specs.Rings.{AreOf};
 ghost use Rattle.server_rules.specs.Event.{Envelope};
-ghost use Rattle.standing.specs.Names.{name_kept};
-ghost use Rattle.standing.specs.Says.{Keys, setting_of};
-ghost use Rattle.standing.specs.Standing.{IsAt};
+ghost use Rattle.server_session.specs.Names.{name_kept};
+ghost use Rattle.server_session.specs.Says.{Keys, setting_of};
+ghost use Rattle.server_session.specs.SessionState.{IsAt};
 ghost use Rattle.server_core.specs.Among.{Among, ended_among, speaks_among, takes_among};
 ghost use Rattle.server_core.specs.Effects.{Gives};
 ghost use Rattle.server_core.specs.One.{says_its_own};
@@ -26,13 +26,13 @@ use crate::speech::Speech;
 use draws::Draw;
 use envelope::Seal;
 use inbox::{Judgement, Verdict};
-use msg_ids::Moment;
-use rows::{Bindings, Due, Turn, acks_in};
-use server_laws::laws::{
+use law_server::laws::{
     packets_are_judged, rows_keep_order, sessions_speak_for_themselves, speech_keeps_order,
     taken_jobs_are_open,
 };
-use standing::Standing;
+use msg_ids::Moment;
+use server_dispatch::{Action, Bindings, Turn, acks_in};
+use server_session::SessionState;
 use waits::Jobs;
 
 /// The session of a packet, which has judged it among the others, answers it, and is the one heard last, or is lost where it
@@ -42,7 +42,7 @@ pub(crate) fn answers_packet<S: Seal, D: Draw>(
     jobs: &mut Jobs,
     bindings: &mut Bindings,
     mut others: Others,
-    mut standing: Standing,
+    mut standing: SessionState,
     now: Moment,
     judged: &[Judgement],
     room: PacketRoom,
@@ -76,7 +76,7 @@ pub(crate) fn answers_packet<S: Seal, D: Draw>(
 
 // The session of a packet, which has judged it, owes what it owes to it, and sends that.
 fn takes<S: Seal, D: Draw>(
-    standing: &mut Standing,
+    standing: &mut SessionState,
     others: &mut Others,
     jobs: &mut Jobs,
     bindings: &mut Bindings,
@@ -136,7 +136,7 @@ fn takes<S: Seal, D: Draw>(
 
 // The judgements, where what they need fits the room that was taken: where each has something that it needs, and none says
 // kept replies again without room for them. It is so of what a session of a server judges.
-fn in_room<'a>(judged: &'a [Judgement], dues: &[Due], again: bool) -> &'a [Judgement]
+fn in_room<'a>(judged: &'a [Judgement], dues: &[Action], again: bool) -> &'a [Judgement]
     ensures few { length result.now ≤ length dues.now }
     ensures again { some_repeats result.now dues.now ≡ true → again ≡ true }
     ensures all { length judged.now ≤ length dues.now → (some_repeats judged.now dues.now ≡ true → again ≡ true) → result.now ≡ judged.now }
@@ -148,7 +148,7 @@ fn in_room<'a>(judged: &'a [Judgement], dues: &[Due], again: bool) -> &'a [Judge
 }
 
 // Whether one of these judgements may say kept replies again, where this is what each message needs accepted.
-fn some_repeats(judged: &[Judgement], dues: &[Due]) -> bool
+fn some_repeats(judged: &[Judgement], dues: &[Action]) -> bool
     ensures { result ≡ some_repeats judged.now dues.now }
 {
     judged
@@ -157,7 +157,7 @@ fn some_repeats(judged: &[Judgement], dues: &[Due]) -> bool
         .any(|(judgement, due)| repeats(judgement, due))
 }
 
-fn repeats(judgement: &Judgement, due: &Due) -> bool
+fn repeats(judgement: &Judgement, due: &Action) -> bool
     ensures { result ≡ due_repeats (due_judged judgement.now due.now) }
 {
     match judgement.verdict {

@@ -8,11 +8,11 @@ ghost use Rattle.envelope.specs.declared.parts.Envelope.{Envelope as Sealed};
 ghost use Rattle.envelope.specs.declared.refusal.Refusal.{Refusal as Refused};
 ghost use Rattle.envelope.specs.Opening.{IsRefused, Opens};
 ghost use Rattle.inbox.specs.Acceptance.{IsAcceptable};
-ghost use Rattle.rows.specs.Rings.{AreOf};
+ghost use Rattle.server_dispatch.specs.Rings.{AreOf};
 ghost use Rattle.server_rules.specs.Answer.{after_packet, begun, hears as heard_in, message_in, name_in};
 ghost use Rattle.server_rules.specs.Server.{Server as Rules, Session, remembered, session_named};
-ghost use Rattle.server_laws.specs.Order.{AreOrdered};
-ghost use Rattle.standing.specs.Says.{Keys, setting_of};
+ghost use Rattle.law_server.specs.Order.{AreOrdered};
+ghost use Rattle.server_session.specs.Says.{Keys, setting_of};
 ghost use Rattle.server_core.specs.declared.desk.Heard.TheVariants.{Judged, NotOpened};
 ghost use Rattle.server_core.specs.Acceptance.{WasTaken};
 ghost use Rattle.server_core.specs.Effects.{Gives};
@@ -32,11 +32,11 @@ use crate::server::{Server, later};
 use draws::Draw;
 use envelope::{Dir, Envelope, Opened, Refusal, Seal};
 use inbox::Outer;
+use law_server_bounds::laws::lawful_messages_are_taken;
 use msg_ids::Moment;
 use octets::Memory;
-use server_bounds::laws::lawful_messages_are_taken;
-use standing::Standing;
-use standing::laws::sessions_stand_later;
+use server_session::SessionState;
+use server_session::laws::sessions_stand_later;
 use std::alloc::Global;
 
 impl<S: Seal> Server<S> {
@@ -244,7 +244,7 @@ impl<S: Seal> Server<S> {
         one_session_takes::<D>();
         one_session_stays_alone::<D>();
         one_session_stays_in_order::<D>();
-        let mut standing = Standing::new(alloc, moment, key, session, outer.number, draw)?;
+        let mut standing = SessionState::new(alloc, moment, key, session, outer.number, draw)?;
         let both = judges_in_room(
             alloc,
             moment,

@@ -16,7 +16,7 @@ use draws::Draw;
 use envelope::Seal;
 use msg_ids::Moment;
 use regs_service::Service;
-use standing::laws::sessions_stand_later;
+use server_session::laws::sessions_stand_later;
 use std::alloc::Global;
 
 /// A server that keeps nothing beside itself, with what it draws from. Its only fault is `Memory`.

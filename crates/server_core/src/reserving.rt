@@ -4,29 +4,29 @@ ghost use Rattle.std.specs.Prelude.{◌≡◌, ◌≤◌, ◌<◌, [], All, IfOk
 ghost use Rattle.waits.specs.Jobs.{overdue_count_of};
 ghost use Rattle.waits.specs.Limits.{most_jobs};
 ghost use Rattle.server_rules.specs.Server.{sessions_max};
-ghost use Rattle.standing.specs.declared.standing.Standing.{Standing as One};
-ghost use Rattle.standing.specs.Names.{name_kept};
-ghost use Rattle.standing.specs.Rooms.{with_replies_left};
-ghost use Rattle.standing.specs.Standing.{key_of, number_of, replies_left};
+ghost use Rattle.server_session.specs.declared.session.SessionState.{SessionState as One};
+ghost use Rattle.server_session.specs.Names.{name_kept};
+ghost use Rattle.server_session.specs.Rooms.{with_replies_left};
+ghost use Rattle.server_session.specs.SessionState.{key_of, number_of, replies_left};
 ghost use Rattle.server_core.specs.Answering.{answers_left};
 ghost use Rattle.server_core.specs.Reserving.{AreFresh, AreReserved, IsFresh};
 ghost use Rattle.server_core.specs.Sessions.{AreApart};
 
 use crate::sessions::Sessions;
-use crate::voices::{Voice, Voices};
+use crate::tick_turns::{TickTurn, TickTurns};
 use msg_ids::Moment;
 use octets::Memory;
-use owing::{Owing, Packets};
-use rows::{Entries, Turn};
+use server_dispatch::{Entries, Turn};
+use server_output::{OutgoingMessages, Packets};
 use std::alloc::Global;
 use waits::Jobs;
 
 /// What each short answer takes at most, in bytes.
 const SHORT_RESULT_BYTES: usize = 48;
 
-impl Voice {
+impl TickTurn {
     // Nothing said yet, and room for so many answers. Takes no memory where there are none.
-    fn new(alloc: Global, most: usize) -> Result<Voice, Memory>
+    fn new(alloc: Global, most: usize) -> Result<TickTurn, Memory>
         requires few { most ≤ most_jobs }
         ensures { IfOk result (IsFresh most) }
     {
@@ -36,9 +36,9 @@ impl Voice {
         } else {
             Some(Packets::new(alloc, most, bytes)?)
         };
-        Ok(Voice {
+        Ok(TickTurn {
             turn: Turn {
-                owing: Owing::new(alloc, most, bytes)?,
+                owing: OutgoingMessages::new(alloc, most, bytes)?,
                 entries: Entries::new(alloc, 0)?,
             },
             packets,
@@ -104,7 +104,7 @@ pub(crate) fn fresh_voices(
     now: Moment,
     sessions: &Sessions,
     jobs: &Jobs,
-) -> Result<Voices, Memory>
+) -> Result<TickTurns, Memory>
     requires few { length sessions.now ≤ sessions_max }
     ensures fresh { IfOk result (λ voices. AreFresh now jobs.now.jobs sessions.now voices.list.items) }
     ensures order { IfOk result (λ voices. voices.order.items ≡ []) }
@@ -118,10 +118,10 @@ pub(crate) fn fresh_voices(
     for place in 0..count {
         let (most, overdue) = sessions.most_answers(place, jobs, now, left);
         left = left.saturating_sub(overdue);
-        list.push_reserved(Voice::new(alloc, most)?);
+        list.push_reserved(TickTurn::new(alloc, most)?);
         total += most;
     }
-    Ok(Voices {
+    Ok(TickTurns {
         list,
         order: Vec::with_capacity(alloc, count)?,
         entries: Entries::new(alloc, total)?,
@@ -135,7 +135,7 @@ pub(crate) fn fresh_voices(
 /// `Memory`, and then all are as they were.
 pub(crate) fn reserves(
     sessions: &mut Sessions,
-    voices: &[Voice],
+    voices: &[TickTurn],
     alloc: Global,
     place: usize,
 ) -> Result<(), Memory>

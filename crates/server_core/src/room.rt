@@ -6,17 +6,17 @@ ghost use Rattle.inbox.specs.Inbox.{message_in};
 ghost use Rattle.inbox.specs.Judging.{judgements, session_after};
 ghost use Rattle.inbox.specs.Kinds.{inner_messages};
 ghost use Rattle.inbox.specs.Refusals.{InEnvelope, Way};
-ghost use Rattle.server_laws.specs.Order.{IsOrderly};
+ghost use Rattle.law_server.specs.Order.{IsOrderly};
 ghost use Rattle.server_rules.specs.Server.{Session, remembered};
-ghost use Rattle.rows.specs.Due.{needed_of};
+ghost use Rattle.server_dispatch.specs.Action.{needed_of};
 ghost use Rattle.outbox.specs.Replies.{kept_bytes_max, kept_replies_max};
-ghost use Rattle.owing.specs.Batch.{packets_most};
+ghost use Rattle.server_output.specs.Batch.{packets_most};
 ghost use Rattle.server_rules.specs.Answer.{room_min};
-ghost use Rattle.rows.specs.Spare.{where_again};
-ghost use Rattle.standing.specs.Names.{name_kept};
-ghost use Rattle.standing.specs.Repeats.{kept_bytes, kept_count};
-ghost use Rattle.standing.specs.Rooms.{with_replies_left};
-ghost use Rattle.standing.specs.Standing.{IsAt, Stands, key_of, number_of, numbers_left, replies_left};
+ghost use Rattle.server_dispatch.specs.Spare.{where_again};
+ghost use Rattle.server_session.specs.Names.{name_kept};
+ghost use Rattle.server_session.specs.Repeats.{kept_bytes, kept_count};
+ghost use Rattle.server_session.specs.Rooms.{with_replies_left};
+ghost use Rattle.server_session.specs.SessionState.{IsAt, Stands, key_of, number_of, numbers_left, replies_left};
 ghost use Rattle.server_core.specs.Room.{CanTake, dues_most, packet_bytes, packet_messages, settling_messages};
 ghost use Rattle.server_core.specs.SettlingAll.{some_repeats};
 ghost use Rattle.server_core.specs.Speech.{IsRoomFor};
@@ -26,8 +26,8 @@ use crate::speech::Speech;
 use inbox::{Judged, Outer};
 use msg_ids::Moment;
 use octets::Memory;
-use rows::{Bindings, Due, Entries, dues_of};
-use standing::Standing;
+use server_dispatch::{Action, Bindings, Entries, dues_of};
+use server_session::SessionState;
 use std::alloc::Global;
 use waits::Jobs;
 
@@ -47,7 +47,7 @@ const NOTICE_BYTES: usize = 28;
 #[derive(Debug, Drop)]
 pub(crate) struct PacketRoom {
     /// What each message needs where it is accepted.
-    pub(crate) dues: Vec<Due>,
+    pub(crate) dues: Vec<Action>,
     /// None yet, and room for the numbers that are acknowledged.
     pub(crate) acks: Vec<u64>,
     /// How many jobs of the session may fail by the packet at most: those that aren't ready, and its own.
@@ -69,7 +69,7 @@ impl PacketRoom {
     pub(crate) fn new(
         alloc: Global,
         outer: &Outer,
-        standing: &Standing,
+        standing: &SessionState,
         jobs: &Jobs,
     ) -> Result<PacketRoom, Memory>
         ensures room { IfOk result (IsPacketRoom standing.now) }
@@ -102,7 +102,7 @@ impl PacketRoom {
 pub(crate) fn takes_room(
     alloc: Global,
     outer: &Outer,
-    standing: &mut Standing,
+    standing: &mut SessionState,
     jobs: &mut Jobs,
     bindings: &mut Bindings,
 ) -> Result<PacketRoom, Memory>
@@ -134,7 +134,7 @@ pub(crate) fn judges_in_room(
     alloc: Global,
     now: Moment,
     outer: &Outer,
-    standing: &mut Standing,
+    standing: &mut SessionState,
     jobs: &mut Jobs,
     bindings: &mut Bindings,
 ) -> Result<(PacketRoom, Judged), Memory>
@@ -169,9 +169,9 @@ pub(crate) fn judges_in_room(
 // The room for all that a session says by a packet whose messages need this, where so many jobs may fail by it.
 fn speech_for(
     alloc: Global,
-    standing: &Standing,
+    standing: &SessionState,
     again: bool,
-    dues: &[Due],
+    dues: &[Action],
     limit: usize,
 ) -> Result<Speech, Memory>
     requires few { length dues.now ≤ 1021 }
@@ -192,7 +192,7 @@ fn speech_for(
 }
 
 // How many kept replies may be said again, and their bytes.
-fn room_again(standing: &Standing, again: bool) -> (usize, usize)
+fn room_again(standing: &SessionState, again: bool) -> (usize, usize)
     ensures count { result.0 ≡ where_again again (kept_count standing.now) }
     ensures bytes { result.1 ≡ where_again again (kept_bytes standing.now) }
     ensures few { result.0 ≤ kept_replies_max }
@@ -206,7 +206,7 @@ fn room_again(standing: &Standing, again: bool) -> (usize, usize)
 }
 
 // The bytes of bodies that these take at most.
-fn most_bytes(dues: &[Due]) -> usize
+fn most_bytes(dues: &[Action]) -> usize
     requires few { length dues.now ≤ 1021 }
     ensures sum { result ≡ dues_most dues.now }
     ensures few { result ≤ 8208 * length dues.now }

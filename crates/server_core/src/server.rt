@@ -2,9 +2,9 @@
 
 ghost use Rattle.std.specs.Prelude.{◌≡◌, ◌<◌, ◌≤◌, ℕ, [], Some, is_some, length, max, nat_lt, slice_index_or, IfOk, OnErr, OnOk};
 ghost use Rattle.std.specs.List.{position};
-ghost use Rattle.standing.specs.declared.standing.Standing.{Standing};
-ghost use Rattle.standing.specs.Standing.{numbers_left};
-ghost use Rattle.standing.specs.Says.{Keys, setting_of};
+ghost use Rattle.server_session.specs.declared.session.SessionState.{SessionState};
+ghost use Rattle.server_session.specs.SessionState.{numbers_left};
+ghost use Rattle.server_session.specs.Says.{Keys, setting_of};
 ghost use Rattle.waits.specs.Jobs.{ready_count};
 ghost use Rattle.server_rules.specs.Server.{Server as Rules, fresh_server, session_named};
 ghost use Rattle.server_rules.specs.Answer.{after_attach, after_loss, after_restart, room_min};
@@ -16,11 +16,11 @@ use crate::effects::Effects;
 use crate::sessions::Sessions;
 use draws::Draw;
 use envelope::Seal;
+use law_server::laws::sessions_speak_for_themselves;
 use msg_ids::Moment;
 use octets::Memory;
-use rows::{Bindings, Entries};
-use server_laws::laws::sessions_speak_for_themselves;
-use standing::laws::sessions_stand_later;
+use server_dispatch::{Bindings, Entries};
+use server_session::laws::sessions_stand_later;
 use std::alloc::Global;
 use std::marker::Model;
 use waits::Jobs;
@@ -209,9 +209,9 @@ pub(crate) fn lose_spent(
     place: usize,
 )
     requires { place < length sessions.old }
-    ensures sessions { (d : Standing) → sessions.new ≡ without_kept_where (nat_lt (numbers_left (slice_index_or sessions.old place d)) room_min)
+    ensures sessions { (d : SessionState) → sessions.new ≡ without_kept_where (nat_lt (numbers_left (slice_index_or sessions.old place d)) room_min)
         (record { key = key; session = session }) sessions.old }
-    ensures jobs { (d : Standing) → jobs.new.jobs ≡ without_jobs_where (nat_lt (numbers_left (slice_index_or sessions.old place d)) room_min)
+    ensures jobs { (d : SessionState) → jobs.new.jobs ≡ without_jobs_where (nat_lt (numbers_left (slice_index_or sessions.old place d)) room_min)
         (record { key = key; session = session }) jobs.old.jobs }
 {
     if sessions.is_spent(place) {

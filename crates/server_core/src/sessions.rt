@@ -2,11 +2,11 @@
 
 ghost use Rattle.std.specs.Prelude.{◌≡◌, ◌<◌, ◌≤◌, [], All, IfOk, OnErr, OnOk, Some, length, nat_lt, slice_index_or, slice_set, vec_capacity, vec_len};
 ghost use Rattle.std.specs.List.{position, remove};
-ghost use Rattle.standing.specs.declared.standing.Standing.{Standing as One};
-ghost use Rattle.standing.specs.Standing.{IsAt, Stands, numbers_left};
-ghost use Rattle.standing.specs.Names.{name_kept};
-ghost use Rattle.standing.specs.Says.{Keys, setting_of};
-ghost use Rattle.owing.specs.Outs.{AreSent};
+ghost use Rattle.server_session.specs.declared.session.SessionState.{SessionState as One};
+ghost use Rattle.server_session.specs.SessionState.{IsAt, Stands, numbers_left};
+ghost use Rattle.server_session.specs.Names.{name_kept};
+ghost use Rattle.server_session.specs.Says.{Keys, setting_of};
+ghost use Rattle.server_output.specs.Outs.{AreSent};
 ghost use Rattle.server_rules.specs.Answer.{room_min};
 ghost use Rattle.server_rules.specs.Event.{Speaker};
 ghost use Rattle.server_rules.specs.Server.{Name};
@@ -21,8 +21,8 @@ use draws::Draw;
 use envelope::Seal;
 use msg_ids::Moment;
 use octets::Memory;
-use owing::Outs;
-use standing::Standing;
+use server_output::Outs;
+use server_session::SessionState;
 use std::alloc::Global;
 use std::marker::Model;
 use std::mem;
@@ -34,15 +34,15 @@ pub(crate) const ROOM_MIN: u64 = 16_384;
 /// search looks at names alone.
 #[derive(Debug, Drop)]
 pub struct Sessions {
-    pub(crate) list: Vec<Standing>,
+    pub(crate) list: Vec<SessionState>,
 }
 
 impl Model for Sessions {
     ghost use Rattle.std.specs.Prelude.{List};
-    ghost use Rattle.standing.specs.declared.standing.Standing.{Standing};
+    ghost use Rattle.server_session.specs.declared.session.SessionState.{SessionState};
     ghost use Rattle.server_core.specs.Sessions.{AreApart};
 
-    ghost Value = { List Standing };
+    ghost Value = { List SessionState };
 
     ghost view = { λ sessions. sessions.list.items };
 
@@ -60,7 +60,7 @@ impl Sessions {
     }
 
     /// Takes out the session of this name; `None` where there is none. Takes no memory.
-    pub fn take_out(&mut self, key: u64, number: u64) -> Option<Standing>
+    pub fn take_out(&mut self, key: u64, number: u64) -> Option<SessionState>
         ensures found { result ≡ kept_as (record { key = key; session = number }) self.old }
         ensures others { self.new ≡ without_kept (record { key = key; session = number }) self.old }
     {
@@ -69,7 +69,7 @@ impl Sessions {
 
     /// Lends the session at this place, with the others, among which there is room for it. None are left here. Takes no
     /// memory.
-    pub(crate) fn lend(&mut self, alloc: Global, place: usize) -> (Others, Standing)
+    pub(crate) fn lend(&mut self, alloc: Global, place: usize) -> (Others, SessionState)
         requires { place < length self.old }
         ensures others { (name : Name) → position (is_kept_as name) self.old ≡ Some place → result.0 ≡ without_kept name self.old }
         ensures one { (name : Name) → position (is_kept_as name) self.old ≡ Some place → kept_as name self.old ≡ Some result.1 }
@@ -155,7 +155,7 @@ impl Sessions {
 }
 
 /// Takes the session of this name out of these; `None` where there is none.
-pub(crate) fn out_of(list: &mut Vec<Standing>, key: u64, number: u64) -> Option<Standing>
+pub(crate) fn out_of(list: &mut Vec<SessionState>, key: u64, number: u64) -> Option<SessionState>
     requires { AreApart list.old.items }
     ensures found { result ≡ kept_as (record { key = key; session = number }) list.old.items }
     ensures others { list.new.items ≡ without_kept (record { key = key; session = number }) list.old.items }
@@ -167,7 +167,7 @@ pub(crate) fn out_of(list: &mut Vec<Standing>, key: u64, number: u64) -> Option<
 }
 
 // The place of the first session of this name.
-fn place_of(list: &[Standing], key: u64, number: u64) -> Option<usize>
+fn place_of(list: &[SessionState], key: u64, number: u64) -> Option<usize>
     ensures { result ≡ position (is_kept_as (record { key = key; session = number })) list.now }
 {
     list.iter().position(|standing| standing.is_of(key, number))

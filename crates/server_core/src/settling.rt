@@ -4,13 +4,13 @@ ghost use Rattle.std.specs.Prelude.{◌≡◌, ◌≤◌, ◌<◌, ◌+◌, ◌*
 ghost use Rattle.id_window.specs.History.{History};
 ghost use Rattle.inbox.specs.declared.judged.Verdict.{Verdict};
 ghost use Rattle.server_rules.specs.Server.{Name};
-ghost use Rattle.answers.specs.Contents.{short_bytes_max};
-ghost use Rattle.owing.specs.Items.{result_bytes};
-ghost use Rattle.standing.specs.Standing.{IsAt};
-ghost use Rattle.standing.specs.Says.{Keys, setting_of};
-ghost use Rattle.rows.specs.Due.{due_bytes, due_of, due_repeats};
-ghost use Rattle.rows.specs.Rings.{AreOf};
-ghost use Rattle.rows.specs.Spare.{HasSpare, Uses};
+ghost use Rattle.server_answers.specs.Contents.{short_bytes_max};
+ghost use Rattle.server_output.specs.Items.{result_bytes};
+ghost use Rattle.server_session.specs.SessionState.{IsAt};
+ghost use Rattle.server_session.specs.Says.{Keys, setting_of};
+ghost use Rattle.server_dispatch.specs.Action.{due_bytes, due_of, due_repeats};
+ghost use Rattle.server_dispatch.specs.Rings.{AreOf};
+ghost use Rattle.server_dispatch.specs.Spare.{HasSpare, Uses};
 ghost use Rattle.server_core.specs.Among.{Among, row_among};
 ghost use Rattle.server_core.specs.Failures.{blocked_of};
 ghost use Rattle.server_core.specs.Others.{AreLeft};
@@ -21,12 +21,12 @@ use crate::failures::answers_failed;
 use crate::others::Others;
 use auth_keys::Ring;
 use draws::Draw;
-use msg_ids::Moment;
-use rows::{Bindings, Due, Turn};
-use server_laws::laws::{
+use law_server::laws::{
     rows_keep_order, sessions_speak_for_themselves, speech_keeps_order, taken_jobs_are_open,
 };
-use standing::Standing;
+use msg_ids::Moment;
+use server_dispatch::{Action, Bindings, Turn};
+use server_session::SessionState;
 use waits::Jobs;
 
 /// A judgement on the message of this number is settled, by what the message needs: its row, and then each job of the session
@@ -35,14 +35,14 @@ use waits::Jobs;
 pub(crate) fn settles<D: Draw>(
     turn: &mut Turn,
     now: Moment,
-    standing: &mut Standing,
+    standing: &mut SessionState,
     others: &mut Others,
     jobs: &mut Jobs,
     bindings: &mut Bindings,
     ring: &Ring,
     draw: &mut D,
     number: u64,
-    due: Due,
+    due: Action,
     limit: usize,
 ) -> usize
     requires room { HasSpare (due_repeats due) (2 + limit) (due_bytes due + limit * result_bytes short_bytes_max) (1 + limit) (2 + limit) standing.old turn.old }
@@ -79,14 +79,14 @@ pub(crate) fn settles<D: Draw>(
 fn row<D: Draw>(
     turn: &mut Turn,
     now: Moment,
-    standing: &mut Standing,
+    standing: &mut SessionState,
     others: &mut Others,
     jobs: &mut Jobs,
     bindings: &mut Bindings,
     ring: &Ring,
     draw: &mut D,
     number: u64,
-    due: Due,
+    due: Action,
 )
     requires room { HasSpare (due_repeats due) 2 (due_bytes due) 1 2 standing.old turn.old }
     requires job_room { 0 < jobs.old.room }
@@ -102,7 +102,7 @@ fn row<D: Draw>(
     ensures left { AreLeft others.old others.new }
 {
     match due {
-        Due::Destroys(destroyed) => {
+        Action::Destroys(destroyed) => {
             destroys::<D>(turn, now, standing, others, jobs, destroyed);
         }
         other => turn.owes(now, standing, jobs, bindings, ring, draw, number, other),

@@ -4,12 +4,12 @@ ghost use Rattle.std.specs.Prelude.{◌≡◌, ◌≤◌, ◌+◌, ◌*◌, ℕ,
 ghost use Rattle.std.specs.List.{sum_by};
 ghost use Rattle.id_window.specs.History.{History};
 ghost use Rattle.server_rules.specs.Server.{Name};
-ghost use Rattle.answers.specs.Contents.{short_bytes_max};
-ghost use Rattle.owing.specs.Items.{result_bytes};
-ghost use Rattle.standing.specs.Standing.{IsAt};
-ghost use Rattle.standing.specs.Says.{Keys, setting_of};
-ghost use Rattle.rows.specs.Rings.{AreOf};
-ghost use Rattle.rows.specs.Spare.{HasSpare, Uses};
+ghost use Rattle.server_answers.specs.Contents.{short_bytes_max};
+ghost use Rattle.server_output.specs.Items.{result_bytes};
+ghost use Rattle.server_session.specs.SessionState.{IsAt};
+ghost use Rattle.server_session.specs.Says.{Keys, setting_of};
+ghost use Rattle.server_dispatch.specs.Rings.{AreOf};
+ghost use Rattle.server_dispatch.specs.Spare.{HasSpare, Uses};
 ghost use Rattle.server_core.specs.Among.{Among};
 ghost use Rattle.server_core.specs.Others.{AreLeft};
 ghost use Rattle.server_core.specs.Settling.{SpeaksAmong};
@@ -22,8 +22,8 @@ use auth_keys::Ring;
 use draws::Draw;
 use inbox::Judgement;
 use msg_ids::Moment;
-use rows::{Bindings, Due, Turn};
-use standing::Standing;
+use server_dispatch::{Action, Bindings, Turn};
+use server_session::SessionState;
 use waits::Jobs;
 
 /// Judgements on a packet's messages are settled in order, by what each message needs where it is accepted. So many jobs that
@@ -32,14 +32,14 @@ use waits::Jobs;
 pub(crate) fn settles_all<D: Draw>(
     turn: &mut Turn,
     now: Moment,
-    standing: &mut Standing,
+    standing: &mut SessionState,
     others: &mut Others,
     jobs: &mut Jobs,
     bindings: &mut Bindings,
     ring: &Ring,
     draw: &mut D,
     judged: &[Judgement],
-    dues: Vec<Due>,
+    dues: Vec<Action>,
     limit: usize,
 )
     requires enough { length judged.now ≤ length dues.items }

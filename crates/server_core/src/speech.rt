@@ -2,26 +2,26 @@
 
 ghost use Rattle.std.specs.Prelude.{◌≡◌, ◌≤◌, ◌+◌, ◌^◌, ℕ, [], IfOk, IsSome};
 ghost use Rattle.auth_keys.specs.Rings.{entry_of};
-ghost use Rattle.owing.specs.Batch.{packets_most};
-ghost use Rattle.owing.specs.Outs.{AreSent};
+ghost use Rattle.server_output.specs.Batch.{packets_most};
+ghost use Rattle.server_output.specs.Outs.{AreSent};
 ghost use Rattle.server_rules.specs.Event.{Speaker};
-ghost use Rattle.standing.specs.Names.{name_kept};
-ghost use Rattle.standing.specs.Says.{Keys, Says, setting_of};
-ghost use Rattle.standing.specs.Standing.{IsAt, Stands, key_of, numbers_left};
+ghost use Rattle.server_session.specs.Names.{name_kept};
+ghost use Rattle.server_session.specs.Says.{Keys, Says, setting_of};
+ghost use Rattle.server_session.specs.SessionState.{IsAt, Stands, key_of, numbers_left};
 ghost use Rattle.server_core.specs.One.{says_its_own};
 
 use draws::Draw;
 use envelope::Seal;
 use msg_ids::Moment;
 use octets::Memory;
-use owing::{Outs, Owing, Packets, packets_most};
-use standing::Standing;
+use server_output::{OutgoingMessages, Outs, Packets, packets_most};
+use server_session::SessionState;
 use std::alloc::Global;
 
 /// What one session owes in an event, and the room for its packets.
 #[derive(Debug, Drop)]
 pub(crate) struct Speech {
-    pub(crate) owing: Owing,
+    pub(crate) owing: OutgoingMessages,
     pub(crate) packets: Packets,
     pub(crate) outs: Outs,
 }
@@ -40,7 +40,7 @@ impl Speech {
         ensures { IfOk result (IsRoomFor messages bytes) }
     {
         Ok(Speech {
-            owing: Owing::new(alloc, messages, bytes)?,
+            owing: OutgoingMessages::new(alloc, messages, bytes)?,
             packets: Packets::new(alloc, messages, bytes)?,
             outs: Outs::new(alloc, packets_most(messages, bytes))?,
         })
@@ -49,7 +49,7 @@ impl Speech {
     /// Sends all that the session owes; a session that owes nothing sends nothing. Takes no memory.
     pub(crate) fn sends<S: Seal, D: Draw>(
         self,
-        standing: &mut Standing,
+        standing: &mut SessionState,
         now: Moment,
         seal: &S,
         draw: &mut D,

@@ -3,8 +3,8 @@
 ghost use Rattle.std.specs.Prelude.{◌≡◌, ◌≤◌, max, IfOk, OnErr};
 ghost use Rattle.server_rules.specs.Server.{Server as Rules};
 ghost use Rattle.server_rules.specs.Answer.{after_tick};
-ghost use Rattle.server_laws.specs.Order.{AreOrdered};
-ghost use Rattle.standing.specs.Says.{Keys, setting_of};
+ghost use Rattle.law_server.specs.Order.{AreOrdered};
+ghost use Rattle.server_session.specs.Says.{Keys, setting_of};
 ghost use Rattle.server_core.specs.Server.{Stands};
 ghost use Rattle.server_core.specs.Effects.{Gives};
 
@@ -17,8 +17,8 @@ use draws::Draw;
 use envelope::Seal;
 use msg_ids::Moment;
 use octets::Memory;
-use owing::Outs;
-use standing::laws::sessions_stand_later;
+use server_output::Outs;
+use server_session::laws::sessions_stand_later;
 use std::alloc::Global;
 
 /// How many packets a session's answers in a tick make at most.

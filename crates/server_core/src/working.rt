@@ -5,14 +5,14 @@ ghost use Rattle.id_window.specs.History.{History};
 ghost use Rattle.waits.specs.declared.job.Job.{Job as One};
 ghost use Rattle.waits.specs.Jobs.{Queue, blocked_count_of, ready_count, ready_job, without_ready};
 ghost use Rattle.waits.specs.Limits.{most_jobs};
-ghost use Rattle.owing.specs.Items.{IsContent};
+ghost use Rattle.server_output.specs.Items.{IsContent};
 ghost use Rattle.server_rules.specs.Event.{Speaker};
 ghost use Rattle.server_rules.specs.Server.{Binding, Name};
-ghost use Rattle.standing.specs.Names.{name_kept};
-ghost use Rattle.standing.specs.Says.{Keys, setting_of};
-ghost use Rattle.standing.specs.Rooms.{with_replies_left};
-ghost use Rattle.standing.specs.Standing.{IsAt, replies_left};
-ghost use Rattle.rows.specs.Speaks.{HasRoom, Speaks, Spends};
+ghost use Rattle.server_session.specs.Names.{name_kept};
+ghost use Rattle.server_session.specs.Says.{Keys, setting_of};
+ghost use Rattle.server_session.specs.Rooms.{with_replies_left};
+ghost use Rattle.server_session.specs.SessionState.{IsAt, replies_left};
+ghost use Rattle.server_dispatch.specs.Speaks.{HasRoom, Speaks, Spends};
 ghost use Rattle.server_core.specs.Server.{CanSpeak};
 ghost use Rattle.server_core.specs.Speech.{Begins};
 ghost use Rattle.server_core.specs.Working.{CanWork, Ends, IsRunning, ran, run_bytes, worked};
@@ -20,15 +20,15 @@ ghost use Rattle.server_core.specs.Working.{CanWork, Ends, IsRunning, ran, run_b
 use crate::effects::Effects;
 use crate::failures::answers_failed;
 use crate::speech::Speech;
-use answers::Bytes;
 use draws::Draw;
 use envelope::Seal;
+use law_server::laws::{rows_keep_order, sessions_speak_for_themselves};
 use msg_ids::Moment;
 use octets::Memory;
 use regs_service::Service;
-use rows::{Entries, Run, Turn};
-use server_laws::laws::{rows_keep_order, sessions_speak_for_themselves};
-use standing::Standing;
+use server_answers::Bytes;
+use server_dispatch::{Entries, Run, Turn};
+use server_session::SessionState;
 use std::alloc::Global;
 use waits::{Job, Jobs};
 
@@ -118,7 +118,7 @@ pub(crate) fn ready_at(jobs: &Jobs, k: usize) -> &Job
 /// `Memory`.
 fn serves<V: Service>(
     alloc: Global,
-    standing: &mut Standing,
+    standing: &mut SessionState,
     answers: usize,
     service: &mut V,
     request: &[u8],
@@ -142,7 +142,7 @@ fn serves<V: Service>(
 fn answers_run<D: Draw>(
     turn: &mut Turn,
     now: Moment,
-    standing: &mut Standing,
+    standing: &mut SessionState,
     jobs: &mut Jobs,
     run: Run,
     limit: usize,
@@ -164,7 +164,7 @@ fn answers_run<D: Draw>(
 
 /// A job that was taken out has run: what its session says then goes out. Takes no memory.
 pub(crate) fn works<S: Seal, D: Draw>(
-    standing: &mut Standing,
+    standing: &mut SessionState,
     jobs: &mut Jobs,
     now: Moment,
     job: Job,
@@ -219,7 +219,7 @@ pub(crate) fn works<S: Seal, D: Draw>(
 /// `Memory`, and then all is as it was.
 pub(crate) fn runs<S: Seal, V: Service, D: Draw>(
     alloc: Global,
-    standing: &mut Standing,
+    standing: &mut SessionState,
     jobs: &mut Jobs,
     k: usize,
     now: Moment,

@@ -5,13 +5,13 @@ use Rattle.auth_keys.specs.declared.ring.RingKey.{RingKey}
 use Rattle.envelope.specs.declared.parts.Dir.TheVariants.{Down}
 use Rattle.envelope.specs.Lawful.{OpensWhatItSealed}
 use Rattle.envelope.specs.Packet.{Lock, Sealed}
-use Rattle.owing.specs.Outs.{AreSent, IsSent, sealed_envelope}
-use Rattle.owing.specs.declared.outs.Out.{Out}
+use Rattle.server_output.specs.Outs.{AreSent, IsSent, sealed_envelope}
+use Rattle.server_output.specs.declared.outs.Out.{Out}
 use Rattle.regs_service.specs.Served.{Step}
 use Rattle.server_core.specs.Desks.{Does}
 use Rattle.server_core.specs.declared.effects.Effects.{Effects}
 use Rattle.server_rules.specs.Answer.{Answer, after_attach, after_tick, after_work}
-use Rattle.standing.specs.Says.{Keys, setting_of}
+use Rattle.server_session.specs.Says.{Keys, setting_of}
 use Rattle.server_rules.specs.Event.{Sent}
 use Rattle.server_rules.specs.Server.{Server}
 use Rattle.server_core.specs.declared.desk.DeskFault.{DeskFault}

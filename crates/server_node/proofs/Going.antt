@@ -5,7 +5,7 @@ use Rattle.std.proofs.lemmas.List.Elements.{filter-append}
 use Rattle.std.specs.List.{filter}
 use Rattle.framing.specs.Streams as streams
 use Rattle.mt_edge.specs.Links.{Told}
-use Rattle.owing.specs.declared.outs.Out.{Out}
+use Rattle.server_output.specs.declared.outs.Out.{Out}
 use Rattle.transport.specs.Directions.{through}
 use Rattle.transport.specs.Forms.{framing_of}
 use Rattle.transport.specs.Wires.{Line, Tells}

@@ -18,7 +18,7 @@ use Rattle.server_core.specs.declared.desk.Heard.{Heard}
 use Rattle.server_core.specs.declared.desk.Heard.TheVariants.{Judged, NotOpened}
 use Rattle.server_core.specs.declared.desk.Reply.{Reply}
 use Rattle.server_rules.specs.Answer.{after_packet}
-use Rattle.standing.specs.Says.{setting_of}
+use Rattle.server_session.specs.Says.{setting_of}
 use Rattle.transport.specs.Wires.{Line, Tells}
 use Rattle.server_node.specs.Coming.{SameOut}
 use Rattle.server_node.specs.Coming as coming

@@ -17,8 +17,8 @@ use Rattle.envelope.specs.declared.parts.Envelope.{Envelope}
 use Rattle.envelope.specs.declared.refusal.Refusal.{Refusal}
 use Rattle.envelope.specs.declared.refusal.Refusal.TheVariants as refusals
 use Rattle.octets.specs.Bytes.{IsBytes}
-use Rattle.owing.specs.declared.outs.Out.{Out}
-use Rattle.rows.specs.Rings.{AreOf}
+use Rattle.server_output.specs.declared.outs.Out.{Out}
+use Rattle.server_dispatch.specs.Rings.{AreOf}
 use Rattle.server_core.specs.Desks.{Does, DoesNothing}
 use Rattle.server_core.specs.Packets.{IsHeardOf, brought_in, effects_in}
 use Rattle.server_core.specs.declared.desk.DeskFault.{DeskFault}
@@ -28,7 +28,7 @@ use Rattle.server_core.specs.declared.desk.Heard.TheVariants.{Judged, NotOpened}
 use Rattle.server_core.specs.declared.desk.Reply.{Reply}
 use Rattle.server_rules.specs.Answer.{after_packet}
 use Rattle.server_rules.specs.Server.{Server}
-use Rattle.standing.specs.Says.{Keys, setting_of}
+use Rattle.server_session.specs.Says.{Keys, setting_of}
 use Rattle.server_node.specs.Connection.{IsUnnamed}
 use Rattle.server_node.specs.Doing.{Did, DidThen, Side, Stands, end_by}
 use Rattle.server_node.specs.Names.{was_heard, with_name}

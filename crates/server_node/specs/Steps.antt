@@ -4,7 +4,7 @@ use Rattle.std.specs.List.{filter}
 use Rattle.cipher_modes.specs.CounterMode.{CtrState}
 use Rattle.framing.specs.Streams.{Frames}
 use Rattle.mt_edge.specs.Links.{Told}
-use Rattle.owing.specs.declared.outs.Out.{Out}
+use Rattle.server_output.specs.declared.outs.Out.{Out}
 use Rattle.transport.specs.Directions.{through}
 use Rattle.transport.specs.Forms.{framing_of}
 use Rattle.transport.specs.Wires as wires

@@ -9,10 +9,10 @@ use Rattle.envelope.specs.declared.refusal.Refusal.TheVariants as refusals
 use Rattle.envelope.specs.Opening.{IsRefused, Opens}
 use Rattle.envelope.specs.Packet.{Lock, Sealed}
 use Rattle.octets.specs.Bytes.{IsBytes}
-use Rattle.owing.specs.Outs.{sealed_envelope}
+use Rattle.server_output.specs.Outs.{sealed_envelope}
 use Rattle.regs_service.specs.Served.{Step}
-use Rattle.rows.specs.Rings.{AreOf}
-use Rattle.standing.specs.Says.{Keys, setting_of}
+use Rattle.server_dispatch.specs.Rings.{AreOf}
+use Rattle.server_session.specs.Says.{Keys, setting_of}
 use Rattle.server_rules.specs.Answer.{Answer, after_attach, after_packet, after_tick, after_work}
 use Rattle.server_rules.specs.Event.{Sent, Setting}
 use Rattle.server_rules.specs.Server.{Server}

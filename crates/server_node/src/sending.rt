@@ -10,7 +10,7 @@ use crate::heard::{HeardSessions, SessionName};
 use crate::line::Line;
 use mt_edge::{Link, Put};
 use octets::{Memory, Octets};
-use owing::{Out, Outs};
+use server_output::{Out, Outs};
 use std::alloc::Global;
 use transport::{Framed, Wire};
 

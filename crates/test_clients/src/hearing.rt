@@ -5,7 +5,7 @@ ghost use Rattle.auth_keys.specs.Rings.{entry_of};
 ghost use Rattle.client_core.specs.Keys.{HasKeys, keys_in};
 ghost use Rattle.client_core.specs.Took.{open_left, opening_left};
 
-use crate::sending::{Said, envelope_of, message_of, submitted};
+use crate::sending::{SentMessage, envelope_of, message_of, submitted};
 use client_core::{OpenClient, OpenStep, OpeningClient, OpeningStep};
 use draws::{Draw, StepDraw};
 use envelope::{Dir, Envelope, MtSeal, Seal};
@@ -164,7 +164,7 @@ pub fn sends<D: Draw>(
     client: &mut OpenClient,
     seal: &MtSeal,
     draw: &mut D,
-) -> Result<Said, Fail>
+) -> Result<SentMessage, Fail>
     requires keys { HasKeys seal.now (keys_in client.old) }
     ensures keys { keys_in client.new ≡ keys_in client.old }
     ensures calls { length client.new.calls.rows ≡ length client.old.calls.rows }

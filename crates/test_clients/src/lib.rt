@@ -9,5 +9,5 @@ pub use hearing::{
     SESSION, answered, opened_by, opens, packet_down, sends, sent_again, stays, submits, told,
 };
 pub use sending::{
-    ADD_X_5, Said, adds, envelope_of, message_of, packet, seal, submitted, submitted_two,
+    ADD_X_5, SentMessage, adds, envelope_of, message_of, packet, seal, submitted, submitted_two,
 };

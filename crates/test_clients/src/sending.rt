@@ -97,7 +97,7 @@ pub fn packet(flush: Flush) -> Result<Octets, Fail> {
 
 /// What a client sends.
 #[derive(Debug, Drop)]
-pub struct Said {
+pub struct SentMessage {
     /// The salt.
     pub salt: u64,
     /// The message identifier of the message.
@@ -108,7 +108,7 @@ pub struct Said {
     pub body: Octets,
 }
 
-impl Said {
+impl SentMessage {
     /// The salt, the message identifier and the sequence number.
     pub fn named(&self) -> (u64, u64, u32)
         ensures { result ≡ (self.now.salt, self.now.number, self.now.seq) }
@@ -122,7 +122,7 @@ impl Said {
 /// # Errors
 ///
 /// Where there is none.
-pub fn message_of(envelope: Option<Envelope>) -> Result<Said, Fail> {
+pub fn message_of(envelope: Option<Envelope>) -> Result<SentMessage, Fail> {
     let Some(envelope) = envelope else {
         return Err(Fail::new("nothing is sent"));
     };
@@ -133,7 +133,7 @@ pub fn message_of(envelope: Option<Envelope>) -> Result<Said, Fail> {
         body,
         ..
     } = envelope;
-    Ok(Said {
+    Ok(SentMessage {
         salt,
         number,
         seq,

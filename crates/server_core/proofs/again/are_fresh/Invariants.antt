@@ -1,6 +1,6 @@
 use Rattle.std.proofs.Common.{ℕ}
 use Rattle.server_rules.specs.Server.{Session, remembered}
-use Rattle.standing.specs.Standing.{Stands}
+use Rattle.server_session.specs.SessionState.{Stands}
 use Rattle.server_core.specs.Room.{AreFresh}
 use Rattle.server_core.proofs.again.are_fresh.Given as goal
 

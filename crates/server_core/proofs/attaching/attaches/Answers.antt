@@ -1,12 +1,12 @@
 use Rattle.std.proofs.Common.{◌≡◌, ◌∙◌, true, false, List, ap, sym, subst, not}
 use Rattle.std.proofs.lemmas.Bool.{cond-true, cond-false}
-use Rattle.owing.specs.Dues.{Dues}
+use Rattle.server_output.specs.Dues.{Dues}
 use Rattle.server_rules.specs.Server.{has_accepted, name_of}
 use Rattle.server_rules.specs.Event.{Owed, Speaker}
 use Rattle.server_rules.specs.Speaking.{says_it_is_new}
 use Rattle.server_rules.specs.Sending.{messages_by}
 use Rattle.server_rules.specs.Answer.{attaches}
-use Rattle.standing.specs.Says.{Says, setting_of}
+use Rattle.server_session.specs.Says.{Says, setting_of}
 use Rattle.server_core.specs.declared.speech.Speech.{Speech}
 use Rattle.server_core.proofs.Attached.{all-again, attaches-sent, begun_so, said-as}
 use Rattle.server_core.proofs.attaching.attaches.Goals as goal

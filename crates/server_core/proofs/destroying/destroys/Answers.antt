@@ -2,9 +2,9 @@ use Rattle.std.proofs.Common.{◌≡◌, ℕ, ap, subst}
 use Rattle.std.specs.Prelude.{is_some}
 use Rattle.server_rules.specs.Server.{Name}
 use Rattle.server_rules.specs.Event.{Setting}
-use Rattle.standing.specs.Standing.{key_of}
-use Rattle.standing.specs.Says.{setting_of}
-use Rattle.rows.specs.Speaks.{Speaks}
+use Rattle.server_session.specs.SessionState.{key_of}
+use Rattle.server_session.specs.Says.{setting_of}
+use Rattle.server_dispatch.specs.Speaks.{Speaks}
 use Rattle.server_core.specs.Among.{Among}
 use Rattle.server_core.specs.Server.{without_jobs_where}
 use Rattle.server_core.specs.Sessions.{AreKept, kept_as, without_kept}

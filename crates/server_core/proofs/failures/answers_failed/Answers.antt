@@ -3,8 +3,8 @@ use Rattle.waits.specs.Held.{Held}
 use Rattle.waits.specs.declared.job.Job.{Job}
 use Rattle.waits.specs.Jobs.{Queue, first_job, has_failed, without_first}
 use Rattle.server_rules.specs.Event.{Setting, Speaker}
-use Rattle.standing.specs.Says.{setting_of}
-use Rattle.rows.specs.Speaks.{Speaks}
+use Rattle.server_session.specs.Says.{setting_of}
+use Rattle.server_dispatch.specs.Speaks.{Speaks}
 use Rattle.server_core.specs.One.{fails_all}
 use Rattle.server_core.specs.Failures.{blocked_of}
 use Rattle.server_core.proofs.Blocked.{none-blocked, none-fails, none-taken}

@@ -3,12 +3,12 @@ use Rattle.id_window.specs.History.{History}
 use Rattle.waits.specs.Jobs.{Queue}
 use Rattle.server_rules.specs.Server.{Binding, Name}
 use Rattle.server_rules.specs.Event.{Speaker}
-use Rattle.answers.specs.Contents.{short_bytes_max}
-use Rattle.owing.specs.Items.{result_bytes}
-use Rattle.standing.specs.Standing.{replies_left}
-use Rattle.standing.specs.Says.{Keys, setting_of}
-use Rattle.rows.specs.Spare.{Uses}
-use Rattle.rows.specs.Speaks.{Speaks, Spends}
+use Rattle.server_answers.specs.Contents.{short_bytes_max}
+use Rattle.server_output.specs.Items.{result_bytes}
+use Rattle.server_session.specs.SessionState.{replies_left}
+use Rattle.server_session.specs.Says.{Keys, setting_of}
+use Rattle.server_dispatch.specs.Spare.{Uses}
+use Rattle.server_dispatch.specs.Speaks.{Speaks, Spends}
 use Rattle.server_core.specs.Failures.{HasFailures, SoFar}
 use Rattle.server_core.proofs.failures.answers_failed.Given as goal
 

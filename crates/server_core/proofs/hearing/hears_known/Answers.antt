@@ -1,7 +1,7 @@
 use Rattle.std.proofs.Common.{◌≢◌, List, sym, subst}
 use Rattle.std.specs.List.{All}
-use Rattle.standing.specs.declared.standing.Standing.{Standing}
-use Rattle.standing.specs.Names.{name_kept}
+use Rattle.server_session.specs.declared.session.SessionState.{SessionState}
+use Rattle.server_session.specs.Names.{name_kept}
 use Rattle.server_rules.specs.Answer.{name_in}
 use Rattle.server_core.proofs.HearLemmas.{heard-known, one-named, others-apart}
 use Rattle.server_core.proofs.hearing.hears_known.Goals as goal
@@ -17,5 +17,5 @@ returns-clause-named g c = λ name at. one-named name c.args.sessions.now c.lend
 
 pub returns-clause-apart : goal.returns-clause-apart
 returns-clause-apart g c = λ name at.
-    let A : List Standing → Type 0 = λ standings. All (λ other. name_kept other ≢ name) standings in
+    let A : List SessionState → Type 0 = λ standings. All (λ other. name_kept other ≢ name) standings in
     subst A (sym (c.lend.ensures.others name at)) (others-apart name c.args.sessions.now)

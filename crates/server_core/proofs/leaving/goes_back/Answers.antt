@@ -1,8 +1,8 @@
 use Rattle.std.proofs.Common.{◌∙◌, ℕ, List, ap, sym, subst}
 use Rattle.std.specs.Prelude.{nat_lt}
 use Rattle.server_rules.specs.Answer.{is_spent, room_min}
-use Rattle.standing.specs.declared.standing.Standing.{Standing}
-use Rattle.standing.specs.Standing.{key_of, numbers_left}
+use Rattle.server_session.specs.declared.session.SessionState.{SessionState}
+use Rattle.server_session.specs.SessionState.{key_of, numbers_left}
 use Rattle.server_core.specs.Among.{left_where}
 use Rattle.server_core.specs.Others.{with_last_where}
 use Rattle.server_core.specs.Server.{without_jobs_where}
@@ -13,7 +13,7 @@ use Rattle.server_core.proofs.leaving.goes_back.Goals as goal
 
 pub returns-clause-kept : goal.returns-clause-kept
 returns-clause-kept g c = λ now among are stands.
-    let K : List Standing → Type 0 = λ standings. AreKept now standings (left_where (is_spent among.speaker.session) among).sessions in
+    let K : List SessionState → Type 0 = λ standings. AreKept now standings (left_where (is_spent among.speaker.session) among).sessions in
     let standing = c.args.standing in
     let others = c.args.others in
     let is = c.back.ensures ∙ ap (λ (n : ℕ). with_last_where (nat_lt n room_min) standing others) c.numbers_left-is_spent.ensures in

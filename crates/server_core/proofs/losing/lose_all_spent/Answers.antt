@@ -4,8 +4,8 @@ use Rattle.std.proofs.lemmas.List.Elements.{All-filter}
 use Rattle.waits.specs.Jobs.{Queue}
 use Rattle.server_rules.specs.Answer.{without_spent}
 use Rattle.server_rules.specs.Event.{State}
-use Rattle.standing.specs.declared.standing.Standing.{Standing}
-use Rattle.standing.specs.Names.{name_kept}
+use Rattle.server_session.specs.declared.session.SessionState.{SessionState}
+use Rattle.server_session.specs.Names.{name_kept}
 use Rattle.server_core.specs.Losing.{IsHere, is_spent_kept}
 use Rattle.server_core.specs.Sessions.{AreKept, is_kept_as, without_kept}
 use Rattle.server_core.proofs.Lists.{no-place, place-is}
@@ -39,16 +39,16 @@ loop-step-preserved g c =
     let sessions_are = c.lose_at.ensures.sessions d in
     let jobs_are = c.lose_at.ensures.jobs d in
     let fewer = one-fewer standings place d at.1 in
-    let long : length c.lose_at.new.sessions ≡ length (without_kept (name_kept standing) standings) = ap (λ (standings : List Standing). length standings) sessions_are in
+    let long : length c.lose_at.new.sessions ≡ length (without_kept (name_kept standing) standings) = ap (λ (standings : List SessionState). length standings) sessions_are in
     let before = so.fewer in
     record {
       lost = λ now start are same_jobs.
           let step = lose-step {S = g.row.D.Denot} c.sessions_stand_later.ensures.name c.sessions_stand_later.ensures.room now standings queue start place d
           (so.lost now start are same_jobs) c.lose_at.ensures.apart at.0 at.1 in
-          subst (λ (standings : List Standing). AreLost g.row.D.Denot now standings c.lose_at.new.jobs.jobs start) (sym sessions_are)
+          subst (λ (standings : List SessionState). AreLost g.row.D.Denot now standings c.lose_at.new.jobs.jobs start) (sym sessions_are)
           (subst (λ (jobs : Queue). AreLost g.row.D.Denot now (without_kept (name_kept standing) standings) jobs start) (sym jobs_are) step);
       here = λ ring now all.
-          subst (λ (standings : List Standing). All (IsHere ring now) standings) (sym sessions_are)
+          subst (λ (standings : List SessionState). All (IsHere ring now) standings) (sym sessions_are)
           (All-filter (λ other. not (is_kept_as (name_kept standing) other)) (IsHere ring now) standings (so.here ring now all));
       fewer = omega arith;
     }

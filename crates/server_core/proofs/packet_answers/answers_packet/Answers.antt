@@ -2,14 +2,14 @@ use Rattle.std.proofs.Common.{◌≡◌, ◌∙◌, ℕ, false, List, ap, sym, s
 use Rattle.std.specs.Prelude.{IsSome, nat_lt}
 use Rattle.std.proofs.lemmas.Bool.{ltb-false}
 use Rattle.auth_keys.specs.Rings.{entry_of}
-use Rattle.owing.specs.Outs.{AreSent}
+use Rattle.server_output.specs.Outs.{AreSent}
 use Rattle.server_rules.specs.Answer.{is_spent, room_min}
 use Rattle.server_rules.specs.Event.{Sent, Setting}
 use Rattle.server_rules.specs.Server.{Name}
-use Rattle.standing.specs.declared.standing.Standing.{Standing}
-use Rattle.standing.specs.Names.{name_kept}
-use Rattle.standing.specs.Says.{setting_of}
-use Rattle.standing.specs.Standing.{numbers_left}
+use Rattle.server_session.specs.declared.session.SessionState.{SessionState}
+use Rattle.server_session.specs.Names.{name_kept}
+use Rattle.server_session.specs.Says.{setting_of}
+use Rattle.server_session.specs.SessionState.{numbers_left}
 use Rattle.server_core.specs.Among.{Among, speaks_among, takes_among}
 use Rattle.server_core.specs.One.{says_its_own}
 use Rattle.server_core.specs.Server.{CanSpeak, IsSound}
@@ -61,5 +61,5 @@ returns-clause-sound g c =
       numbers = ltb-false (numbers_left standing) room_min not_so;
       at = c.takes-effects.ensures.at;
     } in
-    subst (λ (standings : List Standing). IsSound ring now standings) (sym c.goes_back.ensures.sessions)
+    subst (λ (standings : List SessionState). IsSound ring now standings) (sym c.goes_back.ensures.sessions)
     (sound-last ring now (name_kept c.args.standing) c.args.others left standing so c.requires.beside c.takes-effects.ensures.left can)

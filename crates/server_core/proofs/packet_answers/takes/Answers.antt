@@ -4,15 +4,15 @@ use Rattle.auth_keys.specs.declared.ring.RingKey.{RingKey}
 use Rattle.std.specs.Prelude.{IsSome}
 use Rattle.id_window.specs.History.{History}
 use Rattle.inbox.specs.declared.judged.Judgement.{Judgement}
-use Rattle.owing.specs.Dues.{Dues}
-use Rattle.rows.specs.declared.due.Due.{Due}
-use Rattle.rows.specs.Entries.{Held}
-use Rattle.rows.specs.Rings.{AreOf}
+use Rattle.server_output.specs.Dues.{Dues}
+use Rattle.server_dispatch.specs.declared.action.Action.{Action}
+use Rattle.server_dispatch.specs.Entries.{Held}
+use Rattle.server_dispatch.specs.Rings.{AreOf}
 use Rattle.server_rules.specs.Answer.{name_in, opens}
 use Rattle.server_rules.specs.Event.{Setting}
 use Rattle.server_rules.specs.Server.{Session}
-use Rattle.standing.specs.Names.{name_kept}
-use Rattle.standing.specs.Says.{setting_of}
+use Rattle.server_session.specs.Names.{name_kept}
+use Rattle.server_session.specs.Says.{setting_of}
 use Rattle.server_core.specs.Among.{Among, remembers_among, speaks_among, takes_among}
 use Rattle.server_core.specs.Packets.{bodies_of, history_of, judged_of}
 use Rattle.server_core.specs.Room.{turn_in}
@@ -27,7 +27,7 @@ use Rattle.server_core.proofs.packet_answers.takes.Goals as goal
 
 pub opens-requires : goal.opens-requires
 opens-requires g c =
-    let long = ap (λ (dues : List Due). length dues) c.as_slice.ensures.value in
+    let long = ap (λ (dues : List Action). length dues) c.as_slice.ensures.value in
     let acks_long = ap (λ (acks : List ℕ). length acks) c.as_slice-2.ensures.value in
     let acks = length c.as_slice-2.result.now in
     let standing = c.args.standing.now in
@@ -41,7 +41,7 @@ opens-requires g c =
 
 pub settles_all-requires : goal.settles_all-requires
 settles_all-requires g c =
-    let long = ap (λ (dues : List Due). length dues) c.as_slice.ensures.value in
+    let long = ap (λ (dues : List Action). length dues) c.as_slice.ensures.value in
     let acks_long = ap (λ (acks : List ℕ). length acks) c.as_slice-2.ensures.value in
     let acks = length c.as_slice-2.result.now in
     let standing = c.args.standing.now in
@@ -49,7 +49,7 @@ settles_all-requires g c =
     let judged = c.in_room-judged.result.now in
     let enough : length judged ≤ length room.dues.items = omega (arith, c.in_room-judged.ensures.few, long) in
     let few : acks ≤ length room.dues.items = omega (arith, enough, c.acks_in.ensures.few, acks_long) in
-    let R : List Due → Type 0 = λ dues. some_repeats judged dues ≡ true → room.again ≡ true in
+    let R : List Action → Type 0 = λ dues. some_repeats judged dues ≡ true → room.again ≡ true in
     let asked = subst R c.as_slice.ensures.value c.in_room-judged.ensures.again in
     record {
       enough = enough;
@@ -115,8 +115,8 @@ returns-clause-ends g c = λ keys envelope among of has fits.
     let judged : List Judgement = c.in_room-judged.result.now in
     let due_long = due-few c.args.judged.now bodies room.dues.items fits.due in
     let dues_are : c.as_slice.result.now ≡ room.dues.items = c.as_slice.ensures.value in
-    let L : List Due → Type 0 = λ dues. length c.args.judged.now ≤ length dues in
-    let R : List Due → Type 0 = λ dues. some_repeats c.args.judged.now dues ≡ true → room.again ≡ true in
+    let L : List Action → Type 0 = λ dues. length c.args.judged.now ≤ length dues in
+    let R : List Action → Type 0 = λ dues. some_repeats c.args.judged.now dues ≡ true → room.again ≡ true in
     let same : judged ≡ c.args.judged.now = c.in_room-judged.ensures.all (subst L (sym dues_are) due_long) (subst R (sym dues_are) fits.again) in
     let is : judged ≡ judged_of setting envelope session = same ∙ has.are in
     let due : AreDue judged bodies room.dues.items = subst (λ (judged : List Judgement). AreDue judged bodies room.dues.items) (sym same) fits.due in

@@ -1,7 +1,7 @@
 use Rattle.std.proofs.Common.{◌≡◌, ◌∙◌, ◌<◌, ◌+◌, List, length, get_or, ap, sym, arith}
 use Rattle.std.proofs.lemmas.List.{get_or_default, length-set}
-use Rattle.standing.specs.declared.standing.Standing.{Standing}
-use Rattle.server_core.specs.declared.voices.Voice.{Voice}
+use Rattle.server_session.specs.declared.session.SessionState.{SessionState}
+use Rattle.server_core.specs.declared.tick_turns.TickTurn.{TickTurn}
 use Rattle.server_core.specs.Reserving.{AreReserved}
 use Rattle.server_core.proofs.Places.{one-of}
 use Rattle.server_core.proofs.ReserveLemmas.{back-so, err-so, ok-so, reserved, reserved-more}
@@ -17,7 +17,7 @@ reserves-requires t c =
     let within : place < length standings = omega arith in
     let d = one-of standings place within in
     let still : length c.reserve_at.new.self ≡ length standings =
-    ap (λ (standings : List Standing). length standings) (c.in_ok-before.ensures.reserved d)
+    ap (λ (standings : List SessionState). length standings) (c.in_ok-before.ensures.reserved d)
     ∙ length-set standings place (reserved (get_or c.args.voices.now c.args.place c.index-voices-place.result).left (get_or standings place d)) in
     (omega arith, c.requires.long ∙ sym still)
 
@@ -30,11 +30,11 @@ release_at-requires t c =
     let within : place < length standings = omega arith in
     let d = one-of standings place within in
     let still : length c.reserve_at.new.self ≡ length standings =
-    ap (λ (standings : List Standing). length standings) (c.in_ok-before.ensures.reserved d)
+    ap (λ (standings : List SessionState). length standings) (c.in_ok-before.ensures.reserved d)
     ∙ length-set standings place (reserved (get_or c.args.voices.now c.args.place c.index-voices-place.result).left (get_or standings place d)) in
     let same : c.reserves.new.sessions ≡ c.reserve_at.new.self =
     err-so c.reserves.result (c.reserves.new.sessions ≡ c.reserve_at.new.self) (sym c.is_err.ensures.value ∙ c.if-is_err.true) c.reserves.ensures.unchanged_on_memory in
-    let long : length c.reserves.new.sessions ≡ length standings = ap (λ (standings : List Standing). length standings) same ∙ still in
+    let long : length c.reserves.new.sessions ≡ length standings = ap (λ (standings : List SessionState). length standings) same ∙ still in
     record { place = omega arith }
 
 pub returns-then-is_err-clause-unchanged_on_memory : goal.returns-then-is_err-clause-unchanged_on_memory
@@ -60,7 +60,7 @@ returns-clause-reserved t c =
     let long = c.requires.long in
     let within : place < length standings = omega arith in
     let within_voices : place < length voices = omega arith in
-    let voice : Voice = get_or voices place c.index-voices-place.result in
-    let its : (e : Voice) → get_or voices place e ≡ voice = λ e. get_or_default voices place e c.index-voices-place.result within_voices in
+    let voice : TickTurn = get_or voices place c.index-voices-place.result in
+    let its : (e : TickTurn) → get_or voices place e ≡ voice = λ e. get_or_default voices place e c.index-voices-place.result within_voices in
     let done = ok-so c.reserves.result (AreReserved (place + 1) c.reserve_at.new.self voices c.reserves.new.sessions) (sym c.is_err.ensures.value ∙ c.if-is_err.false) c.reserves.ensures.reserved in
     reserved-more place standings voices c.reserve_at.new.self c.reserves.new.sessions voice within c.in_ok-before.ensures.reserved its done

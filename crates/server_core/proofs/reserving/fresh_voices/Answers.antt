@@ -1,7 +1,7 @@
 use Rattle.std.proofs.Common.{◌≡◌, ◌∙◌, ◌<◌, ◌≤◌, ◌+◌, ◌++◌, ◌∷◌, [], ℕ, List, length, get_or, ap, sym, subst, arith}
 use Rattle.std.proofs.lemmas.List.{length_push}
-use Rattle.standing.specs.Names.{name_kept}
-use Rattle.server_core.specs.declared.voices.Voice.{Voice}
+use Rattle.server_session.specs.Names.{name_kept}
+use Rattle.server_core.specs.declared.tick_turns.TickTurn.{TickTurn}
 use Rattle.server_core.specs.Answering.{answers_left}
 use Rattle.server_core.specs.Reserving.{IsFresh}
 use Rattle.server_core.proofs.OverdueLemmas.{counted-more, none-behind}
@@ -24,12 +24,12 @@ loop-place-preserved c =
     let within : place < length standings = omega arith in
     let apart = c.most_answers-most.ensures.apart in
     let behind = so.behind apart in
-    let voice : Voice = c.in_ok-new.field-0 in
+    let voice : TickTurn = c.in_ok-new.field-0 in
     let items : c.push_reserved.new.self.items ≡ list ++ voice ∷ [] = c.push_reserved.ensures.items in
     let fresh : IsFresh most voice = c.in_ok-new.ensures in
     let left : voice.left ≡ most = fresh.left in
     let long = so.long in
-    let grown : length c.push_reserved.new.self.items ≡ length list + 1 = ap (λ (items : List Voice). length items) items ∙ length_push list voice in
+    let grown : length c.push_reserved.new.self.items ≡ length list + 1 = ap (λ (items : List TickTurn). length items) items ∙ length_push list voice in
     let long_vec = c.push_reserved.ensures.len in
     let had = so.vec in
     let room = so.capacity in

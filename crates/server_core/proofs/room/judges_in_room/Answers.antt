@@ -3,18 +3,18 @@ use Rattle.std.specs.Prelude.{min}
 use Rattle.inbox.specs.declared.judged.Judgement.{Judgement}
 use Rattle.inbox.specs.Refusals.{InEnvelope}
 use Rattle.server_rules.specs.Server.{Session}
-use Rattle.standing.specs.declared.standing.Standing.{Standing}
-use Rattle.standing.specs.Rooms.{with_replies_left}
-use Rattle.standing.specs.Standing.{Stands, replies_left}
+use Rattle.server_session.specs.declared.session.SessionState.{SessionState}
+use Rattle.server_session.specs.Rooms.{with_replies_left}
+use Rattle.server_session.specs.SessionState.{Stands, replies_left}
 use Rattle.server_core.specs.Room.{settling_messages}
 use Rattle.server_core.specs.SettlingAll.{some_repeats}
 use Rattle.server_core.proofs.Rooms.{given-back, stands-with}
 use Rattle.server_core.proofs.room.judges_in_room.Goals as goal
 
 -- with the room that was taken it stands for the same session
-with-room : (room now : ℕ) (standing after : Standing) (session : Session) → after ≡ with_replies_left room standing → Stands now standing session → Stands now after session
+with-room : (room now : ℕ) (standing after : SessionState) (session : Session) → after ≡ with_replies_left room standing → Stands now standing session → Stands now after session
 with-room room now standing after session kept stands =
-    subst (λ (one : Standing). Stands now one session) (sym kept) (stands-with room now standing session stands)
+    subst (λ (one : SessionState). Stands now one session) (sym kept) (stands-with room now standing session stands)
 
 pub returns-in-Ok-clause-again : goal.returns-in-Ok-clause-again
 returns-in-Ok-clause-again c = λ session stands said.
@@ -35,4 +35,4 @@ returns-in-Err-clause-unchanged_on_memory c =
     let before = c.replies_left-before.result in
     given-back c.args.standing.now c.takes_room.new.standing c.release.new.self before (settling_messages (length room.dues.items) room.limit)
     c.replies_left-before.ensures c.in_ok-room.ensures.kept
-    (c.release.ensures ∙ ap (λ (one : Standing). with_replies_left (min (replies_left one) before) one) c.in-Err.ensures.unchanged_on_memory)
+    (c.release.ensures ∙ ap (λ (one : SessionState). with_replies_left (min (replies_left one) before) one) c.in-Err.ensures.unchanged_on_memory)

@@ -1,7 +1,7 @@
 use Rattle.std.proofs.Common.{◌≡◌, ◌∙◌, ℕ, Some, get_or, remove, ap, sym, arith}
 use Rattle.std.specs.List.{position, position_or_len}
 use Rattle.server_rules.specs.Server.{Name}
-use Rattle.standing.specs.declared.standing.Standing.{Standing}
+use Rattle.server_session.specs.declared.session.SessionState.{SessionState}
 use Rattle.server_core.specs.Sessions.{is_kept_as, kept_as, without_kept}
 use Rattle.server_core.proofs.Lists.{first-at, no-first, none-out, no-place, place-is}
 use Rattle.server_core.proofs.Taking.{one-out}
@@ -33,7 +33,7 @@ returns-clause-found c =
     let value : c.remove.result ≡ get_or items c.in_ok-place.place c.remove.result = c.remove.ensures.value in
     let same : get_or items (position_or_len test items) c.remove.result ≡ c.remove.result =
     ap (λ (n : ℕ). get_or items n c.remove.result) at.0 ∙ sym value in
-    sym (ap (λ (standing : Standing). Some standing) same) ∙ sym found
+    sym (ap (λ (standing : SessionState). Some standing) same) ∙ sym found
 
 pub returns-clause-others : goal.returns-clause-others
 returns-clause-others c =

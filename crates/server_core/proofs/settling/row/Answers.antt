@@ -1,8 +1,8 @@
 use Rattle.std.proofs.Common.{◌∙◌, sym, subst}
 use Rattle.server_rules.specs.Event.{Setting}
-use Rattle.server_laws.specs.Order.{jobs_of}
-use Rattle.standing.specs.Says.{setting_of}
-use Rattle.standing.specs.Standing.{key_of}
+use Rattle.law_server.specs.Order.{jobs_of}
+use Rattle.server_session.specs.Says.{setting_of}
+use Rattle.server_session.specs.SessionState.{key_of}
 use Rattle.server_core.specs.Among.{Among}
 use Rattle.server_core.specs.Settling.{SpeaksAmong}
 use Rattle.server_core.proofs.Left.{left-all, left-without}

@@ -2,8 +2,8 @@ use Rattle.std.proofs.Common.{arith}
 use Rattle.server_rules.specs.Event.{Setting}
 use Rattle.server_rules.specs.Server.{Name}
 use Rattle.server_rules.specs.Waiting.{tells_of}
-use Rattle.server_laws.specs.Order.{jobs_of}
-use Rattle.standing.specs.Says.{setting_of}
+use Rattle.law_server.specs.Order.{jobs_of}
+use Rattle.server_session.specs.Says.{setting_of}
 use Rattle.server_core.specs.Among.{Among, row_among}
 use Rattle.server_core.proofs.Ordered.{KeepsOrder}
 use Rattle.server_core.proofs.Settled.{is-rowed, told-speaks}

@@ -4,8 +4,8 @@ use Rattle.std.specs.Slice.Iter.{iter_rest}
 use Rattle.std.specs.Vec.Iter.{into_iter_items}
 use Rattle.inbox.specs.declared.judged.Judgement.{Judgement}
 use Rattle.server_rules.specs.Event.{Setting}
-use Rattle.standing.specs.Says.{setting_of}
-use Rattle.rows.specs.declared.due.Due.{Due}
+use Rattle.server_session.specs.Says.{setting_of}
+use Rattle.server_dispatch.specs.declared.action.Action.{Action}
 use Rattle.server_core.specs.SettlingAll.{all_settled, some_repeats}
 use Rattle.server_core.proofs.AllSettled.{HasUsed, all-begin, ends, goes-on, nothing-yet, repeats-first, repeats-next, spare-first, uses-all, uses-first}
 use Rattle.server_core.proofs.Left.{left-all, left-then}
@@ -26,9 +26,9 @@ loop-judgement-init g c =
       can_next = (tt, tt);
       finite = tt;
       enough = subst (λ (left : List Judgement). length left ≤ length second) (sym first_is)
-          (subst (λ (left : List Due). length judged ≤ length left) (sym second_is) c.requires.enough);
-      repeats = λ is. sym (ap (λ (left : List Judgement). some_repeats left second) first_is ∙ ap (λ (left : List Due). some_repeats judged left) second_is) ∙ is;
-      used = subst (λ (left : List Due). HasUsed c.args.now c.args.limit repeats dues left c.args.limit c.args.standing.now c.args.turn.now c.args.standing.now c.args.turn.now) (sym second_is)
+          (subst (λ (left : List Action). length judged ≤ length left) (sym second_is) c.requires.enough);
+      repeats = λ is. sym (ap (λ (left : List Judgement). some_repeats left second) first_is ∙ ap (λ (left : List Action). some_repeats judged left) second_is) ∙ is;
+      used = subst (λ (left : List Action). HasUsed c.args.now c.args.limit repeats dues left c.args.limit c.args.standing.now c.args.turn.now c.args.standing.now c.args.turn.now) (sym second_is)
           (nothing-yet c.args.now c.args.limit repeats dues c.args.standing.now c.args.turn.now);
       job_room = subst (λ (left : List Judgement). length left ≤ c.args.jobs.now.room) (sym first_is) c.requires.job_room;
       binding_room = subst (λ (left : List Judgement). length left ≤ c.args.bindings.now.room) (sym first_is) c.requires.binding_room;
@@ -67,7 +67,7 @@ loop-judgement-preserved g c =
     let first_is : judged ≡ judgement ∷ next = c.in-Some.ensures.steps.0 in
     let due_is : dues ≡ due ∷ left_dues = c.in-Some.ensures.steps.1.0 in
     let long : length judged ≡ length (judgement ∷ next) = ap (λ (judged : List Judgement). length judged) first_is in
-    let due_long : length dues ≡ length (due ∷ left_dues) = ap (λ (dues : List Due). length dues) due_is in
+    let due_long : length dues ≡ length (due ∷ left_dues) = ap (λ (dues : List Action). length dues) due_is in
     let repeats = some_repeats c.args.judged.now c.args.dues.items in
     let again = repeats-first repeats judgement judged next due dues left_dues first_is due_is so_far.repeats in
     let answered = c.settles-left.result in

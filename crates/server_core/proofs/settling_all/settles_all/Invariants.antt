@@ -4,8 +4,8 @@ use Rattle.std.specs.Slice.Iter.{iter_rest}
 use Rattle.std.specs.Vec.Iter.{into_iter_items}
 use Rattle.id_window.specs.History.{History}
 use Rattle.server_rules.specs.Server.{Name}
-use Rattle.standing.specs.Says.{Keys, setting_of}
-use Rattle.rows.specs.Rings.{AreOf}
+use Rattle.server_session.specs.Says.{Keys, setting_of}
+use Rattle.server_dispatch.specs.Rings.{AreOf}
 use Rattle.server_core.specs.Among.{Among}
 use Rattle.server_core.specs.Others.{AreLeft}
 use Rattle.server_core.specs.Settling.{SpeaksAmong}

@@ -2,8 +2,8 @@ use Rattle.std.proofs.Common.{[]}
 use Rattle.std.proofs.lemmas.List.Elements.{All-head}
 use Rattle.server_rules.specs.Event.{Setting}
 use Rattle.server_rules.specs.Answer.{finishes}
-use Rattle.server_laws.specs.Order.{IsUnanswered}
-use Rattle.standing.specs.Says.{setting_of}
+use Rattle.law_server.specs.Order.{IsUnanswered}
+use Rattle.server_session.specs.Says.{setting_of}
 use Rattle.server_core.proofs.Own.{running-fails, running-few}
 use Rattle.server_core.proofs.working.answers_run.Goals as goal
 

@@ -3,10 +3,10 @@ use Rattle.waits.specs.Held.{Held}
 use Rattle.waits.specs.declared.job.Job.{Job}
 use Rattle.waits.specs.Jobs.{without_ready}
 use Rattle.server_rules.specs.Event.{Setting, Speaker}
-use Rattle.standing.specs.declared.standing.Standing.{Standing}
-use Rattle.standing.specs.Rooms.{with_replies_left}
-use Rattle.standing.specs.Standing.{Stands, replies_left}
-use Rattle.standing.specs.Says.{setting_of}
+use Rattle.server_session.specs.declared.session.SessionState.{SessionState}
+use Rattle.server_session.specs.Rooms.{with_replies_left}
+use Rattle.server_session.specs.SessionState.{Stands, replies_left}
+use Rattle.server_session.specs.Says.{setting_of}
 use Rattle.server_core.specs.Speech.{Begins}
 use Rattle.server_core.specs.Working.{Ends, IsRunning, worked}
 use Rattle.server_core.proofs.Names.{some-same}
@@ -24,7 +24,7 @@ returns-clause-ends g c = λ keys name others past job speaker begins same_jobs 
     let kept : c.serves.new.standing ≡ with_replies_left room c.args.standing.now = c.in_ok-serves.ensures.kept in
     let taken : c.take-job.result ≡ job = some-same c.take-job.result job (sym c.take-job.ensures.job ∙ ready) in
     let begun : Begins now c.serves.new.standing c.args.draw.now one = record {
-      stands = subst (λ (standing : Standing). Stands now standing speaker.session) (sym kept) (stands-with room now c.args.standing.now speaker.session begins.stands);
+      stands = subst (λ (standing : SessionState). Stands now standing speaker.session) (sym kept) (stands-with room now c.args.standing.now speaker.session begins.stands);
       draws = begins.draws;
       owed = begins.owed;
       sent = begins.sent;

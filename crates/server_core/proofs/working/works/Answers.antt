@@ -1,14 +1,14 @@
 use Rattle.std.proofs.Common.{◌≡◌, ◌∙◌, List, ap, sym, subst, refl}
 use Rattle.std.specs.List.{All}
 use Rattle.std.proofs.lemmas.List.Elements.{All-nil}
-use Rattle.owing.specs.Dues.{Dues}
-use Rattle.rows.specs.Entries.{Held}
+use Rattle.server_output.specs.Dues.{Dues}
+use Rattle.server_dispatch.specs.Entries.{Held}
 use Rattle.server_rules.specs.Event.{Owed, Setting, Speaker}
 use Rattle.server_rules.specs.Sending.{messages_by}
 use Rattle.server_rules.specs.Server.{name_of}
-use Rattle.standing.specs.Says.{setting_of}
-use Rattle.rows.specs.Speaks.{Speaks}
-use Rattle.rows.specs.declared.turn.Turn.{Turn}
+use Rattle.server_session.specs.Says.{setting_of}
+use Rattle.server_dispatch.specs.Speaks.{Speaks}
+use Rattle.server_dispatch.specs.declared.turn.Turn.{Turn}
 use Rattle.server_core.specs.Working.{ran}
 use Rattle.server_core.proofs.Attached.{own-rest}
 use Rattle.server_core.proofs.Own.{IsOwn, own-ran}

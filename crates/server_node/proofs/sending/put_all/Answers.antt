@@ -1,5 +1,5 @@
 use Rattle.std.proofs.Common.{◌<◌, ◌≡◌, List, length, get_or, subst, ◌∙◌}
-use Rattle.owing.specs.declared.outs.Out.{Out}
+use Rattle.server_output.specs.declared.outs.Out.{Out}
 use Rattle.server_node.proofs.Going.{framed_more}
 use Rattle.server_node.proofs.sending.put_all.Goals as goal
 

@@ -5,8 +5,8 @@ use Rattle.client_rules.specs.Filling.{changes, says_resent}
 use Rattle.client_core.specs.Numbers.{Numbers}
 use Rattle.client_core.specs.Draft.{Goes, item_of, needs_answer, said_bytes}
 use Rattle.service_tl.specs.Items.{spelling_of}
-use Rattle.client_core.specs.declared.saying.Said.{Said}
-use Rattle.client_core.specs.declared.saying.Said.TheVariants as said
+use Rattle.client_core.specs.declared.saying.Outgoing.{Outgoing}
+use Rattle.client_core.specs.declared.saying.Outgoing.TheVariants as said
 use Rattle.client_core.proofs.GoesLemmas.{goes_out, moved, none_of, resent_go, resent_not, said_in, same_goes, some_of, told}
 use Rattle.client_core.proofs.core_client.Core.says_resent.Goals as goal
 
@@ -40,7 +40,7 @@ returns-then-say-clause-goes g c filling is =
 pub returns-else-say-clause-goes : goal.returns-else-say-clause-goes
 returns-else-say-clause-goes g c filling is =
     let numbers = c.ids-numbers.result.now in
-    let one : Said = said.Resent c.ids-numbers.result in
+    let one : Outgoing = said.Resent c.ids-numbers.result in
     let some = some_of _ _ c.is_empty.ensures c.if-is_empty.false in
     let inside : Goes (Rattle.client_core.specs.contracts.core_client.Core.the_view c.self.inside) c.args.draft.now filling = rw c.self.view_is is in
     let waits = c.ids-numbers.ensures.value ∙ told _ _ filling.client (λ (rest : Client). rest.waiting.resent) c.self.view_is is.client in

@@ -6,8 +6,8 @@ use Rattle.client_rules.specs.Filling.{changes, says_told}
 use Rattle.client_core.specs.Kept.{states_in, waiting_in}
 use Rattle.client_core.specs.Draft.{Goes, item_of, needs_answer, said_bytes}
 use Rattle.service_tl.specs.Items.{spelling_of}
-use Rattle.client_core.specs.declared.saying.Said.{Said}
-use Rattle.client_core.specs.declared.saying.Said.TheVariants as said
+use Rattle.client_core.specs.declared.saying.Outgoing.{Outgoing}
+use Rattle.client_core.specs.declared.saying.Outgoing.TheVariants as said
 use Rattle.client_core.proofs.GoesLemmas.{goes_out, moved, said_in, told}
 use Rattle.client_core.proofs.core_client.Core.says_told.Goals as goal
 
@@ -33,7 +33,7 @@ returns-then-say-clause-goes g c filling is =
 pub returns-else-say-clause-goes : goal.returns-else-say-clause-goes
 returns-else-say-clause-goes g c filling is =
     let states = c.in-Some.states in
-    let one : Said = said.Told states.request c.as_slice.result in
+    let one : Outgoing = said.Told states.request c.as_slice.result in
     let inside : Goes (Rattle.client_core.specs.contracts.core_client.Core.the_view c.self.inside) c.args.draft.now filling = rw c.self.view_is is in
     let waits = sym (told _ _ filling.client (λ (rest : Client). rest.waiting.told) c.self.view_is is.client)
     ∙ (ap (option_map states_in) c.in-Some.is ∙ ap (λ (info : List ℕ). Some (record { request = states.request; info = info })) (sym c.as_slice.ensures.value)) in

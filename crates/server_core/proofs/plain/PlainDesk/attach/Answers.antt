@@ -1,5 +1,5 @@
 use Rattle.std.proofs.Common.{ℕ}
-use Rattle.standing.specs.Says.{setting_of}
+use Rattle.server_session.specs.Says.{setting_of}
 use Rattle.server_rules.specs.Answer.{after_attach}
 use Rattle.server_rules.specs.Server.{Name}
 use Rattle.server_core.proofs.Desked.{does}

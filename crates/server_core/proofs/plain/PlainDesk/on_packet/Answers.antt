@@ -1,7 +1,7 @@
 use Rattle.std.proofs.Common.{ℕ, max, sym, subst}
 use Rattle.envelope.specs.declared.parts.Dir.TheVariants.{Up}
 use Rattle.envelope.specs.Opening.{IsRefused, Opens}
-use Rattle.standing.specs.Says.{setting_of}
+use Rattle.server_session.specs.Says.{setting_of}
 use Rattle.server_rules.specs.Answer.{after_packet}
 use Rattle.server_core.specs.Packets.{brought_in, effects_in}
 use Rattle.server_core.proofs.Desked.{does, does-nothing}

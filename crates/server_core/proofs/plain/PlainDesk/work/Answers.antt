@@ -1,5 +1,5 @@
 use Rattle.std.proofs.Common.{ℕ}
-use Rattle.standing.specs.Says.{setting_of}
+use Rattle.server_session.specs.Says.{setting_of}
 use Rattle.server_rules.specs.Answer.{after_work}
 use Rattle.server_core.proofs.Desked.{does}
 use Rattle.server_core.proofs.plain.PlainDesk.work.Goals as goal

@@ -6,7 +6,7 @@ use Rattle.envelope.specs.declared.parts.Dir.TheVariants.{Up}
 use Rattle.envelope.specs.declared.parts.Envelope.{Envelope}
 use Rattle.envelope.specs.Opening.{IsRefused, Opens}
 use Rattle.server_rules.specs.Answer.{after_packet}
-use Rattle.standing.specs.Says.{setting_of}
+use Rattle.server_session.specs.Says.{setting_of}
 use Rattle.server_core.specs.Effects.{Gives}
 use Rattle.server_core.specs.Packets.{brought_in, effects_in}
 use Rattle.server_core.specs.Server.{Kept}

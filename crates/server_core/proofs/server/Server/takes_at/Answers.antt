@@ -4,17 +4,17 @@ use Rattle.std.proofs.lemmas.List.Edits.{length-remove}
 use Rattle.auth_keys.specs.declared.ring.RingKey.{RingKey}
 use Rattle.inbox.specs.declared.judged.Judgement.{Judgement}
 use Rattle.inbox.specs.Kinds.{inner_messages}
-use Rattle.rows.specs.declared.due.Due.{Due}
-use Rattle.rows.specs.Due.{needed_of}
-use Rattle.rows.specs.Rings.{AreOf}
+use Rattle.server_dispatch.specs.declared.action.Action.{Action}
+use Rattle.server_dispatch.specs.Action.{needed_of}
+use Rattle.server_dispatch.specs.Rings.{AreOf}
 use Rattle.waits.specs.Jobs.{Queue}
 use Rattle.server_rules.specs.Answer.{Answer, after_packet, begun, message_in}
 use Rattle.server_rules.specs.Event.{Envelope, Setting}
 use Rattle.server_rules.specs.Server.{Binding, Name, Session, remembered, session_named}
-use Rattle.server_laws.specs.Order.{jobs_of}
-use Rattle.standing.specs.declared.standing.Standing.{Standing}
-use Rattle.standing.specs.Names.{name_kept}
-use Rattle.standing.specs.Says.{setting_of}
+use Rattle.law_server.specs.Order.{jobs_of}
+use Rattle.server_session.specs.declared.session.SessionState.{SessionState}
+use Rattle.server_session.specs.Names.{name_kept}
+use Rattle.server_session.specs.Says.{setting_of}
 use Rattle.server_core.specs.Among.{Among, ended_among, heard_among, takes_among}
 use Rattle.server_core.specs.Effects.{Gives}
 use Rattle.server_core.specs.Failures.{blocked_of}
@@ -48,7 +48,7 @@ judges_in_room-requires g c =
     let standings = c.self.inside.sessions in
     let placed : position (is_kept_as name) standings ≡ Some place = ap (λ (kept : K). position (is_kept_as name) kept.sessions) c.self.view_is ∙ c.requires.place in
     let at = place-is (is_kept_as name) standings place (sym placed) in
-    let one : Standing = c.hears_known-others.result.1 in
+    let one : SessionState = c.hears_known-others.result.1 in
     let ring = g.S.Seal.keys c.self.inside.seal in
     let lt : c.self.inside.moment ≤ moment = subst (λ (old : ℕ). old ≤ moment) (sym (ap (λ (kept : K). kept.moment) c.self.view_is)) c.requires.later in
     let can = can-lent ring c.self.inside.moment standings place one c.self.invariant.speaking at.1 (c.hears_known-others.ensures.at_place one) in
@@ -64,11 +64,11 @@ answers_packet-requires g c =
     let standings = c.self.inside.sessions in
     let placed : position (is_kept_as name) standings ≡ Some place = ap (λ (kept : K). position (is_kept_as name) kept.sessions) c.self.view_is ∙ c.requires.place in
     let at = place-is (is_kept_as name) standings place (sym placed) in
-    let one : Standing = c.hears_known-others.result.1 in
+    let one : SessionState = c.hears_known-others.result.1 in
     let ring = g.S.Seal.keys c.self.inside.seal in
     let lt : c.self.inside.moment ≤ moment = subst (λ (old : ℕ). old ≤ moment) (sym (ap (λ (kept : K). kept.moment) c.self.view_is)) c.requires.later in
     let can = can-lent ring c.self.inside.moment standings place one c.self.invariant.speaking at.1 (c.hears_known-others.ensures.at_place one) in
-    let after : Standing = c.judges_in_room.new.standing in
+    let after : SessionState = c.judges_in_room.new.standing in
     record {
       speaking = can-judged ring c.self.inside.moment moment one after can c.in-Ok.ensures.same_name c.in-Ok.ensures.same_numbers c.in-Ok.ensures.at;
       room = c.in-Ok.ensures.room;
@@ -87,18 +87,18 @@ with_it_at-requires g c =
     let standings = c.self.inside.sessions in
     let placed : position (is_kept_as name) standings ≡ Some place = ap (λ (kept : K). position (is_kept_as name) kept.sessions) c.self.view_is ∙ c.requires.place in
     let at = place-is (is_kept_as name) standings place (sym placed) in
-    let one : Standing = c.hears_known-others.result.1 in
+    let one : SessionState = c.hears_known-others.result.1 in
     let ring = g.S.Seal.keys c.self.inside.seal in
     let lt : c.self.inside.moment ≤ moment = subst (λ (old : ℕ). old ≤ moment) (sym (ap (λ (kept : K). kept.moment) c.self.view_is)) c.requires.later in
     let can = can-lent ring c.self.inside.moment standings place one c.self.invariant.speaking at.1 (c.hears_known-others.ensures.at_place one) in
-    let after : Standing = c.judges_in_room.new.standing in
+    let after : SessionState = c.judges_in_room.new.standing in
     let others = c.hears_known-others.result.0 in
     let removed : others ≡ remove standings place = c.hears_known-others.ensures.removed in
-    let long : length others ≡ length (remove standings place) = ap (λ (standings : List Standing). length standings) removed in
+    let long : length others ≡ length (remove standings place) = ap (λ (standings : List SessionState). length standings) removed in
     let fewer = length-remove standings place at.1 in
     let is : insert others place after ≡ standings =
-    ap (λ (others : List Standing). insert others place after) removed
-    ∙ (ap (λ (one : Standing). insert (remove standings place) place one) c.in-Err.ensures.unchanged_on_memory ∙ back-at standings place one at.1 (c.hears_known-others.ensures.at_place one)) in
+    ap (λ (others : List SessionState). insert others place after) removed
+    ∙ (ap (λ (one : SessionState). insert (remove standings place) place one) c.in-Err.ensures.unchanged_on_memory ∙ back-at standings place one at.1 (c.hears_known-others.ensures.at_place one)) in
     record { place = omega (arith, at.1); apart = subst AreApart (sym is) c.hears_known-others.ensures.sessions_apart }
 
 pub invariant_of-self-in-Err : goal.invariant_of-self-in-Err
@@ -111,17 +111,17 @@ invariant_of-self-in-Err g c =
     let standings = c.self.inside.sessions in
     let placed : position (is_kept_as name) standings ≡ Some place = ap (λ (kept : K). position (is_kept_as name) kept.sessions) c.self.view_is ∙ c.requires.place in
     let at = place-is (is_kept_as name) standings place (sym placed) in
-    let one : Standing = c.hears_known-others.result.1 in
+    let one : SessionState = c.hears_known-others.result.1 in
     let ring = g.S.Seal.keys c.self.inside.seal in
     let lt : c.self.inside.moment ≤ moment = subst (λ (old : ℕ). old ≤ moment) (sym (ap (λ (kept : K). kept.moment) c.self.view_is)) c.requires.later in
     let can = can-lent ring c.self.inside.moment standings place one c.self.invariant.speaking at.1 (c.hears_known-others.ensures.at_place one) in
-    let after : Standing = c.judges_in_room.new.standing in
+    let after : SessionState = c.judges_in_room.new.standing in
     let others = c.hears_known-others.result.0 in
     let removed : others ≡ remove standings place = c.hears_known-others.ensures.removed in
     let is : insert others place after ≡ standings =
-    ap (λ (others : List Standing). insert others place after) removed
-    ∙ (ap (λ (one : Standing). insert (remove standings place) place one) c.in-Err.ensures.unchanged_on_memory ∙ back-at standings place one at.1 (c.hears_known-others.ensures.at_place one)) in
-    subst (λ (standings : List Standing). IsSound ring c.self.inside.moment standings) (sym (c.with_it_at.ensures ∙ is)) c.self.invariant
+    ap (λ (others : List SessionState). insert others place after) removed
+    ∙ (ap (λ (one : SessionState). insert (remove standings place) place one) c.in-Err.ensures.unchanged_on_memory ∙ back-at standings place one at.1 (c.hears_known-others.ensures.at_place one)) in
+    subst (λ (standings : List SessionState). IsSound ring c.self.inside.moment standings) (sym (c.with_it_at.ensures ∙ is)) c.self.invariant
 
 pub returns-in-Err-clause-unchanged_on_memory : goal.returns-in-Err-clause-unchanged_on_memory
 returns-in-Err-clause-unchanged_on_memory g c =
@@ -133,21 +133,21 @@ returns-in-Err-clause-unchanged_on_memory g c =
     let standings = c.self.inside.sessions in
     let placed : position (is_kept_as name) standings ≡ Some place = ap (λ (kept : K). position (is_kept_as name) kept.sessions) c.self.view_is ∙ c.requires.place in
     let at = place-is (is_kept_as name) standings place (sym placed) in
-    let one : Standing = c.hears_known-others.result.1 in
+    let one : SessionState = c.hears_known-others.result.1 in
     let ring = g.S.Seal.keys c.self.inside.seal in
     let lt : c.self.inside.moment ≤ moment = subst (λ (old : ℕ). old ≤ moment) (sym (ap (λ (kept : K). kept.moment) c.self.view_is)) c.requires.later in
     let can = can-lent ring c.self.inside.moment standings place one c.self.invariant.speaking at.1 (c.hears_known-others.ensures.at_place one) in
-    let after : Standing = c.judges_in_room.new.standing in
+    let after : SessionState = c.judges_in_room.new.standing in
     let others = c.hears_known-others.result.0 in
     let removed : others ≡ remove standings place = c.hears_known-others.ensures.removed in
     let is : insert others place after ≡ standings =
-    ap (λ (others : List Standing). insert others place after) removed
-    ∙ (ap (λ (one : Standing). insert (remove standings place) place one) c.in-Err.ensures.unchanged_on_memory ∙ back-at standings place one at.1 (c.hears_known-others.ensures.at_place one)) in
+    ap (λ (others : List SessionState). insert others place after) removed
+    ∙ (ap (λ (one : SessionState). insert (remove standings place) place one) c.in-Err.ensures.unchanged_on_memory ∙ back-at standings place one at.1 (c.hears_known-others.ensures.at_place one)) in
     let seal = c.self.inside.seal in
     let before = c.self.inside.moment in
     let jobs = c.judges_in_room.new.jobs.jobs in
     let bindings = c.judges_in_room.new.bindings.bindings in
-    ap (λ (standings : List Standing). kept_so seal before standings jobs bindings) (c.with_it_at.ensures ∙ is)
+    ap (λ (standings : List SessionState). kept_so seal before standings jobs bindings) (c.with_it_at.ensures ∙ is)
     ∙ (ap (λ (jobs : Queue). kept_so seal before standings jobs bindings) c.in-Err.ensures.same_jobs
     ∙ (ap (λ (bindings : List Binding). kept_so seal before standings c.self.inside.jobs.jobs bindings) c.in-Err.ensures.same_bindings ∙ c.self.view_is))
 
@@ -174,7 +174,7 @@ returns-in-Ok-clause-given g c = λ keys server of stands order.
     let draw = c.args.draw.now in
     let heard : Among D = heard_among setting envelope (begun server draw) in
     let session : Session = heard.speaker.session in
-    let one : Standing = c.hears_known-others.result.1 in
+    let one : SessionState = c.hears_known-others.result.1 in
     let is_heard = c.hears_known-others.ensures.heard setting envelope server draw are placed in
     let alone = c.one_session_stays_alone.ensures.heard setting envelope server draw room order.unfailed in
     let ordered = c.one_session_stays_in_order.ensures.heard setting envelope server draw order in
@@ -189,7 +189,7 @@ returns-in-Ok-clause-given g c = λ keys server of stands order.
     let bodies = bodies_of setting envelope session in
     let due_is : taken.dues.items ≡ map needed_of (message_in envelope ∷ inner_messages (message_in envelope)) = c.in-Ok.ensures.dues in
     let J : List Judgement → Type 0 = λ judged. AreDue judged bodies taken.dues.items in
-    let E : List Due → Type 0 = λ dues. AreDue (judged_of setting envelope session) bodies dues in
+    let E : List Action → Type 0 = λ dues. AreDue (judged_of setting envelope session) bodies dues in
     let due : AreDue judged bodies taken.dues.items =
     subst J (sym judged_is) (subst E (sym due_is) (are-due (way_of setting envelope session) (remembered session) (message_in envelope))) in
     let named_so : name_kept one ≡ name = c.hears_known-others.ensures.named name placed in

@@ -5,18 +5,18 @@ use Rattle.auth_keys.specs.declared.ring.RingKey.{RingKey}
 use Rattle.auth_keys.specs.Rings.{entry_of}
 use Rattle.inbox.specs.declared.judged.Judgement.{Judgement}
 use Rattle.inbox.specs.Kinds.{inner_messages}
-use Rattle.rows.specs.declared.due.Due.{Due}
-use Rattle.rows.specs.Due.{needed_of}
-use Rattle.rows.specs.Rings.{AreOf}
+use Rattle.server_dispatch.specs.declared.action.Action.{Action}
+use Rattle.server_dispatch.specs.Action.{needed_of}
+use Rattle.server_dispatch.specs.Rings.{AreOf}
 use Rattle.waits.specs.Held.{Held}
 use Rattle.waits.specs.Jobs.{Queue}
 use Rattle.server_rules.specs.Answer.{Answer, after_packet, begun, message_in}
 use Rattle.server_rules.specs.Event.{Envelope, Setting, State}
 use Rattle.server_rules.specs.Server.{Binding, Name, Session, remembered, session_named}
-use Rattle.server_laws.specs.Order.{jobs_of}
-use Rattle.standing.specs.declared.standing.Standing.{Standing}
-use Rattle.standing.specs.Names.{name_kept}
-use Rattle.standing.specs.Says.{setting_of}
+use Rattle.law_server.specs.Order.{jobs_of}
+use Rattle.server_session.specs.declared.session.SessionState.{SessionState}
+use Rattle.server_session.specs.Names.{name_kept}
+use Rattle.server_session.specs.Says.{setting_of}
 use Rattle.server_core.specs.Among.{Among, ended_among, heard_among, takes_among}
 use Rattle.server_core.specs.Effects.{Gives}
 use Rattle.server_core.specs.Failures.{blocked_of}
@@ -42,12 +42,12 @@ answers_packet-requires g c =
     let standings = c.self.inside.sessions in
     let none : position (is_kept_as name) standings ≡ None = ap (λ (kept : K). position (is_kept_as name) kept.sessions) c.self.view_is ∙ c.requires.none in
     let outside = no-place (is_kept_as name) standings (sym none) in
-    let one : Standing = c.in_ok-standing.standing in
+    let one : SessionState = c.in_ok-standing.standing in
     let ring = g.S.Seal.keys c.self.inside.seal in
     let same_ring : ring ≡ g.S.Seal.keys c.args.self.now.seal = ap (λ (kept : K). g.S.Seal.keys kept.seal) c.self.view_is in
     let lt : c.self.inside.moment ≤ moment = subst (λ (old : ℕ). old ≤ moment) (sym (ap (λ (kept : K). kept.moment) c.self.view_is)) c.requires.later in
     let named_so : name_kept one ≡ name = name-by (name_kept one) name c.in_ok-standing.ensures.key c.in_ok-standing.ensures.number in
-    let after : Standing = c.judges_in_room.new.standing in
+    let after : SessionState = c.judges_in_room.new.standing in
     let R : List RingKey → Type 0 = λ ring. IsSome (entry_of c.args.key ring) in
     let T : ℕ → Type 0 = λ key. IsSome (entry_of key ring) in
     let J : ℕ → Type 0 = λ jobs. CanTake after jobs c.judges_in_room.new.bindings.room c.in_ok-both.both.0 in
@@ -77,7 +77,7 @@ returns-in_err-others-clause-unchanged_on_memory g c =
     let bindings = c.judges_in_room.new.bindings.bindings in
     let unchanged = c.in_err-others.ensures.unchanged_on_memory in
     on-err c.from_residual-in_err-others.result _
-    (ap (λ (standings : List Standing). kept_so seal moment standings jobs bindings) unchanged.0
+    (ap (λ (standings : List SessionState). kept_so seal moment standings jobs bindings) unchanged.0
     ∙ (ap (λ (held : Held). kept_so seal moment standings held.jobs bindings) unchanged.1
     ∙ (ap (λ (jobs : Queue). kept_so seal moment standings jobs bindings) c.in_ok-both.ensures.same_jobs
     ∙ (ap (λ (bindings : List Binding). kept_so seal moment standings c.self.inside.jobs.jobs bindings) c.in_ok-both.ensures.same_bindings ∙ c.self.view_is))))
@@ -93,7 +93,7 @@ returns-clause-given g c = λ keys server of stands order.
     let standings = c.self.inside.sessions in
     let none : position (is_kept_as name) standings ≡ None = ap (λ (kept : K). position (is_kept_as name) kept.sessions) c.self.view_is ∙ c.requires.none in
     let outside = no-place (is_kept_as name) standings (sym none) in
-    let one : Standing = c.in_ok-standing.standing in
+    let one : SessionState = c.in_ok-standing.standing in
     let ring = g.S.Seal.keys c.self.inside.seal in
     let same_ring : ring ≡ g.S.Seal.keys c.args.self.now.seal = ap (λ (kept : K). g.S.Seal.keys kept.seal) c.self.view_is in
     let lt : c.self.inside.moment ≤ moment = subst (λ (old : ℕ). old ≤ moment) (sym (ap (λ (kept : K). kept.moment) c.self.view_is)) c.requires.later in
@@ -127,7 +127,7 @@ returns-clause-given g c = λ keys server of stands order.
     let bodies = bodies_of setting envelope session in
     let due_is : taken.dues.items ≡ map needed_of (message_in envelope ∷ inner_messages (message_in envelope)) = c.in_ok-both.ensures.dues in
     let J : List Judgement → Type 0 = λ judged. AreDue judged bodies taken.dues.items in
-    let E : List Due → Type 0 = λ dues. AreDue (judged_of setting envelope session) bodies dues in
+    let E : List Action → Type 0 = λ dues. AreDue (judged_of setting envelope session) bodies dues in
     let due : AreDue judged bodies taken.dues.items =
     subst J (sym judged_is) (subst E (sym due_is) (are-due (way_of setting envelope session) (remembered session) (message_in envelope))) in
     let limit_is : taken.limit ≡ blocked_of name server.jobs + length taken.dues.items =

@@ -1,15 +1,15 @@
 use Rattle.std.proofs.Common.{◌≡◌, ◌∙◌, ◌≤◌, ℕ, List, [], ap, sym, subst, refl, arith}
 use Rattle.std.specs.Prelude.{sum_by}
 use Rattle.auth_keys.specs.declared.ring.RingKey.{RingKey}
-use Rattle.owing.specs.Outs.{AreSent, Going}
-use Rattle.rows.specs.Entries.{Held}
+use Rattle.server_output.specs.Outs.{AreSent, Going}
+use Rattle.server_dispatch.specs.Entries.{Held}
 use Rattle.waits.specs.Jobs.{Queue}
 use Rattle.server_rules.specs.Event.{Sent, Setting, State}
 use Rattle.server_rules.specs.Sending.{all_sent}
 use Rattle.server_rules.specs.Answer.{Answer, after_tick, begun, ticks, without_spent}
-use Rattle.standing.specs.Says.{setting_of}
+use Rattle.server_session.specs.Says.{setting_of}
 use Rattle.server_core.specs.declared.effects.Effects.{Effects}
-use Rattle.server_core.specs.declared.voices.Voice.{Voice}
+use Rattle.server_core.specs.declared.tick_turns.TickTurn.{TickTurn}
 use Rattle.server_core.specs.Answering.{AreVoices, IsInTick}
 use Rattle.server_core.specs.Effects.{Gives}
 use Rattle.server_core.specs.Losing.{IsHere}
@@ -18,7 +18,7 @@ use Rattle.server_core.specs.Reserving.{AreFresh, AreReserved}
 use Rattle.server_core.specs.Server.{Kept, Stands}
 use Rattle.server_core.proofs.Speaking.{kept-later}
 use Rattle.server_core.proofs.TickStart.{can-here, here-speaking, here-with, reserved-all, sending-starts, speaking-here, spent-rest, tick-room, tick-starts}
-use Rattle.server_core.proofs.VoiceSteps.{can-send}
+use Rattle.server_core.proofs.TickTurnSteps.{can-send}
 use Rattle.server_core.proofs.server.Server.ticks_due.Goals as goal
 
 pub answers_all-requires-clause-voices : goal.answers_all-requires-clause-voices
@@ -29,7 +29,7 @@ answers_all-requires-clause-voices g c =
     let room = c.in_ok-voices.voices.entries.room in
     let ring = g.S.Seal.keys c.self.inside.seal in
     let reserved : AreReserved 0 standings voices after =
-    subst (λ (voices : List Voice). AreReserved 0 standings voices after) c.deref.ensures.value c.in_ok-reserves.ensures.reserved in
+    subst (λ (voices : List TickTurn). AreReserved 0 standings voices after) c.deref.ensures.value c.in_ok-reserves.ensures.reserved in
     let sums : sum_by (λ voice. voice.left) voices ≡ room = sym (ap (λ (held : Held). held.room) c.in_ok-voices.ensures.entries) in
     let done = tick-room c.args.moment c.self.inside.jobs.jobs ring c.self.inside.moment standings after voices room c.in_ok-voices.ensures.fresh reserved c.self.invariant.speaking sums in
     subst (λ (order : List ℕ). AreVoices after voices order room) (sym c.in_ok-voices.ensures.order) done
@@ -45,7 +45,7 @@ sends-requires-clause-sendable g c =
     let lt : c.self.inside.moment ≤ moment =
     subst (λ (old : ℕ). old ≤ moment) (sym (ap (λ (kept : K). kept.moment) c.self.view_is)) c.requires.later in
     let reserved : AreReserved 0 standings voices after =
-    subst (λ (voices : List Voice). AreReserved 0 standings voices after) c.deref.ensures.value c.in_ok-reserves.ensures.reserved in
+    subst (λ (voices : List TickTurn). AreReserved 0 standings voices after) c.deref.ensures.value c.in_ok-reserves.ensures.reserved in
     let here = speaking-here c.sessions_stand_later.ensures.at ring c.self.inside.moment moment standings lt c.self.invariant.speaking in
     let here_after = reserved-all (IsHere ring moment) (here-with ring moment) standings voices after c.in_ok-voices.ensures.fresh.long reserved here in
     let two = c.answers_all.new in
@@ -61,7 +61,7 @@ invariant_of-self-2 g c =
     let after = c.reserves.new.sessions in
     let voices = c.in_ok-voices.voices.list.items in
     let reserved : AreReserved 0 standings voices after =
-    subst (λ (voices : List Voice). AreReserved 0 standings voices after) c.deref.ensures.value c.in_ok-reserves.ensures.reserved in
+    subst (λ (voices : List TickTurn). AreReserved 0 standings voices after) c.deref.ensures.value c.in_ok-reserves.ensures.reserved in
     let long = reserved.long in
     let answered = c.answers_all.ensures.same_count in
     let out = c.sends.ensures.same_count in
@@ -92,7 +92,7 @@ returns-clause-given g c = λ keys server stands order.
     let bound = c.self.inside.bindings.bindings in
     let are = kept-later c.sessions_stand_later.ensures.later c.self.inside.moment moment standings server.sessions lt inside.sessions in
     let reserved : AreReserved 0 standings voices after =
-    subst (λ (voices : List Voice). AreReserved 0 standings voices after) c.deref.ensures.value c.in_ok-reserves.ensures.reserved in
+    subst (λ (voices : List TickTurn). AreReserved 0 standings voices after) c.deref.ensures.value c.in_ok-reserves.ensures.reserved in
     let fresh : AreFresh moment server.jobs standings voices =
     subst (λ (jobs : Queue). AreFresh moment jobs standings voices) inside.jobs c.in_ok-voices.ensures.fresh in
     let none : made ≡ [] = ap (λ (held : Held). held.entries) c.in_ok-voices.ensures.entries in

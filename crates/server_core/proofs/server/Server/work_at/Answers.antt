@@ -4,18 +4,18 @@ use Rattle.std.specs.List.{position, position_or_len}
 use Rattle.std.proofs.lemmas.Bool.{ltb-false}
 use Rattle.std.proofs.lemmas.List.{length-set}
 use Rattle.std.proofs.lemmas.List.Sums.{passes_at_first}
-use Rattle.owing.specs.Outs.{AreSent}
+use Rattle.server_output.specs.Outs.{AreSent}
 use Rattle.auth_keys.specs.declared.ring.RingKey.{RingKey}
 use Rattle.waits.specs.declared.job.Job.{Job}
 use Rattle.waits.specs.Jobs.{ready_count, ready_job}
 use Rattle.server_rules.specs.Server.{Name, is_same, name_of}
 use Rattle.server_rules.specs.Event.{Sent, Setting, Speaker, State, speaker_in, spoken}
 use Rattle.server_rules.specs.Answer.{Answer, after_work, begun, is_spent, room_min}
-use Rattle.server_laws.specs.Order.{jobs_of}
-use Rattle.standing.specs.declared.standing.Standing.{Standing}
-use Rattle.standing.specs.Standing.{Stands as StandsFor, numbers_left}
-use Rattle.standing.specs.Names.{name_kept}
-use Rattle.standing.specs.Says.{setting_of}
+use Rattle.law_server.specs.Order.{jobs_of}
+use Rattle.server_session.specs.declared.session.SessionState.{SessionState}
+use Rattle.server_session.specs.SessionState.{Stands as StandsFor, numbers_left}
+use Rattle.server_session.specs.Names.{name_kept}
+use Rattle.server_session.specs.Says.{setting_of}
 use Rattle.server_core.specs.Effects.{Gives}
 use Rattle.server_core.specs.Failures.{blocked_of}
 use Rattle.server_core.specs.One.{answer_of, lost_where}
@@ -42,7 +42,7 @@ lose_spent-requires g c =
     let d = one-of standings c.args.place at.1 in
     let after = get_or c.runs.new.self c.args.place d in
     let long : length c.runs.new.self ≡ length standings =
-    ap (λ (standings : List Standing). length standings) (c.runs.ensures.others d) ∙ length-set standings c.args.place after in
+    ap (λ (standings : List SessionState). length standings) (c.runs.ensures.others d) ∙ length-set standings c.args.place after in
     omega (arith, at.1)
 
 pub invariant_of-self-2 : goal.invariant_of-self-2
@@ -73,7 +73,7 @@ invariant_of-self-2 g c =
     let sessions_are : c.lose_spent.new.sessions ≡ without_kept_where so name (set standings first after) =
     c.lose_spent.ensures.sessions d
     ∙ ap (without_kept_where so name) (c.runs.ensures.others d ∙ ap (λ (n : ℕ). set standings n after) (sym at.0)) in
-    subst (λ (standings : List Standing). IsSound ring c.args.moment standings) (sym sessions_are) sound
+    subst (λ (standings : List SessionState). IsSound ring c.args.moment standings) (sym sessions_are) sound
 
 pub returns-clause-given : goal.returns-clause-given
 returns-clause-given g c = λ keys server stands order.
@@ -157,7 +157,7 @@ returns-clause-given g c = λ keys server stands order.
     } in
     let stands_then : Stands kept_now answer.server = record {
       moment = ends.moment;
-      sessions = subst (λ (standings : List Standing). AreKept moment standings answer.server.sessions) (sym sessions_are) ends.sessions;
+      sessions = subst (λ (standings : List SessionState). AreKept moment standings answer.server.sessions) (sym sessions_are) ends.sessions;
       jobs = c.lose_spent.ensures.jobs d ∙ ends.jobs;
       bindings = ends.bindings;
     } in

@@ -1,10 +1,10 @@
 use Rattle.std.proofs.Common.{◌∙◌, ◌<◌, ◌≤◌, length, ap, sym, subst, arith}
-use Rattle.owing.specs.Outs.{AreSent, Going}
+use Rattle.server_output.specs.Outs.{AreSent, Going}
 use Rattle.server_rules.specs.Event.{Speaker}
 use Rattle.server_rules.specs.Sending.{sends}
-use Rattle.standing.specs.declared.standing.Standing.{Standing}
-use Rattle.standing.specs.Standing.{Stands}
-use Rattle.standing.specs.Says.{setting_of}
+use Rattle.server_session.specs.declared.session.SessionState.{SessionState}
+use Rattle.server_session.specs.SessionState.{Stands}
+use Rattle.server_session.specs.Says.{setting_of}
 use Rattle.server_core.proofs.Sending.{its-own, none-sent, nothing-sent, some-sent}
 use Rattle.server_core.proofs.speech.Speech.sends.Goals as goal
 use Rattle.server_core.proofs.speech.Speech.sends.Goals.{then-len-gt0, else-len-gt0}
@@ -20,11 +20,11 @@ returns-clause-stands g c = λ keys speaker says.
       | then-len-gt0 w ↦
           let some : 0 < length messages = omega arith in
           subst P (sym (own ∙ some-sent setting messages speaker some))
-          (subst (λ (standing : Standing). Stands c.args.now standing said.session) (sym w.standing-is) (w.sends.ensures.stands keys speaker says))
+          (subst (λ (standing : SessionState). Stands c.args.now standing said.session) (sym w.standing-is) (w.sends.ensures.stands keys speaker says))
       | else-len-gt0 w ↦
           let none : length messages ≤ 0 = omega arith in
           subst P (sym (own ∙ none-sent setting messages speaker none))
-          (subst (λ (standing : Standing). Stands c.args.now standing speaker.session) (sym w.standing-is) says.stands)
+          (subst (λ (standing : SessionState). Stands c.args.now standing speaker.session) (sym w.standing-is) says.stands)
     ]
 
 pub returns-clause-drawn : goal.returns-clause-drawn

@@ -1,0 +1,7 @@
+use Rattle.std.proofs.Common.{refl}
+use Rattle.law_moves.specs.Witness.{lost}
+use Rattle.law_moves.proofs.Runs.{run_lawful}
+use Rattle.law_moves.proofs.laws.calls_can_be_unknown.Goals as goal
+
+pub returns-clause-lawful : goal.returns-clause-lawful
+returns-clause-lawful c = run_lawful lost refl

@@ -1,6 +1,0 @@
-use Rattle.rows.proofs.Bound.{put-told}
-use Rattle.rows.proofs.bindings.Bindings.put.Goals as goal
-
-pub returns-clause-put : goal.returns-clause-put
-returns-clause-put c =
-    rw (← c.self.view_is) (put-told c.args.bound c.self.inside.bindings.items c.forget.new.bindings.items c.push_reserved.new.self.items c.forget.ensures.others c.push_reserved.ensures.items)

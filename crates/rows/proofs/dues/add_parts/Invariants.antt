@@ -1,9 +1,0 @@
-use Rattle.std.proofs.Common.{◌≡◌, ◌+◌, ◌++◌, length, map, vec_len}
-use Rattle.rows.specs.Due.{needed_of}
-use Rattle.rows.proofs.dues.add_parts.Given as goal
-
--- what was read, and what is left, are all
-abbrev pub invariant-loop-part : goal.invariant-loop-part
-invariant-loop-part l =
-    (l.dues.items ++ map needed_of l.part-iterator ≡ l.fn.dues.items ++ map needed_of l.fn.parts)
-    × (vec_len l.dues + length l.part-iterator ≡ vec_len l.fn.dues + length l.fn.parts)

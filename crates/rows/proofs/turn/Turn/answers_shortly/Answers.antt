@@ -1,8 +1,0 @@
-use Rattle.std.proofs.Common.{refl}
-use Rattle.rows.proofs.Steps.{spoken}
-use Rattle.rows.proofs.turn.Turn.answers_shortly.Goals as goal
-
-pub returns-clause-speaks : goal.returns-clause-speaks
-returns-clause-speaks g c = λ keys jobs bindings draw speaker none speaks.
-    rw (← c.bytes.ensures.content)
-    (spoken _ _ _ _ _ _ _ _ _ _ _ speaks (c.answers.ensures.says keys draw speaker none) (record { jobs = refl; bindings = refl; entries = refl }))

@@ -1,7 +1,0 @@
-use Rattle.std.proofs.Common.{refl}
-use Rattle.rows.proofs.Steps.{spoken}
-use Rattle.rows.proofs.turn.Turn.says_destroyed.Goals as goal
-
-pub returns-clause-speaks : goal.returns-clause-speaks
-returns-clause-speaks g c = λ keys jobs bindings draw speaker speaks.
-    spoken _ _ _ _ _ _ _ _ _ _ _ speaks (c.says_destroyed.ensures.says keys draw speaker) (record { jobs = refl; bindings = refl; entries = refl })

@@ -1,8 +1,0 @@
-pub mod Entries
-pub mod Bindings
-pub mod Speaks
-pub mod Rings
-pub mod Spare
-pub mod Due
-pub mod Owed
-pub mod Acks

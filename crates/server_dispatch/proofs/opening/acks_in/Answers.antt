@@ -1,0 +1,11 @@
+use Rattle.std.proofs.Common.{◌∙◌, List, [], fold, ap, arith}
+use Rattle.std.proofs.lemmas.List.{take_all}
+use Rattle.inbox.specs.declared.judged.Judgement.{Judgement}
+use Rattle.server_dispatch.specs.Acks.{noted}
+use Rattle.server_dispatch.proofs.Once.{noted-are}
+use Rattle.server_dispatch.proofs.opening.acks_in.Goals as goal
+
+pub returns-clause-acks : goal.returns-clause-acks
+returns-clause-acks c =
+    c.loop-judgement.invariant.0
+    ∙ (ap (λ (some : List Judgement). fold noted [] some) (take_all c.loop-judgement.judgement-index c.args.judged.now (omega arith)) ∙ noted-are c.args.judged.now)

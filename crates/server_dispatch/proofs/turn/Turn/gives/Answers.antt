@@ -1,0 +1,48 @@
+use Rattle.std.proofs.Common.{◌∙◌, ℕ, ap, subst, sym}
+use Rattle.std.proofs.lemmas.List.Elements.{All-head}
+use Rattle.server_rules.specs.Calls.{accepts_call}
+use Rattle.law_server.specs.Order.{IsUnanswered}
+use Rattle.server_session.specs.Says.{setting_of}
+use Rattle.server_dispatch.specs.declared.action.Answering.{Answering}
+use Rattle.server_dispatch.specs.Owed.{IsCallOf, answers_so}
+use Rattle.server_dispatch.proofs.Steps.{spoken-as}
+use Rattle.server_dispatch.proofs.turn.Turn.gives.Goals as goal
+
+pub returns-in-PackedBody-clause-speaks : goal.returns-in-PackedBody-clause-speaks
+returns-in-PackedBody-clause-speaks g c = λ keys numbers draw speaker name others past opened are is order speaks.
+    let setting = setting_of c.args.now g.D.Draw.step keys in
+    let none = All-head (IsUnanswered speaker.session.replies) c.args.number opened order.midway.opened.unanswered in
+    spoken-as _ _ _ _ _ _ _ _ (ap (λ (answering : Answering). answers_so setting c.args.number numbers answering speaker) c.in-PackedBody.is)
+    (c.answers_in_place.ensures.speaks keys c.args.jobs.now.jobs c.args.bindings.now.bindings draw speaker none speaks)
+
+pub returns-in-BrokenBody-clause-speaks : goal.returns-in-BrokenBody-clause-speaks
+returns-in-BrokenBody-clause-speaks g c = λ keys numbers draw speaker name others past opened are is order speaks.
+    let setting = setting_of c.args.now g.D.Draw.step keys in
+    let none = All-head (IsUnanswered speaker.session.replies) c.args.number opened order.midway.opened.unanswered in
+    spoken-as _ _ _ _ _ _ _ _ (ap (λ (answering : Answering). answers_so setting c.args.number numbers answering speaker) c.in-BrokenBody.is)
+    (c.answers_broken.ensures.speaks keys c.args.jobs.now.jobs c.args.bindings.now.bindings draw speaker none speaks)
+
+pub returns-in-Binds-clause-speaks : goal.returns-in-Binds-clause-speaks
+returns-in-Binds-clause-speaks g c = λ keys numbers draw speaker name others past opened are is order speaks.
+    let setting = setting_of c.args.now g.D.Draw.step keys in
+    let none = All-head (IsUnanswered speaker.session.replies) c.args.number opened order.midway.opened.unanswered in
+    spoken-as _ _ _ _ _ _ _ _ (ap (λ (answering : Answering). answers_so setting c.args.number numbers answering speaker) c.in-Binds.is)
+    (c.binds.ensures.speaks keys c.args.jobs.now.jobs draw speaker are none speaks)
+
+pub returns-in-Drops-clause-speaks : goal.returns-in-Drops-clause-speaks
+returns-in-Drops-clause-speaks g c = λ keys numbers draw speaker name others past opened are is order speaks.
+    let setting = setting_of c.args.now g.D.Draw.step keys in
+    spoken-as _ _ _ _ _ _ _ _ (ap (λ (answering : Answering). answers_so setting c.args.number numbers answering speaker) c.in-Drops.is)
+    (c.drops_answer.ensures.speaks keys c.args.bindings.now.bindings draw speaker name others past opened order speaks)
+
+pub returns-in-ForService-clause-speaks : goal.returns-in-ForService-clause-speaks
+returns-in-ForService-clause-speaks g c = λ keys numbers draw speaker name others past opened are is order speaks.
+    let setting = setting_of c.args.now g.D.Draw.step keys in
+    let due = c.in-ForService.due in
+    let call = subst (λ (answering : Answering). IsCallOf c.args.number numbers answering) c.in-ForService.is is in
+    let none = All-head (IsUnanswered speaker.session.replies) c.args.number opened order.midway.opened.unanswered in
+    let own : IsUnanswered speaker.session.replies due.number = subst (λ (number : ℕ). IsUnanswered speaker.session.replies number) (sym call.0) none in
+    spoken-as _ _ _ _ _ _ _ _
+    (ap (λ (answering : Answering). answers_so setting c.args.number numbers answering speaker) c.in-ForService.is
+    ∙ ap (λ (number : ℕ). accepts_call setting number numbers due.query speaker) (sym call.0))
+    (c.accepts_call.ensures.speaks keys numbers draw speaker are call.1 own speaks)

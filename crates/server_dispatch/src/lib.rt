@@ -1,0 +1,29 @@
+//! What a server owes for each judgement, over one session within an event, in room that was taken before
+//! (core.telegram.org/mtproto/service_messages, core.telegram.org/mtproto/service_messages_about_messages). A `Turn` is what
+//! a session has so far of an event; with the session, the jobs and the bindings it stands for a speaker of the definitions
+//! (`Speaks`). `opens` is what is owed first to a packet, `owes` is a row of their table, and `finishes` and `gives_up` are
+//! what a job that was taken out owes.
+#![tactic(auto)]
+
+mod action;
+mod answering;
+mod bindings;
+mod calls;
+mod dropping;
+mod dues;
+mod entries;
+mod opening;
+mod owes;
+mod repeating;
+mod saying;
+mod turn;
+mod waiting;
+
+pub use action::{Action, Answering, Asked, Telling};
+pub use bindings::Bindings;
+pub use calls::{Awaited, CallDue};
+pub use dues::dues_of;
+pub use entries::{Entries, Entry};
+pub use opening::acks_in;
+pub use turn::Turn;
+pub use waiting::Run;

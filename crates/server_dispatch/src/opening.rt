@@ -1,0 +1,115 @@
+//! What a session owes first to a packet.
+
+ghost use Rattle.std.specs.Prelude.{◌≡◌, ◌≤◌, ◌<◌, ◌+◌, if◌then◌else◌, ℕ, List, [], length, vec_len, vec_capacity};
+ghost use Rattle.inbox.specs.declared.judged.Judgement.{Judgement};
+ghost use Rattle.waits.specs.Jobs.{Queue};
+ghost use Rattle.server_rules.specs.Answer.{opens};
+ghost use Rattle.server_rules.specs.Event.{Speaker};
+ghost use Rattle.server_rules.specs.Rows.{acks_of, is_mark_acked, is_verdict_acked};
+ghost use Rattle.server_rules.specs.Server.{Binding, has_accepted};
+ghost use Rattle.server_rules.specs.Speaking.{says_it_is_new};
+ghost use Rattle.server_output.specs.Items.{acks_bytes, ids_max, new_session_bytes};
+ghost use Rattle.server_session.specs.SessionState.{IsAt, outbox_of};
+ghost use Rattle.server_session.specs.Says.{Keys, setting_of};
+ghost use Rattle.server_session.specs.Unsaid.{NoMoreUnsaid};
+ghost use Rattle.server_dispatch.specs.Acks.{is_acked, noted};
+ghost use Rattle.server_dispatch.specs.Speaks.{HasRoom, Speaks, Spends};
+
+use crate::calls::has;
+use crate::turn::Turn;
+use draws::Draw;
+use inbox::{Judgement, Mark, Verdict};
+use msg_ids::Moment;
+use server_session::SessionState;
+
+/// Writes the numbers that a session acknowledges of what it judged into an empty list with room for them: of messages of odd
+/// sequence number that were accepted, now or before, each once and in order of judging. Takes no memory.
+pub fn acks_in(judged: &[Judgement], acks: &mut Vec<u64>)
+    requires empty { acks.old.items ≡ [] }
+    requires room { length judged.now ≤ vec_capacity acks.old }
+    ensures acks { acks.new.items ≡ acks_of judged.now }
+    ensures few { length acks.new.items ≤ length judged.now }
+    ensures same_capacity { vec_capacity acks.new ≡ vec_capacity acks.old }
+{
+    for judgement in judged {
+        note(acks, judgement);
+    }
+}
+
+// Puts the number of a judgement behind these where it is acknowledged and isn't among them.
+fn note(acks: &mut Vec<u64>, judgement: &Judgement)
+    requires room { vec_len acks.old < vec_capacity acks.old }
+    ensures noted { acks.new.items ≡ noted acks.old.items judgement.now }
+    ensures len { vec_len acks.new ≤ vec_len acks.old + 1 }
+    ensures same_capacity { vec_capacity acks.new ≡ vec_capacity acks.old }
+{
+    if is_acked(judgement) && !has(acks.as_slice(), judgement.number) {
+        acks.push_reserved(judgement.number);
+    }
+}
+
+#[tactic(auto, unfolding(crate::specs::Acks::is_acked))]
+fn is_acked(judgement: &Judgement) -> bool
+    ensures { result ≡ is_acked judgement.now }
+{
+    judgement.seq % 2 == 1 && is_verdict_acked(&judgement.verdict)
+}
+
+fn is_verdict_acked(verdict: &Verdict) -> bool
+    ensures { result ≡ is_verdict_acked verdict.now }
+{
+    match verdict {
+        Verdict::Accepted(_) => true,
+        Verdict::Again(mark) => is_mark_acked(*mark),
+        Verdict::Noticed(_) => false,
+    }
+}
+
+fn is_mark_acked(mark: Mark) -> bool
+    ensures { result ≡ is_mark_acked mark }
+{
+    matches!(
+        mark,
+        Mark::Service | Mark::Waiting | Mark::Replied(_) | Mark::Acked(_)
+    )
+}
+
+impl Turn {
+    /// What the session owes first to a packet that it has judged: it says that it is new where it has accepted nothing so
+    /// far, and then which messages it received, given by `acks_in`.
+    pub fn opens<D: Draw>(
+        &mut self,
+        now: Moment,
+        standing: &mut SessionState,
+        draw: &mut D,
+        acks: &[u64],
+    )
+        requires few { length acks.now ≤ ids_max }
+        requires room { HasRoom 2 (new_session_bytes + acks_bytes (length acks.now)) 0 standing.old self.old }
+        requires at { IsAt now standing.old }
+        ensures speaks { (keys : Keys) (jobs : Queue) (bindings : List Binding) (speaker : Speaker D) (judged : List Judgement) → acks.now ≡ acks_of judged
+            → Speaks now standing.old self.old jobs bindings draw.old speaker
+            → Speaks now standing.new self.new jobs bindings draw.new (opens (setting_of now D.step keys) speaker.session.history judged speaker) }
+        ensures spends { Spends now 2 (new_session_bytes + acks_bytes (length acks.now)) 0 standing.old self.old standing.new self.new }
+        ensures unsaid { NoMoreUnsaid standing.old self.old.owing standing.new self.new.owing }
+        ensures same_replies { outbox_of standing.new ≡ outbox_of standing.old }
+    {
+        self.greets(now, standing, draw);
+        self.acknowledges::<D>(now, standing, acks);
+    }
+
+    // The session says that it is new where it has accepted nothing so far.
+    fn greets<D: Draw>(&mut self, now: Moment, standing: &mut SessionState, draw: &mut D)
+        requires room { HasRoom 1 new_session_bytes 0 standing.old self.old }
+        requires at { IsAt now standing.old }
+        ensures speaks { (keys : Keys) (jobs : Queue) (bindings : List Binding) (speaker : Speaker D) → Speaks now standing.old self.old jobs bindings draw.old speaker
+            → Speaks now standing.new self.new jobs bindings draw.new (if has_accepted speaker.session then speaker else says_it_is_new (setting_of now D.step keys) speaker) }
+        ensures spends { Spends now 1 new_session_bytes 0 standing.old self.old standing.new self.new }
+        ensures unsaid { NoMoreUnsaid standing.old self.old.owing standing.new self.new.owing }
+        ensures same_replies { outbox_of standing.new ≡ outbox_of standing.old }
+    {
+        if standing.is_new() {
+            self.says_it_is_new(now, standing, draw);
+        }
+    }
+}

@@ -1,0 +1,10 @@
+pub mod Kept
+pub mod Marking
+pub mod SessionState
+pub mod Rooms
+pub mod Says
+pub mod Outlooks
+pub mod Names
+pub mod Fates
+pub mod Repeats
+pub mod Unsaid

@@ -1,5 +1,0 @@
-use Rattle.session_moves.proofs.Extended.{all_extend}
-use Rattle.session_moves.proofs.laws.moves_only_add.Goals as goal
-
-pub returns : goal.returns
-returns c = all_extend

@@ -1,5 +1,0 @@
-use Rattle.std.proofs.Common.{refl}
-use Rattle.session_moves.proofs.laws.time_goes_on.Goals as goal
-
-pub returns : goal.returns
-returns c = λ w move. refl

@@ -1,0 +1,19 @@
+use Rattle.std.proofs.Common.{subst, sym, ◌∙◌}
+use Rattle.std.specs.Prelude.{OnOk}
+use Rattle.client_rules.specs.Client.{Client}
+use Rattle.client_core.specs.Holding.{kept_of}
+use Rattle.client_core.specs.Kept.{Stands}
+use Rattle.world_rules.specs.World.{Seat}
+use Rattle.sim_clients.proofs.SeatLemmas.{held_now}
+use Rattle.client_rules.specs.Learning.{ended}
+use Rattle.world_rules.specs.Refusals.{stands_open, nothing_more}
+use Rattle.sim_clients.specs.Told.{TellsRefusal}
+use Rattle.sim_clients.proofs.seat.Seat.end.Goals as goal
+
+pub returns-clause-refused : goal.returns-clause-refused
+returns-clause-refused c =
+    subst (λ held. (seat : Seat) → Stands (kept_of held) seat.client → TellsRefusal (stands_open seat nothing_more) c.end-holder.result.1) (held_now c.args.self.now c.self.inside.holder c.self.inside.clock c.in-Some.holder c.self.view_is (sym c.take.ensures.value ∙ c.in-Some.is)) c.end-holder.ensures.refused
+
+pub returns-clause-stands : goal.returns-clause-stands
+returns-clause-stands c =
+    subst (λ held. OnOk c.end-holder.result.1 ((client : Client) → Stands (kept_of held) client → Stands (kept_of c.end-holder.result.0) (ended client))) (held_now c.args.self.now c.self.inside.holder c.self.inside.clock c.in-Some.holder c.self.view_is (sym c.take.ensures.value ∙ c.in-Some.is)) c.end-holder.ensures.stands

@@ -1,6 +1,0 @@
-use Rattle.std.proofs.Common.{refl}
-use Rattle.standing.proofs.UnsaidLemmas.{none-more, said-more}
-use Rattle.standing.proofs.standing.Standing.answers_ping.Goals as goal
-
-pub returns-clause-unsaid : goal.returns-clause-unsaid
-returns-clause-unsaid g c = none-more c.args.self.now _ c.args.owing.now _ refl (said-more _ _ _ c.pong.ensures.owed)

@@ -1,7 +1,0 @@
-use Rattle.std.proofs.Common.{ap}
-use Rattle.msg_ids.specs.Counters.{Counters, room}
-use Rattle.standing.proofs.standing.Standing.new.Goals as goal
-
-pub returns-clause-numbers : goal.returns-clause-numbers
-unfolding room
-returns-clause-numbers g c = ap (λ (counters : Counters). room counters) c.new-4.ensures

@@ -1,5 +1,0 @@
-use Rattle.standing.proofs.RepeatLemmas.{SaidSoFar}
-use Rattle.standing.proofs.standing.Standing.says_all_again.Given as goal
-
-abbrev pub invariant-loop-place : goal.invariant-loop-place
-invariant-loop-place g l = SaidSoFar g.row.D.Denot l.self l.initial.owing l.place l.owing

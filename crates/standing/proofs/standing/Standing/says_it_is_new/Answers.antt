@@ -1,6 +1,0 @@
-use Rattle.std.proofs.Common.{refl}
-use Rattle.standing.proofs.UnsaidLemmas.{none-more, said-more}
-use Rattle.standing.proofs.standing.Standing.says_it_is_new.Goals as goal
-
-pub returns-clause-unsaid : goal.returns-clause-unsaid
-returns-clause-unsaid g c = none-more c.args.self.now _ c.args.owing.now _ refl (said-more _ _ _ c.new_session.ensures.owed)

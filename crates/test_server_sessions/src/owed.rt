@@ -1,0 +1,212 @@
+//! What a server does with a list of what it owes: it takes room, says what it owes, and sends it.
+
+ghost use Rattle.std.specs.Prelude.{◌≤◌, IsSome};
+ghost use Rattle.auth_keys.specs.Rings.{entry_of};
+ghost use Rattle.msg_ids.specs.Counters.{room};
+
+use draws::{Draw, StepDraw};
+use envelope::{ClearSeal, Dir, Envelope, Opened, Seal};
+use msg_ids::{Moment, Numbers};
+use octets::Memory;
+use salt_line::SaltRow;
+use server_output::{Header, OutgoingMessages, Outs, Packets, packets_most};
+use std::alloc::Global;
+use std::test::*;
+use test_keys::{KEY_ID, ring};
+
+const HEADER: Header = Header {
+    key: KEY_ID,
+    session: 9,
+    salt: 0x0102_0304_0506_0708,
+};
+
+// What a server does with a session that it hears first, and that had a reply before: it takes room, and then nothing can
+// fail.
+fn three_things<S: Seal, D: Draw>(
+    alloc: Global,
+    seal: &S,
+    numbers: &mut Numbers,
+    draw: &mut D,
+) -> Result<Outs, Memory>
+    requires key { IsSome (entry_of KEY_ID (S.keys seal.now)) }
+    requires numbers { 8 ≤ room numbers.old }
+{
+    let mut owing = OutgoingMessages::new(alloc, 3, 100)?;
+    let packets = Packets::new(alloc, 3, 100)?;
+    let mut outs = Outs::new(alloc, packets_most(3, 100))?;
+    let now = Moment::new(0);
+    owing.new_session(now, numbers, 4, 7, HEADER.salt);
+    owing.bad_salt(now, numbers, 4, 1, HEADER.salt);
+    owing.again(13, 3, 8, b"answered in.");
+    packets.send(now, numbers, &owing, HEADER, seal, draw, &mut outs);
+    Ok(outs)
+}
+
+// What it sends under this seal.
+fn sent(alloc: Global, seal: &ClearSeal) -> Result<Outs, Fail> {
+    let mut numbers = Numbers::new();
+    if !seal.has(KEY_ID) || numbers.room() < 8 {
+        return Err(Fail::new("no key, or no numbers"));
+    }
+    Ok(three_things(alloc, seal, &mut numbers, &mut StepDraw::new())?)
+}
+
+// The key, the session and the bytes of the first packet of these.
+fn first(outs: &Outs) -> Option<(u64, u64, &[u8])> {
+    let out = outs.as_slice().first()?;
+    Some((out.key, out.session, out.packet.as_slice()))
+}
+
+// How many packets there are, and the key, the session and the size of the first.
+fn sizes(outs: &Outs) -> (usize, Option<(u64, u64, usize)>) {
+    let first = match first(outs) {
+        Some((key, session, packet)) => Some((key, session, packet.len())),
+        None => None,
+    };
+    (outs.as_slice().len(), first)
+}
+
+#[test]
+fn three_things_go_in_one_packet(rt: HostRuntime) -> Result<(), Fail> {
+    let seal = ClearSeal::new(ring(rt.alloc(), "perm")?);
+    let outs = sent(rt.alloc(), &seal)?;
+    assert_eq!(rt; sizes(&outs), (1, Some((KEY_ID, 9, 216))));
+    Ok(())
+}
+
+fn opened(alloc: Global, seal: &ClearSeal, packet: &[u8]) -> Result<Envelope, Fail> {
+    match seal.unseal(alloc, Moment::new(0), Dir::Down, packet) {
+        Opened::Envelope(envelope) => Ok(envelope),
+        Opened::Refused(_) | Opened::Memory => Err(Fail::new("the packet doesn't open")),
+    }
+}
+
+// The envelope in the first packet.
+fn first_opened(alloc: Global) -> Result<Envelope, Fail> {
+    let seal = ClearSeal::new(ring(alloc, "perm")?);
+    let outs = sent(alloc, &seal)?;
+    match first(&outs) {
+        Some((_, _, packet)) => opened(alloc, &seal, packet),
+        None => Err(Fail::new("no packet")),
+    }
+}
+
+#[test]
+fn they_are_named_as_the_header_says(rt: HostRuntime) -> Result<(), Fail> {
+    let envelope = first_opened(rt.alloc())?;
+    assert_eq!(rt;
+        (
+            envelope.key,
+            envelope.salt,
+            envelope.session,
+            envelope.number,
+            envelope.seq
+        ),
+        (KEY_ID, HEADER.salt, 9, 15, 2)
+    );
+    Ok(())
+}
+
+#[test]
+fn they_are_a_container(rt: HostRuntime) -> Result<(), Fail> {
+    let body =
+        b"\xdc\xf8\xf1\x73\x03\0\0\0\x07\0\0\0\0\0\0\0\x01\0\0\0\x1c\0\0\0\x08\x09\xc2\x9e\x04\0\0\0\0\0\0\0\x07\0\0\0\0\0\0\0\x08\x07\x06\x05\x04\x03\x02\x01\x09\0\0\0\0\0\0\0\x02\0\0\0\x1c\0\0\0\x7b\x44\xab\xed\x04\0\0\0\0\0\0\0\x01\0\0\0\x30\0\0\0\x08\x07\x06\x05\x04\x03\x02\x01\x0d\0\0\0\0\0\0\0\x03\0\0\0\x18\0\0\0\x01\x6d\x5c\xf3\x08\0\0\0\0\0\0\0answered in.";
+    let envelope = first_opened(rt.alloc())?;
+    assert_eq!(rt; envelope.body.as_slice(), body.as_slice());
+    Ok(())
+}
+
+// What a server answers to messages of an accepted session, and the number and the seq of the last, which is a result.
+fn answers(alloc: Global, numbers: &mut Numbers) -> Result<(OutgoingMessages, u64, u32), Memory>
+    requires { 16 ≤ room numbers.old }
+{
+    let rows = [SaltRow {
+        since: 0,
+        until: 3600,
+        salt: 5,
+    }];
+    let now = Moment::new(0);
+    let mut owing = OutgoingMessages::new(alloc, 8, 200)?;
+    owing.acks(now, numbers, &[8, 12]);
+    owing.notice(now, numbers, 4, 1, 32);
+    owing.pong(now, numbers, 8, 3);
+    owing.salts(now, numbers, 8, &rows);
+    owing.states(now, numbers, 8, &[1, 4]);
+    owing.destroyed(now, numbers, 10, true);
+    owing.destroyed(now, numbers, 11, false);
+    let (number, seq) = owing.result(now, numbers, 8, b"done");
+    Ok((owing, number, seq))
+}
+
+// These answers, of a session that has said nothing so far.
+fn first_answers(alloc: Global) -> Result<(OutgoingMessages, u64, u32), Fail> {
+    let mut numbers = Numbers::new();
+    if numbers.room() < 16 {
+        return Err(Fail::new("no numbers"));
+    }
+    Ok(answers(alloc, &mut numbers)?)
+}
+
+// The message at a place.
+fn part(owing: &OutgoingMessages, place: usize) -> Option<(u64, u32, &[u8])> {
+    if place >= owing.len() {
+        return None;
+    }
+    let part = owing.at(place);
+    Some((part.number, part.seq, part.body))
+}
+
+#[test]
+fn what_is_said_is_spelt(rt: HostRuntime) -> Result<(), Fail> {
+    let rows: [(usize, u64, u32, &[u8]); 8] = [
+        (
+            0,
+            7,
+            0,
+            b"\x59\xb4\xd6\x62\x15\xc4\xb5\x1c\x02\0\0\0\x08\0\0\0\0\0\0\0\x0c\0\0\0\0\0\0\0",
+        ),
+        (
+            1,
+            9,
+            0,
+            b"\x11\xf8\xef\xa7\x04\0\0\0\0\0\0\0\x01\0\0\0\x20\0\0\0",
+        ),
+        (
+            2,
+            13,
+            0,
+            b"\xc5\x73\x77\x34\x08\0\0\0\0\0\0\0\x03\0\0\0\0\0\0\0",
+        ),
+        (
+            3,
+            17,
+            0,
+            b"\x95\x08\x50\xae\x08\0\0\0\0\0\0\0\0\0\0\0\x01\0\0\0\0\0\0\0\x10\x0e\0\0\x05\0\0\0\0\0\0\0",
+        ),
+        (
+            4,
+            21,
+            0,
+            b"\x7d\xb5\xde\x04\x08\0\0\0\0\0\0\0\x02\x01\x04\0",
+        ),
+        (5, 25, 0, b"\xfc\x45\x20\xe2\x0a\0\0\0\0\0\0\0"),
+        (6, 29, 0, b"\xc9\x50\xd3\x62\x0b\0\0\0\0\0\0\0"),
+        (7, 33, 1, b"\x01\x6d\x5c\xf3\x08\0\0\0\0\0\0\0done"),
+    ];
+    let (owing, _, _) = first_answers(rt.alloc())?;
+    for (place, number, seq, body) in rows {
+        assert_eq!(rt; part(&owing, place), Some((number, seq, body)));
+    }
+    Ok(())
+}
+
+#[test]
+fn what_is_said_is_counted(rt: HostRuntime) -> Result<(), Fail> {
+    let (owing, number, seq) = first_answers(rt.alloc())?;
+    assert_eq!(rt; (owing.len(), number, seq), (8, 33, 1));
+    assert_eq!(rt;
+        (owing.is_empty(), owing.has_said(33), owing.has_said(8)),
+        (false, true, false)
+    );
+    Ok(())
+}

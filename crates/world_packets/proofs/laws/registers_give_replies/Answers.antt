@@ -1,5 +1,0 @@
-use Rattle.world_packets.proofs.Registers.{step-good}
-use Rattle.world_packets.proofs.laws.registers_give_replies.Goals as goal
-
-pub returns : goal.returns
-returns c = step-good
