@@ -7,7 +7,7 @@ use Rattle.envelope.specs.declared.parts.Envelope.{Envelope}
 use Rattle.envelope.specs.Packet.{Lock}
 use Rattle.server_rules.specs.Event.{Sent}
 use Rattle.server_rules.specs.Events.{Event, Packet as Comes, Work, after_event}
-use Rattle.law_server_packets.specs.Steady as kept
+use Rattle.law_server_bounds.specs.Steady as kept
 use Rattle.world_rules.specs.Ends.{comes_up, course_in, sent_down, serves}
 use Rattle.world_rules.specs.Setting.{Setting, as_heard, as_sealed, at_server}
 use Rattle.world_rules.specs.World.{World, server_now}

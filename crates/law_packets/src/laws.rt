@@ -34,7 +34,7 @@ pub fn packets_of_worlds_are_lawful<D: Draw, V>()
     auth_keys::laws::identifiers_are_longs();
     law_packet_parts::laws::lawful_parts_are_sealed();
     law_client_packets::laws::packets_may_be_sealed::<D>();
-    law_server_packets::laws::packets_may_be_sealed::<D, V>();
+    law_server_bounds::laws::packets_may_be_sealed::<D, V>();
 }
 
 /// The registers are a service of a sound setting: each of their replies is whole words of bytes, and short.

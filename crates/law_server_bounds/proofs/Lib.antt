@@ -11,3 +11,12 @@ pub mod Sent
 pub mod Given
 pub mod Answered
 pub mod Taking
+pub mod PacketSteps
+pub mod Counts
+pub mod Saying
+pub mod Owing
+pub mod Bodies
+pub mod Heard
+pub mod Sending
+pub mod Ending
+pub mod Events

@@ -1,7 +1,7 @@
 -- Lists.
-use Rattle.std.proofs.Common.{◌≡◌, ◌∙◌, ℕ, zero, suc, Bool, true, false, cond, Option, Some, None, List, [], ◌∷◌, length, get_or, ap, sym, subst, refl, arith, inl, inr}
+use Rattle.std.proofs.Common.{◌≡◌, ◌∙◌, ℕ, zero, suc, Bool, true, false, cond, Option, Some, None, List, [], ◌∷◌, ◌++◌, length, get_or, ap, sym, subst, refl, arith, inl, inr}
 use Rattle.std.specs.Prelude.{map}
-use Rattle.std.specs.List.{All, Contains, filter, find}
+use Rattle.std.specs.List.{All, AllByRecursion, Contains, filter, find, flat_map}
 use Rattle.std.proofs.lemmas.Bool.{cases_Bool, cond-true, cond-false, cond_both}
 use Rattle.std.proofs.lemmas.List.Elements.{All-nil, All-cons, All-head, All-tail, All-weaker}
 
@@ -63,3 +63,34 @@ filter-there {X} test (first ∷ xs) =
     let rest : All Then (filter test xs) = All-weaker There Then (λ x there. (contains-later x first xs there.0, there.1)) (filter test xs) (filter-there test xs) in
     cond_both (test first) (first ∷ filter test xs) (filter test xs) (λ (left : List X). All Then left)
     (λ is. All-cons Then first (filter test xs) ((0, omega arith, refl), is) rest) (λ is. rest)
+
+-- ---- all members, one by one
+
+pub find-of : {X : Type 0} (P : X → Type 0) (test : X → Bool) (xs : List X) (x : X) → AllByRecursion P xs → find test xs ≡ Some x → P x
+find-of P test [] x all is = absurd (none-some x is)
+find-of P test (first ∷ xs) x all is =
+    elim (cases_Bool (test first)) [
+      | inl holds ↦ subst P (some-same first x (sym (cond-true (test first) (Some first) (find test xs) holds) ∙ is)) all.0
+      | inr fails ↦ find-of P test xs x all.1 (sym (cond-false (test first) (Some first) (find test xs) fails) ∙ is)
+    ]
+
+pub rec-append : {X : Type 0} (P : X → Type 0) (xs ys : List X) → AllByRecursion P xs → AllByRecursion P ys → AllByRecursion P (xs ++ ys)
+rec-append P [] ys h k = k
+rec-append P (x ∷ xs) ys h k = (h.0, rec-append P xs ys h.1 k)
+
+pub rec-filter : {X : Type 0} (P : X → Type 0) (test : X → Bool) (xs : List X) → AllByRecursion P xs → AllByRecursion P (filter test xs)
+rec-filter P test [] h = tt
+rec-filter {X} P test (x ∷ xs) h =
+    let rest = rec-filter P test xs h.1 in
+    cond_both (test x) (x ∷ filter test xs) (filter test xs) (λ (kept : List X). AllByRecursion P kept) (λ is. (h.0, rest)) (λ is. rest)
+
+front-both : {X : Type 0} (P : X → Type 0) (xs ys : List X) → AllByRecursion P (xs ++ ys) → AllByRecursion P xs × AllByRecursion P ys
+front-both P [] ys h = (tt, h)
+front-both P (x ∷ xs) ys h = let rest = front-both P xs ys h.1 in ((h.0, rest.0), rest.1)
+
+-- all members of lists that are put one after the other
+pub all-split : {X : Type 0} (P : X → Type 0) (lists : List (List X)) → AllByRecursion P (flat_map (λ (group : List X). group) lists) → AllByRecursion (λ (group : List X). AllByRecursion P group) lists
+all-split P [] h = tt
+all-split {X} P (list ∷ lists) h =
+    let both = front-both P list (flat_map (λ (group : List X). group) lists) h in
+    (both.0, all-split P lists both.1)

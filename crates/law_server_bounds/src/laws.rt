@@ -1,6 +1,8 @@
-//! Laws on how much a server keeps, and how much one event gives, each the contract of a function that does nothing.
+//! Laws on how much a server keeps, how much one event gives, and the packets that it makes, each the contract of a function
+//! that does nothing.
 
-ghost use Rattle.std.specs.Prelude.{◌≡◌, All, List, Some};
+ghost use Rattle.std.specs.Prelude.{◌≡◌, ℕ, Bool, All, List, Some};
+ghost use Rattle.std.specs.List.{AllByRecursion};
 ghost use Rattle.inbox.specs.Acceptance.{IsAcceptable};
 ghost use Rattle.outbox.specs.Replies.{IsWithin};
 ghost use Rattle.regs_service.specs.Served.{Step};
@@ -11,9 +13,13 @@ ghost use Rattle.server_rules.specs.Answer.{begun, hears, message_in, name_in};
 ghost use Rattle.server_rules.specs.Events.{Course, Event, after_event, begun_course, course_of};
 ghost use Rattle.law_server_bounds.specs.Giving.{GivesFew};
 ghost use Rattle.law_server_bounds.specs.Runs.{AreShortRuns, IsShortRun};
+ghost use Rattle.law_server_sizes.specs.Small.{DrawsWords};
 ghost use Rattle.law_server_bounds.specs.Taking.{IsTaken};
+ghost use Rattle.law_server_bounds.specs.Steady.{IsFair, IsSealable, IsSteady};
 
 use draws::Draw;
+use law_server::laws::{sessions_have_room, sessions_speak};
+use law_server_sizes::laws::{packets_are_whole, sizes_stay_small, what_is_owed_is_small};
 
 /// After every list of events each session keeps at most 4,096 replies, of 4,194,304 bytes together, as long as each reply
 /// of the service on the way has at most 262,144 bytes.
@@ -67,4 +73,26 @@ pub fn lawful_messages_are_taken<D: Draw>()
     law_server::laws::sessions_speak::<D>();
     law_server::laws::sessions_speak_for_themselves::<D>();
     inbox::laws::acceptable_messages_are_accepted();
+}
+
+/// Each event of a steady server leaves it steady, and each packet that it makes may be sealed: its number and its seq fit
+/// their places, since one event gives a session fewer numbers than it has room for.
+pub fn packets_may_be_sealed<D: Draw, V>()
+    ensures steady { (known : ℕ → Bool) (setting : Setting D) (serve : Step V) (service : V) (course : Course D V) (event : Event) → DrawsWords setting
+        → IsFair known serve course event → IsSteady known course.server → IsSteady known (after_event setting serve service course event).server }
+    ensures packets { (known : ℕ → Bool) (setting : Setting D) (serve : Step V) (service : V) (course : Course D V) (event : Event) → DrawsWords setting
+        → IsFair known serve course event → IsSteady known course.server → AllByRecursion (IsSealable known) course.packets
+        → AllByRecursion (IsSealable known) (after_event setting serve service course event).packets }
+{
+    containers::laws::parts_are_exact();
+    packing::laws::packets_have_all_messages();
+    msg_ids::laws::room_lasts();
+    law_packet_parts::laws::drawn_padding_is_lawful::<D>();
+    sessions_speak::<D>();
+    sessions_have_room::<D, V>();
+    replies_are_few::<D, V>();
+    jobs_are_few::<D, V>();
+    what_is_owed_is_small::<D>();
+    sizes_stay_small::<D, V>();
+    packets_are_whole::<D, V>();
 }

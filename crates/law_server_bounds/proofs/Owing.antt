@@ -18,11 +18,11 @@ use Rattle.server_rules.specs.Speaking.{says, msg_wait_failed, msg_wait_timeout}
 use Rattle.server_rules.specs.Waiting.{gives_up, given_up, first_given_up, all_given_up, after_failures, after_timeouts, tells_of}
 use Rattle.server_rules.specs.Rows.{settles, row, owes, destroys}
 use Rattle.server_rules.specs.Answer.{attaches, finishes, opens}
-use Rattle.law_server_packets.proofs.Counts.{FallsByOne, count, filter-fewer, first-fewer, first-out, jobs_by, name_for}
-use Rattle.law_server_packets.proofs.Names.{cases_name, found-named, lost-named, lost-none}
-use Rattle.law_server_packets.proofs.Unsaid.{unsaid}
-use Rattle.law_server_packets.proofs.Steps.{Steps, attached, finished, given, opened, owed}
-use Rattle.law_server_packets.proofs.Saying.{P, Q, own-steps, other-steps}
+use Rattle.law_server_bounds.proofs.Counts.{FallsByOne, count, filter-fewer, first-fewer, first-out, jobs_by, name_for}
+use Rattle.law_server_bounds.proofs.Names.{cases_name, found-named, lost-named, lost-none}
+use Rattle.law_server_bounds.proofs.Unsaid.{unsaid}
+use Rattle.law_server_bounds.proofs.PacketSteps.{Steps, attached, finished, given, opened, owed}
+use Rattle.law_server_bounds.proofs.Saying.{P, Q, own-steps, other-steps}
 
 -- ---- what is so of a session, where one of the name stands
 

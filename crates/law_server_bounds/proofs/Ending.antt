@@ -10,12 +10,12 @@ use Rattle.server_rules.specs.Event.{Owed, Sent, Setting, State, lost}
 use Rattle.server_rules.specs.Sending.{all_sent, messages_by}
 use Rattle.server_rules.specs.Answer.{Answer, ended, is_spent}
 use Rattle.law_server_sizes.specs.Small.{AreGivenTo, IsSmallState}
-use Rattle.law_server_packets.specs.Steady.{IsKnown}
-use Rattle.law_server_packets.proofs.Counts.{FallsByOne, count, messages-count}
-use Rattle.law_server_packets.proofs.Lists.{find-of, rec-filter}
-use Rattle.law_server_packets.proofs.Names.{found-named, names-same, same-names}
-use Rattle.law_server_packets.proofs.Owing.{G, HasLeft, Speak}
-use Rattle.law_server_packets.proofs.Sending.{ArePackets, ArePadded, CanSend, HasNumbers, HaveAll, IsFit, IsNumbered, all-sent}
+use Rattle.law_server_bounds.specs.Steady.{IsKnown}
+use Rattle.law_server_bounds.proofs.Counts.{FallsByOne, count, messages-count}
+use Rattle.law_server_bounds.proofs.Lists.{find-of, rec-filter}
+use Rattle.law_server_bounds.proofs.Names.{found-named, names-same, same-names}
+use Rattle.law_server_bounds.proofs.Owing.{G, HasLeft, Speak}
+use Rattle.law_server_bounds.proofs.Sending.{ArePackets, ArePadded, CanSend, HasNumbers, HaveAll, IsFit, IsNumbered, all-sent}
 
 -- ---- what is owed fits
 

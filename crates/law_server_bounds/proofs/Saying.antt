@@ -16,11 +16,11 @@ use Rattle.server_rules.specs.Server.{Name, Reply, IsKept, is_kept, name_of}
 use Rattle.server_rules.specs.Event.{Owed, Setting, Speaker}
 use Rattle.server_rules.specs.Speaking.{answers, has_said, message_of, owes_message, says, says_again}
 use Rattle.server_rules.specs.Waiting.{outlook, tells_of}
-use Rattle.law_server_packets.proofs.Counts.{FallsByOne, count, count-other, count-own, first-fewer, jobs-push, jobs_by, name_for, of-other, one-low, told-same}
-use Rattle.law_server_packets.proofs.Kept.{OnlyDrops}
-use Rattle.law_server_packets.proofs.Names.{names-same}
-use Rattle.law_server_packets.proofs.Unsaid.{has, unsaid, unsaid-answered, unsaid-changed, unsaid-further, unsaid-said}
-use Rattle.law_server_packets.proofs.Steps.{Steps}
+use Rattle.law_server_bounds.proofs.Counts.{FallsByOne, count, count-other, count-own, first-fewer, jobs-push, jobs_by, name_for, of-other, one-low, told-same}
+use Rattle.law_server_bounds.proofs.Kept.{OnlyDrops}
+use Rattle.law_server_bounds.proofs.Names.{names-same}
+use Rattle.law_server_bounds.proofs.Unsaid.{has, unsaid, unsaid-answered, unsaid-changed, unsaid-further, unsaid-said}
+use Rattle.law_server_bounds.proofs.PacketSteps.{Steps}
 
 -- ---- the session of the name speaks
 

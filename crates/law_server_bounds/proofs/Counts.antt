@@ -12,8 +12,8 @@ use Rattle.server_rules.specs.Server.{Name, Session, is_same}
 use Rattle.server_rules.specs.Event.{Owed}
 use Rattle.server_rules.specs.Sending.{messages_by}
 use Rattle.server_rules.specs.Waiting.{Outlook, Over, InVain, GoesOn, told as told_so}
-use Rattle.law_server_packets.proofs.Lists.{none-some}
-use Rattle.law_server_packets.proofs.Names.{names-same, same-names}
+use Rattle.law_server_bounds.proofs.Lists.{none-some}
+use Rattle.law_server_bounds.proofs.Names.{names-same, same-names}
 
 -- ---- what is owed
 

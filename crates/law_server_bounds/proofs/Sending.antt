@@ -15,11 +15,11 @@ use Rattle.server_rules.specs.Server.{Name, Session, is_named, is_same, name_of,
 use Rattle.server_rules.specs.Event.{Owed, Sent, Setting, State, Speaker, speaker_in, spoken_by, speaks}
 use Rattle.server_rules.specs.Speaking.{needs_salts}
 use Rattle.server_rules.specs.Sending.{all_sent, envelope_of, messages_by, names_in, padding_bytes, seals, sends}
-use Rattle.law_server_packets.specs.Steady.{IsKnown}
-use Rattle.law_server_packets.proofs.Counts.{FallsByOne}
-use Rattle.law_server_packets.proofs.Lists.{all-split, rec-append, rec-filter}
-use Rattle.law_server_packets.proofs.Names.{found-named, names-same}
-use Rattle.law_server_packets.proofs.Owing.{Speak}
+use Rattle.law_server_bounds.specs.Steady.{IsKnown}
+use Rattle.law_server_bounds.proofs.Counts.{FallsByOne}
+use Rattle.law_server_bounds.proofs.Lists.{all-split, rec-append, rec-filter}
+use Rattle.law_server_bounds.proofs.Names.{found-named, names-same}
+use Rattle.law_server_bounds.proofs.Owing.{Speak}
 
 -- ---- numbers
 

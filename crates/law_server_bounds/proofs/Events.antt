@@ -16,13 +16,13 @@ use Rattle.server_rules.specs.Answer.{after_run, attaches, begun, runs, takes, t
 use Rattle.server_rules.specs.Events.{Attach, Course, Event, Loss, Packet, Restart, Tick, Work, after_event, setting_at, worked}
 use Rattle.law_server_bounds.specs.Runs.{IsShortRun}
 use Rattle.law_server_sizes.specs.Small.{AreGivenTo, AreSmall, DrawsWords, GivesReplies, HasSmallEnvelope, IsContent, IsSmallEnvelope, IsSmallState, IsWholeSent}
-use Rattle.law_server_packets.specs.Steady.{IsFair, IsKnown, IsSealable, IsSteady}
-use Rattle.law_server_packets.proofs.Bodies.{AreLawful}
-use Rattle.law_server_packets.proofs.Ending.{Gives, Laws, gives}
-use Rattle.law_server_packets.proofs.Heard.{attach-g, begun-g, packet-g, run-g, tick-g}
-use Rattle.law_server_packets.proofs.Lists.{none-some, rec-append, rec-filter}
-use Rattle.law_server_packets.proofs.Owing.{more-g}
-use Rattle.law_server_packets.proofs.Sending.{IsNumbered}
+use Rattle.law_server_bounds.specs.Steady.{IsFair, IsKnown, IsSealable, IsSteady}
+use Rattle.law_server_bounds.proofs.Bodies.{AreLawful}
+use Rattle.law_server_bounds.proofs.Ending.{Gives, Laws, gives}
+use Rattle.law_server_bounds.proofs.Heard.{attach-g, begun-g, packet-g, run-g, tick-g}
+use Rattle.law_server_bounds.proofs.Lists.{none-some, rec-append, rec-filter}
+use Rattle.law_server_bounds.proofs.Owing.{more-g}
+use Rattle.law_server_bounds.proofs.Sending.{IsNumbered}
 
 -- ---- a service that gives the one reply that is asked of it
 

@@ -15,13 +15,13 @@ use Rattle.server_rules.specs.Server.{Name, Server, Session, is_named, kept_repl
 use Rattle.server_rules.specs.Event.{Envelope, Setting, State, speaks, lost}
 use Rattle.server_rules.specs.Waiting.{after_timeouts}
 use Rattle.server_rules.specs.Answer.{attaches, begun, finishes, hears, hears_by, makes, message_in, messages_judged, name_in, opens, runs, session_for, takes, takes_by, ticks, without_first as without_first_session}
-use Rattle.law_server_packets.specs.Steady.{IsKnown, IsSteady}
-use Rattle.law_server_packets.proofs.Counts.{FallsByOne, count, off-name, ready-fewer}
-use Rattle.law_server_packets.proofs.Lists.{find-all, find-of, none-some}
-use Rattle.law_server_packets.proofs.Names.{cases_name, found-named, lost-named, lost-none, names-same}
-use Rattle.law_server_packets.proofs.Unsaid.{unsaid-kept}
-use Rattle.law_server_packets.proofs.Owing.{G, HasLeft, Speak, UnsaidAt, attached-g, failures, finished-g, lost-g, more-g, opened-g, settled, timeouts}
-use Rattle.law_server_packets.proofs.Bodies.{AreLawful, judged-few}
+use Rattle.law_server_bounds.specs.Steady.{IsKnown, IsSteady}
+use Rattle.law_server_bounds.proofs.Counts.{FallsByOne, count, off-name, ready-fewer}
+use Rattle.law_server_bounds.proofs.Lists.{find-all, find-of, none-some}
+use Rattle.law_server_bounds.proofs.Names.{cases_name, found-named, lost-named, lost-none, names-same}
+use Rattle.law_server_bounds.proofs.Unsaid.{unsaid-kept}
+use Rattle.law_server_bounds.proofs.Owing.{G, HasLeft, Speak, UnsaidAt, attached-g, failures, finished-g, lost-g, more-g, opened-g, settled, timeouts}
+use Rattle.law_server_bounds.proofs.Bodies.{AreLawful, judged-few}
 
 -- ---- who stands under a name
 

@@ -3,12 +3,12 @@ use Rattle.regs_service.specs.Served.{Step}
 use Rattle.server_rules.specs.Event.{Setting}
 use Rattle.server_rules.specs.Events.{Course, Event, after_event}
 use Rattle.law_server_sizes.specs.Small.{DrawsWords}
-use Rattle.law_server_packets.specs.Steady.{IsFair, IsSteady}
-use Rattle.law_server_packets.proofs.Ending.{Laws}
-use Rattle.law_server_packets.proofs.Events.{Below, Goes, event-goes, event-sealable, event-steady}
-use Rattle.law_server_packets.proofs.laws.packets_may_be_sealed.Goals as goal
+use Rattle.law_server_bounds.specs.Steady.{IsFair, IsSteady}
+use Rattle.law_server_bounds.proofs.Ending.{Laws}
+use Rattle.law_server_bounds.proofs.Events.{Below, Goes, event-goes, event-sealable, event-steady}
+use Rattle.law_server_bounds.proofs.laws.packets_may_be_sealed.Goals as goal
 
-module _ (g : Rattle.law_server_packets.proofs.laws.packets_may_be_sealed.Given.Over) (c : goal.After-packets_are_whole g) where
+module _ (g : Rattle.law_server_bounds.proofs.laws.packets_may_be_sealed.Given.Over) (c : goal.After-packets_are_whole g) where
   abbrev D : Type 0
   D = g.row.D.Denot
 

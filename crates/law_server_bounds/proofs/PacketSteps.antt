@@ -28,8 +28,8 @@ use Rattle.server_rules.specs.Waiting.{tells_of, gives_up}
 use Rattle.server_rules.specs.Calls.{accepts_call, becomes_job, binds, binds_by, bool_true_content, drops_by, drops_kept, drops_running, dropped_running, job_of, refusal, with_binding}
 use Rattle.server_rules.specs.Rows.{accepts, acked_by, acknowledges, answers_broken, came_again, future_salt_of, kept_numbered, notices, owes, says_reply, sends_again, takes_acks, tells_salts, tells_states, acks_of}
 use Rattle.server_rules.specs.Answer.{attaches, finishes, opens}
-use Rattle.law_server_packets.proofs.Lists.{filter-there, find-holds}
-use Rattle.law_server_packets.proofs.Kept.{OnlyDrops, dropped_at-only, acked-only}
+use Rattle.law_server_bounds.proofs.Lists.{filter-there, find-holds}
+use Rattle.law_server_bounds.proofs.Kept.{OnlyDrops, dropped_at-only, acked-only}
 
 -- P holds of a speaker at a cost of so many further messages
 pub record Steps (S : Type 0) (setting : Setting S) (P : ℕ → Speaker S → Type 0) : Type 0 where
