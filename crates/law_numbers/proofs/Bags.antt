@@ -19,9 +19,9 @@ use Rattle.inbox.specs.declared.judged.Verdict.TheVariants.{Accepted, Again, Not
 use Rattle.inbox.specs.Kinds.{inner_messages, parts_among}
 use Rattle.inbox.specs.Judging.{judge, unfolded}
 use Rattle.client_rules.specs.Taking.{message_in}
-use Rattle.law_client_numbers.specs.Given.{IsContainerOf, IsPlain}
+use Rattle.law_numbers.specs.Given.{IsContainerOf, IsPlain}
 use Rattle.server_rules.specs.Server.{Name, remembered}
-use Rattle.law_server_notices.specs.Apart.{IsOfKind, IsPacketOf, Kinds}
+use Rattle.law_numbers.specs.Apart.{IsOfKind, IsPacketOf, Kinds}
 use Rattle.world_rules.specs.Setting.{as_heard}
 use Rattle.world_rules.specs.World.{Packet}
 use Rattle.law_once.specs.Made.{IsShort}

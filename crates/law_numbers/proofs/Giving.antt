@@ -14,7 +14,7 @@ use Rattle.client_rules.specs.Events as wishes
 use Rattle.client_rules.specs.Flush.{Answer, Nothing, Sends, Spent, filled, flush}
 use Rattle.client_rules.specs.Taking.{message_in}
 use Rattle.client_rules.specs.Sending.{Setting as ClientSetting}
-use Rattle.law_client_numbers.specs.Given.{Given, HasGiven, IsAnswerOf, IsRenewal, given_after, given_by}
+use Rattle.law_numbers.specs.Given.{Given, HasGiven, IsAnswerOf, IsRenewal, given_after, given_by}
 use Rattle.server_rules.specs.Event.{Sent}
 use Rattle.world_rules.specs.World.{Packet, Seat, World, changed_at, changed_from_0, counted}
 use Rattle.world_rules.specs.Premises.{Fresh, drawn_for_session, names_drawn, sessions_drawn}

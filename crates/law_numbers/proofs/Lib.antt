@@ -1,3 +1,13 @@
+pub mod ServerLists
+pub mod Judging
+pub mod Rows
+pub mod States
+pub mod ClientLists
+pub mod Plain
+pub mod Kept
+pub mod Taking
+pub mod Filling
+pub mod Events
 pub mod Lists
 pub mod Distinct
 pub mod Walking

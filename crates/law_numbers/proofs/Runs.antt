@@ -14,7 +14,7 @@ use Rattle.sched_text.specs.declared.event.Event.TheVariants as line
 use Rattle.law_server.specs.Order.{AreOrdered}
 use Rattle.server_rules.specs.Events.{Course, Event as ServerEvent, Packet as Comes, Restart, after_event}
 use Rattle.client_rules.specs.Events as wishes
-use Rattle.law_server_notices.specs.Apart.{IsPacketOf, Kinds}
+use Rattle.law_numbers.specs.Apart.{IsPacketOf, Kinds}
 use Rattle.world_rules.specs.Setting.{Setting, as_heard, at_client, at_server}
 use Rattle.world_rules.specs.World.{Packet, Seat, World, bytes_of, counted, seat_now, server_now}
 use Rattle.world_rules.specs.Premises.{IsByNoChance, NoChance, OpensOnly}

@@ -7,7 +7,7 @@ use Rattle.envelope.specs.declared.parts.Envelope.{Envelope}
 use Rattle.server_rules.specs.Event.{Sent}
 use Rattle.server_rules.specs.Events.{Course, Event as ServerEvent, Packet as Comes, Restart, after_event}
 use Rattle.client_rules.specs.Flush.{Answer, Nothing, Sends, Spent}
-use Rattle.law_server_notices.specs.Apart.{AreQuiet, AreSessionsOf, IsEventOf, IsPacketOf, IsQuietBody, Kinds}
+use Rattle.law_numbers.specs.Apart.{AreQuiet, AreSessionsOf, IsEventOf, IsPacketOf, IsQuietBody, Kinds}
 use Rattle.world_rules.specs.Setting.{Setting, as_heard, at_server}
 use Rattle.world_rules.specs.World.{Packet, World, server_now}
 use Rattle.world_rules.specs.Ends.{comes_up, course_in, flushed_at, sent_down, sent_up, serves}

@@ -7,8 +7,8 @@ use Rattle.service_tl.specs.declared.lists.Message.{Message}
 use Rattle.envelope.specs.declared.parts.Dir.TheVariants.{Up, Down}
 use Rattle.envelope.specs.declared.parts.Envelope.{Envelope}
 use Rattle.client_rules.specs.Taking.{message_in}
-use Rattle.law_client_numbers.specs.Given.{AreOnce, IsMadeOf}
-use Rattle.law_server_notices.specs.Apart.{IsQuietBody}
+use Rattle.law_numbers.specs.Given.{AreOnce, IsMadeOf}
+use Rattle.law_numbers.specs.Apart.{IsQuietBody}
 use Rattle.world_rules.specs.World.{Packet, World}
 
 -- ---- numbers

@@ -23,7 +23,7 @@ pub fn numbers_are_given_once<D: Draw, V>()
     ensures schedule { (setting : Setting D V) (draw : D) (events : List Event) → Fresh (run_of setting draw events) → GivesOnce (run_of setting draw events) }
     ensures any { (setting : Setting D V) (draw : D) (events : List Event) → Fresh (run_of_any setting draw events) → GivesOnce (run_of_any setting draw events) }
 {
-    law_client_numbers::laws::numbers_are_given_once::<D>();
+    crate::client_laws::numbers_are_given_once::<D>();
     law_server::laws::servers_stay_in_order::<D, V>();
     law_once::laws::worlds_only_grow::<D, V>();
 }
@@ -42,7 +42,7 @@ pub fn notice_19_never_comes<D: Draw, V>()
     containers::laws::parts_are_exact();
     containers::laws::packed_is_unfolded();
     law_server::laws::servers_stay_in_order::<D, V>();
-    law_server_notices::laws::containers_are_told_apart::<D, V>();
+    crate::server_laws::containers_are_told_apart::<D, V>();
     law_once::laws::what_opens_was_made::<D, V>();
     law_once::laws::worlds_only_grow::<D, V>();
     law_packets::laws::packets_of_worlds_are_lawful::<D, V>();

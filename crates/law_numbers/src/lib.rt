@@ -2,4 +2,6 @@
 //! server session says notice 19. `specs/Numbers.antt` says what that is.
 #![tactic(auto)]
 
+pub mod client_laws;
 pub mod laws;
+pub mod server_laws;

@@ -16,9 +16,9 @@ use Rattle.client_rules.specs.Flush.{Answer, Nothing, Sends, Spent, flush}
 use Rattle.law_moves.specs.World.{World as Moved}
 use Rattle.law_moves.specs.Table as moves
 use Rattle.law_client_moves.specs.Clients.{IsAskedThere, StandsAs}
-use Rattle.law_server_order.specs.After.{AreInTurn, IsEventFor, IsPacketFor, Pair}
-use Rattle.law_client_order.specs.Behind.{KeepsTurn, Last}
-use Rattle.law_client_order.specs.Going.{IsAnswerFrom, IsAskedBy, IsPacketFrom, IsReady}
+use Rattle.law_order.specs.After.{AreInTurn, IsEventFor, IsPacketFor, Pair}
+use Rattle.law_order.specs.Behind.{KeepsTurn, Last}
+use Rattle.law_order.specs.Going.{IsAnswerFrom, IsAskedBy, IsPacketFrom, IsReady}
 use Rattle.world_rules.specs.Setting.{Setting, as_heard, at_client, at_server}
 use Rattle.world_rules.specs.World.{Entered, Seat, World, changed_at, counted, server_now}
 use Rattle.world_rules.specs.Ends.{acts, comes_up, course_in, flushed_at, flushes, seat_changed, sent_down, sent_up, serves}

@@ -1,3 +1,12 @@
+pub mod ServerLists
+pub mod ServerWaiting
+pub mod Rows
+pub mod States
+pub mod ClientLists
+pub mod Following
+pub mod Taking
+pub mod Filling
+pub mod Events
 pub mod Lists
 pub mod Seats
 pub mod Walking

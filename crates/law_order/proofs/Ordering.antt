@@ -16,8 +16,8 @@ use Rattle.call_table.specs.Table.{Call, Name, at}
 use Rattle.client_rules.specs.Client.{Client, calls_of}
 use Rattle.client_rules.specs.Filling.{is_good}
 use Rattle.law_moves.specs.World.{World as Moved}
-use Rattle.law_server_order.specs.After.{IsHonest, IsPacketFor, Pair}
-use Rattle.law_client_order.specs.Behind.{GoesBehind, IsBehind, IsDoneWell, IsInTurn, IsStill, KeepsTurn, WentBehind}
+use Rattle.law_order.specs.After.{IsHonest, IsPacketFor, Pair}
+use Rattle.law_order.specs.Behind.{GoesBehind, IsBehind, IsDoneWell, IsInTurn, IsStill, KeepsTurn, WentBehind}
 use Rattle.world_rules.specs.Setting.{Setting, as_heard}
 use Rattle.world_rules.specs.World.{Entered, Packet, Seat, World, counted}
 use Rattle.world_rules.specs.Once.{InOrder, IsCallOf, IsEarlierCall, Once, RanWell, earlier_of, entries_of, is_entry_under}

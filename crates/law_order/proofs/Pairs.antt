@@ -25,8 +25,8 @@ use Rattle.law_moves.specs.Table as moves
 use Rattle.law_moves.specs.World.{World as Moved, IsName}
 use Rattle.law_client_moves.specs.Sent.{Asks, IsPacketSent, IsSent, WasSent}
 use Rattle.law_server_moves.specs.Servers.{IsPacketUp, IsUp}
-use Rattle.law_server_order.specs.After.{IsFor, IsPacketFor, Pair, awaited, is_among, is_aside, is_query}
-use Rattle.law_client_order.specs.Going.{IsFrom, IsPacketFrom}
+use Rattle.law_order.specs.After.{IsFor, IsPacketFor, Pair, awaited, is_among, is_aside, is_query}
+use Rattle.law_order.specs.Going.{IsFrom, IsPacketFrom}
 use Rattle.world_rules.specs.Setting.{as_heard}
 use Rattle.world_rules.specs.World.{Packet, Seat, World}
 use Rattle.law_once.specs.Made.{IsShort}

@@ -12,7 +12,7 @@ use Rattle.sched_text.specs.declared.event.Event.{Event}
 use Rattle.sched_text.specs.declared.event.Event.TheVariants as line
 use Rattle.law_server.specs.Order.{AreOrdered}
 use Rattle.server_rules.specs.Events.{Course, Event as ServerEvent, Packet as Comes, Restart, after_event}
-use Rattle.law_server_order.specs.After.{IsPacketFor, Pair}
+use Rattle.law_order.specs.After.{IsPacketFor, Pair}
 use Rattle.world_rules.specs.Setting.{Setting, as_heard, at_server}
 use Rattle.world_rules.specs.World.{Packet, Seat, World, bytes_of, counted, seat_now, server_now}
 use Rattle.world_rules.specs.Premises.{Fresh, IsByNoChance, NoChance, OpensOnly}

@@ -5,8 +5,8 @@ use Rattle.std.specs.List.{AllByRecursion}
 use Rattle.envelope.specs.declared.parts.Envelope.{Envelope}
 use Rattle.call_table.specs.Table.{Call}
 use Rattle.client_rules.specs.Client.{calls_of}
-use Rattle.law_client_order.specs.Behind.{KeepsTurn, Last}
-use Rattle.law_client_order.specs.Going.{IsPacketFrom}
+use Rattle.law_order.specs.Behind.{KeepsTurn, Last}
+use Rattle.law_order.specs.Going.{IsPacketFrom}
 use Rattle.world_rules.specs.World.{Packet, Seat, changed_at, changed_from_0, counted}
 use Rattle.world_rules.specs.Run.{set}
 use Rattle.law_order.specs.Keeping.{AreTurning, IsUpFrom}

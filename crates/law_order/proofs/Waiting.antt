@@ -16,8 +16,8 @@ use Rattle.law_moves.specs.Table as moves
 use Rattle.law_moves.specs.World.{World as Moved}
 use Rattle.law_client_moves.specs.Sent.{IsPacketSent}
 use Rattle.law_server_moves.specs.Servers.{IsPacketUp}
-use Rattle.law_server_order.specs.After.{HasRun, Pair, is_run, is_run_well}
-use Rattle.law_client_order.specs.Behind.{GoesBehind, HasName, IsBehind, IsInTurn, KeepsTurn, WentBehind}
+use Rattle.law_order.specs.After.{HasRun, Pair, is_run, is_run_well}
+use Rattle.law_order.specs.Behind.{GoesBehind, HasName, IsBehind, IsInTurn, KeepsTurn, WentBehind}
 use Rattle.world_rules.specs.Setting.{Setting, as_heard}
 use Rattle.world_rules.specs.World.{Entered, Seat, World}
 use Rattle.world_rules.specs.Once.{IsCallOf, IsEarlierCall, Once, RanWell, earlier_of, entries_under, is_entry_under, older_names}

@@ -10,7 +10,7 @@ use Rattle.sched_text.specs.declared.event.Event.TheVariants as line
 use Rattle.server_rules.specs.Events.{Attach, Event as ServerEvent, Loss, Tick, Work}
 use Rattle.client_rules.specs.Client.{Temporary, temporary_of}
 use Rattle.client_rules.specs.Events as wishes
-use Rattle.law_server_order.specs.After.{IsEventFor, Pair}
+use Rattle.law_order.specs.After.{IsEventFor, Pair}
 use Rattle.world_rules.specs.Setting.{Setting}
 use Rattle.world_rules.specs.World.{Packet, Seat, World, bytes_of, changed_at, counted, owner, seat_now}
 use Rattle.world_rules.specs.Ends.{acts, arrives, comes_down, comes_to_owner, comes_up, flushes, goes, seated, serves, with_seat}

@@ -5,9 +5,9 @@ use Rattle.envelope.specs.declared.parts.Dir.TheVariants.{Up}
 use Rattle.server_rules.specs.Event.{Entry}
 use Rattle.call_table.specs.Table.{Call, Name}
 use Rattle.client_rules.specs.Client.{Client, calls_of}
-use Rattle.law_server_order.specs.After.{AreInTurn, IsPacketFor, Pair}
-use Rattle.law_client_order.specs.Behind.{KeepsTurn}
-use Rattle.law_client_order.specs.Going.{IsPacketFrom}
+use Rattle.law_order.specs.After.{AreInTurn, IsPacketFor, Pair}
+use Rattle.law_order.specs.Behind.{KeepsTurn}
+use Rattle.law_order.specs.Going.{IsPacketFrom}
 use Rattle.world_rules.specs.Setting.{as_heard}
 use Rattle.world_rules.specs.World.{Entered, Packet, Seat, World}
 use Rattle.world_rules.specs.Once.{IsCallOf, IsEarlierCall, RanWell, is_entry_under}

@@ -1,1 +1,4 @@
+pub mod After
+pub mod Behind
+pub mod Going
 pub mod Keeping

@@ -37,10 +37,10 @@ pub fn worlds_keep_order<D: Draw, V>()
         → Fresh (run_of_any setting draw events)
         → KeepsOrder (run_of_any setting draw events) }
 {
-    law_server_order::laws::calls_run_in_order::<D, V>();
-    law_client_order::laws::calls_go_in_order::<D>();
-    law_client_order::laws::calls_stay::<D>();
-    law_client_order::laws::packets_have_calls_as_they_went::<D>();
+    crate::server_laws::calls_run_in_order::<D, V>();
+    crate::client_laws::calls_go_in_order::<D>();
+    crate::client_laws::calls_stay::<D>();
+    crate::client_laws::packets_have_calls_as_they_went::<D>();
     law_once::laws::what_opens_was_made::<D, V>();
     law_once::laws::worlds_only_grow::<D, V>();
     law_once::laws::worlds_are_moves::<D, V>();
@@ -85,10 +85,10 @@ pub fn calls_run_in_order<D: Draw, V>()
         → Fresh (run_of_any setting draw events)
         → InOrder (run_of_any setting draw events) }
 {
-    law_server_order::laws::calls_run_in_order::<D, V>();
-    law_client_order::laws::calls_go_in_order::<D>();
-    law_client_order::laws::calls_stay::<D>();
-    law_client_order::laws::packets_have_calls_as_they_went::<D>();
+    crate::server_laws::calls_run_in_order::<D, V>();
+    crate::client_laws::calls_go_in_order::<D>();
+    crate::client_laws::calls_stay::<D>();
+    crate::client_laws::packets_have_calls_as_they_went::<D>();
     law_once::laws::what_opens_was_made::<D, V>();
     law_once::laws::worlds_only_grow::<D, V>();
     law_once::laws::worlds_are_moves::<D, V>();

@@ -12,7 +12,7 @@ use Rattle.client_rules.specs.Client.{Client, Temporary}
 use Rattle.client_rules.specs.Events as wishes
 use Rattle.client_rules.specs.Events.{Take}
 use Rattle.client_rules.specs.Flush.{Answer, Nothing, Sends, Spent}
-use Rattle.law_client_packets.specs.Steady as own
+use Rattle.law_packets.specs.Steady as own
 use Rattle.world_rules.specs.Ends.{acts, arrives, comes_down, comes_to_owner, flushed_at, flushes, goes, seat_changed, seated, sent_up, with_seat}
 use Rattle.world_rules.specs.Run.{joins}
 use Rattle.world_rules.specs.Setting.{Setting, at_client}

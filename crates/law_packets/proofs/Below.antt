@@ -17,7 +17,7 @@ use Rattle.client_rules.specs.Client.{Client, Temporary}
 use Rattle.client_rules.specs.Events as wishes
 use Rattle.client_rules.specs.Flush.{flush}
 use Rattle.client_rules.specs.Sending as sending
-use Rattle.law_client_packets.specs.Steady as own
+use Rattle.law_packets.specs.Steady as own
 use Rattle.law_server_bounds.specs.Steady as kept
 use Rattle.world_rules.specs.Premises.{IsSealed, IsSound}
 use Rattle.world_rules.specs.Setting.{Setting, at_client}

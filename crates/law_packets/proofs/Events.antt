@@ -14,7 +14,7 @@ use Rattle.server_rules.specs.Server.{fresh_server, kept_replies}
 use Rattle.server_rules.specs.Events.{Attach, Loss, Restart, Tick}
 use Rattle.client_rules.specs.Client.{temporary_of}
 use Rattle.client_rules.specs.Events as wishes
-use Rattle.law_client_packets.specs.Steady as own
+use Rattle.law_packets.specs.Steady as own
 use Rattle.law_server_bounds.specs.Steady as kept
 use Rattle.world_rules.specs.Ends.{acts, comes_down, flushes, serves}
 use Rattle.world_rules.specs.Premises.{IsOfBytes}

@@ -1,3 +1,12 @@
+pub mod Spelled
+pub mod ClientLists
+pub mod Calls
+pub mod Counters
+pub mod Filled
+pub mod Fills
+pub mod Flushed
+pub mod Taken
+pub mod ClientEvents
 pub mod Lists
 pub mod Below
 pub mod Serving

@@ -4,7 +4,7 @@ use Rattle.std.specs.List.{AllByRecursion}
 use Rattle.auth_keys.specs.Rings.{entry_of}
 use Rattle.auth_keys.specs.declared.ring.RingKey.{RingKey}
 use Rattle.envelope.specs.Packet.{Lock, Sealed}
-use Rattle.law_client_packets.specs.Steady as client
+use Rattle.law_packets.specs.Steady as client
 use Rattle.law_server_bounds.specs.Steady as server
 use Rattle.world_rules.specs.Setting.{Setting}
 use Rattle.world_rules.specs.World.{Packet, World, bytes_of}

@@ -33,7 +33,7 @@ pub fn packets_of_worlds_are_lawful<D: Draw, V>()
     auth_keys::laws::one_key_of_an_identifier();
     auth_keys::laws::identifiers_are_longs();
     law_packet_parts::laws::lawful_parts_are_sealed();
-    law_client_packets::laws::packets_may_be_sealed::<D>();
+    crate::client_laws::packets_may_be_sealed::<D>();
     law_server_bounds::laws::packets_may_be_sealed::<D, V>();
 }
 

@@ -2,4 +2,5 @@
 //! packet that it makes is lawful. `specs/Lawful.antt` says what that is.
 #![tactic(auto)]
 
+pub mod client_laws;
 pub mod laws;

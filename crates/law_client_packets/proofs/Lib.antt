@@ -1,9 +1,0 @@
-pub mod Spelled
-pub mod Lists
-pub mod Calls
-pub mod Counters
-pub mod Filled
-pub mod Fills
-pub mod Flushed
-pub mod Taken
-pub mod Events

@@ -1,4 +1,0 @@
-pub mod Lists
-pub mod Judging
-pub mod Rows
-pub mod States
