@@ -8,7 +8,7 @@ mod key_ring;
 pub mod laws;
 mod loading;
 mod running;
+mod schedule_world;
 mod sim;
-mod sim_world;
 
 pub use running::{run_load, run_sim};

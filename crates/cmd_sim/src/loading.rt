@@ -5,7 +5,7 @@ ghost use Rattle.statuses.specs.declared.status.Status.TheVariants as status;
 ghost use Rattle.cmd_sim.specs.Load.{LoadExecutesOnce, summary_of};
 
 use crate::laws::load_executes_once;
-use crate::sim_world::SimWorld;
+use crate::schedule_world::SimWorld;
 use octets::{Memory, Octets};
 use statuses::{Answer, Status};
 use std::alloc::Global;

@@ -10,7 +10,7 @@ ghost use Rattle.cmd_sim.specs.Sim.{IsOfSim, Owes};
 ghost use Rattle.cmd_sim.specs.Inner.{IsRefusalOf, Plays};
 
 use crate::laws::sim_executes_once;
-use crate::sim_world::SimWorld;
+use crate::schedule_world::SimWorld;
 use mt_edge::{ReadFault, Source, read_all};
 use octets::{Memory, Octets};
 use sched_text::{Event, Events, SchedFault, read};
