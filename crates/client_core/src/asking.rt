@@ -27,7 +27,7 @@ const PLAIN_BYTES: usize = 80;
 pub(crate) const BODY_BYTES: usize = 132;
 
 /// Room for a binding call: for its message, that message's plain text, and the body.
-#[derive(Debug, Drop)]
+#[derive(Drop)]
 pub(crate) struct BindRoom {
     message: Buffer,
     plain: Buffer,

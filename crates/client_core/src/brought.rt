@@ -19,7 +19,7 @@ use std::alloc::Global;
 use tl_codec::Reader;
 
 /// What a message brings.
-#[derive(Debug, Drop)]
+#[derive(Drop)]
 pub(crate) enum Brought {
     /// The server began a new session.
     Session {
@@ -65,7 +65,7 @@ pub(crate) enum Brought {
 }
 
 /// A message, by what it brings.
-#[derive(Debug, Drop)]
+#[derive(Drop)]
 pub(crate) struct Incoming {
     pub(crate) number: u64,
     pub(crate) seq: u32,

@@ -32,7 +32,7 @@ use tl_codec::laws::sizes_of_spellings;
 const WRAP_BYTES: usize = 12;
 
 /// A call that is to go again, alone, with its message.
-#[derive(Debug, Drop)]
+#[derive(Drop)]
 pub(crate) struct Marked {
     pub(crate) call: CallNo,
     pub(crate) message: Message,

@@ -27,7 +27,7 @@ use std::marker::Model;
 
 /// What a packet was filled with: how many messages, the last one's number and seq, the packet's body, and the numbers of
 /// the calls in it and of the binding.
-#[derive(Debug, Drop)]
+#[derive(Drop)]
 pub(crate) struct Filled {
     pub(crate) count: usize,
     pub(crate) number: u64,
@@ -38,7 +38,7 @@ pub(crate) struct Filled {
 
 /// A packet that is filled: its messages so far, as they stand in a container, how many, the numbers of the calls among
 /// them and of the binding, and whether an item didn't fit. No further item takes memory.
-#[derive(Debug, Drop)]
+#[derive(Drop)]
 pub(crate) struct Draft {
     rows: Buffer,
     count: usize,

@@ -50,7 +50,7 @@ pub enum Flush {
 
 /// Room for a packet: for lists of the acknowledgements and of the numbers of calls, a binding call, the messages, the
 /// packet's body and the packet.
-#[derive(Debug, Drop)]
+#[derive(Drop)]
 pub(crate) struct PacketRoom {
     acks: Vec<u64>,
     states: Vec<u64>,

@@ -21,7 +21,7 @@ use service_tl::Message;
 use std::alloc::Global;
 
 /// A message that is to go alone, the list of its number, and room for its packet.
-#[derive(Debug, Drop)]
+#[derive(Drop)]
 pub(crate) struct Lone {
     pub(crate) message: Message,
     pub(crate) inner: IdList,

@@ -16,7 +16,7 @@ use tl_codec::fill;
 use tl_codec::laws::sizes_of_spellings;
 
 /// An item that a client says, lent.
-#[derive(Clone, Copy, Debug)]
+#[derive(Clone, Copy)]
 pub(crate) enum Outgoing<'a> {
     Acks(&'a [u64]),
     Told { request: u64, info: &'a [u8] },

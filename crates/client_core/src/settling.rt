@@ -10,7 +10,7 @@ ghost use Rattle.client_core.specs.Rules.{call_by, fate_by, fate_in, fate_learnt
 use call_table::{CallNo, CallState, Calls, Cause, Fate, Group, Under};
 
 /// What becomes of all calls.
-#[derive(Clone, Copy, Debug)]
+#[derive(Clone, Copy)]
 pub(crate) enum Rule {
     /// The client goes on in another session.
     Renewed,

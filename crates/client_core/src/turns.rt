@@ -20,7 +20,7 @@ use draws::Draw;
 use service_tl::{RPC_ANSWER_DROPPED_RUNNING, RPC_ERROR};
 
 /// What a queued call does when its turn comes.
-#[derive(Clone, Copy, Debug)]
+#[derive(Clone, Copy)]
 pub(crate) enum Turn {
     /// It goes, behind the message of this number where there is one.
     Goes(Option<u64>),

@@ -11,7 +11,7 @@ ghost use Rattle.client_node.specs.Standing.{StandsFor, has_undecided, kept_of, 
 use client_core::{BindState, CallNo, CallState, Holder};
 
 /// A kind of calls.
-#[derive(Clone, Copy, Debug, PartialEq, Eq)]
+#[derive(Clone, Copy, PartialEq, Eq)]
 pub(crate) enum Kind {
     /// It isn't decided yet what became of them: they are queued, sent or held.
     Undecided,
@@ -22,7 +22,7 @@ pub(crate) enum Kind {
 }
 
 /// Where the calls are looked through from: the place where one was found last. It says nothing of them.
-#[derive(Clone, Copy, Debug)]
+#[derive(Clone, Copy)]
 pub(crate) struct Cursor {
     place: u32,
 }

@@ -6,7 +6,7 @@ ghost use Rattle.client_node.specs.Ends.{batch_by};
 use crate::plan::Batch;
 
 /// What ended a connection, for the client.
-#[derive(Clone, Copy, Debug, PartialEq, Eq)]
+#[derive(Clone, Copy, PartialEq, Eq)]
 pub(crate) enum End {
     /// Each call is decided.
     Decided,

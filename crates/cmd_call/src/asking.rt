@@ -17,7 +17,7 @@ use octets::Memory;
 use std::alloc::Global;
 
 /// The call that isn't taken.
-#[derive(Clone, Copy, Debug, PartialEq, Eq)]
+#[derive(Clone, Copy)]
 pub(crate) struct Untaken {
     /// The number of its line.
     pub(crate) line: u32,

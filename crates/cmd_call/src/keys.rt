@@ -8,7 +8,7 @@ use auth_keys::{KeyKind, Ring};
 use msg_ids::Moment;
 
 /// The keys under which a client acts.
-#[derive(Clone, Copy, Debug, PartialEq, Eq)]
+#[derive(Clone, Copy)]
 pub(crate) enum Acting {
     /// A permanent key.
     Perm {

@@ -6,7 +6,7 @@ ghost use Rattle.cmd_serve.specs.Inner.{ending_by};
 use server_node::ConnEnd;
 
 /// How the connections of a run end.
-#[derive(Clone, Copy, Debug, PartialEq, Eq)]
+#[derive(Clone, Copy)]
 pub(crate) enum Ending {
     /// As many were served as there should be.
     Served,

@@ -12,7 +12,7 @@ const STEP: u64 = 6_364_136_223_846_793_005;
 
 /// A draw whose word i, from 1, is i times one odd number, modulo 2^64. It counts its words to 2^64 - 1 and no further, so
 /// that what was counted below that is how many words it gave. Contracts see the count.
-#[derive(Debug, Drop)]
+#[derive(Drop)]
 pub(crate) struct CountedDraw {
     given: u64,
 }

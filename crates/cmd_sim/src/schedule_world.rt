@@ -23,7 +23,7 @@ use std::marker::Model;
 
 /// A world over the cores with the keys of `sim`, the protocol's seal, the register service and counted words. Contracts
 /// see the world as it is kept.
-#[derive(Debug, Drop)]
+#[derive(Drop)]
 pub(crate) struct SimWorld {
     world: World<MtSeal, Regs, CountedDraw>,
 }

@@ -13,7 +13,7 @@ use std::alloc::Global;
 use std::marker::Model;
 
 /// What a simple command takes words for. Contracts see a row for each argument that is there or has a default.
-#[derive(Debug, Drop)]
+#[derive(Drop)]
 pub(crate) struct Taken<'a> {
     matches: ArgMatches<'a>,
 }

@@ -6,7 +6,7 @@ use crate::form::{Framing, Length};
 use tl_codec::FrameFault;
 
 /// What stands at the front of a text.
-#[derive(Clone, Copy, Debug, PartialEq, Eq)]
+#[derive(Clone, Copy)]
 pub(crate) enum Look {
     /// A whole frame of `size` bytes, whose packet stands from `start` to `end`.
     Whole {

@@ -14,7 +14,7 @@ use service_tl::{Item, Messages, parse};
 use std::alloc::Global;
 
 /// A message that is read and not judged yet.
-#[derive(Debug, Drop)]
+#[derive(Drop)]
 pub(crate) struct Draft {
     pub number: u64,
     pub seq: u32,

@@ -15,7 +15,7 @@ use service_tl::{
 const CONSTRUCTOR_BYTES: usize = 4;
 
 /// What a message is for judging.
-#[derive(Clone, Copy, Debug, PartialEq, Eq)]
+#[derive(Clone, Copy)]
 pub(crate) enum Kind {
     /// A lawful container.
     Container,

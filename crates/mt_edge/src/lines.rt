@@ -15,7 +15,7 @@ use std::io::Read;
 const LINE_END: u8 = 10;
 
 /// What a read of one byte gives.
-#[derive(Clone, Copy, Debug, PartialEq, Eq)]
+#[derive(Clone, Copy)]
 pub(crate) enum NextByte {
     /// The next byte.
     Byte(u8),

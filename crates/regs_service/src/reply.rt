@@ -20,7 +20,7 @@ const ERROR_CODE: u32 = 400;
 const VALUE_BYTES: usize = 12;
 
 /// Why a request is refused.
-#[derive(Clone, Copy, Debug, PartialEq, Eq)]
+#[derive(Clone, Copy)]
 pub(crate) enum Refusal {
     /// The bytes aren't a request.
     BadRequest,

@@ -17,7 +17,7 @@ pub const GET: u32 = 0x0a1b_2c02;
 pub const NAME_BYTES_MAX: usize = 32;
 
 /// A request, whose name is lent from its bytes.
-#[derive(Clone, Copy, Debug)]
+#[derive(Clone, Copy)]
 pub(crate) enum Request<'a> {
     /// Adds to the sum of a name, which is made where it isn't there.
     Add {

@@ -51,14 +51,28 @@ abbrev pub find : {T : Type 0} → List ℕ → List (List ℕ × T) → Option 
 find word [] = None
 find word (row ∷ rows) = if bytes_eq word row.0 then Some row.1 else find word rows
 
+-- those that end a session, a client or a server
+abbrev pub ending_verbs : List (List ℕ × Verb)
+ending_verbs =
+    (codes "renew", verb.Plain short.Renew) ∷ (codes "end", verb.Plain short.End) ∷ (codes "lose", verb.Plain short.Lose)
+    ∷ (codes "restart", verb.Plain short.Restart) ∷ []
+
+-- and those that ask somebody for something
+abbrev pub asking_verbs : List (List ℕ × Verb)
+asking_verbs =
+    (codes "attach", verb.Plain short.Attach) ∷ (codes "ping", verb.Plain short.Ping) ∷ (codes "salts", verb.Plain short.Salts)
+    ∷ (codes "drop", verb.Plain short.DropAnswer) ∷ ending_verbs
+
+-- and those by which something comes to somebody
+abbrev pub coming_verbs : List (List ℕ × Verb)
+coming_verbs =
+    (codes "give", verb.Plain short.Give) ∷ (codes "foreign", verb.Foreign) ∷ (codes "work", verb.Plain short.Work)
+    ∷ (codes "tick", verb.Plain short.Tick) ∷ asking_verbs
+
 abbrev pub verbs : List (List ℕ × Verb)
 verbs =
     (codes "client", verb.Plain short.Client) ∷ (codes "clock", verb.Plain short.Clock) ∷ (codes "call", verb.Call)
-    ∷ (codes "flush", verb.Plain short.Flush) ∷ (codes "give", verb.Plain short.Give) ∷ (codes "foreign", verb.Foreign)
-    ∷ (codes "work", verb.Plain short.Work) ∷ (codes "tick", verb.Plain short.Tick) ∷ (codes "attach", verb.Plain short.Attach)
-    ∷ (codes "ping", verb.Plain short.Ping) ∷ (codes "salts", verb.Plain short.Salts) ∷ (codes "drop", verb.Plain short.DropAnswer)
-    ∷ (codes "renew", verb.Plain short.Renew) ∷ (codes "end", verb.Plain short.End) ∷ (codes "lose", verb.Plain short.Lose)
-    ∷ (codes "restart", verb.Plain short.Restart) ∷ []
+    ∷ (codes "flush", verb.Plain short.Flush) ∷ coming_verbs
 
 abbrev pub kinds : List (List ℕ × Kind)
 kinds = (codes "add", kind.Add) ∷ (codes "get", kind.Get) ∷ (codes "pad", kind.Pad) ∷ (codes "packed", kind.Packed) ∷ (codes "hex", kind.Hex) ∷ []

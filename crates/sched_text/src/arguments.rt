@@ -7,7 +7,7 @@ ghost use Rattle.sched_text.specs.Reading.{few, is_server, listed, one_number, t
 use crate::words::{Words, number_of};
 
 /// At most two words.
-#[derive(Clone, Copy, Debug)]
+#[derive(Clone, Copy)]
 pub(crate) enum Arguments<'a> {
     Nothing,
     One(&'a [u8]),

@@ -1,10 +1,10 @@
 //! The words with which events and bodies begin.
 
 ghost use Rattle.std.specs.Prelude.{◌≡◌};
-ghost use Rattle.sched_text.specs.Reading.{find, kinds, verbs};
+ghost use Rattle.sched_text.specs.Reading.{asking_verbs, coming_verbs, ending_verbs, find, kinds, verbs};
 
 /// The first word of an event.
-#[derive(Clone, Copy, Debug)]
+#[derive(Clone, Copy)]
 pub(crate) enum Verb {
     Call,
     Foreign,
@@ -12,7 +12,7 @@ pub(crate) enum Verb {
 }
 
 /// The first word of an event that keeps no bytes.
-#[derive(Clone, Copy, Debug)]
+#[derive(Clone, Copy)]
 pub(crate) enum Short {
     Client,
     Clock,
@@ -31,7 +31,7 @@ pub(crate) enum Short {
 }
 
 /// The first word of a body.
-#[derive(Clone, Copy, Debug)]
+#[derive(Clone, Copy)]
 pub(crate) enum Kind {
     Add,
     Get,
@@ -52,7 +52,16 @@ pub(crate) fn verb_of(word: &[u8]) -> Option<Verb>
         Some(Verb::Call)
     } else if word == b"flush".as_slice() {
         Some(Verb::Plain(Short::Flush))
-    } else if word == b"give".as_slice() {
+    } else {
+        coming_verb_of(word)
+    }
+}
+
+// The event by which something comes to somebody, or one of those below.
+fn coming_verb_of(word: &[u8]) -> Option<Verb>
+    ensures { result ≡ find word.now coming_verbs }
+{
+    if word == b"give".as_slice() {
         Some(Verb::Plain(Short::Give))
     } else if word == b"foreign".as_slice() {
         Some(Verb::Foreign)
@@ -60,7 +69,16 @@ pub(crate) fn verb_of(word: &[u8]) -> Option<Verb>
         Some(Verb::Plain(Short::Work))
     } else if word == b"tick".as_slice() {
         Some(Verb::Plain(Short::Tick))
-    } else if word == b"attach".as_slice() {
+    } else {
+        asking_verb_of(word)
+    }
+}
+
+// The event that asks somebody for something, or one of those below.
+fn asking_verb_of(word: &[u8]) -> Option<Verb>
+    ensures { result ≡ find word.now asking_verbs }
+{
+    if word == b"attach".as_slice() {
         Some(Verb::Plain(Short::Attach))
     } else if word == b"ping".as_slice() {
         Some(Verb::Plain(Short::Ping))
@@ -68,7 +86,16 @@ pub(crate) fn verb_of(word: &[u8]) -> Option<Verb>
         Some(Verb::Plain(Short::Salts))
     } else if word == b"drop".as_slice() {
         Some(Verb::Plain(Short::DropAnswer))
-    } else if word == b"renew".as_slice() {
+    } else {
+        ending_verb_of(word)
+    }
+}
+
+// The event that ends a session, a client or a server.
+fn ending_verb_of(word: &[u8]) -> Option<Verb>
+    ensures { result ≡ find word.now ending_verbs }
+{
+    if word == b"renew".as_slice() {
         Some(Verb::Plain(Short::Renew))
     } else if word == b"end".as_slice() {
         Some(Verb::Plain(Short::End))

@@ -15,7 +15,7 @@ const SESSIONS_MAX: usize = 256;
 
 /// The sessions of a server beside one that speaks, the one heard least recently first, no two of one name, and room for that
 /// one. Contracts see the list.
-#[derive(Debug, Drop)]
+#[derive(Drop)]
 pub(crate) struct Others {
     pub(crate) list: Vec<SessionState>,
 }

@@ -44,7 +44,7 @@ const SHORT_RESULT_BYTES: usize = 48;
 const NOTICE_BYTES: usize = 28;
 
 /// The room for all that a session says and records by a packet, and what its messages need.
-#[derive(Debug, Drop)]
+#[derive(Drop)]
 pub(crate) struct PacketRoom {
     /// What each message needs where it is accepted.
     pub(crate) dues: Vec<Action>,

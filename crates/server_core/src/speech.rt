@@ -19,7 +19,7 @@ use server_session::SessionState;
 use std::alloc::Global;
 
 /// What one session owes in an event, and the room for its packets.
-#[derive(Debug, Drop)]
+#[derive(Drop)]
 pub(crate) struct Speech {
     pub(crate) owing: OutgoingMessages,
     pub(crate) packets: Packets,

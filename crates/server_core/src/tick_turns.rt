@@ -32,7 +32,7 @@ use std::mem;
 use waits::{Job, Jobs};
 
 /// Why a job is answered in a tick, in place of a run.
-#[derive(Clone, Copy, Debug)]
+#[derive(Clone, Copy)]
 pub(crate) enum Cause {
     /// It has waited too long.
     Overdue,
@@ -64,7 +64,7 @@ impl Cause {
 }
 
 /// What a session owes in a tick, and the room for its packets.
-#[derive(Debug, Drop)]
+#[derive(Drop)]
 pub(crate) struct TickTurn {
     /// What it owes. Its entries are none: those of a tick are kept together.
     pub(crate) turn: Turn,
@@ -77,7 +77,7 @@ pub(crate) struct TickTurn {
 }
 
 /// What all sessions owe in a tick, each at its place.
-#[derive(Debug, Drop)]
+#[derive(Drop)]
 pub(crate) struct TickTurns {
     pub(crate) list: Vec<TickTurn>,
     /// The places of the sessions that spoke, in the order of their first words.

@@ -39,7 +39,7 @@ const RESULT_BYTES: usize = 12;
 const SHORT_RESULT_BYTES: usize = 48;
 
 /// What the service will reply to a ready job, and the room for all that its session says then.
-#[derive(Debug, Drop)]
+#[derive(Drop)]
 pub(crate) struct Work {
     /// The reply, to be sent and kept.
     pub(crate) reply: Bytes,

@@ -5,7 +5,7 @@ use std::alloc::Global;
 use std::marker::Model;
 
 /// The name of a session.
-#[derive(Clone, Copy, Debug, PartialEq, Eq)]
+#[derive(Clone, Copy)]
 pub(crate) struct SessionName {
     /// The identifier of its key.
     pub(crate) key: u64,
@@ -14,7 +14,7 @@ pub(crate) struct SessionName {
 }
 
 /// The sessions that were heard on a connection, in order of their first packets. Contracts see their names.
-#[derive(Debug, Drop)]
+#[derive(Drop)]
 pub(crate) struct HeardSessions {
     names: Vec<SessionName>,
 }

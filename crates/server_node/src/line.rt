@@ -11,7 +11,7 @@ use std::alloc::Global;
 use transport::{Framed, Raw, RawStep, Wire};
 
 /// A server's end of a connection.
-#[derive(Debug, Drop)]
+#[derive(Drop)]
 pub(crate) enum Line {
     /// Its form isn't known yet.
     Raw(Wire<Raw>),

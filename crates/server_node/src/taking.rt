@@ -62,7 +62,7 @@ fn attach<L: Link, K: Desk, V: Service>(
 }
 
 /// What came next over a connection.
-#[derive(Clone, Copy, Debug, PartialEq, Eq)]
+#[derive(Clone, Copy)]
 enum Came {
     /// No further packet is whole.
     Nothing,

@@ -28,7 +28,7 @@ const RESPONSE_ADDITION: u64 = 1;
 const OTHER_ADDITION: u64 = 3;
 
 /// An item that a server says in an event, lent.
-#[derive(Clone, Copy, Debug)]
+#[derive(Clone, Copy)]
 pub(crate) enum Outgoing<'a> {
     NewSession {
         first: u64,

@@ -64,7 +64,7 @@ impl DroppedReply {
 }
 
 /// What becomes of a reply that is kept no more.
-#[derive(Clone, Copy, Debug, PartialEq, Eq)]
+#[derive(Clone, Copy)]
 pub(crate) enum Ending {
     /// Its receipt was acknowledged.
     Acked,

@@ -1,7 +1,7 @@
 //! What an open client is asked to do.
 
 /// What an open client is asked to do, which takes nothing and is refused to no open client.
-#[derive(Clone, Copy, Debug)]
+#[derive(Clone, Copy)]
 pub(crate) enum Wish {
     /// To ask how its calls fared.
     Tick,

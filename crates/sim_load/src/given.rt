@@ -9,7 +9,7 @@ use std::alloc::Global;
 use std::marker::Model;
 
 /// The numbers of the packets that were given so far, by a flag for each, and the first that wasn't given, from 1.
-#[derive(Debug, Drop)]
+#[derive(Drop)]
 pub(crate) struct Given {
     flags: Vec<bool>,
     first: usize,

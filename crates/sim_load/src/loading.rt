@@ -64,7 +64,7 @@ pub fn load<S: Seal + Drop, V: Service, D: Draw + Drop>(
 }
 
 /// A world, and which of its packets were given so far.
-#[derive(Debug, Drop)]
+#[derive(Drop)]
 struct Loading<S: Seal, V: Service, D: Draw> {
     world: World<S, V, D>,
     given: Given,

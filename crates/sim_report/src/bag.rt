@@ -6,7 +6,7 @@ use sim_server::{Bag, Packet};
 use sim_text::Wire;
 
 /// A bag, to be told.
-#[derive(Clone, Copy, Debug)]
+#[derive(Clone, Copy)]
 pub(crate) struct Packets<'a> {
     pub(crate) bag: &'a Bag,
 }

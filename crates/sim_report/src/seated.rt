@@ -5,7 +5,7 @@ use sim_clients::Seats;
 use sim_text::Clients;
 
 /// Clients, to be told.
-#[derive(Clone, Copy, Debug)]
+#[derive(Clone, Copy)]
 pub(crate) struct Seated<'a> {
     pub(crate) seats: &'a Seats,
 }

@@ -13,7 +13,7 @@ use cipher_modes::Ctr;
 use obfus::{Init, Tag};
 
 /// What the first bytes of a connection tell.
-#[derive(Debug, Drop)]
+#[derive(Drop)]
 pub(crate) enum Told {
     /// More of them are needed.
     Awaited,
