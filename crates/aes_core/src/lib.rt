@@ -19,8 +19,6 @@ mod mixing;
 mod round;
 mod schedule;
 mod table;
-#[cfg(test)]
-mod tests;
 mod words;
 
 /// A key of 256 bits, with its round keys. Contracts see the 32 bytes of the key.

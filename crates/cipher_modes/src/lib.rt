@@ -7,8 +7,6 @@ mod block;
 mod ctr;
 mod ige;
 pub mod laws;
-#[cfg(test)]
-mod tests;
 
 pub use crate::ctr::Ctr;
 pub use crate::ige::{ige_decrypt, ige_encrypt};

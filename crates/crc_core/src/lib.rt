@@ -12,8 +12,6 @@ use std::marker::Model;
 pub mod laws;
 mod register;
 mod table;
-#[cfg(test)]
-mod tests;
 
 /// The check of a text that comes in pieces. Contracts see the register, a number of 32 bits.
 #[derive(Clone, Copy, Debug)]

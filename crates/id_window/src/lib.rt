@@ -15,6 +15,3 @@ pub use cross::Cross;
 pub use mark::Mark;
 pub use rows::WINDOW_NUMBERS;
 pub use window::Window;
-
-#[cfg(test)]
-mod tests;

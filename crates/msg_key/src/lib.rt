@@ -5,7 +5,5 @@
 
 mod derivation;
 pub mod laws;
-#[cfg(test)]
-mod tests;
 
 pub use crate::derivation::{DOWN, UP, aes_of, msg_key};

@@ -6,14 +6,3 @@
 mod app;
 
 pub use app::run;
-
-#[cfg(test)]
-mod net_tests;
-#[cfg(test)]
-mod once_tests;
-#[cfg(test)]
-mod row_tests;
-#[cfg(test)]
-mod tests;
-#[cfg(test)]
-mod world_tests;

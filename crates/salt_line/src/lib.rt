@@ -10,6 +10,3 @@ mod rows;
 mod salt_line;
 
 pub use salt_line::{SaltLine, SaltRow};
-
-#[cfg(test)]
-mod tests;

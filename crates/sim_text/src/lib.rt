@@ -22,6 +22,3 @@ pub use fault::submit_cause;
 pub use reply::reply_text;
 pub use summary::{Counts, Summary, summary_line};
 pub use wire::{Wire, wire_bytes, wire_line};
-
-#[cfg(test)]
-mod tests;

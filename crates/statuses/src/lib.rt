@@ -8,6 +8,3 @@ mod status;
 
 pub use answer::{Answer, Stop, refusal, tell};
 pub use status::Status;
-
-#[cfg(test)]
-mod tests;

@@ -9,4 +9,6 @@ mod kids;
 #[cfg(test)]
 mod links;
 #[cfg(test)]
+mod refusals;
+#[cfg(test)]
 mod texts;

@@ -6,11 +6,17 @@
 #[cfg(test)]
 mod bindings;
 #[cfg(test)]
+mod blocks;
+#[cfg(test)]
+mod derived;
+#[cfg(test)]
 mod files;
 #[cfg(test)]
 mod full_frames;
 #[cfg(test)]
 mod length_frames;
+#[cfg(test)]
+mod modes;
 #[cfg(test)]
 mod rings;
 #[cfg(test)]
@@ -21,5 +27,7 @@ mod scripts;
 mod short_frames;
 #[cfg(test)]
 mod starts;
+#[cfg(test)]
+mod sums;
 #[cfg(test)]
 mod words;

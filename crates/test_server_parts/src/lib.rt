@@ -13,4 +13,8 @@ mod registers;
 #[cfg(test)]
 mod replies;
 #[cfg(test)]
+mod salts;
+#[cfg(test)]
 mod short_answers;
+#[cfg(test)]
+mod windows;

@@ -5,6 +5,8 @@
 #[cfg(test)]
 mod envelopes;
 #[cfg(test)]
+mod lines;
+#[cfg(test)]
 mod stepped;
 #[cfg(test)]
 mod wires;

@@ -1,8 +1,8 @@
 use Rattle.std.proofs.Common.{rules, ◌≡◌, ◌≤◌, ℕ, subst, arith}
 use Rattle.std.specs.Prelude.{◌≢◌}
 use Rattle.salt_line.specs.Line.{fresh_line, line_after}
-use Rattle.salt_line.proofs.tests.gives_and_judges.Goals as goal
-use Rattle.salt_line.proofs.tests.gives_and_judges.Goals.{then-salt-eq0, else-salt-eq0}
+use Rattle.test_server_parts.proofs.salts.gives_and_judges.Goals as goal
+use Rattle.test_server_parts.proofs.salts.gives_and_judges.Goals.{then-salt-eq0, else-salt-eq0}
 
 pub returns : goal.returns
 returns g c = elim c.if-salt-eq0.branch [

@@ -2,13 +2,14 @@
 
 ghost use Rattle.std.specs.Prelude.{◌≡◌, map};
 
-use crate::{
-    Counts, EntryLine, Summary, Wire, call_line, entry_line, reply_text, summary_line, wire_line,
-};
 use call_table::{CallState, Cause};
 use octets::{Memory, Octets};
+use sim_text::{
+    Counts, EntryLine, Summary, Wire, call_line, entry_line, reply_text, summary_line, wire_line,
+};
 use std::alloc::Global;
 use std::test::Fail;
+use test_asserts::same;
 
 /// A value of the register service.
 const FIVE: [u8; 12] = [3, 44, 27, 10, 5, 0, 0, 0, 0, 0, 0, 0];
@@ -119,6 +120,6 @@ fn texts(rt: HostRuntime) -> Result<(), Fail> {
     calls(alloc, &mut text)?;
     entries(alloc, &mut text)?;
     rest(alloc, &mut text)?;
-    assert_eq!(rt; text.as_slice(), TEXTS.as_bytes());
+    same(&rt, text.as_slice(), TEXTS.as_bytes());
     Ok(())
 }

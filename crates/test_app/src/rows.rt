@@ -1,9 +1,10 @@
 //! Schedules with what each shows, and what comes of it.
 
-use crate::tests::{lines, ran};
+use crate::runs::{lines, ran};
 use std::alloc::Global;
 use std::process::Abort;
 use std::test::Fail;
+use test_asserts::{holds_at, same_at};
 
 /// What a schedule shows, its lines, the status, and the lines that are written.
 #[derive(Drop)]
@@ -44,8 +45,8 @@ fn as_told(rt: &impl Abort, alloc: Global, row: &Row) -> Result<(), Fail> {
     let schedule = lines(alloc, row.schedule)?;
     let (status, written) = ran(alloc, &["sim"], schedule.as_slice())?;
     let due = lines(alloc, row.written)?;
-    assert!(rt; written.as_slice() == due.as_slice(), "{}", row.shows);
-    assert_eq!(rt; status, row.status, "{}", row.shows);
+    holds_at(rt, row.shows, written.as_slice() == due.as_slice());
+    same_at(rt, row.shows, status, row.status);
     Ok(())
 }
 
