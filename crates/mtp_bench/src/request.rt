@@ -3,7 +3,7 @@
 use crate::work::Work;
 
 /// A work, over how many bytes, and how many times.
-#[derive(Clone, Copy, Debug)]
+#[derive(Clone, Copy)]
 pub struct Asked {
     pub work: Work,
     pub bytes: usize,
@@ -11,7 +11,7 @@ pub struct Asked {
 }
 
 /// What a command line asks for.
-#[derive(Clone, Copy, Debug)]
+#[derive(Clone, Copy)]
 pub enum Request {
     Help,
     Version,
