@@ -4,7 +4,7 @@ use Rattle.law_numbers.specs.Given.{nothing_given}
 use Rattle.law_numbers.proofs.Events.{all-once, made-given, step-given, step-line}
 use Rattle.law_numbers.proofs.Filling.{flush-so}
 use Rattle.law_numbers.proofs.Kept.{Line, has-now, line_of}
-use Rattle.law_numbers.proofs.laws.numbers_are_given_once.Goals as goal
+use Rattle.law_numbers.proofs.client_laws.numbers_are_given_once.Goals as goal
 
 pub returns-clause-made : goal.returns-clause-made
 returns-clause-made g c = λ setting key temporary draw asked. made-given setting key temporary draw asked

@@ -1,6 +1,6 @@
 use Rattle.server_rules.specs.Events.{begun_course}
 use Rattle.law_numbers.proofs.States.{event-kept, events-kept}
-use Rattle.law_numbers.proofs.laws.containers_are_told_apart.Goals as goal
+use Rattle.law_numbers.proofs.server_laws.containers_are_told_apart.Goals as goal
 
 pub returns-clause-event : goal.returns-clause-event
 returns-clause-event g c = λ setting serve service kinds course event are sessions packets. event-kept setting serve service kinds course event are (sessions, packets)

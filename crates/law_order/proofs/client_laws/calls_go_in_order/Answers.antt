@@ -3,7 +3,7 @@ use Rattle.client_rules.specs.Client.{Client, calls_of}
 use Rattle.client_rules.specs.Events.{made}
 use Rattle.law_order.proofs.Events.{all-turn, step-turn}
 use Rattle.law_order.proofs.Following.{nothing-last}
-use Rattle.law_order.proofs.laws.calls_go_in_order.Goals as goal
+use Rattle.law_order.proofs.client_laws.calls_go_in_order.Goals as goal
 
 pub returns-clause-made : goal.returns-clause-made
 returns-clause-made g c = λ setting key temporary draw. record { behind = tt; living = tt }

@@ -8,7 +8,7 @@ use Rattle.law_order.specs.Going.{IsPacketFrom}
 use Rattle.law_order.proofs.Events.{step-turn}
 use Rattle.law_order.proofs.Filling.{all-from, from-last}
 use Rattle.law_order.proofs.Following.{Base, nothing-last}
-use Rattle.law_order.proofs.laws.calls_stay.Goals as goal
+use Rattle.law_order.proofs.client_laws.calls_stay.Goals as goal
 
 abbrev base_of : Client → Base
 base_of client = record { calls = calls_of client; key = client.key }

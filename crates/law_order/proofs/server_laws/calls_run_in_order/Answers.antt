@@ -2,7 +2,7 @@ use Rattle.std.proofs.Common.{◌≡◌, [], ◌∷◌, ◌++◌, length, length
 use Rattle.server_rules.specs.Events.{begun_course}
 use Rattle.law_order.specs.After.{AreInTurn, Pair}
 use Rattle.law_order.proofs.States.{event-kept, events-kept}
-use Rattle.law_order.proofs.laws.calls_run_in_order.Goals as goal
+use Rattle.law_order.proofs.server_laws.calls_run_in_order.Goals as goal
 
 none-yet : (pair : Pair) → AreInTurn pair [] [] []
 none-yet pair = record {

@@ -1,6 +1,6 @@
 use Rattle.law_packets.proofs.ClientEvents.{made-steady, step-steady}
 use Rattle.law_packets.proofs.Flushed.{flush-good}
-use Rattle.law_packets.proofs.laws.packets_may_be_sealed.Goals as goal
+use Rattle.law_packets.proofs.client_laws.packets_may_be_sealed.Goals as goal
 
 pub returns-clause-made : goal.returns-clause-made
 returns-clause-made g c = λ known setting key temporary draw fit is fits may.

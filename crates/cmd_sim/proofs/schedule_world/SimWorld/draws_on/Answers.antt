@@ -3,7 +3,7 @@ use Rattle.std.specs.Prelude.{IsTrue}
 use Rattle.cmd_sim.specs.Words.{words_max}
 use Rattle.cmd_sim.specs.Worlds.{StandsFor}
 use Rattle.cmd_sim.proofs.Settling.{drawn-below}
-use Rattle.cmd_sim.proofs.sim_world.SimWorld.draws_on.Goals as goal
+use Rattle.cmd_sim.proofs.schedule_world.SimWorld.draws_on.Goals as goal
 
 pub returns : goal.returns
 returns c = λ world stands.

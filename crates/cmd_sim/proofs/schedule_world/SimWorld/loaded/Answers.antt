@@ -2,7 +2,7 @@ use Rattle.std.proofs.Common.{subst, sym}
 use Rattle.world_rules.specs.World.{begins}
 use Rattle.cmd_sim.specs.Worlds.{StandsFor, sim_setting}
 use Rattle.cmd_sim.proofs.Settling.{loaded}
-use Rattle.cmd_sim.proofs.sim_world.SimWorld.loaded.Goals as goal
+use Rattle.cmd_sim.proofs.schedule_world.SimWorld.loaded.Goals as goal
 
 pub returns : goal.returns
 returns c = λ stands.

@@ -2,7 +2,7 @@ use Rattle.std.proofs.Common.{◌∙◌, subst, sym}
 use Rattle.sim_world.specs.Keys.{HasWorldKeys}
 use Rattle.cmd_sim.specs.Worlds.{sim_sealing}
 use Rattle.cmd_sim.proofs.Settling.{begun}
-use Rattle.cmd_sim.proofs.sim_world.SimWorld.new.Goals as goal
+use Rattle.cmd_sim.proofs.schedule_world.SimWorld.new.Goals as goal
 
 pub with_draw-requires : goal.with_draw-requires
 with_draw-requires c = record { keys = subst HasWorldKeys (sym (c.new-seal.ensures ∙ c.in_ok-sim_keys.ensures)) c.setting_of_sim.ensures.keys }

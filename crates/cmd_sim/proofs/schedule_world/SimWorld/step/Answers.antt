@@ -1,7 +1,7 @@
 use Rattle.std.proofs.Common.{subst, sym}
 use Rattle.cmd_sim.specs.Worlds.{StandsFor}
 use Rattle.cmd_sim.proofs.Settling.{stepped, told}
-use Rattle.cmd_sim.proofs.sim_world.SimWorld.step.Goals as goal
+use Rattle.cmd_sim.proofs.schedule_world.SimWorld.step.Goals as goal
 
 pub returns-clause-refused : goal.returns-clause-refused
 returns-clause-refused c = λ world stands.

@@ -6,7 +6,7 @@ use Rattle.server_rules.specs.Event.{Speaker}
 use Rattle.server_rules.specs.Waiting.{gives_up}
 use Rattle.server_session.specs.Says.{setting_of}
 use Rattle.std.specs.Prelude.{slice_index_or}
-use Rattle.server_core.proofs.voices.TickTurn.gives_up.Goals as goal
+use Rattle.server_core.proofs.tick_turns.TickTurn.gives_up.Goals as goal
 
 pub gives_up-requires-clause-room : goal.gives_up-requires-clause-room
 gives_up-requires-clause-room g c = λ d.

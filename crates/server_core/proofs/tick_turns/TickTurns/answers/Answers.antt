@@ -22,7 +22,7 @@ use Rattle.server_core.proofs.Names.{named, same-names}
 use Rattle.server_core.proofs.Places.{one-of}
 use Rattle.server_core.proofs.TickSteps.{tick-step}
 use Rattle.server_core.proofs.TickTurnSteps.{IsStep, entries-room, has-room, has-turn, here-set, is-step, voices-step}
-use Rattle.server_core.proofs.voices.TickTurns.answers.Goals as goal
+use Rattle.server_core.proofs.tick_turns.TickTurns.answers.Goals as goal
 
 pub gives_up-requires-clause-room : goal.gives_up-requires-clause-room
 gives_up-requires-clause-room g c = λ d.

@@ -5,7 +5,7 @@ use Rattle.server_rules.specs.Speaking.{msg_wait_failed, msg_wait_timeout}
 use Rattle.server_rules.specs.Waiting.{after_timeouts, all_given_up, first_failed, first_overdue}
 use Rattle.server_session.specs.Says.{setting_of}
 use Rattle.server_core.specs.Answering.{IsInTick}
-use Rattle.server_core.proofs.voices.TickTurns.answers_all.Goals as goal
+use Rattle.server_core.proofs.tick_turns.TickTurns.answers_all.Goals as goal
 
 pub returns-clause-here : goal.returns-clause-here
 returns-clause-here g c = λ ring all. c.answers_each-2.ensures.here ring (c.answers_each.ensures.here ring all)

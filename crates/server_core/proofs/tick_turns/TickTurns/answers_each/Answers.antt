@@ -4,7 +4,7 @@ use Rattle.server_rules.specs.Event.{Setting}
 use Rattle.server_session.specs.Says.{setting_of}
 use Rattle.server_core.specs.Answering.{test_of}
 use Rattle.server_core.proofs.TickLoops.{goes-none, goes-on, goes-over}
-use Rattle.server_core.proofs.voices.TickTurns.answers_each.Goals as goal
+use Rattle.server_core.proofs.tick_turns.TickTurns.answers_each.Goals as goal
 
 pub loop-step-init : goal.loop-step-init
 loop-step-init g c = record {

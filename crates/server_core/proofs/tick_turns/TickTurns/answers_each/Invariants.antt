@@ -6,7 +6,7 @@ use Rattle.server_rules.specs.Event.{State}
 use Rattle.server_session.specs.Says.{Keys, setting_of}
 use Rattle.server_core.specs.Answering.{AreVoices, GoesOn, IsInTick}
 use Rattle.server_core.specs.Losing.{IsHere}
-use Rattle.server_core.proofs.voices.TickTurns.answers_each.Given as goal
+use Rattle.server_core.proofs.tick_turns.TickTurns.answers_each.Given as goal
 
 -- after so many steps
 abbrev pub invariant-loop-step : goal.invariant-loop-step

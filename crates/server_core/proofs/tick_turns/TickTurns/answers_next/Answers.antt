@@ -15,7 +15,7 @@ use Rattle.server_core.proofs.Names.{named}
 use Rattle.server_core.proofs.Quiet.{first-same, none-out}
 use Rattle.server_core.proofs.Speaking.{none-at}
 use Rattle.server_core.proofs.TickSteps.{owner-stands}
-use Rattle.server_core.proofs.voices.TickTurns.answers_next.Goals as goal
+use Rattle.server_core.proofs.tick_turns.TickTurns.answers_next.Goals as goal
 
 pub returns-in_default-clause-ticks : goal.returns-in_default-clause-ticks
 returns-in_default-clause-ticks g c = λ keys bindings draw state tick.

@@ -2,7 +2,7 @@ use Rattle.std.proofs.Common.{◌≡◌, ◌∙◌, ◌<◌, ◌+◌, ◌∷◌,
 use Rattle.std.proofs.lemmas.List.{drop_all, drop_more}
 use Rattle.server_session.specs.Says.{setting_of}
 use Rattle.server_core.specs.Outgoing.{IsSending}
-use Rattle.server_core.proofs.voices.TickTurns.sends.Goals as goal
+use Rattle.server_core.proofs.tick_turns.TickTurns.sends.Goals as goal
 
 pub loop-k-preserved : goal.loop-k-preserved
 loop-k-preserved g c =

@@ -2,7 +2,7 @@ use Rattle.std.proofs.Common.{◌≡◌, ◌≤◌, ◌+◌, ◌*◌, length, dr
 use Rattle.server_rules.specs.Event.{State}
 use Rattle.server_session.specs.Says.{Keys, setting_of}
 use Rattle.server_core.specs.Outgoing.{CanSend, IsSending}
-use Rattle.server_core.proofs.voices.TickTurns.sends.Given as goal
+use Rattle.server_core.proofs.tick_turns.TickTurns.sends.Given as goal
 
 -- so many sessions have sent
 abbrev pub invariant-loop-k : goal.invariant-loop-k

@@ -14,7 +14,7 @@ use Rattle.server_core.specs.Outgoing.{CanGoOut, CanSend, IsSending}
 use Rattle.server_core.proofs.Places.{one-of}
 use Rattle.server_core.proofs.SendSteps.{send-step}
 use Rattle.server_core.proofs.TickTurnSteps.{sent-step, some-sendable}
-use Rattle.server_core.proofs.voices.TickTurns.sends_at.Goals as goal
+use Rattle.server_core.proofs.tick_turns.TickTurns.sends_at.Goals as goal
 
 -- the voice at the place is the one that was lent
 here : (voices : List TickTurn) (place : ℕ) (voice e : TickTurn) → voice ≡ get_or voices place voice → place < length voices → voice ≡ get_or voices place e

@@ -2,7 +2,7 @@ use Rattle.std.proofs.Common.{◌≡◌, ◌∙◌, ℕ, List, drop, ap, subst}
 use Rattle.outbox.specs.Bodies.{head_bytes}
 use Rattle.server_rules.specs.Speaking.{answers}
 use Rattle.server_session.specs.Says.{Says, setting_of}
-use Rattle.server_session.proofs.standing.SessionState.answers.Goals as goal
+use Rattle.server_session.proofs.session.SessionState.answers.Goals as goal
 
 pub returns-clause-says : goal.returns-clause-says
 returns-clause-says g c = λ keys draw speaker none says_before.

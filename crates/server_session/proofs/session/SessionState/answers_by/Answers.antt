@@ -11,7 +11,7 @@ use Rattle.server_session.specs.SessionState.{Stands}
 use Rattle.server_session.specs.Says.{Says, setting_of}
 use Rattle.server_session.proofs.OldestLemmas.{none-found, room-unanswered}
 use Rattle.server_session.proofs.UnsaidLemmas.{none-more-answered}
-use Rattle.server_session.proofs.standing.SessionState.answers_by.Goals as goal
+use Rattle.server_session.proofs.session.SessionState.answers_by.Goals as goal
 
 pub returns-clause-says : goal.returns-clause-says
 returns-clause-says g c = λ keys draw speaker none says_before.

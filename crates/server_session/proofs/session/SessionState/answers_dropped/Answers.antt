@@ -6,7 +6,7 @@ use Rattle.outbox.specs.Bodies.{head_bytes}
 use Rattle.server_output.specs.Items.{IsContent}
 use Rattle.server_rules.specs.Speaking.{answers}
 use Rattle.server_session.specs.Says.{Says, setting_of}
-use Rattle.server_session.proofs.standing.SessionState.answers_dropped.Goals as goal
+use Rattle.server_session.proofs.session.SessionState.answers_dropped.Goals as goal
 
 pub answers_by-requires-clause-result : goal.answers_by-requires-clause-result
 answers_by-requires-clause-result g c =

@@ -8,7 +8,7 @@ use Rattle.outbox.specs.Replies.{Contents, Replies, call_of, dropped_for, fits}
 use Rattle.server_rules.specs.Server.{kept_replies, marks_of}
 use Rattle.server_session.proofs.OldestLemmas.{marks-oldest}
 use Rattle.server_session.proofs.UnsaidLemmas.{fewer-with-room}
-use Rattle.server_session.proofs.standing.SessionState.drops_oldest.Goals as goal
+use Rattle.server_session.proofs.session.SessionState.drops_oldest.Goals as goal
 
 -- a call that is given is that of the oldest reply, since a further one didn't fit
 oldest-given : (bytes call : ℕ) (replies : Replies) → call_of (dropped_for bytes replies) ≡ Some call

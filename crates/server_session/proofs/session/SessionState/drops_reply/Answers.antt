@@ -10,7 +10,7 @@ use Rattle.server_session.specs.Kept.{IsResult}
 use Rattle.server_session.specs.SessionState.{Stands}
 use Rattle.server_session.proofs.FateLemmas.{are-apart, drops-refates, found-holds, found-kept, told-kept, told-none}
 use Rattle.server_session.proofs.UnsaidLemmas.{no-more-kept}
-use Rattle.server_session.proofs.standing.SessionState.drops_reply.Goals as goal
+use Rattle.server_session.proofs.session.SessionState.drops_reply.Goals as goal
 
 -- what an outbox tells of the reply to a call
 told : (call : ℕ) (replies : List Reply) (kept : Replies) → kept ≡ kept_replies replies → option_map kept_of (kept_to call replies) ≡ by_call call kept

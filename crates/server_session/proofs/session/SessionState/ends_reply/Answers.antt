@@ -12,7 +12,7 @@ use Rattle.server_session.specs.Fates.{fate_of, refated, with_ended}
 use Rattle.server_session.specs.Kept.{IsResult}
 use Rattle.server_session.proofs.FateLemmas.{all-left, found-kept, is_one, kept-left, marks-ended, none-found, told-call, told-none}
 use Rattle.server_session.proofs.UnsaidLemmas.{fewer-taken}
-use Rattle.server_session.proofs.standing.SessionState.ends_reply.Goals as goal
+use Rattle.server_session.proofs.session.SessionState.ends_reply.Goals as goal
 
 ends : (ending : Ending) → is_fate_kept (fate_of ending) ≡ false
 ends Acked = refl

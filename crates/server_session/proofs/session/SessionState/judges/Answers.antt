@@ -5,7 +5,7 @@ use Rattle.inbox.specs.Inbox.{Stands as InboxStands, message_in}
 use Rattle.inbox.specs.Judging.{Session as Remembered, session_after}
 use Rattle.inbox.specs.Refusals.{InEnvelope}
 use Rattle.server_rules.specs.Server.{marks_of, remembered}
-use Rattle.server_session.proofs.standing.SessionState.judges.Goals as goal
+use Rattle.server_session.proofs.session.SessionState.judges.Goals as goal
 
 -- where it went well, what follows from what holds then
 then : {A E : Type 0} (result : Result A E) (P Q : Type 0) → (P → Q) → OnOk result P → OnOk result Q

@@ -7,7 +7,7 @@ use Rattle.outbox.specs.Replies.{Replies}
 use Rattle.server_rules.specs.Server.{is_good, kept_replies, marks_of}
 use Rattle.server_session.specs.Marking.{replied_mark, turned}
 use Rattle.server_session.proofs.OldestLemmas.{kept-further, marks-kept}
-use Rattle.server_session.proofs.standing.SessionState.keeps_reply.Goals as goal
+use Rattle.server_session.proofs.session.SessionState.keeps_reply.Goals as goal
 
 pub returns-clause-stands : goal.returns-clause-stands
 returns-clause-stands c = λ now session reply stands same kept none.

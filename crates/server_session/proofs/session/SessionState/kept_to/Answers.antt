@@ -7,7 +7,7 @@ use Rattle.server_output.specs.Items.{IsContent}
 use Rattle.server_session.specs.Kept.{IsResult}
 use Rattle.server_session.proofs.FateLemmas.{found-kept}
 use Rattle.server_session.proofs.ResultLemmas.{found-result}
-use Rattle.server_session.proofs.standing.SessionState.kept_to.Goals as goal
+use Rattle.server_session.proofs.session.SessionState.kept_to.Goals as goal
 
 lent-content : (lent : Option (Bor Kept)) → IfSome (option_copied lent) IsResult → IfSome lent (λ kept. IsContent (drop head_bytes kept.now.body))
 lent-content None is = tt

@@ -4,7 +4,7 @@ use Rattle.server_rules.specs.Server.{Reply, kept_replies}
 use Rattle.server_rules.specs.Speaking.{made_room, without_oldest}
 use Rattle.server_session.specs.declared.session.SessionState.{SessionState}
 use Rattle.server_session.specs.SessionState.{Stands}
-use Rattle.server_session.proofs.standing.SessionState.makes_room.Goals as goal
+use Rattle.server_session.proofs.session.SessionState.makes_room.Goals as goal
 
 pub drops-init : goal.drops-init
 drops-init g c =

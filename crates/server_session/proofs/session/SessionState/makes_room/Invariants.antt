@@ -3,7 +3,7 @@ use Rattle.server_rules.specs.Server.{Reply, Session}
 use Rattle.server_rules.specs.Speaking.{made_room}
 use Rattle.server_session.specs.SessionState.{Stands, key_of, number_of, replies_left}
 use Rattle.server_session.specs.Unsaid.{FewerKept}
-use Rattle.server_session.proofs.standing.SessionState.makes_room.Given as goal
+use Rattle.server_session.proofs.session.SessionState.makes_room.Given as goal
 
 -- the replies so far give the same, where room is made from there on
 abbrev pub invariant-drops : goal.invariant-drops

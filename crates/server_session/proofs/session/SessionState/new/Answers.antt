@@ -1,6 +1,6 @@
 use Rattle.std.proofs.Common.{ap}
 use Rattle.msg_ids.specs.Counters.{Counters, room}
-use Rattle.server_session.proofs.standing.SessionState.new.Goals as goal
+use Rattle.server_session.proofs.session.SessionState.new.Goals as goal
 
 pub returns-clause-numbers : goal.returns-clause-numbers
 unfolding room

@@ -5,8 +5,8 @@ use Rattle.outbox.specs.Bodies.{head_bytes}
 use Rattle.server_output.specs.Dues.{Dues}
 use Rattle.server_output.specs.Items.{IsContent}
 use Rattle.server_session.proofs.RepeatLemmas.{SaidSoFar, no-kept, bytes-more, bytes-within, said-all, said-more}
-use Rattle.server_session.proofs.standing.SessionState.says_all_again.Goals as goal
-use Rattle.server_session.proofs.standing.SessionState.says_all_again.Goals.{in-Some, in_default}
+use Rattle.server_session.proofs.session.SessionState.says_all_again.Goals as goal
+use Rattle.server_session.proofs.session.SessionState.says_all_again.Goals.{in-Some, in_default}
 
 pub loop-place-init : goal.loop-place-init
 loop-place-init g c = record { says = λ now draw speaker is. is; places = omega arith; room = omega arith; places_taken = refl; bytes_taken = refl }

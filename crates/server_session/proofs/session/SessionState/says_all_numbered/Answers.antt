@@ -3,7 +3,7 @@ use Rattle.std.proofs.lemmas.List.{take_all}
 use Rattle.server_rules.specs.Event.{Speaker}
 use Rattle.server_session.specs.Says.{Says}
 use Rattle.server_session.proofs.UnsaidLemmas.{numbered-more, said_numbered}
-use Rattle.server_session.proofs.standing.SessionState.says_all_numbered.Goals as goal
+use Rattle.server_session.proofs.session.SessionState.says_all_numbered.Goals as goal
 
 pub loop-place-init : goal.loop-place-init
 loop-place-init g c = record { says = λ now draw speaker says. says; places = omega arith; left = omega arith; places_taken = refl; bytes_taken = refl }

@@ -3,7 +3,7 @@ use Rattle.server_rules.specs.Event.{Speaker}
 use Rattle.server_session.specs.Says.{Says}
 use Rattle.server_session.specs.Unsaid.{unsaid_bytes, unsaid_count}
 use Rattle.server_session.proofs.UnsaidLemmas.{said_numbered}
-use Rattle.server_session.proofs.standing.SessionState.says_all_numbered.Given as goal
+use Rattle.server_session.proofs.session.SessionState.says_all_numbered.Given as goal
 
 -- the replies of the numbers so far are said, in no more room than the others need less
 abbrev pub invariant-loop-place : goal.invariant-loop-place

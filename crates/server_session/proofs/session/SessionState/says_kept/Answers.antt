@@ -16,7 +16,7 @@ use Rattle.server_session.specs.Says.{Says}
 use Rattle.server_session.specs.Unsaid.{unsaid_bytes, unsaid_count}
 use Rattle.server_session.proofs.MarkLemmas.{first-kept, replied-kept}
 use Rattle.server_session.proofs.UnsaidLemmas.{unsaid-one, unsaid-spent}
-use Rattle.server_session.proofs.standing.SessionState.says_kept.Goals as goal
+use Rattle.server_session.proofs.session.SessionState.says_kept.Goals as goal
 
 -- how it was found
 abbrev is_to : ℕ → Kept → Bool

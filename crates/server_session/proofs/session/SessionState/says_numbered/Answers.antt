@@ -14,7 +14,7 @@ use Rattle.server_session.specs.Unsaid.{unsaid_bytes, unsaid_count}
 use Rattle.server_session.proofs.FateLemmas.{found-kept, told-kept, told-none}
 use Rattle.server_session.proofs.ResultLemmas.{is-result}
 use Rattle.server_session.proofs.UnsaidLemmas.{unsaid-one, unsaid-spent}
-use Rattle.server_session.proofs.standing.SessionState.says_numbered.Goals as goal
+use Rattle.server_session.proofs.session.SessionState.says_numbered.Goals as goal
 
 -- how it was found
 abbrev is_it : ℕ → Kept → Bool

@@ -8,7 +8,7 @@ use Rattle.server_rules.specs.Rows.{kept_numbered, tells_states}
 use Rattle.server_session.specs.Says.{Says, setting_of}
 use Rattle.server_session.specs.Unsaid.{unsaid_bytes, unsaid_count, unsaid_weight}
 use Rattle.server_session.proofs.UnsaidLemmas.{all-kept, said_numbered, unsaid-fewer}
-use Rattle.server_session.proofs.standing.SessionState.sends_again.Goals as goal
+use Rattle.server_session.proofs.session.SessionState.sends_again.Goals as goal
 
 pub returns-then-keeps_all-clause-says : goal.returns-then-keeps_all-clause-says
 returns-then-keeps_all-clause-says g c = λ keys draw speaker says.

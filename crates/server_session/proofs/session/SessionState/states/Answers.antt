@@ -3,7 +3,7 @@ use Rattle.std.proofs.lemmas.List.{map_more, take_all}
 use Rattle.std.proofs.lemmas.Grind.{take-set_at}
 use Rattle.inbox.specs.States.{state_byte}
 use Rattle.server_rules.specs.Server.{marks_of}
-use Rattle.server_session.proofs.standing.SessionState.states.Goals as goal
+use Rattle.server_session.proofs.session.SessionState.states.Goals as goal
 
 pub loop-place-preserved : goal.loop-place-preserved
 loop-place-preserved c =

@@ -2,7 +2,7 @@ use Rattle.std.proofs.Common.{◌≡◌, ℕ, map, take}
 use Rattle.inbox.specs.States.{state_byte}
 use Rattle.server_rules.specs.Server.{Session, marks_of}
 use Rattle.server_session.specs.SessionState.{Stands}
-use Rattle.server_session.proofs.standing.SessionState.states.Given as goal
+use Rattle.server_session.proofs.session.SessionState.states.Given as goal
 
 -- the states so far are those of the numbers so far
 abbrev pub invariant-loop-place : goal.invariant-loop-place

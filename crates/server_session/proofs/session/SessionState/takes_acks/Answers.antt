@@ -5,7 +5,7 @@ use Rattle.server_rules.specs.Server.{Reply}
 use Rattle.server_session.specs.SessionState.{Stands}
 use Rattle.server_session.proofs.FateLemmas.{acked-in-turn, acked-apart, are-apart, none-acked}
 use Rattle.server_session.proofs.UnsaidLemmas.{no-more-kept}
-use Rattle.server_session.proofs.standing.SessionState.takes_acks.Goals as goal
+use Rattle.server_session.proofs.session.SessionState.takes_acks.Goals as goal
 
 pub loop-place-init : goal.loop-place-init
 loop-place-init g c = (

@@ -4,7 +4,7 @@ use Rattle.server_rules.specs.Server.{Session}
 use Rattle.server_session.specs.Fates.{AreApart}
 use Rattle.server_session.specs.SessionState.{IsAt, Stands, key_of, number_of, numbers_left, replies_left}
 use Rattle.server_session.specs.Unsaid.{FewerKept}
-use Rattle.server_session.proofs.standing.SessionState.takes_acks.Given as goal
+use Rattle.server_session.proofs.session.SessionState.takes_acks.Given as goal
 
 -- the numbers so far are acknowledged
 abbrev pub invariant-loop-place : goal.invariant-loop-place

@@ -2,7 +2,7 @@ use Rattle.std.proofs.Common.{List, refl, subst, sym}
 use Rattle.service_tl.specs.declared.lists.Message.{Message}
 use Rattle.server_session.specs.Unsaid.{StaySaid}
 use Rattle.server_session.proofs.UnsaidLemmas.{more-said, none-more, said-more}
-use Rattle.server_session.proofs.standing.SessionState.tells_states.Goals as goal
+use Rattle.server_session.proofs.session.SessionState.tells_states.Goals as goal
 
 pub returns-clause-stays_said : goal.returns-clause-stays_said
 returns-clause-stays_said g c =
