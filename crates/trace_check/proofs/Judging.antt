@@ -1,0 +1,132 @@
+-- What lines of a trace say of calls and entries.
+use Rattle.std.proofs.Common.{◌≡◌, ◌≢◌, ◌∙◌, ℕ, suc, ◌+◌, ◌<◌, ◌≤◌, nat_lt, Bool, true, false, IsTrue, ◌↔◌, List, length, map, Option, Some, None, ◌⊎◌, inl, inr, refl, sym, ap, subst, arith}
+use Rattle.std.specs.List.{slice_get}
+use Rattle.std.proofs.lemmas.Option.{slice_get_within}
+use Rattle.std.proofs.lemmas.Bool.{cases_lt, ltb-true, lt-ltb}
+use Rattle.trace_check.specs.declared.numbered.Numbered.{Numbered}
+use Rattle.trace_check.specs.declared.fact.Fact.{Fact}
+use Rattle.trace_check.specs.declared.fact.Fact.TheVariants as fact
+use Rattle.trace_check.specs.declared.fact.Entry.{Entry}
+use Rattle.trace_check.specs.declared.fact.Told.{Told}
+use Rattle.trace_check.specs.declared.fact.Told.TheVariants.{Queued, Sent, Held, Done, Refused, Unknown}
+use Rattle.trace_check.specs.declared.table.Row.{Row}
+use Rattle.trace_check.specs.declared.book.By.TheVariants as by
+use Rattle.trace_check.specs.declared.sentence.Sentence.TheVariants as sentence
+use Rattle.trace_check.specs.Indexes.{Stands, IsRow, row_before}
+use Rattle.trace_check.specs.Marks.{At, Marks, key_of}
+use Rattle.trace_check.specs.Lawful.{IsTrace}
+use Rattle.trace_check.specs.Sentences.{DoesWait, HasEntry, HasNotRun, IsEntryOf, IsNameOf, IsReplaced, Keeps, RanOnce, WasAsked}
+use Rattle.trace_check.specs.Books.{AreCallers, AreEntries, AreEntriesAt, HasBody, HasLater, HasReplied, IsCallerAt, IsWaiting}
+use Rattle.trace_check.proofs.Steps.{not_equal}
+use Rattle.trace_check.proofs.Marking.{fact_marks, is_body, is_call, is_name, is_state, marks_fact, one_body, one_name, one_state, same_fact}
+
+-- ---- equivalences
+
+pub iff_by : {A B C : Type 0} → (A ↔ B) → (B ↔ C) → (A ↔ C)
+iff_by f g = (λ a. g.0 (f.0 a), λ c. f.1 (g.1 c))
+
+pub yes : {A : Type 0} → A → (true ≡ true) ↔ A
+yes a = (λ e. a, λ b. refl)
+
+pub no : {A : Type 0} → (A → ⊥) → (false ≡ true) ↔ A
+no not = (λ e. absurd cc, λ a. absurd (not a))
+
+pub not_less : (m n : ℕ) → n ≤ m → nat_lt m n ≡ false
+not_less m n h = not_equal (nat_lt m n) (λ t. let less = ltb-true m n t in omega (arith, h, less))
+
+-- ---- entries and their calls
+
+pub same_entry : (facts : List Fact) (place : ℕ) (a b : Entry) → At facts place (fact.Entry a) → At facts place (fact.Entry b) → a ≡ b
+same_entry facts place a b at other = let same = same_fact facts place place (fact.Entry a) (fact.Entry b) refl at other in cc
+
+pub same_call : (facts : List Fact) → IsTrace facts → (place : ℕ) (c d : Numbered) (a b : Entry) → IsEntryOf facts c place a → IsEntryOf facts d place b → c ≡ d
+same_call facts trace place c d a b at other =
+    let same : a ≡ b = same_entry facts place a b at.at other.at in
+    let named : IsNameOf facts c b.name = subst (λ (e : Entry). IsNameOf facts c e.name) same at.named in
+    (one_name facts trace named.0 other.named.0 c d b.name named.1 other.named.1).1
+
+-- the rows of a table of callers are the entries of a call
+pub entries_row : (facts : List Fact) (keys : List (Option Numbered)) (call : Numbered) (row : Option Row) → AreCallers facts keys → length keys ≡ length facts → IsRow keys call row → AreEntries facts call row
+entries_row facts keys call None callers whole is = λ has.
+    let within : has.0 < length facts = slice_get_within facts has.0 (fact.Entry has.1.0) has.1.1.at in
+    is has.0 (callers.has_caller has.0 call has.1.0 (omega (arith, whole, within)) has.1.1)
+entries_row facts keys call (Some row) callers whole is =
+    let stands : (place : ℕ) (entry : Entry) → IsEntryOf facts call place entry → Stands keys place call = λ place entry e.
+    let within : place < length facts = slice_get_within facts place (fact.Entry entry) e.at in
+    callers.has_caller place call entry (omega (arith, whole, within)) e in
+    record {
+      first = callers.is_caller row.first call is.0.stands;
+      last = callers.is_caller row.last call is.1.stands;
+      least = λ place entry e. elim (cases_lt place row.first) [ inl less ↦ absurd (is.0.least place (stands place entry e) less) | inr more ↦ more ];
+      greatest = λ place entry e. elim (cases_lt row.last place) [ inl less ↦ absurd (is.1.greatest place (stands place entry e) less) | inr more ↦ more ];
+    }
+
+-- ---- at most one entry
+
+pub first_none : (facts : List Fact) (place : ℕ) → IsCallerAt facts place None → Keeps sentence.AtMostOnce facts place
+first_none facts place none = λ call entry is earlier one less other. none call entry is
+
+pub first_some : (facts : List Fact) → IsTrace facts → (place : ℕ) (call : Numbered) (row : Option Row) → IsCallerAt facts place (Some call) → AreEntries facts call row
+    → (row_before row place ≡ false) ↔ Keeps sentence.AtMostOnce facts place
+first_some facts trace place call None is entries = (λ e. absurd (entries (place, is)), λ k. refl)
+first_some facts trace place call (Some row) is entries = (
+  λ e d entry at earlier one less other.
+      let same : d ≡ call = same_call facts trace place d call entry is.0 at is.1 in
+      let least = entries.least earlier one (subst (λ (c : Numbered). IsEntryOf facts c earlier one) same other) in
+      let apart : row.first < place → ⊥ = λ before. let t = lt-ltb row.first place before in cc in
+      apart (omega (arith, least, less)),
+  λ keeps. elim (cases_lt row.first place) [
+    | inl less ↦ absurd (keeps call is.0 is.1 row.first entries.first.0 less entries.first.1)
+    | inr more ↦ not_less row.first place more
+  ],
+)
+
+-- ---- what was asked
+
+pub asked_call : (facts : List Fact) → IsTrace facts → (call : Numbered) (entry : Entry) → IsNameOf facts call entry.name → HasBody facts call entry.request ↔ WasAsked facts entry
+asked_call facts trace call entry named = (
+  λ body. record { call = call; named = named; body_at = body.0; request = body.1 },
+  λ was.
+      let same : was.call ≡ call = (one_name facts trace was.named.0 named.0 was.call call entry.name was.named.1 named.1).1 in
+      (was.body_at, subst (λ (c : Numbered). At facts was.body_at (fact.Body c entry.request)) same was.request),
+)
+
+pub asked_at : (facts : List Fact) (place : ℕ) (entry : Entry) → At facts place (fact.Entry entry) → WasAsked facts entry ↔ Keeps sentence.AsSent facts place
+asked_at facts place entry at =
+    (λ was other is. subst (λ (e : Entry). WasAsked facts e) (same_entry facts place entry other at is) was, λ keeps. keeps entry at)
+
+pub the_body : (facts : List Fact) → IsTrace facts → (place : ℕ) (call : Numbered) (body request : List ℕ) → At facts place (fact.Body call body) → (body ≡ request) ↔ HasBody facts call request
+the_body facts trace place call body request at = (
+  λ e. (place, subst (λ (b : List ℕ). At facts place (fact.Body call b)) e at),
+  λ has. one_body facts trace place has.0 call body request at has.1,
+)
+
+-- ---- a call that is done
+
+pub only_row : (facts : List Fact) (call : Numbered) (row : Row) (reply : List ℕ) → AreEntriesAt facts call row
+    → ((row.first ≡ row.last) × HasReplied facts row.first reply) ↔ RanOnce facts call reply
+only_row facts call row reply rows = (
+  λ is.
+      let same : is.1.0 ≡ rows.first.0 = same_entry facts row.first is.1.0 rows.first.0 is.1.1 rows.first.1.at in
+      record {
+        place = row.first;
+        entry = rows.first.0;
+        is = rows.first.1;
+        only = λ other one e. let least = rows.least other one e in let greatest = rows.greatest other one e in let once = is.0 in omega (arith, least, greatest, once);
+        replied = subst (λ (e : Entry). e.reply ≡ reply) same is.1.2;
+      },
+  λ ran.
+      let first = ran.only row.first rows.first.0 rows.first.1 in
+      let last = ran.only row.last rows.last.0 rows.last.1 in
+      (first ∙ sym last, (ran.entry, subst (λ (p : ℕ). At facts p (fact.Entry ran.entry)) (sym first) ran.is.at, ran.replied)),
+)
+
+pub replied_at : (facts : List Fact) (place : ℕ) (entry : Entry) (reply : List ℕ) → At facts place (fact.Entry entry) → (entry.reply ≡ reply) ↔ HasReplied facts place reply
+replied_at facts place entry reply at =
+    (λ e. (entry, at, e), λ has. subst (λ (e : Entry). e.reply ≡ reply) (same_entry facts place has.0 entry has.1 at) has.2)
+
+-- ---- replaced names
+
+pub waiting_state : (facts : List Fact) → IsTrace facts → (place : ℕ) (call : Numbered) (told : Told) → At facts place (fact.State call told) → DoesWait told ↔ IsWaiting facts call
+waiting_state facts trace place call told at =
+    (λ does. (place, told, at, does), λ is. subst DoesWait (one_state facts trace is.0 place call is.1 told is.2 at) is.3)

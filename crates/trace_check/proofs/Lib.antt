@@ -1,0 +1,12 @@
+pub mod Steps
+pub mod Pieces
+pub mod Numbers
+pub mod Places
+pub mod Marking
+pub mod Judging
+pub mod Lookups
+pub mod Tests
+pub mod Serving
+pub mod Lines
+pub mod Finding
+pub mod Stepping

@@ -1,0 +1,8 @@
+use Rattle.std.proofs.Common.{map}
+use Rattle.trace_check.specs.Marks.{key_of}
+use Rattle.trace_check.proofs.Lookups.{tells}
+use Rattle.trace_check.proofs.Places.{row_is_twice}
+use Rattle.trace_check.proofs.book.Book.has_two.Goals as goal
+
+pub returns : goal.returns
+returns c = tells _ _ c.is_twice.ensures (row_is_twice (map (key_of c.args.by) c.args.self.now.facts.items) c.args.key c.row.result (c.row.ensures c.requires))
