@@ -1,5 +1,5 @@
 -- All packets that are whole, one after the other.
-use Rattle.std.proofs.Common.{◌≡◌, ◌+◌, ℕ, false, List, [], ◌∷◌, ◌++◌, length, Option, Some, None, Ok, Err, inl, inr, refl, sym, ap, subst, ◌∙◌, append-nil, append_assoc, length-append, arith}
+use Rattle.std.proofs.Common.{◌≡◌, ◌≢◌, ◌+◌, ℕ, zero, suc, false, List, [], ◌∷◌, ◌++◌, length, Option, Some, None, Ok, Err, inl, inr, refl, sym, ap, subst, ◌∙◌, append-nil, append_assoc, length-append, arith}
 use Rattle.auth_keys.specs.declared.ring.RingKey.{RingKey}
 use Rattle.cipher_modes.specs.CounterMode.{CtrState}
 use Rattle.envelope.specs.Packet.{Lock}
@@ -11,7 +11,7 @@ use Rattle.transport.specs.Forms.{framing_of}
 use Rattle.transport.specs.Wires.{Hears, Line}
 use Rattle.server_node.specs.Coming.{AllCut, IsNext, Sides, TookAll, TookBy, TookLast, TookOne, TookSome, packets_max}
 use Rattle.server_node.specs.Doing.{Did, IsPacketEnd, Side, then_due}
-use Rattle.server_node.specs.Record.{counted, counted_down}
+use Rattle.server_node.specs.Record.{counted_down, with_answered}
 use Rattle.server_node.specs.Trace.{packet_acts, packets_acts}
 use Rattle.server_node.specs.declared.conn.ConnEnd.{ConnEnd}
 use Rattle.server_node.specs.declared.conn.ConnEnd.TheVariants as ends
@@ -31,9 +31,9 @@ did_zero step serve lock ring side = record {
   cut = tt;
 }
 
-counted_zero : (left : Option ℕ) → left ≡ counted 0 left
-counted_zero None = refl
-counted_zero (Some left) = ap (λ (n : ℕ). Some n) (omega arith)
+answered_zero : (left : Option ℕ) → left ≡ with_answered 0 left
+answered_zero None = refl
+answered_zero (Some left) = ap (λ (n : ℕ). Some n) (omega arith)
 
 pub some_none : {S V : Type 0} (step : S → ℕ × S) (serve : Step V) (lock : Lock) (ring : List RingKey) (side : Sides S V) (now : ℕ) (wire : Line) (left : Option ℕ)
     → TookSome step serve lock ring side now 0 wire wire left left side
@@ -43,7 +43,7 @@ some_none step serve lock ring side now wire left = record {
   did = λ service. did_zero step serve lock ring (side service);
   heard = λ from before bytes hears. subst (λ (all : List (List ℕ)). Hears wire from all bytes) (sym (append-nil before)) hears;
   form = refl;
-  left_is = counted_zero left;
+  left_is = answered_zero left;
 }
 
 -- ---- a packet more
@@ -60,13 +60,16 @@ did_more step serve lock ring other side middle later now packets packet end sam
 count_more : (packets : List (List ℕ)) (packet : List ℕ) (count : ℕ) → length packets ≡ count → length (packets ++ packet ∷ []) ≡ count + 1
 count_more packets packet count same = length-append packets (packet ∷ []) ∙ ap (λ (n : ℕ). n + 1) same
 
-one_fewer : (count more : ℕ) (left : Option ℕ) → more ≡ count + 1 → counted_down (counted count left) ≡ counted more left
-one_fewer count more None same = refl
-one_fewer count more (Some left) same = ap (λ (n : ℕ). Some n) (omega (arith, same))
+one_fewer : (count more : ℕ) (before : Option ℕ) → more ≡ count + 1 → before ≢ Some 0 → with_answered count before ≡ with_answered more (counted_down before)
+one_fewer count more None same some = refl
+one_fewer count more (Some zero) same some = absurd (some refl)
+one_fewer count more (Some (suc left)) same some = ap (λ (n : ℕ). Some n) (omega (arith, same))
 
-left_more : (packets : List (List ℕ)) (packet : List ℕ) (left before after : Option ℕ) → before ≡ counted (length packets) left → after ≡ counted_down before → after ≡ counted (length (packets ++ packet ∷ [])) left
-left_more packets packet left before after was down =
-    down ∙ ap counted_down was ∙ one_fewer (length packets) (length (packets ++ packet ∷ [])) left (count_more packets packet (length packets) refl)
+left_more : (packets : List (List ℕ)) (packet : List ℕ) (left before after : Option ℕ) → left ≡ with_answered (length packets) before → after ≡ counted_down before → before ≢ Some 0
+    → left ≡ with_answered (length (packets ++ packet ∷ [])) after
+left_more packets packet left before after was down some =
+    was ∙ one_fewer (length packets) (length (packets ++ packet ∷ [])) before (count_more packets packet (length packets) refl) some
+    ∙ ap (λ (rest : Option ℕ). with_answered (length (packets ++ packet ∷ [])) rest) (sym down)
 
 hears_more : (first middle last : Line) (packets : List (List ℕ)) (packet : List ℕ)
     → ((from : Option CtrState) (before : List (List ℕ)) (bytes : List ℕ) → Hears first from before bytes → Hears middle from (before ++ packets) bytes)
@@ -77,15 +80,15 @@ hears_more first middle last packets packet so_far next from before bytes hears 
 
 pub some_more : {S V : Type 0} (step : S → ℕ × S) (serve : Step V) (lock : Lock) (ring other : List RingKey) (side middle later : Sides S V) (now count : ℕ) (wire between wire_then : Line) (left left_between left_then : Option ℕ)
     → other ≡ ring → TookSome step serve lock ring side now count wire between left left_between middle → TookOne step serve lock other middle now between wire_then later
-    → wire_then.form ≡ between.form → left_then ≡ counted_down left_between
+    → wire_then.form ≡ between.form → left_then ≡ counted_down left_between → left_between ≢ Some 0
     → TookSome step serve lock ring side now (count + 1) wire wire_then left left_then later
-some_more step serve lock ring other side middle later now count wire between wire_then left left_between left_then same so_far one form down = record {
+some_more step serve lock ring other side middle later now count wire between wire_then left left_between left_then same so_far one form down some = record {
   packets = so_far.packets ++ one.packet ∷ [];
   count_is = count_more so_far.packets one.packet count so_far.count_is;
   did = λ service. did_more step serve lock ring other (side service) (middle service) (later service) now so_far.packets one.packet None same (so_far.did service) (one.did service);
   heard = hears_more wire between wire_then so_far.packets one.packet so_far.heard one.next;
   form = form ∙ so_far.form;
-  left_is = left_more so_far.packets one.packet left left_between left_then so_far.left_is down;
+  left_is = left_more so_far.packets one.packet left left_between left_then so_far.left_is down some;
 }
 
 -- ---- how it ends
@@ -126,11 +129,11 @@ all_most step serve lock ring side later now count wire wire_then left left_then
 -- the last packet that may be answered was
 pub all_stopped : {S V : Type 0} (step : S → ℕ × S) (serve : Step V) (lock : Lock) (ring other : List RingKey) (side middle later : Sides S V) (now count : ℕ) (wire between wire_then : Line) (left left_between left_then : Option ℕ) (end : ConnEnd)
     → other ≡ ring → TookSome step serve lock ring side now count wire between left left_between middle → TookOne step serve lock other middle now between wire_then later
-    → wire_then.form ≡ between.form → left_then ≡ counted_down left_between → end ≡ ends.Stopped
+    → wire_then.form ≡ between.form → left_then ≡ counted_down left_between → left_between ≢ Some 0 → end ≡ ends.Stopped
     → TookAll step serve lock ring side now wire wire_then left left_then (Some end) later
-all_stopped {S} {V} step serve lock ring other side middle later now count wire between wire_then left left_between left_then end same before one form down is =
+all_stopped {S} {V} step serve lock ring other side middle later now count wire between wire_then left left_between left_then end same before one form down left_some is =
     let so_far : TookSome step serve lock ring side now (count + 1) wire wire_then left left_then later =
-    some_more step serve lock ring other side middle later now count wire between wire_then left left_between left_then same before one form down in
+    some_more step serve lock ring other side middle later now count wire between wire_then left left_between left_then same before one form down left_some in
     subst (λ (some : ConnEnd). TookAll step serve lock ring side now wire wire_then left left_then (Some some) later) (sym is) (record {
       packets = so_far.packets;
       did = so_far.did;

@@ -1,5 +1,5 @@
 -- All that a piece brings.
-use Rattle.std.proofs.Common.{◌≡◌, ◌≤◌, ◌+◌, ℕ, List, [], ◌∷◌, ◌++◌, length, Option, Some, None, inl, refl, sym, ap, subst, ◌∙◌, append-nil, append_assoc, length-append, arith}
+use Rattle.std.proofs.Common.{◌≡◌, ◌≢◌, ◌≤◌, ◌+◌, ℕ, zero, suc, List, [], ◌∷◌, ◌++◌, length, Option, Some, None, inl, refl, sym, ap, subst, ◌∙◌, append-nil, append_assoc, length-append, arith}
 use Rattle.auth_keys.specs.declared.ring.RingKey.{RingKey}
 use Rattle.cipher_modes.specs.CounterMode.{CtrState}
 use Rattle.envelope.specs.Packet.{Lock}
@@ -13,7 +13,7 @@ use Rattle.transport.specs.Wires.{Line}
 use Rattle.server_node.specs.Coming.{AllCame, AllCut, Fed, Sides, TookAll, TookWhole, Unfed}
 use Rattle.server_node.specs.Connection.{AreWhole, BreaksIn, EndsHeard, EndsUnfed, Heard, Hearing, IsCut, IsText, IsUnnamed, OwesBy, Passed, Place, Turn, Unfed as UnfedAt, Working, gets, hears, turned}
 use Rattle.server_node.specs.Doing.{Did, Due, IsEventEnd, IsFeedEnd, IsPacketsEnd, IsPart, Side, Stands, StandsBy, Worked, at_once}
-use Rattle.server_node.specs.Record.{counted}
+use Rattle.server_node.specs.Record.{BringsToZero, MayAnswerMore, Stops, with_answered}
 use Rattle.server_node.specs.Steps.{HearsAlike, IsQuiet, LineTells, SentBy}
 use Rattle.server_node.specs.Trace.{Act, IsOutside, Outside, Rules, Talk, after_acts, packet_acts, packets_acts, rules_of, work_acts}
 use Rattle.server_node.specs.Turns.{IsFramed, IsLine, IsRaw, PieceDone, PieceEnded, StandsAt, TookPiece, came_max}
@@ -31,14 +31,29 @@ use Rattle.server_node.proofs.Writing.{wrote_nothing}
 
 -- ---- the count
 
-counted_both : (one other : ℕ) (first : Option ℕ) → counted other (counted one first) ≡ counted (one + other) first
-counted_both one other None = refl
-counted_both one other (Some left) = ap (λ (n : ℕ). Some n) (omega arith)
+answered_both : (one other : ℕ) (last : Option ℕ) → with_answered one (with_answered other last) ≡ with_answered (one + other) last
+answered_both one other None = refl
+answered_both one other (Some left) = ap (λ (n : ℕ). Some n) (omega arith)
 
-left_both : (one other : List (List ℕ)) (first middle last : Option ℕ) → middle ≡ counted (length one) first → last ≡ counted (length other) middle → last ≡ counted (length (one ++ other)) first
+left_both : (one other : List (List ℕ)) (first middle last : Option ℕ) → first ≡ with_answered (length one) middle → middle ≡ with_answered (length other) last
+    → first ≡ with_answered (length (one ++ other)) last
 left_both one other first middle last before after =
-    after ∙ ap (λ (some : Option ℕ). counted (length other) some) before ∙ counted_both (length one) (length other) first
-    ∙ ap (λ (n : ℕ). counted n first) (sym (length-append one other))
+    before ∙ ap (λ (some : Option ℕ). with_answered (length one) some) after ∙ answered_both (length one) (length other) last
+    ∙ ap (λ (n : ℕ). with_answered n last) (sym (length-append one other))
+
+-- some packet may still be answered
+more_left : (count : ℕ) (first last : Option ℕ) → first ≡ with_answered count last → last ≢ Some 0 → MayAnswerMore count first
+more_left count first None same some = subst (λ (left : Option ℕ). MayAnswerMore count left) (sym same) tt
+more_left count first (Some zero) same some = absurd (some refl)
+more_left count first (Some (suc left)) same some = subst (λ (left : Option ℕ). MayAnswerMore count left) (sym same) (omega arith)
+
+-- none may any more, and one might before these packets
+none_left : (earlier packets : List (List ℕ)) (first left last : Option ℕ) → first ≡ with_answered (length earlier) left → left ≡ with_answered (length packets) last → left ≢ Some 0 → last ≡ Some 0
+    → BringsToZero first earlier packets
+none_left earlier packets first left last before after some spent = record {
+  some = λ none. some (after ∙ ap (λ (all : List (List ℕ)). with_answered (length all) last) none ∙ ap (λ (rest : Option ℕ). with_answered 0 rest) spent);
+  all = left_both earlier packets first left last before after ∙ ap (λ (rest : Option ℕ). with_answered (length (earlier ++ packets)) rest) spent ∙ ap (λ (n : ℕ). Some n) (omega arith);
+}
 
 -- ---- events that went on
 
@@ -82,11 +97,11 @@ pub record WholeDone {S V : Type 0} (rules : Rules S V) (now : ℕ) (place : Pla
   pub stands : StandsAt later (hears rules now packets place) (bytes ++ more)
   pub whole : AreWhole place.came (place.packets ++ packets)
   pub written : WrittenBy None more side.told later.told
-  pub left : left_then ≡ counted (length (place.packets ++ packets)) first
+  pub left : first ≡ with_answered (length (place.packets ++ packets)) left_then
 
 raw_done : {S V : Type 0} (step : S → ℕ × S) (serve : Step V) (lock : Lock) (ring : List RingKey) (side later : Side S V) (now : ℕ) (wire : List ℕ) (outside : Outside) (place : Place S V) (bytes : List ℕ) (first left_then : Option ℕ)
     → IsOutside lock ring outside → Stands side place.talk → side.line ≡ Raw wire → later.line ≡ Raw wire → IsRaw wire place.came place.packets place.talk.sent bytes
-    → left_then ≡ counted (length place.packets) first → Did step serve lock ring side (λ rules talk. []) None later
+    → first ≡ with_answered (length place.packets) left_then → Did step serve lock ring side (λ rules talk. []) None later
     → WholeDone (rules_of step serve outside) now place bytes side later first left_then
 raw_done {S} {V} step serve lock ring side later now wire outside place bytes first left_then is stands line line_then raw left did =
     let rules : Rules S V = rules_of step serve outside in
@@ -102,12 +117,12 @@ raw_done {S} {V} step serve lock ring side later now wire outside place bytes fi
       };
       whole = inl (raw.awaited, nothing ∙ raw.none);
       written = did.written;
-      left = left ∙ ap (λ (packets : List (List ℕ)). counted (length packets) first) (sym nothing);
+      left = left ∙ ap (λ (packets : List (List ℕ)). with_answered (length packets) left_then) (sym nothing);
     }
 
 framed_done : {S V : Type 0} (step : S → ℕ × S) (serve : Step V) (lock : Lock) (ring : List RingKey) (side later : Sides S V) (now : ℕ) (wire wire_then : Line) (left left_then : Option ℕ) (service : V) (outside : Outside) (place : Place S V) (bytes : List ℕ) (first : Option ℕ)
     → IsOutside lock ring outside → Stands (side service) place.talk → (side service).line ≡ Framed wire → (later service).line ≡ Framed wire_then → IsFramed wire place.came place.packets place.talk.sent bytes
-    → wire_then.form ≡ wire.form → length place.came ≤ came_max → left ≡ counted (length place.packets) first → AllCame step serve lock ring side now wire wire_then left left_then None later
+    → wire_then.form ≡ wire.form → length place.came ≤ came_max → first ≡ with_answered (length place.packets) left → AllCame step serve lock ring side now wire wire_then left left_then None later
     → WholeDone (rules_of step serve outside) now place bytes (side service) (later service) first left_then
 framed_done {S} {V} step serve lock ring side later now wire wire_then left left_then service outside place bytes first is stands line line_then framed form few before all =
     let did = all.did service in
@@ -135,11 +150,11 @@ framed_done {S} {V} step serve lock ring side later now wire wire_then left left
 
 pub whole_done : {S V : Type 0} (step : S → ℕ × S) (serve : Step V) (lock : Lock) (ring : List RingKey) (side later : Sides S V) (now : ℕ) (line line_then : Ends) (left left_then : Option ℕ) (service : V) (outside : Outside) (place : Place S V) (bytes : List ℕ) (first : Option ℕ)
     → IsOutside lock ring outside → StandsAt (side service) place bytes → (side service).line ≡ line → (later service).line ≡ line_then
-    → length place.came ≤ came_max → left ≡ counted (length place.packets) first → TookWhole step serve lock ring side now line line_then left left_then None later
+    → length place.came ≤ came_max → first ≡ with_answered (length place.packets) left → TookWhole step serve lock ring side now line line_then left left_then None later
     → WholeDone (rules_of step serve outside) now place bytes (side service) (later service) first left_then
 whole_done step serve lock ring side later now (Raw wire) line_then left left_then service outside place bytes first is stands line after few before took =
     raw_done step serve lock ring (side service) (later service) now wire outside place bytes first left_then is stands.talk line (after ∙ took.line)
-    (subst (λ (some : Ends). IsLine some place.came place.packets place.talk.sent bytes) line stands.line) (took.left_is ∙ before) (took.did service)
+    (subst (λ (some : Ends). IsLine some place.came place.packets place.talk.sent bytes) line stands.line) (before ∙ ap (λ (some : Option ℕ). with_answered (length place.packets) some) (sym took.left_is)) (took.did service)
 whole_done step serve lock ring side later now (Framed wire) line_then left left_then service outside place bytes first is stands line after few before took =
     framed_done step serve lock ring side later now wire took.wire_then left left_then service outside place bytes first is stands.talk line (after ∙ took.line)
     (subst (λ (some : Ends). IsLine some place.came place.packets place.talk.sent bytes) line stands.line) took.form few before took.took
@@ -148,9 +163,9 @@ whole_done step serve lock ring side later now (Framed wire) line_then left left
 
 pub piece_done : {S V : Type 0} (step : S → ℕ × S) (serve : Step V) (lock : Lock) (ring other : List RingKey) (side middle later : Side S V) (piece : List ℕ) (now : ℕ) (outside : Outside) (place : Place S V) (bytes : List ℕ) (first left_then : Option ℕ)
     → other ≡ ring → IsOutside lock ring outside → WholeDone (rules_of step serve outside) now (gets piece now place) bytes side middle first left_then
-    → HearsAlike middle.line later.line → Worked step serve lock other middle now None later
+    → HearsAlike middle.line later.line → Worked step serve lock other middle now None later → left_then ≢ Some 0
     → PieceDone (rules_of step serve outside) place bytes piece now side.told later first left_then
-piece_done {S} {V} step serve lock ring other side middle later piece now outside place bytes first left_then same is whole alike worked =
+piece_done {S} {V} step serve lock ring other side middle later piece now outside place bytes first left_then same is whole alike worked some =
     let rules : Rules S V = rules_of step serve outside in
     let did = subst (λ (keys : List RingKey). Did step serve lock keys middle (λ rules talk. work_acts now worked.count) None later) same worked.did in
     let there : Place S V = hears rules now whole.packets (gets piece now place) in
@@ -160,7 +175,7 @@ piece_done {S} {V} step serve lock ring other side middle later piece now outsid
       packets = whole.packets;
       runs = worked.count;
       more = whole.more ++ did.bytes;
-      is = λ size. record { size = size; whole = whole.whole; idle = worked.idle (turned rules turn place).talk.server talk.serves.server };
+      is = λ size. record { size = size; whole = whole.whole; goes_on = more_left (length (place.packets ++ whole.packets)) first left_then whole.left some; idle = worked.idle (turned rules turn place).talk.server talk.serves.server };
       stands = record {
         talk = talk;
         line = subst (λ (all : List ℕ). IsLine later.line there.came there.packets (turned rules turn place).talk.sent all) (append_assoc bytes whole.more did.bytes)
@@ -245,8 +260,8 @@ pub piece_heard : {S V : Type 0} (step : S → ℕ × S) (serve : Step V) (lock 
     → IsOutside lock ring outside → StandsAt side (gets piece now place) bytes → side.line ≡ Framed wire → later.line ≡ Framed wire_then → wire_then.form ≡ wire.form
     → (did : Did step serve lock ring side (λ rules talk. packets_acts rules now packets talk) None later)
     → ((talk : Talk S V) → Stands later talk → StandsBy (Some end) later talk) → ((told told_then : Option Told) (text : List ℕ) → WrittenBy None text told told_then → WrittenBy (Some end) text told told_then)
-    → EndsHeard (place.came ++ piece) (place.packets ++ packets) end
-    → left ≡ counted (length place.packets) first → left_then ≡ counted (length packets) left
+    → EndsHeard first (place.came ++ piece) place.packets packets end
+    → first ≡ with_answered (length place.packets) left → left ≡ with_answered (length packets) left_then
     → PieceEnded (rules_of step serve outside) place bytes piece now end side.told (record later { line = line }) first left_then
 piece_heard {S} {V} step serve lock ring side later piece now wire wire_then end line packets outside place bytes first left left_then is stands line_is line_then form did stays writes how before after =
     let rules : Rules S V = rules_of step serve outside in
@@ -286,9 +301,9 @@ cut_by MayAnswer ends.Stopped whole acts can part = absurd can
 -- an event of the next packet ended it
 piece_hearing : {S V : Type 0} (step : S → ℕ × S) (serve : Step V) (lock : Lock) (ring : List RingKey) (side later : Sides S V) (piece : List ℕ) (now : ℕ) (wire wire_then : Line) (MayAnswer : DeskFault → Type 0) (end : ConnEnd) (line : Ends) (service : V) (outside : Outside) (place : Place S V) (bytes : List ℕ) (first left left_then : Option ℕ)
     → IsEventEnd MayAnswer (Some end) → IsOutside lock ring outside → StandsAt (side service) (gets piece now place) bytes → (side service).line ≡ Framed wire → (later service).line ≡ Framed wire_then → wire_then.form ≡ wire.form
-    → AllCut step serve lock ring side now wire left left_then end later → left ≡ counted (length place.packets) first
+    → AllCut step serve lock ring side now wire left left_then end later → first ≡ with_answered (length place.packets) left → left_then ≢ Some 0
     → PieceEnded (rules_of step serve outside) place bytes piece now end (side service).told (record (later service) { line = line }) first left_then
-piece_hearing {S} {V} step serve lock ring side later piece now wire wire_then MayAnswer end line service outside place bytes first left left_then can is stands line_is line_then form cut before =
+piece_hearing {S} {V} step serve lock ring side later piece now wire wire_then MayAnswer end line service outside place bytes first left left_then can is stands line_is line_then form cut before some =
     let rules : Rules S V = rules_of step serve outside in
     let here : Place S V = gets piece now place in
     let there : Place S V = hears rules now cut.packets here in
@@ -309,6 +324,7 @@ piece_hearing {S} {V} step serve lock ring side later piece now wire wire_then M
               (cut.next framed.opening.up place.packets framed.rest framed.hears);
         },
         cut_by MayAnswer end (packet_acts rules now cut.packet there.talk) did.acts can one.part,
+        more_left (length (place.packets ++ cut.packets)) first left_then (left_both place.packets cut.packets first left left_then before cut.left_is) some,
       );
       behind = λ count less. less;
       ended = refl;
@@ -331,9 +347,9 @@ piece_hearing {S} {V} step serve lock ring side later piece now wire wire_then M
 -- an event of the work ended it
 pub piece_working : {S V : Type 0} (step : S → ℕ × S) (serve : Step V) (lock : Lock) (ring other : List RingKey) (side middle later : Side S V) (piece : List ℕ) (now : ℕ) (MayAnswer : DeskFault → Type 0) (end : ConnEnd) (line : Ends) (outside : Outside) (place : Place S V) (bytes : List ℕ) (first left_then : Option ℕ)
     → IsEventEnd MayAnswer (Some end) → other ≡ ring → IsOutside lock ring outside → WholeDone (rules_of step serve outside) now (gets piece now place) bytes side middle first left_then
-    → HearsAlike middle.line later.line → Worked step serve lock other middle now (Some end) later
+    → HearsAlike middle.line later.line → Worked step serve lock other middle now (Some end) later → left_then ≢ Some 0
     → PieceEnded (rules_of step serve outside) place bytes piece now end side.told (record later { line = line }) first left_then
-piece_working {S} {V} step serve lock ring other side middle later piece now MayAnswer end line outside place bytes first left_then can same is whole alike worked =
+piece_working {S} {V} step serve lock ring other side middle later piece now MayAnswer end line outside place bytes first left_then can same is whole alike worked some =
     let rules : Rules S V = rules_of step serve outside in
     let did = subst (λ (keys : List RingKey). Did step serve lock keys middle (λ rules talk. work_acts now worked.count) (Some end) later) same worked.did in
     let here : Place S V = gets piece now place in
@@ -344,7 +360,7 @@ piece_working {S} {V} step serve lock ring other side middle later piece now May
     record {
       close = Working turn did.acts end;
       more = whole.more ++ did.bytes;
-      is = λ size. (size, whole.whole, cut_by MayAnswer end (work_acts now worked.count) did.acts can one.part);
+      is = λ size. (size, whole.whole, cut_by MayAnswer end (work_acts now worked.count) did.acts can one.part, more_left (length (place.packets ++ whole.packets)) first left_then whole.left some);
       behind = λ count less. less;
       ended = refl;
       came = refl;
@@ -368,35 +384,39 @@ piece_working {S} {V} step serve lock ring other side middle later piece now May
 -- its packets ended it
 framed_ended : {S V : Type 0} (step : S → ℕ × S) (serve : Step V) (lock : Lock) (ring : List RingKey) (side later : Sides S V) (piece : List ℕ) (now : ℕ) (wire wire_then : Line) (MayAnswer : DeskFault → Type 0) (end : ConnEnd) (line : Ends) (service : V) (outside : Outside) (place : Place S V) (bytes : List ℕ) (first left left_then : Option ℕ)
     → IsPacketsEnd MayAnswer (Some end) → IsOutside lock ring outside → StandsAt (side service) (gets piece now place) bytes → (side service).line ≡ Framed wire → (later service).line ≡ Framed wire_then → wire_then.form ≡ wire.form
-    → TookAll step serve lock ring side now wire wire_then left left_then (Some end) later → left ≡ counted (length place.packets) first
+    → TookAll step serve lock ring side now wire wire_then left left_then (Some end) later → first ≡ with_answered (length place.packets) left → left ≢ Some 0 → Stops (Some end) left_then
     → PieceEnded (rules_of step serve outside) place bytes piece now end (side service).told (record (later service) { line = line }) first left_then
-framed_ended step serve lock ring side later piece now wire wire_then MayAnswer (ends.Frame fault) line service outside place bytes first left left_then can is stands line_is line_then form took before =
+framed_ended step serve lock ring side later piece now wire wire_then MayAnswer (ends.Frame fault) line service outside place bytes first left left_then can is stands line_is line_then form took before some stops =
     piece_heard step serve lock ring (side service) (later service) piece now wire wire_then (ends.Frame fault) line took.packets outside place bytes first left left_then is stands line_is line_then form
-    (took.did service) (λ talk stands. stands.serves) (λ told told_then text written. written)
-    (faulty_by wire wire_then (place.came ++ piece) place.packets took.packets place.talk.sent bytes fault (subst (λ (some : Ends). IsLine some (place.came ++ piece) place.packets place.talk.sent bytes) line_is stands.line) took.heard)
+    (took.did service) (λ talk stands. stands.serves) (λ told told_then text written. written) (
+      faulty_by wire wire_then (place.came ++ piece) place.packets took.packets place.talk.sent bytes fault (subst (λ (some : Ends). IsLine some (place.came ++ piece) place.packets place.talk.sent bytes) line_is stands.line) took.heard,
+      more_left (length (place.packets ++ took.packets)) first left_then (left_both place.packets took.packets first left left_then before took.left_is) stops,
+    )
     before took.left_is
-framed_ended step serve lock ring side later piece now wire wire_then MayAnswer ends.Stopped line service outside place bytes first left left_then can is stands line_is line_then form took before =
+framed_ended step serve lock ring side later piece now wire wire_then MayAnswer ends.Stopped line service outside place bytes first left left_then can is stands line_is line_then form took before some stops =
     piece_heard step serve lock ring (side service) (later service) piece now wire wire_then ends.Stopped line took.packets outside place bytes first left left_then is stands line_is line_then form
-    (took.did service) (λ talk stands. stands.serves) (λ told told_then text written. written)
-    (first_by wire wire_then (place.came ++ piece) place.packets took.packets place.talk.sent bytes form (subst (λ (some : Ends). IsLine some (place.came ++ piece) place.packets place.talk.sent bytes) line_is stands.line) took.heard)
+    (took.did service) (λ talk stands. stands.serves) (λ told told_then text written. written) (
+      first_by wire wire_then (place.came ++ piece) place.packets took.packets place.talk.sent bytes form (subst (λ (some : Ends). IsLine some (place.came ++ piece) place.packets place.talk.sent bytes) line_is stands.line) took.heard,
+      none_left place.packets took.packets first left left_then before took.left_is some stops,
+    )
     before took.left_is
-framed_ended step serve lock ring side later piece now wire wire_then MayAnswer ends.LinkFault line service outside place bytes first left left_then can is stands line_is line_then form took before =
-    piece_hearing step serve lock ring side later piece now wire wire_then MayAnswer ends.LinkFault line service outside place bytes first left left_then tt is stands line_is line_then form took before
-framed_ended step serve lock ring side later piece now wire wire_then MayAnswer ends.Memory line service outside place bytes first left left_then can is stands line_is line_then form took before =
-    piece_hearing step serve lock ring side later piece now wire wire_then MayAnswer ends.Memory line service outside place bytes first left left_then tt is stands line_is line_then form took before
-framed_ended step serve lock ring side later piece now wire wire_then MayAnswer (ends.Journal fault) line service outside place bytes first left left_then can is stands line_is line_then form took before =
-    piece_hearing step serve lock ring side later piece now wire wire_then MayAnswer (ends.Journal fault) line service outside place bytes first left left_then can is stands line_is line_then form took before
-framed_ended step serve lock ring side later piece now wire wire_then MayAnswer ends.Ended line service outside place bytes first left left_then can is stands line_is line_then form took before = absurd can
-framed_ended step serve lock ring side later piece now wire wire_then MayAnswer ends.Start line service outside place bytes first left left_then can is stands line_is line_then form took before = absurd can
-framed_ended step serve lock ring side later piece now wire wire_then MayAnswer ends.TurnsSpent line service outside place bytes first left left_then can is stands line_is line_then form took before = absurd can
+framed_ended step serve lock ring side later piece now wire wire_then MayAnswer ends.LinkFault line service outside place bytes first left left_then can is stands line_is line_then form took before some stops =
+    piece_hearing step serve lock ring side later piece now wire wire_then MayAnswer ends.LinkFault line service outside place bytes first left left_then tt is stands line_is line_then form took before stops
+framed_ended step serve lock ring side later piece now wire wire_then MayAnswer ends.Memory line service outside place bytes first left left_then can is stands line_is line_then form took before some stops =
+    piece_hearing step serve lock ring side later piece now wire wire_then MayAnswer ends.Memory line service outside place bytes first left left_then tt is stands line_is line_then form took before stops
+framed_ended step serve lock ring side later piece now wire wire_then MayAnswer (ends.Journal fault) line service outside place bytes first left left_then can is stands line_is line_then form took before some stops =
+    piece_hearing step serve lock ring side later piece now wire wire_then MayAnswer (ends.Journal fault) line service outside place bytes first left left_then can is stands line_is line_then form took before stops
+framed_ended step serve lock ring side later piece now wire wire_then MayAnswer ends.Ended line service outside place bytes first left left_then can is stands line_is line_then form took before some stops = absurd can
+framed_ended step serve lock ring side later piece now wire wire_then MayAnswer ends.Start line service outside place bytes first left left_then can is stands line_is line_then form took before some stops = absurd can
+framed_ended step serve lock ring side later piece now wire wire_then MayAnswer ends.TurnsSpent line service outside place bytes first left left_then can is stands line_is line_then form took before some stops = absurd can
 
 some_is_none : (end : ConnEnd) → Some end ≡ None → ⊥
 some_is_none end same = absurd cc
 
 pub whole_ended : {S V : Type 0} (step : S → ℕ × S) (serve : Step V) (lock : Lock) (ring : List RingKey) (side later : Sides S V) (piece : List ℕ) (now : ℕ) (fed fed_then : Ends) (left left_then : Option ℕ) (MayAnswer : DeskFault → Type 0) (end : ConnEnd) (line : Ends) (service : V) (outside : Outside) (place : Place S V) (bytes : List ℕ) (first : Option ℕ)
     → IsPacketsEnd MayAnswer (Some end) → IsOutside lock ring outside → StandsAt (side service) (gets piece now place) bytes → (side service).line ≡ fed → (later service).line ≡ fed_then
-    → left ≡ counted (length place.packets) first → TookWhole step serve lock ring side now fed fed_then left left_then (Some end) later
+    → first ≡ with_answered (length place.packets) left → TookWhole step serve lock ring side now fed fed_then left left_then (Some end) later → left ≢ Some 0 → Stops (Some end) left_then
     → PieceEnded (rules_of step serve outside) place bytes piece now end (side service).told (record (later service) { line = line }) first left_then
-whole_ended step serve lock ring side later piece now (Raw wire) fed_then left left_then MayAnswer end line service outside place bytes first can is stands line_is line_then before took = absurd (some_is_none end took.goes_on)
-whole_ended step serve lock ring side later piece now (Framed wire) fed_then left left_then MayAnswer end line service outside place bytes first can is stands line_is line_then before took =
-    framed_ended step serve lock ring side later piece now wire took.wire_then MayAnswer end line service outside place bytes first left left_then can is stands line_is (line_then ∙ took.line) took.form took.took before
+whole_ended step serve lock ring side later piece now (Raw wire) fed_then left left_then MayAnswer end line service outside place bytes first can is stands line_is line_then before took some stops = absurd (some_is_none end took.goes_on)
+whole_ended step serve lock ring side later piece now (Framed wire) fed_then left left_then MayAnswer end line service outside place bytes first can is stands line_is line_then before took some stops =
+    framed_ended step serve lock ring side later piece now wire took.wire_then MayAnswer end line service outside place bytes first left left_then can is stands line_is (line_then ∙ took.line) took.form took.took before some stops

@@ -7,7 +7,7 @@ use Rattle.regs_service.specs.Served.{Step}
 use Rattle.server_rules.specs.Server.{Server}
 use Rattle.server_node.specs.Connection.{Gave, Passed, Place, ServerTrace, Sight, Spent, Unbegun, began, turns_from}
 use Rattle.server_node.specs.Doing.{Side, StandsBy}
-use Rattle.server_node.specs.Record.{counted, turns_max}
+use Rattle.server_node.specs.Record.{turns_max, with_answered}
 use Rattle.server_node.specs.Served.{Begins, LeavesBy}
 use Rattle.server_node.specs.Trace.{IsOutside, Outside, Rules, Talk, rules_of}
 use Rattle.server_node.specs.Turns.{TookTurn, TurnDone, TurnEnded, TurnsSoFar}
@@ -27,9 +27,9 @@ gave_none : (given : Option (List ℕ)) → Gave [] given given
 gave_none None = tt
 gave_none (Some given) = sym (append-nil given)
 
-counted_none : (left : Option ℕ) → left ≡ counted 0 left
-counted_none None = refl
-counted_none (Some left) = ap (λ (n : ℕ). Some n) (omega arith)
+answered_none : (left : Option ℕ) → left ≡ with_answered 0 left
+answered_none None = refl
+answered_none (Some left) = ap (λ (n : ℕ). Some n) (omega arith)
 
 pub turns_none : {S V : Type 0} (rules : Rules S V) (talk : Talk S V) (desk : Server → Type 0) (drawn : S) (service : V) (heard : List SessionName) (wire : List ℕ) (now : Sight)
     → heard ≡ [] → wire ≡ [] → Begins desk drawn service talk
@@ -47,7 +47,7 @@ turns_none rules talk desk drawn service heard wire now none empty begins = reco
     };
     line = record { wire_is = empty; awaited = record { few = omega arith; not_plain = refl }; none = refl; unsent = begins.sent; unwritten = refl };
   };
-  seen = record { told = passed_none talk now.told; moments = gave_none now.given; left = counted_none now.left };
+  seen = record { told = passed_none talk now.told; moments = gave_none now.given; left = answered_none now.left };
   few = omega arith;
 }
 
@@ -146,5 +146,5 @@ trace_unbegun rules talk desk drawn service now begins = record {
   shows = passed_none talk now.told;
   breaks = tt;
   moments = gave_none now.given;
-  left = counted_none now.left;
+  left = answered_none now.left;
 }

@@ -32,7 +32,7 @@ use Rattle.server_session.specs.Says.{Keys, setting_of}
 use Rattle.server_node.specs.Connection.{IsUnnamed}
 use Rattle.server_node.specs.Doing.{Did, DidThen, Side, Stands, end_by}
 use Rattle.server_node.specs.Names.{was_heard, with_name}
-use Rattle.server_node.specs.Record.{counted}
+use Rattle.server_node.specs.Record.{with_answered}
 use Rattle.server_node.specs.Steps.{Said, going_out}
 use Rattle.server_node.specs.Writes.{end_in, unknown_key}
 use Rattle.server_node.specs.declared.heard.SessionName.{SessionName}
@@ -203,7 +203,7 @@ pub record AllCame {S V : Type 0} (step : S → ℕ × S) (serve : Step V) (lock
   pub packets : List (List ℕ)
   pub did : (service : V) → Did step serve lock ring (side service) (λ rules talk. packets_acts rules now packets talk) None (later service)
   pub heard : HeardAll end wire packets wire_then
-  pub left_is : left_then ≡ counted (length packets) left
+  pub left_is : left ≡ with_answered (length packets) left_then
 
 -- these were answered, and an event of the next one ended the connection
 pub record AllCut {S V : Type 0} (step : S → ℕ × S) (serve : Step V) (lock : Lock) (ring : List RingKey) (side : Sides S V) (now : ℕ) (wire : Line) (left left_then : Option ℕ) (end : ConnEnd) (later : Sides S V) : Type 0 where
@@ -211,7 +211,7 @@ pub record AllCut {S V : Type 0} (step : S → ℕ × S) (serve : Step V) (lock 
   pub packet : List ℕ
   pub did : (service : V) → DidThen step serve lock ring (side service) (λ rules talk. packets_acts rules now packets talk) (λ rules talk. packet_acts rules now packet talk) (Some end) (later service)
   pub next : (from : Option CtrState) (before : List (List ℕ)) (bytes : List ℕ) → Hears wire from before bytes → Begins (framing_of wire.form) (before ++ (packets ++ packet ∷ [])) (through from bytes)
-  pub left_is : left_then ≡ counted (length packets) left
+  pub left_is : left ≡ with_answered (length packets) left_then
 
 abbrev pub TookAll : {S V : Type 0} → (S → ℕ × S) → Step V → Lock → List RingKey → Sides S V → ℕ → Line → Line → Option ℕ → Option ℕ → Option ConnEnd → Sides S V → Type 0
 TookAll step serve lock ring side now wire wire_then left left_then None later = AllCame step serve lock ring side now wire wire_then left left_then None later
@@ -226,7 +226,7 @@ pub record TookSome {S V : Type 0} (step : S → ℕ × S) (serve : Step V) (loc
   pub did : (service : V) → Did step serve lock ring (side service) (λ rules talk. packets_acts rules now packets talk) None (later service)
   pub heard : (from : Option CtrState) (before : List (List ℕ)) (bytes : List ℕ) → Hears wire from before bytes → Hears wire_then from (before ++ packets) bytes
   pub form : wire_then.form ≡ wire.form
-  pub left_is : left_then ≡ counted (length packets) left
+  pub left_is : left ≡ with_answered (length packets) left_then
 
 -- ---- a piece
 

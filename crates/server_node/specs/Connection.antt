@@ -12,7 +12,7 @@ use Rattle.transport.specs.Forms.{framing_of}
 use Rattle.transport.specs.Starts.{IsAwaited, IsRefused, Opening, Starts}
 use Rattle.server_rules.specs.Server.{Server}
 use Rattle.waits.specs.Jobs.{ready_count}
-use Rattle.server_node.specs.Record.{counted, piece_bytes, turns_max}
+use Rattle.server_node.specs.Record.{BringsToZero, MayAnswerMore, piece_bytes, turns_max, with_answered}
 use Rattle.server_node.specs.Served.{LeavesBy}
 use Rattle.server_node.specs.Trace.{Act, Rules, Talk, after_acts, packet_acts, packets_acts, work_acts}
 use Rattle.server_node.specs.declared.conn.ConnEnd.{ConnEnd}
@@ -135,9 +135,12 @@ runs_max = 1048576
 abbrev pub IsIdle : ℕ → Server → Type 0
 IsIdle runs server = (ready_count server.jobs ≡ 0) ⊎ (runs ≡ runs_max)
 
-pub record IsTurn {S V : Type 0} (rules : Rules S V) (place : Place S V) (turn : Turn) : Type 0 where
+-- On a connection at whose begin so many packets were left to be answered: with its own packets fewer were answered than that. So
+-- behind the packet that brings the count to 0 there is no tick, and no turn has it.
+pub record IsTurn {S V : Type 0} (rules : Rules S V) (left : Option ℕ) (place : Place S V) (turn : Turn) : Type 0 where
   pub size : IsPieceSize turn.piece
   pub whole : AreWhole (place.came ++ turn.piece) (place.packets ++ turn.packets)
+  pub goes_on : MayAnswerMore (length (place.packets ++ turn.packets)) left
   pub idle : IsIdle turn.runs (turned rules turn place).talk.server
 
 -- a list of turns, the last one first
@@ -145,9 +148,9 @@ abbrev pub turns_from : {S V : Type 0} → Rules S V → Place S V → List Turn
 turns_from rules place [] = place
 turns_from rules place (last ∷ earlier) = turned rules last (turns_from rules place earlier)
 
-abbrev pub AreTurns : {S V : Type 0} → Rules S V → Place S V → List Turn → Type 0
-AreTurns rules place [] = ⊤
-AreTurns rules place (last ∷ earlier) = AreTurns rules place earlier × IsTurn rules (turns_from rules place earlier) last
+abbrev pub AreTurns : {S V : Type 0} → Rules S V → Option ℕ → Place S V → List Turn → Type 0
+AreTurns rules left place [] = ⊤
+AreTurns rules left place (last ∷ earlier) = AreTurns rules left place earlier × IsTurn rules left (turns_from rules place earlier) last
 
 -- ---- how a connection ends behind its turns
 
@@ -206,16 +209,17 @@ EndsUnfed came ends.TurnsSpent = ⊥
 EndsUnfed came ends.Stopped = ⊥
 EndsUnfed came (ends.Journal fault) = ⊥
 
--- behind these packets is a fault of a frame, or the last one that may be answered was
-abbrev pub EndsHeard : List ℕ → List (List ℕ) → ConnEnd → Type 0
-EndsHeard came packets (ends.Frame fault) = IsFaulty came packets fault
-EndsHeard came packets ends.Stopped = AreFirst came packets
-EndsHeard came packets ends.Ended = ⊥
-EndsHeard came packets ends.LinkFault = ⊥
-EndsHeard came packets ends.Start = ⊥
-EndsHeard came packets ends.TurnsSpent = ⊥
-EndsHeard came packets (ends.Journal fault) = ⊥
-EndsHeard came packets ends.Memory = ⊥
+-- Behind these packets, which came behind earlier ones, is a fault of a frame, and one more might have been answered; or the last of
+-- them brought the count to 0, whatever is behind it.
+abbrev pub EndsHeard : Option ℕ → List ℕ → List (List ℕ) → List (List ℕ) → ConnEnd → Type 0
+EndsHeard left came earlier packets (ends.Frame fault) = IsFaulty came (earlier ++ packets) fault × MayAnswerMore (length (earlier ++ packets)) left
+EndsHeard left came earlier packets ends.Stopped = AreFirst came (earlier ++ packets) × BringsToZero left earlier packets
+EndsHeard left came earlier packets ends.Ended = ⊥
+EndsHeard left came earlier packets ends.LinkFault = ⊥
+EndsHeard left came earlier packets ends.Start = ⊥
+EndsHeard left came earlier packets ends.TurnsSpent = ⊥
+EndsHeard left came earlier packets (ends.Journal fault) = ⊥
+EndsHeard left came earlier packets ends.Memory = ⊥
 
 -- Of these events a front came: a write of what the last one owes failed, the desk answered a fault, or memory ran out.
 abbrev pub IsCut : ConnEnd → List Act → List Act → Type 0
@@ -228,19 +232,20 @@ IsCut ends.Start whole acts = ⊥
 IsCut ends.TurnsSpent whole acts = ⊥
 IsCut ends.Stopped whole acts = ⊥
 
--- so it closes behind this place
-abbrev pub ClosesSo : {S V : Type 0} → Rules S V → Place S V → Close → Type 0
-ClosesSo rules place Unbegun = ⊤
-ClosesSo rules place (Unread answer) = IsNoPiece answer
-ClosesSo rules place Spent = ⊤
-ClosesSo rules place (Unfed piece now end) = IsPieceSize piece × EndsUnfed (place.came ++ piece) end
-ClosesSo rules place (Heard piece now packets end) = IsPieceSize piece × EndsHeard (place.came ++ piece) (place.packets ++ packets) end
-ClosesSo rules place (Hearing piece now packets packet acts end) =
+-- So it closes behind this place, on a connection at whose begin so many packets were left to be answered. Where an event of a
+-- packet, of the tick or of a run ends it, one more packet might have been answered: the one that is cut isn't counted.
+abbrev pub ClosesSo : {S V : Type 0} → Rules S V → Option ℕ → Place S V → Close → Type 0
+ClosesSo rules left place Unbegun = ⊤
+ClosesSo rules left place (Unread answer) = IsNoPiece answer
+ClosesSo rules left place Spent = ⊤
+ClosesSo rules left place (Unfed piece now end) = IsPieceSize piece × EndsUnfed (place.came ++ piece) end
+ClosesSo rules left place (Heard piece now packets end) = IsPieceSize piece × EndsHeard left (place.came ++ piece) place.packets packets end
+ClosesSo rules left place (Hearing piece now packets packet acts end) =
     IsPieceSize piece × AreFirst (place.came ++ piece) (place.packets ++ (packets ++ packet ∷ []))
-    × IsCut end (packet_acts rules now packet (hears rules now packets place).talk) acts
-ClosesSo rules place (Working turn acts end) =
+    × IsCut end (packet_acts rules now packet (hears rules now packets place).talk) acts × MayAnswerMore (length (place.packets ++ packets)) left
+ClosesSo rules left place (Working turn acts end) =
     IsPieceSize turn.piece × AreWhole (place.came ++ turn.piece) (place.packets ++ turn.packets)
-    × IsCut end (work_acts turn.now turn.runs) acts
+    × IsCut end (work_acts turn.now turn.runs) acts × MayAnswerMore (length (place.packets ++ turn.packets)) left
 
 -- behind this many turns
 abbrev pub ClosesBehind : ℕ → Close → Type 0
@@ -355,8 +360,8 @@ pub record ServerTrace {S V : Type 0} (rules : Rules S V) (talk : Talk S V) (bef
   pub turns : List Turn
   pub close : Close
   pub bytes : List ℕ
-  pub are : AreTurns rules (began talk) turns
-  pub closed : ClosesSo rules (turns_from rules (began talk) turns) close
+  pub are : AreTurns rules before.left (began talk) turns
+  pub closed : ClosesSo rules before.left (turns_from rules (began talk) turns) close
   pub behind : ClosesBehind (length turns) close
   pub ended : end_by close ≡ end
   pub leaves : LeavesBy end desk drawn service (place_after rules talk turns close).talk
@@ -364,4 +369,4 @@ pub record ServerTrace {S V : Type 0} (rules : Rules S V) (talk : Talk S V) (bef
   pub shows : IfSome after.told (λ last. IsSomeAnd before.told (λ first. ShowsClose close bytes (place_after rules talk turns close) first last))
   pub breaks : BreaksBy rules close (turns_from rules (began talk) turns) bytes before.told after.told
   pub moments : Gave (place_after rules talk turns close).moments before.given after.given
-  pub left : after.left ≡ counted (length (place_after rules talk turns close).packets) before.left
+  pub left : before.left ≡ with_answered (length (place_after rules talk turns close).packets) after.left

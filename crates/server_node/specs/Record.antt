@@ -1,5 +1,5 @@
 -- The reads of a connection, as its link tells them.
-use Rattle.std.specs.Prelude.{◌≡◌, ◌≢◌, ◌≤◌, ◌-◌, ◌⊎◌, ℕ, List, [], ◌∷◌, ◌++◌, length, All, Option, Some, None, ⊤}
+use Rattle.std.specs.Prelude.{◌≡◌, ◌≢◌, ◌<◌, ◌≤◌, ◌+◌, ◌-◌, ◌⊎◌, ℕ, List, [], ◌∷◌, ◌++◌, length, All, Option, Some, None, ⊤}
 use Rattle.mt_edge.specs.Links.{Told}
 use Rattle.mt_edge.specs.declared.link_read.LinkRead.{LinkRead}
 use Rattle.mt_edge.specs.declared.source.Got.{Got}
@@ -74,10 +74,20 @@ abbrev pub counted_down : Option ℕ → Option ℕ
 counted_down None = None
 counted_down (Some left) = Some (left - 1)
 
--- so many packets fewer
-abbrev pub counted : ℕ → Option ℕ → Option ℕ
-counted count None = None
-counted count (Some left) = Some (left - count)
+-- what was left before so many packets were answered: they, and what is left, so that never more are answered than were left
+abbrev pub with_answered : ℕ → Option ℕ → Option ℕ
+with_answered count None = None
+with_answered count (Some left) = Some (left + count)
+
+-- so many packets are fewer than were left, where they are counted: one more may be answered
+abbrev pub MayAnswerMore : ℕ → Option ℕ → Type 0
+MayAnswerMore count None = ⊤
+MayAnswerMore count (Some left) = count < left
+
+-- of these packets, which came behind earlier ones, the last brought the count to 0
+pub record BringsToZero (left : Option ℕ) (earlier packets : List (List ℕ)) : Type 0 where
+  pub some : packets ≢ []
+  pub all : left ≡ Some (length (earlier ++ packets))
 
 abbrev pub IsFewer : Option ℕ → Option ℕ → Type 0
 IsFewer None after = after ≡ None

@@ -8,7 +8,7 @@ use Rattle.transport.specs.Starts.{IsAwaited, Opening, Starts}
 use Rattle.transport.specs.Wires.{Hears, Line, Tells}
 use Rattle.server_node.specs.Connection.{AreTurns, BreaksBy, Close, ClosesBehind, ClosesSo, Gave, IsPieceSize, IsTurn, OwesBy, Passed, PassedBy, Place, ShowsClose, Sight, Turn, began, closes, end_by, gets, turned, turns_from}
 use Rattle.server_node.specs.Doing.{Side, Stands, StandsBy}
-use Rattle.server_node.specs.Record.{counted, piece_bytes, turns_max}
+use Rattle.server_node.specs.Record.{piece_bytes, turns_max, with_answered}
 use Rattle.server_node.specs.Trace.{IsOutside, Outside, Rules, Talk, rules_of}
 use Rattle.server_node.specs.Writes.{WrittenBy}
 use Rattle.server_node.specs.declared.conn.ConnEnd.{ConnEnd}
@@ -52,15 +52,15 @@ pub record PieceDone {S V : Type 0} (rules : Rules S V) (place : Place S V) (byt
   pub packets : List (List ℕ)
   pub runs : ℕ
   pub more : List ℕ
-  pub is : IsPieceSize piece → IsTurn rules place (record { piece = piece; now = now; packets = packets; runs = runs })
+  pub is : IsPieceSize piece → IsTurn rules first place (record { piece = piece; now = now; packets = packets; runs = runs })
   pub stands : StandsAt later (turned rules (record { piece = piece; now = now; packets = packets; runs = runs }) place) (bytes ++ more)
   pub written : WrittenBy None more told later.told
-  pub left : left_then ≡ counted (length (place.packets ++ packets)) first
+  pub left : first ≡ with_answered (length (place.packets ++ packets)) left_then
 
 pub record PieceEnded {S V : Type 0} (rules : Rules S V) (place : Place S V) (bytes piece : List ℕ) (now : ℕ) (end : ConnEnd) (told : Option Told) (later : Side S V) (first left_then : Option ℕ) : Type 0 where
   pub close : Close
   pub more : List ℕ
-  pub is : IsPieceSize piece → ClosesSo rules place close
+  pub is : IsPieceSize piece → ClosesSo rules first place close
   pub behind : (count : ℕ) → count < turns_max → ClosesBehind count close
   pub ended : end_by close ≡ end
   pub leaves : StandsBy (Some end) later (closes rules close place).talk
@@ -71,7 +71,7 @@ pub record PieceEnded {S V : Type 0} (rules : Rules S V) (place : Place S V) (by
   pub shows : (before after : Told) → PassedBy end (bytes ++ more) (closes rules close place) before after → ShowsClose close (bytes ++ more) (closes rules close place) before after
   pub breaks : (before : Option Told) → IfSome told (λ last. IsSomeAnd before (λ first. Passed bytes (gets piece now place) first last)) → BreaksBy rules close place (bytes ++ more) before later.told
   pub written : WrittenBy (Some end) more told later.told
-  pub left : left_then ≡ counted (length (closes rules close place).packets) first
+  pub left : first ≡ with_answered (length (closes rules close place).packets) left_then
 
 abbrev pub PieceBy : {S V : Type 0} → Rules S V → Place S V → List ℕ → List ℕ → ℕ → Option ConnEnd → Option Told → Side S V → Option ℕ → Option ℕ → Type 0
 PieceBy rules place bytes piece now None told later first left_then = PieceDone rules place bytes piece now told later first left_then
@@ -81,7 +81,7 @@ PieceBy rules place bytes piece now (Some end) told later first left_then = Piec
 abbrev pub TookPiece : {S V : Type 0} → (S → ℕ × S) → Step V → Lock → List RingKey → List ℕ → ℕ → Side S V → Side S V → Option ℕ → Option ℕ → Option ConnEnd → Type 0
 TookPiece {S} {V} step serve lock ring piece now side later left left_then end =
     (outside : Outside) (place : Place S V) (bytes : List ℕ) (first : Option ℕ) → IsOutside lock ring outside → StandsAt side place bytes
-    → length place.came + length piece ≤ came_max → left ≡ counted (length place.packets) first
+    → length place.came + length piece ≤ came_max → first ≡ with_answered (length place.packets) left
     → PieceBy (rules_of step serve outside) place bytes piece now end side.told later first left_then
 
 -- ---- a turn
@@ -91,19 +91,19 @@ TookPiece {S} {V} step serve lock ring piece now side later left left_then end =
 pub record Seen {S V : Type 0} (first now : Sight) (place : Place S V) (bytes : List ℕ) : Type 0 where
   pub told : IfSome now.told (λ last. IsSomeAnd first.told (λ before. Passed bytes place before last))
   pub moments : Gave place.moments first.given now.given
-  pub left : now.left ≡ counted (length place.packets) first.left
+  pub left : first.left ≡ with_answered (length place.packets) now.left
 
 pub record TurnDone {S V : Type 0} (rules : Rules S V) (place : Place S V) (bytes : List ℕ) (later : Side S V) (first after : Sight) : Type 0 where
   pub turn : Turn
   pub more : List ℕ
-  pub is : IsTurn rules place turn
+  pub is : IsTurn rules first.left place turn
   pub stands : StandsAt later (turned rules turn place) (bytes ++ more)
   pub seen : Seen first after (turned rules turn place) (bytes ++ more)
 
 pub record TurnEnded {S V : Type 0} (rules : Rules S V) (place : Place S V) (bytes : List ℕ) (end : ConnEnd) (later : Side S V) (first after : Sight) : Type 0 where
   pub close : Close
   pub more : List ℕ
-  pub is : ClosesSo rules place close
+  pub is : ClosesSo rules first.left place close
   pub behind : (count : ℕ) → count < turns_max → ClosesBehind count close
   pub ended : end_by close ≡ end
   pub leaves : StandsBy (Some end) later (closes rules close place).talk
@@ -111,7 +111,7 @@ pub record TurnEnded {S V : Type 0} (rules : Rules S V) (place : Place S V) (byt
   pub shows : IfSome after.told (λ last. IsSomeAnd first.told (λ before. ShowsClose close (bytes ++ more) (closes rules close place) before last))
   pub breaks : BreaksBy rules close place (bytes ++ more) first.told after.told
   pub moments : Gave (closes rules close place).moments first.given after.given
-  pub left : after.left ≡ counted (length (closes rules close place).packets) first.left
+  pub left : first.left ≡ with_answered (length (closes rules close place).packets) after.left
 
 abbrev pub TurnBy : {S V : Type 0} → Rules S V → Place S V → List ℕ → Option ConnEnd → Side S V → Sight → Sight → Type 0
 TurnBy rules place bytes None later first after = TurnDone rules place bytes later first after
@@ -131,7 +131,7 @@ pub record TurnsSoFar {S V : Type 0} (rules : Rules S V) (talk : Talk S V) (firs
   pub turns : List Turn
   pub bytes : List ℕ
   pub count_is : length turns ≡ count
-  pub are : AreTurns rules (began talk) turns
+  pub are : AreTurns rules first.left (began talk) turns
   pub stands : StandsAt side (turns_from rules (began talk) turns) bytes
   pub seen : Seen first now (turns_from rules (began talk) turns) bytes
   pub few : length (turns_from rules (began talk) turns).came ≤ count * piece_bytes

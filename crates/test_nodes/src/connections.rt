@@ -1,6 +1,6 @@
 //! One connection over memory.
 
-ghost use Rattle.std.specs.Prelude.{IsSome};
+ghost use Rattle.std.specs.Prelude.{◌≢◌, IsSome, Some};
 ghost use Rattle.auth_keys.specs.Rings.{entry_of};
 
 use draws::StepDraw;
@@ -49,8 +49,21 @@ fn brought(alloc: Global, seal: &MtSeal) -> Result<Octets, Fail> {
 fn served(alloc: Global, failing: &[u64]) -> Result<(ConnEnd, MemNet), Fail> {
     let seal = MtSeal::new(ring(alloc, "perm")?);
     let text = brought(alloc, &seal)?;
+    let link = MemLink::new(alloc, text.as_slice(), 100, failing, 1_000, 10)?;
+    ended(alloc, seal, link, &mut None)
+}
+
+// What a connection over this link came to, where so many packets are left to be answered, and the net that it was of.
+fn ended(
+    alloc: Global,
+    seal: MtSeal,
+    link: MemLink,
+    left: &mut Option<u64>,
+) -> Result<(ConnEnd, MemNet), Fail>
+    requires { left.old ≢ Some 0 }
+{
     let mut links = Vec::new(alloc);
-    links.push(MemLink::new(alloc, text.as_slice(), 100, failing, 1_000, 10)?)?;
+    links.push(link)?;
     let mut net = MemNet::new(alloc, links, &[], 8)?;
     let Linked::Link(link) = net.accept() else {
         return Err(Fail::new("no link"));
@@ -64,7 +77,7 @@ fn served(alloc: Global, failing: &[u64]) -> Result<(ConnEnd, MemNet), Fail> {
     let mut service = Regs::fresh(alloc);
     let mut clock = ListClock::new(alloc, &[Moment::new(0)])?;
     let conn = Conn::new(link);
-    let (link, end) = serve_one(alloc, conn, &mut desk, &mut service, &mut clock, &mut None);
+    let (link, end) = serve_one(alloc, conn, &mut desk, &mut service, &mut clock, left);
     net.done(link);
     Ok((end, net))
 }
@@ -104,6 +117,40 @@ fn each_call_that_fails_ends_it(rt: HostRuntime) -> Result<(), Fail> {
     for call in 1..=7u64 {
         let (end, _) = served(rt.alloc(), &[call])?;
         same(&rt, end == ConnEnd::LinkFault, call <= 6);
+    }
+    Ok(())
+}
+
+// The start of the intermediate form, and three packets under a key that isn't known, each in a frame: one piece.
+fn three_packets(alloc: Global) -> Result<Octets, Fail> {
+    let mut text = Octets::copy(alloc, b"\xee\xee\xee\xee")?;
+    for _ in 0..3 {
+        text.push_all(alloc, b"\x58\0\0\0")?;
+        text.push_all(alloc, &[1; 88])?;
+    }
+    Ok(text)
+}
+
+// Each is answered by the transport error, -404, in a frame. Of three packets in one piece as many are answered as are left; the
+// read that comes to the end follows only where they are fewer.
+#[test]
+fn as_many_packets_as_are_left(rt: HostRuntime) -> Result<(), Fail> {
+    let alloc = rt.alloc();
+    let text = three_packets(alloc)?;
+    let error = b"\x04\0\0\0\x6c\xfe\xff\xff";
+    for (count, answered, end) in [
+        (1, 1, ConnEnd::Stopped),
+        (2, 2, ConnEnd::Stopped),
+        (3, 3, ConnEnd::Stopped),
+        (4, 3, ConnEnd::Ended),
+    ] {
+        let link = MemLink::new(alloc, text.as_slice(), 1_000, &[], 1_000, 10)?;
+        let mut left = Some(count);
+        let (came_to, net) = ended(alloc, MtSeal::new(ring(alloc, "perm")?), link, &mut left)?;
+        assert_eq!(rt; came_to, end);
+        assert_eq!(rt; left, Some(count - answered));
+        assert_eq!(rt; written(&net).len() as u64, 8 * answered);
+        assert!(rt; written(&net).starts_with(error.as_slice()));
     }
     Ok(())
 }

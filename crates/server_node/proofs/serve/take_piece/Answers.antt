@@ -18,7 +18,7 @@ returns-in-Err-take_whole-clause-took g c outside place bytes first is stands fe
     c.in-Err-take_whole.ensures.ends is
     (stands_fed (record { desk = g.K.Desk.StandsFor c.args.desk.now; drawn = g.K.Desk.drawn c.args.desk.now; service = c.args.service.now; heard = c.args.heard.now; line = c.args.line; told = g.L.Link.told c.args.link.now })
     c.in-Ok.line c.args.piece.now c.args.now place bytes c.in-Ok.ensures.fed stands)
-    refl refl before c.in-Err-take_whole.ensures.took
+    refl refl before c.in-Err-take_whole.ensures.took c.requires.some c.in-Err-take_whole.ensures.left.stops
 
 pub returns-in-Ok-work_all-clause-took : goal.returns-in-Ok-work_all-clause-took
 returns-in-Ok-work_all-clause-took g c outside place bytes first is stands few before =
@@ -33,7 +33,7 @@ returns-in-Ok-work_all-clause-took g c outside place bytes first is stands few b
     (stands_fed (record { desk = g.K.Desk.StandsFor c.args.desk.now; drawn = g.K.Desk.drawn c.args.desk.now; service = c.args.service.now; heard = c.args.heard.now; line = c.args.line; told = g.L.Link.told c.args.link.now })
     c.in-Ok.line c.args.piece.now c.args.now place bytes c.in-Ok.ensures.fed stands)
     refl refl (omega (arith, few, length-append place.came c.args.piece.now)) before c.in_default.ensures.took)
-    c.work_all.ensures.same_in c.in-Ok-work_all.ensures.worked
+    c.work_all.ensures.same_in c.in-Ok-work_all.ensures.worked c.in_default.ensures.left.stops
 
 pub returns-in-Err-work_all-clause-took : goal.returns-in-Err-work_all-clause-took
 returns-in-Err-work_all-clause-took g c outside place bytes first is stands few before =
@@ -48,4 +48,4 @@ returns-in-Err-work_all-clause-took g c outside place bytes first is stands few 
     (stands_fed (record { desk = g.K.Desk.StandsFor c.args.desk.now; drawn = g.K.Desk.drawn c.args.desk.now; service = c.args.service.now; heard = c.args.heard.now; line = c.args.line; told = g.L.Link.told c.args.link.now })
     c.in-Ok.line c.args.piece.now c.args.now place bytes c.in-Ok.ensures.fed stands)
     refl refl (omega (arith, few, length-append place.came c.args.piece.now)) before c.in_default.ensures.took)
-    c.work_all.ensures.same_in c.in-Err-work_all.ensures.worked
+    c.work_all.ensures.same_in c.in-Err-work_all.ensures.worked c.in_default.ensures.left.stops

@@ -34,7 +34,7 @@ returns-in-Err-count_down-clause-took g c =
     all_stopped g.K.D.Draw.step g.V.Service.step g.K.S.Seal.lock (g.K.Desk.keys c.args.desk.now) (g.K.Desk.keys c.packets.desk) _ _ _ c.args.now c.packets._count
     c.args.wire.now c.packets.wire c.take_packet.new.wire c.args.left.now c.packets.left c.count_down.new.left c.in-Err-count_down.end
     c.packets.invariant.same_keys c.packets.invariant.took (rw (c.in-Ok-true.field-0-test) at c.in-Ok-true.ensures.took) c.take_packet.ensures.same_form c.count_down.ensures.counted
-    (stops_left c.count_down.new.left c.in-Err-count_down.end (sym c.in-Err-count_down.ensures.stops)).0
+    c.packets.invariant.some (stops_left c.count_down.new.left c.in-Err-count_down.end (sym c.in-Err-count_down.ensures.stops)).0
 
 pub packets-preserved : goal.packets-preserved
 packets-preserved g c =
@@ -42,7 +42,7 @@ packets-preserved g c =
     record {
       took = some_more g.K.D.Draw.step g.V.Service.step g.K.S.Seal.lock (g.K.Desk.keys c.args.desk.now) (g.K.Desk.keys c.packets.desk) _ _ _ c.args.now c.packets._count
           c.args.wire.now c.packets.wire c.take_packet.new.wire c.args.left.now c.packets.left c.count_down.new.left
-          so_far.same_keys so_far.took (rw (c.in-Ok-true.field-0-test) at c.in-Ok-true.ensures.took) c.take_packet.ensures.same_form c.count_down.ensures.counted;
+          so_far.same_keys so_far.took (rw (c.in-Ok-true.field-0-test) at c.in-Ok-true.ensures.took) c.take_packet.ensures.same_form c.count_down.ensures.counted so_far.some;
       goes = goes_both None _ _ _ _ _ _ _ _ _ so_far.goes c.in-Ok-true.ensures.goes;
       fewer = one_fewer c.args.left.now c.packets.left c.count_down.new.left c.count_down.ensures.counted so_far.fewer;
       some = goes_on_left c.count_down.new.left (sym c.in_default.ensures.stops);
