@@ -1,6 +1,6 @@
 //! A file that is read and written at places, and may be lost in parts by a crash.
 
-ghost use Rattle.std.specs.Prelude.{◌≡◌, ◌+◌, ◌≤◌, ℕ, Option, length, take, drop, IfSome, IsSomeAnd};
+ghost use Rattle.std.specs.Prelude.{◌≡◌, ◌+◌, ◌≤◌, ℕ, Option, length, take, drop, IfSome, IsSomeAnd, is_some};
 ghost use Rattle.mt_edge.specs.Acts.{Counts as CountsAct};
 ghost use Rattle.disks.specs.Crash.{overwritten};
 ghost use Rattle.disks.specs.Told.{Changes, Counts, DiskTold, IfLen, Syncs};
@@ -9,7 +9,7 @@ use crate::disk_act::DiskAct;
 use crate::disk_len::DiskLen;
 use mt_edge::Act;
 
-/// An open file. One that tells what it holds goes on telling. After a crash between two calls or inside one it may hold
+/// An open file. One that tells what it holds goes on telling, and one that doesn't never begins. After a crash between two calls or inside one it may hold
 /// whatever `MayLeave` allows at the moment before or after that call.
 pub trait Disk {
     ghost use Rattle.disks.specs.declared.disk_act.DiskAct.{DiskAct};
@@ -45,6 +45,7 @@ pub trait Disk {
         requires { IfSome (told self.old) (λ before. at ≤ length before.contents) }
         ensures told { IfSome (told self.old) (λ before. IsSomeAnd (told self.new) (λ after.
             Changes result (DiskAct.Write at (length bytes.now)) (overwritten at bytes.now before.contents) before after)) }
+        ensures tells { is_some (told self.new) ≡ is_some (told self.old) }
         ensures same_place { place self.new ≡ place self.old }
         ensures never_falls { faults self.old ≤ faults self.new }
         ensures counted { CountsAct result (faults self.old) (faults self.new) };
@@ -54,6 +55,7 @@ pub trait Disk {
         requires { IfSome (told self.old) (λ before. len ≤ length before.contents) }
         ensures told { IfSome (told self.old) (λ before. IsSomeAnd (told self.new) (λ after.
             Changes result (DiskAct.Cut len) (take len before.contents) before after)) }
+        ensures tells { is_some (told self.new) ≡ is_some (told self.old) }
         ensures same_place { place self.new ≡ place self.old }
         ensures never_falls { faults self.old ≤ faults self.new }
         ensures counted { CountsAct result (faults self.old) (faults self.new) };
@@ -61,6 +63,7 @@ pub trait Disk {
     /// Makes sure of the file as it is: after a crash it holds what a read gives now.
     fn sync(&mut self) -> Act
         ensures told { IfSome (told self.old) (λ before. IsSomeAnd (told self.new) (λ after. Syncs result before after)) }
+        ensures tells { is_some (told self.new) ≡ is_some (told self.old) }
         ensures same_place { place self.new ≡ place self.old }
         ensures never_falls { faults self.old ≤ faults self.new }
         ensures counted { CountsAct result (faults self.old) (faults self.new) };

@@ -1,6 +1,6 @@
 //! A file in memory, for tests.
 
-ghost use Rattle.std.specs.Prelude.{◌≡◌, ◌<◌, ◌≤◌, ◌+◌, [], ◌∷◌, ◌++◌, Some, length, take, max, fold, vec_len, vec_capacity, IfOk, IfSome, IsSomeAnd};
+ghost use Rattle.std.specs.Prelude.{◌≡◌, ◌<◌, ◌≤◌, ◌+◌, [], ◌∷◌, ◌++◌, Some, length, take, max, fold, vec_len, vec_capacity, IfOk, IfSome, IsSomeAnd, is_some};
 ghost use Rattle.disks.specs.Crash.{MayLeave, after_acts, overwritten, synced_after, synced_at};
 ghost use Rattle.disks.specs.Told.{Changes, Syncs, moment, now};
 ghost use Rattle.mt_edge.specs.Acts.{Counts as CountsAct};
@@ -338,6 +338,7 @@ impl Disk for MemDisk {
             Changes result (DiskAct.Write at (length bytes.now)) (overwritten at bytes.now before.contents) before after)) }
         // A failed one leaves what a read gives as it was.
         ensures unchanged { result ≡ Act.Failed → IfSome (⟦<MemDisk as Disk>⟧.told self.old) (λ before. IsSomeAnd (⟦<MemDisk as Disk>⟧.told self.new) (λ after. after.contents ≡ before.contents)) }
+        ensures tells { is_some (⟦<MemDisk as Disk>⟧.told self.new) ≡ is_some (⟦<MemDisk as Disk>⟧.told self.old) }
         ensures same_place { ⟦<MemDisk as Disk>⟧.place self.new ≡ ⟦<MemDisk as Disk>⟧.place self.old }
         ensures never_falls { ⟦<MemDisk as Disk>⟧.faults self.old ≤ ⟦<MemDisk as Disk>⟧.faults self.new }
         ensures counted { CountsAct result (⟦<MemDisk as Disk>⟧.faults self.old) (⟦<MemDisk as Disk>⟧.faults self.new) }
@@ -366,6 +367,7 @@ impl Disk for MemDisk {
             Changes result (DiskAct.Cut len) (take len before.contents) before after)) }
         // A failed one leaves what a read gives as it was.
         ensures unchanged { result ≡ Act.Failed → IfSome (⟦<MemDisk as Disk>⟧.told self.old) (λ before. IsSomeAnd (⟦<MemDisk as Disk>⟧.told self.new) (λ after. after.contents ≡ before.contents)) }
+        ensures tells { is_some (⟦<MemDisk as Disk>⟧.told self.new) ≡ is_some (⟦<MemDisk as Disk>⟧.told self.old) }
         ensures same_place { ⟦<MemDisk as Disk>⟧.place self.new ≡ ⟦<MemDisk as Disk>⟧.place self.old }
         ensures never_falls { ⟦<MemDisk as Disk>⟧.faults self.old ≤ ⟦<MemDisk as Disk>⟧.faults self.new }
         ensures counted { CountsAct result (⟦<MemDisk as Disk>⟧.faults self.old) (⟦<MemDisk as Disk>⟧.faults self.new) }
@@ -392,6 +394,7 @@ impl Disk for MemDisk {
             Syncs result before after)) }
         // It leaves what a read gives as it was.
         ensures unchanged { IfSome (⟦<MemDisk as Disk>⟧.told self.old) (λ before. IsSomeAnd (⟦<MemDisk as Disk>⟧.told self.new) (λ after. after.contents ≡ before.contents)) }
+        ensures tells { is_some (⟦<MemDisk as Disk>⟧.told self.new) ≡ is_some (⟦<MemDisk as Disk>⟧.told self.old) }
         ensures same_place { ⟦<MemDisk as Disk>⟧.place self.new ≡ ⟦<MemDisk as Disk>⟧.place self.old }
         ensures never_falls { ⟦<MemDisk as Disk>⟧.faults self.old ≤ ⟦<MemDisk as Disk>⟧.faults self.new }
         ensures counted { CountsAct result (⟦<MemDisk as Disk>⟧.faults self.old) (⟦<MemDisk as Disk>⟧.faults self.new) }

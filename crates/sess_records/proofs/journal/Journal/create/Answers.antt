@@ -1,0 +1,11 @@
+use Rattle.std.proofs.Common.{refl}
+use Rattle.sess_records.proofs.JournalLemmas.{created_told, rose}
+use Rattle.sess_records.proofs.journal.Journal.create.Goals as goal
+
+pub returns-clause-empty : goal.returns-clause-empty
+returns-clause-empty g c =
+    created_told c.args.seed.now c.header_of-header.result (g.K.Disk.told c.args.disk) (g.K.Disk.told c.begin.new.disk)
+    c.header_of-header.ensures c.told-seed c.begin.ensures.tells (c.in-Ready.ensures.begun refl)
+
+pub returns-in_default-clause-cause : goal.returns-in_default-clause-cause
+returns-in_default-clause-cause g c = rose _ _ c.in_default.ensures.counted

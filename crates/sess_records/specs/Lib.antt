@@ -1,0 +1,4 @@
+pub mod Format
+pub mod Crashes
+pub mod Standing
+pub mod Calls
