@@ -6,9 +6,8 @@ use crate::laws::one_outcome;
 use crate::phase::Phase;
 use octets::Octets;
 use std::alloc::Global;
-use std::fmt;
 use std::marker::Model;
-use std::mem;
+use std::{fmt, mem};
 use transport::Form;
 
 /// Turns a connection that a client has obfuscated with a secret into one in plain framing: what the client has sent goes
@@ -72,12 +71,7 @@ impl Relay {
     /// `Start`: the client's first 64 bytes carry no tag under the secret. `Frame`: the client's stream has that fault, and
     /// the packets before it went out. `Length`: a packet is next that the padded form doesn't carry, and the packets before
     /// it went out. From then on every call answers the same. `Memory`, and then the relay and the text are as they were.
-    pub fn up(
-        &mut self,
-        alloc: Global,
-        piece: &[u8],
-        out: &mut Octets,
-    ) -> Result<(), RelayFault>
+    pub fn up(&mut self, alloc: Global, piece: &[u8], out: &mut Octets) -> Result<(), RelayFault>
         ensures goes_on { OnOk result ((story : Story) → Stands self.old story
             → Adds out.old out.new (λ more. Stands self.new (with_up piece.now more story))) }
         ensures ends { IfErr result (λ fault. OnEnd fault ((story : Story) → Stands self.old story
@@ -108,12 +102,7 @@ impl Relay {
     /// server's stream has that fault, and the packets before it went out. `Length`: a packet is next that the padded form
     /// doesn't carry, and the packets before it went out. From then on every call answers the same. `Memory`, and then the
     /// relay and the text are as they were.
-    pub fn down(
-        &mut self,
-        alloc: Global,
-        piece: &[u8],
-        out: &mut Octets,
-    ) -> Result<(), RelayFault>
+    pub fn down(&mut self, alloc: Global, piece: &[u8], out: &mut Octets) -> Result<(), RelayFault>
         ensures goes_on { OnOk result ((story : Story) → Stands self.old story
             → Adds out.old out.new (λ more. Stands self.new (with_down piece.now more story))) }
         ensures ends { IfErr result (λ fault. OnEnd fault ((story : Story) → Stands self.old story

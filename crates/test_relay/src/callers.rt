@@ -15,7 +15,13 @@ use std::alloc::Global;
 use std::test::*;
 
 // The first piece of a connection.
-fn first_piece(alloc: Global, form: Form, secret: &[u8; 16], piece: &[u8], out: &mut Octets) -> Result<Relay, RelayFault>
+fn first_piece(
+    alloc: Global,
+    form: Form,
+    secret: &[u8; 16],
+    piece: &[u8],
+    out: &mut Octets,
+) -> Result<Relay, RelayFault>
     requires { form ≢ Full }
     ensures stands { IfOk result (λ relay. Adds out.old out.new (λ more. Stands relay (with_up piece.now more nothing))) }
 {
@@ -25,7 +31,14 @@ fn first_piece(alloc: Global, form: Form, secret: &[u8; 16], piece: &[u8], out: 
 }
 
 // A piece more of each side.
-fn one_of_each(alloc: Global, relay: &mut Relay, up: &[u8], down: &[u8], upwards: &mut Octets, downwards: &mut Octets) -> Result<(), RelayFault>
+fn one_of_each(
+    alloc: Global,
+    relay: &mut Relay,
+    up: &[u8],
+    down: &[u8],
+    upwards: &mut Octets,
+    downwards: &mut Octets,
+) -> Result<(), RelayFault>
     ensures { OnOk result ((story : Story) → Stands relay.old story
         → Adds upwards.old upwards.new (λ one. Adds downwards.old downwards.new (λ other.
         Relayed relay.new.form relay.new.secret (with_down down.now other (with_up up.now one story))))) }

@@ -46,7 +46,12 @@ fn packets_go_out_whole(rt: HostRuntime) -> Result<(), Fail> {
     relay.up(alloc, &start(Tag::Abridged).wire, &mut out)?;
     assert_eq!(rt; out.as_slice(), [0xee, 0xee, 0xee, 0xee].as_slice());
     // The last two cuts lie inside the length of the second packet.
-    for cuts in [[0, 0], [63, 63], [64, 64 + 505 + 2], [64 + 505 + 1, 64 + 505 + 3]] {
+    for cuts in [
+        [0, 0],
+        [63, 63],
+        [64, 64 + 505 + 2],
+        [64 + 505 + 1, 64 + 505 + 3],
+    ] {
         let out = cut_at(alloc, &cuts)?;
         let out = out.as_slice();
         assert_eq!(rt; out.len(), 4 + 508 + 512);
