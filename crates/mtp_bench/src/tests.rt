@@ -5,7 +5,6 @@ use crate::text::{checksum, text_of};
 use crate::work::{Cipher, Packet, Work};
 use std::alloc::Global;
 use std::test::*;
-use test_asserts::{same, same_at};
 use transport::Form;
 
 // The checksum of what a work gives when it is done three times.
@@ -43,7 +42,7 @@ fn each_work_once(rt: HostRuntime) -> Result<(), Fail> {
         (Work::Crc32, 1024, 0x13_b96f),
     ];
     for (work, bytes, sum) in rows {
-        same_at(&rt, work, sum_of(rt.alloc(), work, bytes)?, sum);
+        assert_eq!(rt; sum_of(rt.alloc(), work, bytes)?, sum, "{work}");
     }
     Ok(())
 }
@@ -66,9 +65,9 @@ fn each_word_names_its_work(rt: HostRuntime) -> Result<(), Fail> {
         ("crc32", Work::Crc32),
     ];
     for (word, work) in rows {
-        same(&rt, Work::of_word(word), Some(work));
+        assert_eq!(rt; Work::of_word(word), Some(work));
         let told = format!(in rt.alloc(); "{work}")?;
-        same(&rt, told.as_str(), word);
+        assert_eq!(rt; told.as_str(), word);
     }
     Ok(())
 }
@@ -91,7 +90,7 @@ fn each_work_has_its_sizes(rt: HostRuntime) -> Result<(), Fail> {
         (Work::Crc32, 7, true),
     ];
     for (work, bytes, fits) in rows {
-        same_at(&rt, (work, bytes), work.fits(bytes), fits);
+        assert_eq!(rt; work.fits(bytes), fits, "{work} {bytes}");
     }
     Ok(())
 }

@@ -1,12 +1,15 @@
 //! Both ends over links in memory: what each wrote is what the other reads, round for round.
 
-use crate::runs::status_of;
-use mt_edge::{MemFiles, MemLink, MemNet, MemSink, MemSource, NamedFile, NetCall, Outcome};
+use msg_ids::Moment;
+use mt_edge::{
+    ChaChaDraw, ListClock, MemFiles, MemKids, MemLink, MemNet, MemSink, MemSource, NamedFile,
+    NetCall, Outcome, Seeded,
+};
+use mtp_app::run;
 use octets::Octets;
 use std::alloc::{AllocError, Global};
 use std::process::Abort;
 use std::test::Fail;
-use test_asserts::{holds_at, same_at};
 
 /// The bytes of the first answer and of the attach behind it, in frames: each read of a client gives so many at most.
 const PIECE_BYTES: usize = 280;
@@ -91,16 +94,17 @@ fn ran(
     let mut input = MemSource::new(alloc, script, ROOM_BYTES, &[])?;
     let mut out = MemSink::new(alloc, ROOM_BYTES, ROOM_BYTES, &[])?;
     let mut net = net(alloc, come, lost)?;
-    let words = words_of(alloc, line)?;
-    let status = status_of(
+    let status = run(
         alloc,
-        words.as_slice(),
+        words_of(alloc, line)?.as_slice(),
         &mut input,
         &mut out,
         &mut files(alloc)?,
         &mut net,
-        seed,
-    )?;
+        &mut MemKids::new(alloc, Vec::new(alloc), &[], 0, 0, 0)?,
+        &mut ListClock::new(alloc, &[Moment::new(0)])?,
+        &mut ChaChaDraw::at(&[seed; 32], 0),
+    );
     Ok(Ended {
         status,
         out: Octets::copy(alloc, out.written())?,
@@ -130,8 +134,8 @@ fn ends(
     table: &str,
 ) -> Result<(), Fail> {
     let client = both(alloc, call, lost)?;
-    holds_at(rt, call, client.out.as_slice() == table.as_bytes());
-    same_at(rt, call, client.status, status);
+    assert!(rt; client.out.as_slice() == table.as_bytes(), "{call}");
+    assert_eq!(rt; client.status, status, "{call}");
     Ok(())
 }
 

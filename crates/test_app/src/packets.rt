@@ -8,15 +8,14 @@ use octets::Octets;
 use std::alloc::Global;
 use std::process::Abort;
 use std::test::Fail;
-use test_asserts::{holds_at, same};
 
 /// What is written of a schedule with `--wire` begins so.
 fn begins(rt: &impl Abort, alloc: Global, schedule: &str, front: &str) -> Result<(), Fail> {
     let schedule = lines(alloc, schedule)?;
     let (status, written) = ran(alloc, &["sim", "--wire"], schedule.as_slice())?;
-    same(rt, status, 0);
+    assert_eq!(rt; status, 0);
     let text = str::from_utf8(written.as_slice()).unwrap_or("");
-    holds_at(rt, text, text.starts_with(front));
+    assert!(rt; text.starts_with(front), "{text}");
     Ok(())
 }
 
@@ -95,11 +94,10 @@ fn foreign_bytes_that_open(rt: HostRuntime) -> Result<(), Fail> {
     let digits = packet_digits(alloc)?;
     let schedule = format!(in alloc; "client\n\nforeign server {digits}")?;
     let (status, written) = ran(alloc, &["sim"], schedule.as_bytes())?;
-    same(&rt, status, 2);
-    same(
-        &rt,
+    assert_eq!(rt; status, 2);
+    assert_eq!(rt;
         written.as_slice(),
-        b"refused at line 3: foreign bytes open\n".as_slice(),
+        b"refused at line 3: foreign bytes open\n".as_slice()
     );
     Ok(())
 }
@@ -121,8 +119,8 @@ fn too_many_calls_and_clients(rt: HostRuntime) -> Result<(), Fail> {
     ];
     for (schedule, refusal) in cases {
         let (status, written) = ran(alloc, &["sim"], schedule.as_slice())?;
-        same(&rt, status, 2);
-        same(&rt, written.as_slice(), refusal);
+        assert_eq!(rt; status, 2);
+        assert_eq!(rt; written.as_slice(), refusal);
     }
     Ok(())
 }
@@ -159,8 +157,8 @@ fn sessions_that_a_client_learns(rt: HostRuntime) -> Result<(), Fail> {
     ];
     for (sessions, report) in cases {
         let (status, written) = ran(alloc, &["sim"], learning(alloc, sessions)?.as_slice())?;
-        same(&rt, status, 0);
-        same(&rt, written.as_slice(), lines(alloc, report)?.as_slice());
+        assert_eq!(rt; status, 0);
+        assert_eq!(rt; written.as_slice(), lines(alloc, report)?.as_slice());
     }
     Ok(())
 }

@@ -4,7 +4,6 @@ use crate::runs::{lines, ran};
 use std::alloc::Global;
 use std::process::Abort;
 use std::test::Fail;
-use test_asserts::{holds_at, same_at};
 
 /// What a schedule shows, its lines, the status, and the lines that are written.
 #[derive(Drop)]
@@ -45,8 +44,8 @@ fn as_told(rt: &impl Abort, alloc: Global, row: &Row) -> Result<(), Fail> {
     let schedule = lines(alloc, row.schedule)?;
     let (status, written) = ran(alloc, &["sim"], schedule.as_slice())?;
     let due = lines(alloc, row.written)?;
-    holds_at(rt, row.shows, written.as_slice() == due.as_slice());
-    same_at(rt, row.shows, status, row.status);
+    assert!(rt; written.as_slice() == due.as_slice(), "{}", row.shows);
+    assert_eq!(rt; status, row.status, "{}", row.shows);
     Ok(())
 }
 

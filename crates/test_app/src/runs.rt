@@ -11,7 +11,6 @@ use octets::Octets;
 use std::alloc::{AllocError, Global};
 use std::process::Abort;
 use std::test::Fail;
-use test_asserts::{holds, same};
 
 /// Room for what a test writes, in bytes.
 const ROOM_BYTES: usize = 4096;
@@ -40,26 +39,7 @@ pub(crate) fn lines(alloc: Global, text: &str) -> Result<Octets, Fail> {
     Ok(all)
 }
 
-/// The status of these words with this input, output, files and net, where there are no children, at moment 0, with words
-/// drawn from this seed. None of what `run` promises goes further.
-pub(crate) fn status_of<S: Source>(
-    alloc: Global,
-    words: &[String],
-    input: &mut S,
-    out: &mut MemSink,
-    files: &mut MemFiles,
-    net: &mut MemNet,
-    seed: u8,
-) -> Result<u8, Fail> {
-    let mut kids = MemKids::new(alloc, Vec::new(alloc), &[], 0, 0, 0)?;
-    let mut clock = ListClock::new(alloc, &[Moment::new(0)])?;
-    let mut draw = ChaChaDraw::at(&[seed; 32], 0);
-    Ok(run(
-        alloc, words, input, out, files, net, &mut kids, &mut clock, &mut draw,
-    ))
-}
-
-/// The status of these words with this input and output, where there are no files and no net.
+/// The status of these words with this input and output, where there are no files, no net and no children.
 fn alone<S: Source>(
     alloc: Global,
     given: &[&str],
@@ -69,7 +49,20 @@ fn alone<S: Source>(
     let given = words(alloc, given)?;
     let mut files = MemFiles::new(alloc, Vec::new(alloc), &[], 1)?;
     let mut net = MemNet::new(alloc, Vec::new(alloc), &[], 1)?;
-    status_of(alloc, given.as_slice(), input, out, &mut files, &mut net, 0)
+    let mut kids = MemKids::new(alloc, Vec::new(alloc), &[], 0, 0, 0)?;
+    let mut clock = ListClock::new(alloc, &[Moment::new(0)])?;
+    let mut draw = ChaChaDraw::at(&[0; 32], 0);
+    Ok(run(
+        alloc,
+        given.as_slice(),
+        input,
+        out,
+        &mut files,
+        &mut net,
+        &mut kids,
+        &mut clock,
+        &mut draw,
+    ))
 }
 
 /// The status of these words with this input, and what is written.
@@ -122,8 +115,8 @@ fn as_cut(rt: &impl Abort, alloc: Global, case: &Cut) -> Result<(), Fail> {
     let mut input = MemSource::new(alloc, schedule.as_slice(), piece_bytes, case.failing_reads)?;
     let mut out = MemSink::new(alloc, ROOM_BYTES, piece_bytes, case.failing_writes)?;
     let status = alone(alloc, &["sim"], &mut input, &mut out)?;
-    same(rt, status, case.status);
-    same(rt, out.written(), case.written.as_bytes());
+    assert_eq!(rt; status, case.status);
+    assert_eq!(rt; out.written(), case.written.as_bytes());
     Ok(())
 }
 
@@ -166,8 +159,8 @@ fn loads(rt: HostRuntime) -> Result<(), Fail> {
     ];
     for (calls, summary) in rows {
         let (status, written) = ran(rt.alloc(), &["load", calls], b"")?;
-        same(&rt, status, 0);
-        same(&rt, written.as_slice(), summary.as_bytes());
+        assert_eq!(rt; status, 0);
+        assert_eq!(rt; written.as_slice(), summary.as_bytes());
     }
     Ok(())
 }
@@ -184,8 +177,8 @@ fn pages(rt: HostRuntime) -> Result<(), Fail> {
     ];
     for (given, first) in rows {
         let (status, written) = ran(rt.alloc(), given, b"client\n")?;
-        same(&rt, status, 0);
-        holds(&rt, written.as_slice().starts_with(first.as_bytes()));
+        assert_eq!(rt; status, 0);
+        assert!(rt; written.as_slice().starts_with(first.as_bytes()));
     }
     Ok(())
 }
@@ -204,8 +197,8 @@ fn other_words(rt: HostRuntime) -> Result<(), Fail> {
     ];
     for given in others {
         let (status, written) = ran(rt.alloc(), given, b"client\n")?;
-        same(&rt, status, 1);
-        same(&rt, written.as_slice(), b"words refused\n".as_slice());
+        assert_eq!(rt; status, 1);
+        assert_eq!(rt; written.as_slice(), b"words refused\n".as_slice());
     }
     Ok(())
 }
@@ -251,8 +244,8 @@ fn an_input_that_is_too_long(rt: HostRuntime) -> Result<(), Fail> {
     for (left, status, written) in [(4_096, 0, ""), (4_097, 2, "input too long\n")] {
         let mut input = Comments { lines: 4_095, left };
         let mut out = MemSink::new(alloc, ROOM_BYTES, ROOM_BYTES, &[])?;
-        same(&rt, alone(alloc, &["sim"], &mut input, &mut out)?, status);
-        same(&rt, out.written(), written.as_bytes());
+        assert_eq!(rt; alone(alloc, &["sim"], &mut input, &mut out)?, status);
+        assert_eq!(rt; out.written(), written.as_bytes());
     }
     Ok(())
 }

@@ -6,11 +6,10 @@ ghost use Rattle.draws.specs.Draws.{draw_after, next_bytes, word_after};
 use draws::laws::seeded_draws_go_on;
 use draws::{ChaChaDraw, Draw, Seeded, StepDraw, draw_bytes};
 use std::process::Abort;
-use test_asserts::{holds, same};
 
 fn gives<D: Draw>(rt: &impl Abort, draw: &mut D, expected: &[u64]) {
     for word in expected {
-        same(rt, draw.word(), *word);
+        assert_eq!(rt; draw.word(), *word);
     }
 }
 
@@ -25,7 +24,7 @@ fn step_words(rt: HostRuntime) {
     gives(&rt, &mut StepDraw::new(), &words);
     let mut draw: StepDraw = Seeded::at(&[7; 32], 1);
     gives(&rt, &mut draw, &[12_728_272_447_693_586_010]);
-    same(&rt, draw.place(), 2);
+    assert_eq!(rt; draw.place(), 2);
 }
 
 // The key stream of RFC 8439, A.1, vectors 1 to 4, of a nonce of zeros: words 0 and 1 of blocks 0 and 1 of a key of zeros,
@@ -38,7 +37,7 @@ fn chacha_words(rt: HostRuntime) {
         &mut draw,
         &[0x903d_f1a0_ade0_b876, 0x28bd_8653_e56a_5d40],
     );
-    same(&rt, draw.place(), 2);
+    assert_eq!(rt; draw.place(), 2);
     let mut draw: ChaChaDraw = Seeded::at(&[0; 32], 8);
     gives(
         &rt,
@@ -91,14 +90,13 @@ fn drawn_again<D: Seeded + Drop>(seed: &[u8; 32]) -> bool
 fn bytes_of_words(rt: HostRuntime) {
     let mut draw = StepDraw::new();
     let (number, nonce) = number_and_nonce(&mut draw);
-    same(&rt, number, 6_364_136_223_846_793_005);
-    same(
-        &rt,
+    assert_eq!(rt; number, 6_364_136_223_846_793_005);
+    assert_eq!(rt;
         nonce,
         [
-            0x5a, 0xfe, 0x2a, 0x99, 0x5a, 0xe8, 0xa3, 0xb0, 0x87, 0x7d, 0xc0, 0xe5,
-        ],
+            0x5a, 0xfe, 0x2a, 0x99, 0x5a, 0xe8, 0xa3, 0xb0, 0x87, 0x7d, 0xc0, 0xe5
+        ]
     );
-    same(&rt, draw.place(), 3);
-    holds(&rt, drawn_again::<ChaChaDraw>(&[1; 32]));
+    assert_eq!(rt; draw.place(), 3);
+    assert!(rt; drawn_again::<ChaChaDraw>(&[1; 32]));
 }

@@ -4,7 +4,6 @@ ghost use Rattle.std.specs.Prelude.{◌<◌, IfSome};
 
 use msg_ids::{Moment, Numbers};
 use std::process::Abort;
-use test_asserts::{holds, same};
 
 // What a sender gives to messages at moments, each content-related or not.
 fn gives(rt: &impl Abort, asked: &[(u64, bool)], expected: &[(u64, u32)]) {
@@ -12,15 +11,15 @@ fn gives(rt: &impl Abort, asked: &[(u64, bool)], expected: &[(u64, u32)]) {
     for (asked, expected) in asked.iter().zip(expected) {
         let (seconds, content) = *asked;
         let given = numbers.next(Moment::new(seconds), content);
-        same(rt, given, Some(*expected));
+        assert_eq!(rt; given, Some(*expected));
     }
 }
 
 #[test]
 fn moments_end(rt: HostRuntime) {
-    same(&rt, Moment::new(4_000_000_000).seconds(), 4_000_000_000);
-    same(&rt, Moment::new(u64::MAX).seconds(), 4_000_000_000);
-    holds(&rt, Moment::new(3) < Moment::new(4));
+    assert_eq!(rt; Moment::new(4_000_000_000).seconds(), 4_000_000_000);
+    assert_eq!(rt; Moment::new(u64::MAX).seconds(), 4_000_000_000);
+    assert!(rt; Moment::new(3) < Moment::new(4));
 }
 
 #[test]
@@ -42,11 +41,11 @@ fn numbers_and_seqs(rt: HostRuntime) {
 #[test]
 fn room_falls(rt: HostRuntime) {
     let mut numbers = Numbers::new();
-    same(&rt, numbers.room(), 1_073_741_824);
+    assert_eq!(rt; numbers.room(), 1_073_741_824);
     let copy = numbers;
-    holds(&rt, numbers.next(Moment::new(0), true).is_some());
-    same(&rt, numbers.room(), 1_073_741_823);
-    same(&rt, copy.room(), 1_073_741_824);
+    assert!(rt; numbers.next(Moment::new(0), true).is_some());
+    assert_eq!(rt; numbers.room(), 1_073_741_823);
+    assert_eq!(rt; copy.room(), 1_073_741_824);
 }
 
 // What a sender does: it looks whether there is room, and then numbers two messages.
@@ -64,9 +63,8 @@ fn number_two(numbers: &mut Numbers, at: Moment) -> Option<(u64, u64)>
 #[test]
 fn two_messages(rt: HostRuntime) {
     let mut numbers = Numbers::new();
-    same(
-        &rt,
+    assert_eq!(rt;
         number_two(&mut numbers, Moment::new(1)),
-        Some((4294967296, 4294967300)),
+        Some((4294967296, 4294967300))
     );
 }

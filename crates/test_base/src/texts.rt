@@ -8,7 +8,6 @@ ghost use Rattle.tl_codec.specs.Reading.{read_at, with_rest, lent};
 use octets::Buffer;
 use std::alloc::Global;
 use std::test::*;
-use test_asserts::{holds, same, tells};
 use tl_codec::{Memory, Octets, Reader, TlFault, Writer, fill};
 
 // 254 bytes of content, behind the length in its long form and before two zeros.
@@ -32,9 +31,9 @@ fn spelt(alloc: Global, content: &[u8]) -> Result<Octets, Memory>
 fn strings_are_padded(rt: HostRuntime) -> Result<(), Fail> {
     let alloc = rt.alloc();
     let empty = spelt(alloc, &[])?;
-    same(&rt, empty.as_slice(), [0; 4].as_slice());
+    assert_eq!(rt; empty.as_slice(), [0; 4].as_slice());
     let abc = spelt(alloc, b"abc")?;
-    same(&rt, abc.as_slice(), b"\x03abc".as_slice());
+    assert_eq!(rt; abc.as_slice(), b"\x03abc".as_slice());
     Ok(())
 }
 
@@ -42,12 +41,12 @@ fn strings_are_padded(rt: HostRuntime) -> Result<(), Fail> {
 fn the_last_short_length_and_the_first_long_one(rt: HostRuntime) -> Result<(), Fail> {
     let alloc = rt.alloc();
     let short = spelt(alloc, &[7; 253])?;
-    same(&rt, short.as_slice().len(), 256);
-    holds(&rt, short.as_slice().starts_with(&[0xfd, 7]));
-    holds(&rt, short.as_slice().ends_with(&[7, 0, 0]));
+    assert_eq!(rt; short.as_slice().len(), 256);
+    assert!(rt; short.as_slice().starts_with(&[0xfd, 7]));
+    assert!(rt; short.as_slice().ends_with(&[7, 0, 0]));
     let long = spelt(alloc, &[7; 254])?;
     let want = sevens(alloc)?;
-    same(&rt, long.as_slice(), want.as_slice());
+    assert_eq!(rt; long.as_slice(), want.as_slice());
     Ok(())
 }
 
@@ -67,7 +66,7 @@ fn strings_are_read(rt: HostRuntime) -> Result<(), Fail> {
     ];
     for (text, want) in rows {
         let mut reader = Reader::new(text);
-        holds(&rt, reader.bytes() == want);
+        assert!(rt; reader.bytes() == want);
     }
     Ok(())
 }
@@ -80,7 +79,7 @@ fn truths_are_read(rt: HostRuntime) {
         ([0; 4], Err(TlFault::BadTag { found: 0 })),
     ];
     for (text, want) in rows {
-        same(&rt, Reader::new(&text).boolean(), want);
+        assert_eq!(rt; Reader::new(&text).boolean(), want);
     }
 }
 
@@ -121,22 +120,17 @@ fn values_are_read_again(rt: HostRuntime) -> Result<(), Fail> {
     let mut text = Octets::new(alloc);
     filled(alloc, &mut text, 1, b"abcd", true)?;
     let bytes = b"\x01\0\0\0\x04abcd\0\0\0\xb5\x75\x72\x99";
-    same(&rt, text.as_slice(), bytes.as_slice());
+    assert_eq!(rt; text.as_slice(), bytes.as_slice());
     let mut reader = Reader::new(text.as_slice());
-    holds(&rt, number_or_name(&mut reader, 1) == Ok([].as_slice()));
-    holds(
-        &rt,
-        number_or_name(&mut reader, 1) == Ok(b"abcd".as_slice()),
-    );
-    same(&rt, reader.boolean(), Ok(true));
+    assert!(rt; number_or_name(&mut reader, 1) == Ok([].as_slice()));
+    assert!(rt; number_or_name(&mut reader, 1) == Ok(b"abcd".as_slice()));
+    assert_eq!(rt; reader.boolean(), Ok(true));
     let fault = TlFault::BadTag { found: 255 };
-    tells(
-        &rt,
-        alloc,
-        &fault,
-        "constructor 000000ff is another than the one that is due",
-    )?;
-    tells(&rt, alloc, &TlFault::from(Memory), "out of memory")?;
+    let told = format!(in alloc; "{fault}, {}", TlFault::from(Memory))?;
+    assert_eq!(rt;
+        told.as_str(),
+        "constructor 000000ff is another than the one that is due, out of memory"
+    );
     Ok(())
 }
 
@@ -152,31 +146,30 @@ fn fields_are_written_one_after_the_other(rt: HostRuntime) -> Result<(), Fail> {
     writer.tag(alloc, 0x7abe77ec)?;
     writer.long(alloc, 0x0807060504030201)?;
     writer.raw(alloc, &[9; 16])?;
-    same(&rt, text.as_slice(), FIELDS);
+    assert_eq!(rt; text.as_slice(), FIELDS);
     Ok(())
 }
 
 #[test]
 fn fields_are_read_one_after_the_other(rt: HostRuntime) {
     let mut reader = Reader::new(FIELDS);
-    same(
-        &rt,
+    assert_eq!(rt;
         reader.tag(0x62d6b459),
-        Err(TlFault::BadTag { found: 0x7abe77ec }),
+        Err(TlFault::BadTag { found: 0x7abe77ec })
     );
-    same(&rt, reader.tag(0x7abe77ec), Ok(()));
-    same(&rt, reader.long(), Ok(0x0807060504030201));
-    same(&rt, reader.end(), Err(TlFault::Extra { bytes: 16 }));
+    assert_eq!(rt; reader.tag(0x7abe77ec), Ok(()));
+    assert_eq!(rt; reader.long(), Ok(0x0807060504030201));
+    assert_eq!(rt; reader.end(), Err(TlFault::Extra { bytes: 16 }));
 }
 
 #[test]
 fn what_is_left_is_told(rt: HostRuntime) {
     let mut reader = Reader::new(&[9; 16]);
-    holds(&rt, reader.raw(12) == Ok([9; 12].as_slice()));
-    same(&rt, reader.int(), Ok(0x09090909));
-    same(&rt, reader.int(), Err(TlFault::Short { need: 4, have: 0 }));
-    same(&rt, reader.rest().len(), 0);
-    same(&rt, reader.end(), Ok(()));
+    assert!(rt; reader.raw(12) == Ok([9; 12].as_slice()));
+    assert_eq!(rt; reader.int(), Ok(0x09090909));
+    assert_eq!(rt; reader.int(), Err(TlFault::Short { need: 4, have: 0 }));
+    assert_eq!(rt; reader.rest().len(), 0);
+    assert_eq!(rt; reader.end(), Ok(()));
 }
 
 // A list with the one number 4.
@@ -188,9 +181,9 @@ fn a_list_is_written_and_read(rt: HostRuntime) -> Result<(), Fail> {
     let mut text = Octets::new(alloc);
     let mut writer = Writer::new(&mut text);
     writer.longs(alloc, &[4])?;
-    same(&rt, text.as_slice(), LIST);
+    assert_eq!(rt; text.as_slice(), LIST);
     let read = Reader::new(LIST).longs(alloc)?;
-    same(&rt, read.ids(), [4].as_slice());
+    assert_eq!(rt; read.ids(), [4].as_slice());
     Ok(())
 }
 
@@ -210,7 +203,7 @@ fn lists_are_refused(rt: HostRuntime) {
     ];
     for (text, want) in rows {
         let mut reader = Reader::new(text);
-        same(&rt, reader.longs(rt.alloc()).err(), Some(want));
-        same(&rt, reader.rest(), text);
+        assert_eq!(rt; reader.longs(rt.alloc()).err(), Some(want));
+        assert_eq!(rt; reader.rest(), text);
     }
 }

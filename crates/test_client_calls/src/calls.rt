@@ -8,7 +8,6 @@ use call_table::{CallNo, CallState, Calls, Cause, Fate, Flags, Group, Living, Un
 use octets::{IdList, Memory, Octets};
 use std::alloc::Global;
 use std::test::Fail;
-use test_asserts::same;
 
 // Sends a queued call as this message, where its number is above the living ones, and says whether it did.
 fn send(
@@ -173,24 +172,22 @@ fn one_done(alloc: Global) -> Result<(Calls, Option<CallNo>), Fail> {
 #[test]
 fn calls_are_numbered(rt: HostRuntime) -> Result<(), Fail> {
     let (calls, numbers) = four_calls(rt.alloc())?;
-    same(
-        &rt,
+    assert_eq!(rt;
         numbers,
         [
             Some(CallNo { n: 1 }),
             Some(CallNo { n: 2 }),
             Some(CallNo { n: 3 }),
-            Some(CallNo { n: 4 }),
-        ],
+            Some(CallNo { n: 4 })
+        ]
     );
-    same(
-        &rt,
+    assert_eq!(rt;
         (body(&calls, 3)?, after(&calls, 3)?, after(&calls, 4)?),
         (
             b"tri.".as_slice(),
             Some(CallNo { n: 1 }),
-            Some(CallNo { n: 1 }),
-        ),
+            Some(CallNo { n: 1 })
+        )
     );
     Ok(())
 }
@@ -198,11 +195,10 @@ fn calls_are_numbered(rt: HostRuntime) -> Result<(), Fail> {
 #[test]
 fn numbers_of_messages_rise(rt: HostRuntime) -> Result<(), Fail> {
     let (calls, sent) = two_sent(rt.alloc())?;
-    same(&rt, sent, [true, true, false]);
-    same(
-        &rt,
+    assert_eq!(rt; sent, [true, true, false]);
+    assert_eq!(rt;
         (calls.living_at(0), calls.living_at(1), calls.living_at(2)),
-        (Some(4), Some(8), None),
+        (Some(4), Some(8), None)
     );
     Ok(())
 }
@@ -210,11 +206,10 @@ fn numbers_of_messages_rise(rt: HostRuntime) -> Result<(), Fail> {
 #[test]
 fn an_answered_call_is_done(rt: HostRuntime) -> Result<(), Fail> {
     let (calls, answered) = one_done(rt.alloc())?;
-    same(&rt, answered, Some(CallNo { n: 1 }));
-    same(
-        &rt,
+    assert_eq!(rt; answered, Some(CallNo { n: 1 }));
+    assert_eq!(rt;
         (state(&calls, 1)?, state(&calls, 2)?, state(&calls, 3)?),
-        (CallState::Done(b"yes."), CallState::Sent, CallState::Queued),
+        (CallState::Done(b"yes."), CallState::Sent, CallState::Queued)
     );
     Ok(())
 }
@@ -222,25 +217,23 @@ fn an_answered_call_is_done(rt: HostRuntime) -> Result<(), Fail> {
 #[test]
 fn an_answered_call_is_outstanding_no_more(rt: HostRuntime) -> Result<(), Fail> {
     let (calls, _) = one_done(rt.alloc())?;
-    same(
-        &rt,
+    assert_eq!(rt;
         (
             calls.living_at(0),
             calls.owner(4),
             calls.owner(8),
-            calls.owner(12),
+            calls.owner(12)
         ),
-        (Some(8), None, Some(CallNo { n: 2 }), None),
+        (Some(8), None, Some(CallNo { n: 2 }), None)
     );
-    same(
-        &rt,
+    assert_eq!(rt;
         (
             living(&calls, 1)?,
             living(&calls, 2)?,
             calls.members(Group::Queued),
-            calls.members(Group::Outstanding),
+            calls.members(Group::Outstanding)
         ),
-        (None, Some(message(8, 3)), 2, 1),
+        (None, Some(message(8, 3)), 2, 1)
     );
     Ok(())
 }
@@ -268,11 +261,10 @@ fn one_unknown(alloc: Global) -> Result<(Calls, Option<CallNo>), Fail> {
 #[test]
 fn a_marked_call_goes_alone(rt: HostRuntime) -> Result<(), Fail> {
     let (calls, flags) = one_marked(rt.alloc())?;
-    same(&rt, flags, Some(ALONE));
-    same(
-        &rt,
+    assert_eq!(rt; flags, Some(ALONE));
+    assert_eq!(rt;
         (calls.member(Group::Alone, 0), calls.member(Group::Alone, 1)),
-        (Some(CallNo { n: 2 }), None),
+        (Some(CallNo { n: 2 }), None)
     );
     Ok(())
 }
@@ -280,11 +272,10 @@ fn a_marked_call_goes_alone(rt: HostRuntime) -> Result<(), Fail> {
 #[test]
 fn a_call_that_is_decided_goes_no_more(rt: HostRuntime) -> Result<(), Fail> {
     let (calls, call) = one_unknown(rt.alloc())?;
-    same(&rt, call, Some(CallNo { n: 2 }));
-    same(
-        &rt,
+    assert_eq!(rt; call, Some(CallNo { n: 2 }));
+    assert_eq!(rt;
         (calls.members(Group::Alone), state(&calls, 2)?),
-        (0, CallState::Unknown(Cause::Session)),
+        (0, CallState::Unknown(Cause::Session))
     );
     Ok(())
 }
@@ -310,7 +301,7 @@ fn salts_of_a_name(rt: HostRuntime) -> Result<(), Fail> {
     ];
     let (mut calls, _) = one_sent(alloc)?;
     for (salt, under) in rows {
-        same(&rt, again(&mut calls, alloc, salt)?, Some(under));
+        assert_eq!(rt; again(&mut calls, alloc, salt)?, Some(under));
     }
     Ok(())
 }
@@ -341,17 +332,16 @@ fn held_anew(alloc: Global) -> Result<Calls, Fail> {
 
 #[test]
 fn a_new_name_has_no_old_salts(rt: HostRuntime) -> Result<(), Fail> {
-    same(&rt, under_anew(rt.alloc())?, (true, Some(Under::One(6))));
+    assert_eq!(rt; under_anew(rt.alloc())?, (true, Some(Under::One(6))));
     Ok(())
 }
 
 #[test]
 fn a_held_call_has_no_name(rt: HostRuntime) -> Result<(), Fail> {
     let calls = held_anew(rt.alloc())?;
-    same(
-        &rt,
+    assert_eq!(rt;
         (calls.owner(4), calls.owner(8), calls.member(Group::Held, 0)),
-        (None, None, Some(CallNo { n: 1 })),
+        (None, None, Some(CallNo { n: 1 }))
     );
     Ok(())
 }
@@ -368,18 +358,17 @@ fn owed(alloc: Global, count: u64) -> Result<Calls, Memory> {
 #[test]
 fn acknowledgements_push_out_the_oldest(rt: HostRuntime) -> Result<(), Fail> {
     let mut calls = owed(rt.alloc(), 8_193)?;
-    same(
-        &rt,
+    assert_eq!(rt;
         (
             calls.acks(),
             calls.ack_at(0),
             calls.ack_at(8_191),
-            calls.ack_at(8_192),
+            calls.ack_at(8_192)
         ),
-        (8_192, Some(1), Some(8_192), None),
+        (8_192, Some(1), Some(8_192), None)
     );
     calls.clear_acks();
-    same(&rt, calls.acks(), 0);
+    assert_eq!(rt; calls.acks(), 0);
     Ok(())
 }
 
@@ -403,12 +392,11 @@ fn inner(calls: &Calls, outer: u64) -> Option<&[u64]> {
 #[test]
 fn packets_push_out_the_oldest(rt: HostRuntime) -> Result<(), Fail> {
     let mut calls = remembering(rt.alloc(), 65)?;
-    same(
-        &rt,
+    assert_eq!(rt;
         (inner(&calls, 0), inner(&calls, 1), inner(&calls, 64)),
-        (None, Some([101].as_slice()), Some([164].as_slice())),
+        (None, Some([101].as_slice()), Some([164].as_slice()))
     );
     calls.forget_packets();
-    same(&rt, inner(&calls, 64), None);
+    assert_eq!(rt; inner(&calls, 64), None);
     Ok(())
 }

@@ -5,7 +5,6 @@ use draws::StepDraw;
 use msg_ids::Moment;
 use std::alloc::Global;
 use std::test::*;
-use test_asserts::same;
 
 // A client with a call of the packed body, and what it answers to another one. Whether the last call is queued then.
 fn submits(
@@ -45,7 +44,7 @@ fn bodies_that_are_no_calls(rt: HostRuntime) -> Result<(), Fail> {
         (&[], None, Ok(true)),
     ];
     for (body, after, answer) in rows {
-        same(&rt, submits(rt.alloc(), body, after)?, answer);
+        assert_eq!(rt; submits(rt.alloc(), body, after)?, answer);
     }
     Ok(())
 }
@@ -59,6 +58,6 @@ fn sessions_are_drawn(rt: HostRuntime) -> Result<(), Fail> {
         Moment::new(7200),
         &mut StepDraw::new(),
     )?;
-    same(&rt, client.session(), 6_364_136_223_846_793_005);
+    assert_eq!(rt; client.session(), 6_364_136_223_846_793_005);
     Ok(())
 }

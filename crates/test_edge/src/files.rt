@@ -10,7 +10,6 @@ use octets::Octets;
 use std::alloc::Global;
 use std::fs;
 use std::test::Fail;
-use test_asserts::{holds, same};
 
 /// What a journal does: it adds bytes behind the end, and makes sure of them.
 fn add<K: Disk>(disk: &mut K, bytes: &[u8]) -> Act
@@ -50,22 +49,18 @@ fn loses(disk: &MemDisk, alloc: Global, acts: usize, want: &[u8]) -> Result<bool
 fn files_in_memory(rt: HostRuntime) -> Result<(), Fail> {
     let alloc = rt.alloc();
     let mut disk = MemDisk::new(alloc, b"ab", &[4, 8], 8, 8)?;
-    same(&rt, add(&mut disk, b"cd"), Act::Ready);
-    same(&rt, add(&mut disk, b"ef"), Act::Failed);
-    same(&rt, byte_at(&mut disk, 0), Some(b'a'));
-    same(
-        &rt,
+    assert_eq!(rt; add(&mut disk, b"cd"), Act::Ready);
+    assert_eq!(rt; add(&mut disk, b"ef"), Act::Failed);
+    assert_eq!(rt; byte_at(&mut disk, 0), Some(b'a'));
+    assert_eq!(rt;
         (disk.contents(), disk.calls().last().copied(), disk.faults()),
         (
             b"abcd".as_slice(),
             Some(DiskCall::Read { at: 0, count: 1 }),
-            1,
-        ),
+            1
+        )
     );
-    holds(
-        &rt,
-        loses(&disk, alloc, 1, b"ab")? && loses(&disk, alloc, 2, b"abcd")?,
-    );
+    assert!(rt; loses(&disk, alloc, 1, b"ab")? && loses(&disk, alloc, 2, b"abcd")?);
     Ok(())
 }
 
@@ -124,21 +119,19 @@ fn is_file(file: Option<&MemFile>, name: &[u8], contents: &[u8]) -> bool {
 #[test]
 fn files_in_memory_by_name(rt: HostRuntime) -> Result<(), Fail> {
     let mut disks = two_files(rt.alloc())?;
-    holds(
-        &rt,
+    assert!(rt;
         add_by_name(&mut disks, "journal", b"x") == Act::Failed
-            && add_by_name(&mut disks, "journal", b"y") == Act::Ready,
+            && add_by_name(&mut disks, "journal", b"y") == Act::Ready
     );
-    same(
-        &rt,
+    assert_eq!(rt;
         (
             first_beside(&mut disks, "journal", "other"),
-            first_beside(&mut disks, "other", "other"),
+            first_beside(&mut disks, "other", "other")
         ),
-        (Some(b'y'), None),
+        (Some(b'y'), None)
     );
-    holds(&rt, is_file(disks.files().first(), b"journal", b"y"));
-    same(&rt, (disks.asked().len(), disks.faults()), (6, 2));
+    assert!(rt; is_file(disks.files().first(), b"journal", b"y"));
+    assert_eq!(rt; (disks.asked().len(), disks.faults()), (6, 2));
     Ok(())
 }
 
@@ -149,30 +142,21 @@ fn files_of_this_machine(rt: HostRuntime) -> Result<(), Fail> {
     let DiskOpen::Disk(mut disk) = disks.open(name) else {
         return Err("no file".into());
     };
-    same(&rt, add(&mut disk, b"abc"), Act::Ready);
-    same(
-        &rt,
-        (disk.cut(1), disk.len()),
-        (Act::Ready, DiskLen::Len(1)),
-    );
-    same(
-        &rt,
+    assert_eq!(rt; add(&mut disk, b"abc"), Act::Ready);
+    assert_eq!(rt; (disk.cut(1), disk.len()), (Act::Ready, DiskLen::Len(1)));
+    assert_eq!(rt;
         (disk.write(1, b"xyz"), byte_at(&mut disk, 2)),
-        (Act::Ready, Some(b'y')),
+        (Act::Ready, Some(b'y'))
     );
-    same(
-        &rt,
+    assert_eq!(rt;
         (byte_at(&mut disk, 0), disk.len()),
-        (Some(b'a'), DiskLen::Len(4)),
+        (Some(b'a'), DiskLen::Len(4))
     );
-    same(&rt, disk.read(3, &mut [0u8; 2]), Act::Failed);
+    assert_eq!(rt; disk.read(3, &mut [0u8; 2]), Act::Failed);
     disks.done(disk);
     fs::remove_file(&rt, name)?;
-    holds(
-        &rt,
-        matches!(disks.open("no_such_folder/file"), DiskOpen::Failed),
-    );
-    same(&rt, disks.faults(), 2);
+    assert!(rt; matches!(disks.open("no_such_folder/file"), DiskOpen::Failed));
+    assert_eq!(rt; disks.faults(), 2);
     Ok(())
 }
 
@@ -199,16 +183,14 @@ fn front<D: Disks>(disks: &mut D, name: &str) -> Option<([u8; 4], u64)> {
 fn files_that_are_opened_again(rt: HostRuntime) -> Result<(), Fail> {
     let (first, second) = ("disks_first.tmp", "disks_second.tmp");
     let mut disks = FileDisks::new(&rt);
-    holds(
-        &rt,
+    assert!(rt;
         add_by_name(&mut disks, first, b"abc") == Act::Ready
             && add_by_name(&mut disks, second, b"vwxyz") == Act::Ready
-            && add_by_name(&mut disks, first, b"d") == Act::Ready,
+            && add_by_name(&mut disks, first, b"d") == Act::Ready
     );
-    same(
-        &rt,
+    assert_eq!(rt;
         (front(&mut disks, first), front(&mut disks, second)),
-        (Some((*b"abcd", 4)), Some((*b"vwxy", 5))),
+        (Some((*b"abcd", 4)), Some((*b"vwxy", 5)))
     );
     fs::remove_file(&rt, first)?;
     fs::remove_file(&rt, second)?;

@@ -15,7 +15,6 @@ use std::fs;
 use std::io::{self, ErrorKind, Read, Write};
 use std::process::Abort;
 use std::test::Fail;
-use test_asserts::{holds, same};
 
 /// What a node does: it reads once and writes once, and hands on what came of both.
 fn read_and_write<L: Link>(link: &mut L, into: &mut [u8], piece: &[u8]) -> (Got, Put)
@@ -48,16 +47,16 @@ fn links_cut_fail_and_end(rt: HostRuntime) -> Result<(), Fail> {
     let alloc = rt.alloc();
     let mut link = MemLink::new(alloc, b"hello", 3, &[2], 4, 5)?;
     let mut into = [0u8; 8];
-    same(&rt, link.read(&mut into), Got::Bytes(3));
-    same(&rt, &into[..3], b"hel".as_slice());
-    same(&rt, link.read(&mut into), Got::Failed);
-    same(&rt, link.read(&mut into), Got::Bytes(2));
-    same(&rt, &into[..2], b"lo".as_slice());
-    same(&rt, link.read(&mut into), Got::End);
-    same(&rt, link.write(b"abcd"), Put::Took(3));
-    same(&rt, link.write(b"de"), Put::Failed);
-    same(&rt, link.read(&mut into), Got::Failed);
-    same(&rt, link.faults(), 3);
+    assert_eq!(rt; link.read(&mut into), Got::Bytes(3));
+    assert_eq!(rt; &into[..3], b"hel".as_slice());
+    assert_eq!(rt; link.read(&mut into), Got::Failed);
+    assert_eq!(rt; link.read(&mut into), Got::Bytes(2));
+    assert_eq!(rt; &into[..2], b"lo".as_slice());
+    assert_eq!(rt; link.read(&mut into), Got::End);
+    assert_eq!(rt; link.write(b"abcd"), Put::Took(3));
+    assert_eq!(rt; link.write(b"de"), Put::Failed);
+    assert_eq!(rt; link.read(&mut into), Got::Failed);
+    assert_eq!(rt; link.faults(), 3);
     Ok(())
 }
 
@@ -66,10 +65,9 @@ fn closed_links_fail(rt: HostRuntime) -> Result<(), Fail> {
     let mut into = [0u8; 4];
     let mut link = MemLink::new(rt.alloc(), b"abc", 2, &[], 8, 4)?;
     link.close();
-    same(
-        &rt,
+    assert_eq!(rt;
         read_and_write(&mut link, &mut into, b"x"),
-        (Got::Failed, Put::Failed),
+        (Got::Failed, Put::Failed)
     );
     Ok(())
 }
@@ -118,15 +116,15 @@ fn nets_note_their_calls(rt: HostRuntime) -> Result<(), Fail> {
     let mut links = Vec::new(alloc);
     links.push(MemLink::new(alloc, b"abc", 2, &[], 8, 4)?)?;
     let mut net = MemNet::new(alloc, links, &[4], 8)?;
-    same(&rt, net.listen(443), Act::Ready);
-    same(&rt, exchange(&mut net), (Got::Bytes(2), Put::Took(2)));
-    holds(&rt, !take_and_give_back(&mut net));
-    holds(&rt, matches!(net.connect(80), Linked::Failed));
-    same(&rt, net.faults(), 2);
+    assert_eq!(rt; net.listen(443), Act::Ready);
+    assert_eq!(rt; exchange(&mut net), (Got::Bytes(2), Put::Took(2)));
+    assert!(rt; !take_and_give_back(&mut net));
+    assert!(rt; matches!(net.connect(80), Linked::Failed));
+    assert_eq!(rt; net.faults(), 2);
     let wanted = ["listens", "right", "no link", "connects"];
-    same(&rt, net.calls().len(), wanted.len());
+    assert_eq!(rt; net.calls().len(), wanted.len());
     for (call, want) in net.calls().iter().zip(wanted) {
-        same(&rt, kind_of(call), want);
+        assert_eq!(rt; kind_of(call), want);
     }
     Ok(())
 }
@@ -135,7 +133,7 @@ fn nets_note_their_calls(rt: HostRuntime) -> Result<(), Fail> {
 fn clocks_go_on_with_their_last_moment(rt: HostRuntime) -> Result<(), Fail> {
     let mut clock = ListClock::new(rt.alloc(), &[Moment::new(7), Moment::new(9)])?;
     for seconds in [7, 9, 9] {
-        same(&rt, clock.now().seconds(), seconds);
+        assert_eq!(rt; clock.now().seconds(), seconds);
     }
     Ok(())
 }
@@ -188,21 +186,21 @@ fn make_odd(is_short: bool, fails_flush: bool) -> Odd {
 fn objects_of_std_that_fail(rt: HostRuntime) -> Result<(), Fail> {
     let mut into = [0u8; 4];
     let mut source = ReadSource::new(make_odd(true, false));
-    same(&rt, source.read(&mut into), Got::Failed);
-    same(&rt, source.faults(), 1);
+    assert_eq!(rt; source.read(&mut into), Got::Failed);
+    assert_eq!(rt; source.faults(), 1);
     let mut source = ReadSource::new(b"".as_slice());
-    same(&rt, source.read(&mut into), Got::End);
-    same(&rt, source.faults(), 0);
+    assert_eq!(rt; source.read(&mut into), Got::End);
+    assert_eq!(rt; source.faults(), 0);
     let mut sink = WriteSink::new(make_odd(false, false));
-    same(&rt, sink.write(b"abc"), Put::Failed);
-    same(&rt, sink.faults(), 1);
+    assert_eq!(rt; sink.write(b"abc"), Put::Failed);
+    assert_eq!(rt; sink.faults(), 1);
     let mut sink = WriteSink::new(make_odd(true, true));
-    same(&rt, sink.write(b"abc"), Put::Failed);
+    assert_eq!(rt; sink.write(b"abc"), Put::Failed);
     let mut sink = WriteSink::new(make_odd(true, false));
-    same(&rt, sink.write(b"abc"), Put::Took(1));
-    same(&rt, sink.write(b"bc"), Put::Took(1));
-    same(&rt, sink.faults(), 0);
-    same(&rt, sink.into_inner().passed, 2);
+    assert_eq!(rt; sink.write(b"abc"), Put::Took(1));
+    assert_eq!(rt; sink.write(b"bc"), Put::Took(1));
+    assert_eq!(rt; sink.faults(), 0);
+    assert_eq!(rt; sink.into_inner().passed, 2);
     Ok(())
 }
 
@@ -214,24 +212,22 @@ fn files_are_read_by_name(rt: HostRuntime) -> Result<(), Fail> {
     let contents = Octets::copy(alloc, b"key")?;
     files.push(NamedFile { name, contents })?;
     let mut files = MemFiles::new(alloc, files, &[3], 4)?;
-    holds(
-        &rt,
-        matches!(files.read(alloc, "ring"), FileGot::Contents(text) if text.as_slice() == b"key".as_slice()),
+    assert!(rt;
+        matches!(files.read(alloc, "ring"), FileGot::Contents(text) if text.as_slice() == b"key".as_slice())
     );
-    holds(&rt, matches!(files.read(alloc, "other"), FileGot::Failed));
-    holds(&rt, matches!(files.read(alloc, "ring"), FileGot::Failed));
+    assert!(rt; matches!(files.read(alloc, "other"), FileGot::Failed));
+    assert!(rt; matches!(files.read(alloc, "ring"), FileGot::Failed));
     let name = "mt_edge_file.tmp";
     fs::write(&rt, name, b"key".as_slice())?;
     let mut files = DiskFiles::new(&rt);
-    holds(
-        &rt,
-        matches!(files.read(alloc, name), FileGot::Contents(text) if text.as_slice() == b"key".as_slice()),
+    assert!(rt;
+        matches!(files.read(alloc, name), FileGot::Contents(text) if text.as_slice() == b"key".as_slice())
     );
     let long = vec![in alloc; 7u8; 1_048_577]?;
     fs::write(&rt, name, long.as_slice())?;
-    holds(&rt, matches!(files.read(alloc, name), FileGot::Failed));
+    assert!(rt; matches!(files.read(alloc, name), FileGot::Failed));
     fs::remove_file(&rt, name)?;
-    holds(&rt, matches!(files.read(alloc, name), FileGot::Failed));
+    assert!(rt; matches!(files.read(alloc, name), FileGot::Failed));
     Ok(())
 }
 
@@ -252,18 +248,18 @@ fn sockets_of_this_machine(rt: HostRuntime) -> Result<(), Fail> {
         return Err("no free port".into());
     };
     let mut other = TcpNet::new(&rt);
-    same(&rt, other.listen(port), Act::Failed);
+    assert_eq!(rt; other.listen(port), Act::Failed);
     let (Linked::Link(mut near), Linked::Link(mut far)) = (other.connect(port), net.accept()) else {
         return Err("no connection".into());
     };
     let mut into = [0u8; 4];
-    same(&rt, near.write(b"abc"), Put::Took(3));
-    same(&rt, far.read(&mut into), Got::Bytes(3));
-    same(&rt, &into[..3], b"abc".as_slice());
-    same(&rt, far.write(b"de"), Put::Took(2));
-    same(&rt, near.read(&mut into), Got::Bytes(2));
+    assert_eq!(rt; near.write(b"abc"), Put::Took(3));
+    assert_eq!(rt; far.read(&mut into), Got::Bytes(3));
+    assert_eq!(rt; &into[..3], b"abc".as_slice());
+    assert_eq!(rt; far.write(b"de"), Put::Took(2));
+    assert_eq!(rt; near.read(&mut into), Got::Bytes(2));
     net.done(far);
-    same(&rt, near.read(&mut into), Got::End);
+    assert_eq!(rt; near.read(&mut into), Got::End);
     other.done(near);
     Ok(())
 }
@@ -272,5 +268,5 @@ fn sockets_of_this_machine(rt: HostRuntime) -> Result<(), Fail> {
 fn the_clock_of_this_machine(rt: HostRuntime) {
     let mut clock = SystemClock::new(&rt);
     let first = clock.now();
-    holds(&rt, first.seconds() > 1_600_000_000 && clock.now() >= first);
+    assert!(rt; first.seconds() > 1_600_000_000 && clock.now() >= first);
 }

@@ -6,7 +6,6 @@ use mt_edge::{
 use std::alloc::Global;
 use std::process::Abort;
 use std::test::Fail;
-use test_asserts::{holds, holds_at, same};
 
 const TEXT: &[u8; 10] = b"0123456789";
 
@@ -21,11 +20,11 @@ fn reads(
 ) -> Result<(), Fail> {
     let mut source = MemSource::new(alloc, TEXT, piece_bytes.max(1), failing)?;
     match (read_all(alloc, &mut source, TEXT.len()), want) {
-        (Ok(text), Ok(())) => same(rt, text.as_slice(), TEXT.as_slice()),
-        (Err(fault), Err(wanted)) => same(rt, fault, wanted),
-        _ => holds_at(rt, "the other outcome", false),
+        (Ok(text), Ok(())) => assert_eq!(rt; text.as_slice(), TEXT.as_slice()),
+        (Err(fault), Err(wanted)) => assert_eq!(rt; fault, wanted),
+        _ => assert!(rt; false, "the other outcome"),
     }
-    same(rt, source.faults(), faults);
+    assert_eq!(rt; source.faults(), faults);
     Ok(())
 }
 
@@ -40,9 +39,9 @@ fn writes(
     written: &[u8],
 ) -> Result<(), Fail> {
     let mut sink = MemSink::new(alloc, room, piece_bytes.max(1), failing)?;
-    same(rt, write_all(&mut sink, TEXT), want);
-    same(rt, sink.written(), written);
-    same(rt, sink.faults() == 0, want.is_ok());
+    assert_eq!(rt; write_all(&mut sink, TEXT), want);
+    assert_eq!(rt; sink.written(), written);
+    assert_eq!(rt; sink.faults() == 0, want.is_ok());
     Ok(())
 }
 
@@ -56,14 +55,13 @@ fn texts_are_read(rt: HostRuntime) -> Result<(), Fail> {
     reads(&rt, alloc, 7, &[2, 3], Err(ReadFault::Failed), 1)?;
     reads(&rt, alloc, 7, &[3], Err(ReadFault::Failed), 1)?;
     let mut long = MemSource::new(alloc, b"0123456789x", 4, &[])?;
-    holds(
-        &rt,
+    assert!(rt;
         matches!(
             read_all(alloc, &mut long, TEXT.len()),
             Err(ReadFault::TooLong)
-        ),
+        )
     );
-    same(&rt, long.faults(), 0);
+    assert_eq!(rt; long.faults(), 0);
     Ok(())
 }
 
@@ -82,11 +80,11 @@ fn readers_and_writers_of_std(rt: HostRuntime) -> Result<(), Fail> {
     let alloc = rt.alloc();
     let mut source = ReadSource::new(TEXT.as_slice());
     let text = read_all(alloc, &mut source, TEXT.len()).map_err(|_| "no text")?;
-    same(&rt, text.as_slice(), TEXT.as_slice());
+    assert_eq!(rt; text.as_slice(), TEXT.as_slice());
     let mut sink = WriteSink::new(Vec::new(alloc));
-    same(&rt, write_all(&mut sink, TEXT), Ok(()));
+    assert_eq!(rt; write_all(&mut sink, TEXT), Ok(()));
     let mut full = [0u8; 4];
     let mut sink = WriteSink::new(full.as_mut_slice());
-    same(&rt, write_all(&mut sink, TEXT), Err(WriteFault));
+    assert_eq!(rt; write_all(&mut sink, TEXT), Err(WriteFault));
     Ok(())
 }

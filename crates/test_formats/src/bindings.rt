@@ -10,7 +10,6 @@ use octets::{Memory, Octets};
 use std::alloc::Global;
 use std::test::Fail;
 use temp_keys::{BindFault, Binding, Bound, Inner, InnerField, bind_message, check};
-use test_asserts::{same, tells};
 use test_keys::{KEY_ID, TEMP_ID, both_keys, bytes_from_0_to_255};
 
 const NUMBER: u64 = 0x65a1_b2c3_d4e5_f608;
@@ -45,7 +44,7 @@ fn message_made_outside(rt: HostRuntime) -> Result<(), Fail> {
         &INNER,
         &mut StepDraw::new(),
     )?;
-    same(&rt, message.as_slice(), MESSAGE.as_slice());
+    assert_eq!(rt; message.as_slice(), MESSAGE.as_slice());
     Ok(())
 }
 
@@ -147,7 +146,7 @@ fn calls_and_their_answers(rt: HostRuntime) -> Result<(), Fail> {
             row.number,
             &binding,
         );
-        same(&rt, answer, row.answer);
+        assert_eq!(rt; answer, row.answer);
     }
     Ok(())
 }
@@ -159,9 +158,7 @@ fn other_messages(rt: HostRuntime) -> Result<(), Fail> {
     let ring = both_keys(alloc)?;
     let mut longer = Octets::copy(alloc, &MESSAGE)?;
     longer.push_all(alloc, &[0])?;
-    let mut messages = Vec::new(alloc);
-    messages.push(Octets::copy(alloc, &MESSAGE[..103])?)?;
-    messages.push(longer)?;
+    let mut messages = vec![in alloc; Octets::copy(alloc, &MESSAGE[..103])?, longer]?;
     for place in [0, 8, 103] {
         let mut message = MESSAGE;
         message[place] ^= 1;
@@ -182,7 +179,7 @@ fn other_messages(rt: HostRuntime) -> Result<(), Fail> {
             NUMBER,
             &binding,
         );
-        same(&rt, answer, Err(BindFault::Seal));
+        assert_eq!(rt; answer, Err(BindFault::Seal));
     }
     Ok(())
 }
@@ -260,7 +257,7 @@ fn faults_are_told(rt: HostRuntime) -> Result<(), Fail> {
         (BindFault::Expired, "the binding has expired"),
     ];
     for (fault, told) in rows {
-        tells(&rt, alloc, &fault, told)?;
+        assert_eq!(rt; format!(in alloc; "{fault}")?.as_str(), told);
     }
     Ok(())
 }

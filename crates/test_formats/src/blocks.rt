@@ -4,7 +4,6 @@ ghost use Rattle.std.specs.Prelude.{◌≡◌};
 
 use aes_core::Key256;
 use std::test::Fail;
-use test_asserts::{same, shows};
 
 struct Row {
     key: [u8; 32],
@@ -53,9 +52,9 @@ fn blocks_of_the_standards(rt: HostRuntime) -> Result<(), Fail> {
         let key = Key256::new(&row.key);
         let mut block = row.plain;
         key.encrypt_block(&mut block);
-        same(&rt, block, row.enciphered);
+        assert_eq!(rt; block, row.enciphered);
         key.decrypt_block(&mut block);
-        same(&rt, block, row.plain);
+        assert_eq!(rt; block, row.plain);
     }
     Ok(())
 }
@@ -70,13 +69,13 @@ fn blocks_under_keys_of_their_outputs(rt: HostRuntime) -> Result<(), Fail> {
         Key256::new(&key).encrypt_block(&mut block);
         key = next_key(&key, &block);
     }
-    same(&rt, block, CHAIN_ENCIPHERED);
+    assert_eq!(rt; block, CHAIN_ENCIPHERED);
     (key, block) = (first.key, first.plain);
     for _ in 0..1000 {
         Key256::new(&key).decrypt_block(&mut block);
         key = next_key(&key, &block);
     }
-    same(&rt, block, CHAIN_DECIPHERED);
+    assert_eq!(rt; block, CHAIN_DECIPHERED);
     Ok(())
 }
 
@@ -109,6 +108,7 @@ fn a_key_does_not_show(rt: HostRuntime) -> Result<(), Fail> {
     let key = Key256::new(&row.key);
     let mut block = row.plain;
     there_and_back(&key, &mut block);
-    shows(&rt, rt.alloc(), &key, "Key256 { .. }")?;
+    let shown = format!(in rt.alloc(); "{key:?}")?;
+    assert_eq!(rt; shown.as_str(), "Key256 { .. }");
     Ok(())
 }

@@ -7,7 +7,6 @@ use mt_edge::{MemFiles, NamedFile};
 use octets::Octets;
 use std::alloc::Global;
 use std::test::*;
-use test_asserts::{same, same_at};
 
 // Files of which one has a ring and one a bad second line.
 fn files(alloc: Global) -> Result<MemFiles, Fail> {
@@ -35,13 +34,9 @@ fn key_files_and_their_faults(rt: HostRuntime) -> Result<(), Fail> {
     ];
     for (name, due) in rows {
         let found = read_ring(alloc, name, &mut files(alloc)?).map(|ring| ring.len());
-        same_at(&rt, name, found, due);
+        assert_eq!(rt; found, due, "{name}");
     }
     let line = refused_line(alloc, 2)?;
-    same(
-        &rt,
-        line.as_slice(),
-        b"key file refused at line 2\n".as_slice(),
-    );
+    assert_eq!(rt; line.as_slice(), b"key file refused at line 2\n".as_slice());
     Ok(())
 }

@@ -5,7 +5,6 @@ ghost use Rattle.crc_core.specs.Crc32.{crc32};
 
 use crc_core::{Crc, crc32};
 use std::test::Fail;
-use test_asserts::{same, same_at};
 
 // Texts and their checks. The first is the check value of the catalogues of such checks; the others are by Python's
 // `zlib.crc32`.
@@ -20,7 +19,7 @@ const ROWS: [(&[u8], u32); 5] = [
 #[test]
 fn checks_of_whole_texts(rt: HostRuntime) -> Result<(), Fail> {
     for (text, check) in ROWS {
-        same(&rt, crc32(text), check);
+        assert_eq!(rt; crc32(text), check);
     }
     Ok(())
 }
@@ -33,7 +32,7 @@ fn checks_of_pieces(rt: HostRuntime) -> Result<(), Fail> {
             for piece in text.chunks(piece_bytes) {
                 crc.push(piece);
             }
-            same_at(&rt, piece_bytes, crc.value(), check);
+            assert_eq!(rt; crc.value(), check, "in pieces of {piece_bytes}");
         }
     }
     Ok(())
@@ -51,11 +50,11 @@ fn of_two_pieces(front: &[u8], back: &[u8]) -> u32
 
 #[test]
 fn a_sum_goes_on_after_it_is_read(rt: HostRuntime) -> Result<(), Fail> {
-    same(&rt, of_two_pieces(b"1234", b"56789"), 0xcbf43926);
+    assert_eq!(rt; of_two_pieces(b"1234", b"56789"), 0xcbf43926);
     let mut crc = Crc::new();
     crc.push(b"a");
-    same(&rt, crc.value(), 0xe8b7be43);
+    assert_eq!(rt; crc.value(), 0xe8b7be43);
     crc.push(b"b");
-    same(&rt, crc.value(), crc32(b"ab"));
+    assert_eq!(rt; crc.value(), crc32(b"ab"));
     Ok(())
 }

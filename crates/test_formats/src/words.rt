@@ -6,7 +6,6 @@ ghost use Rattle.commands.specs.Says.{Says};
 use commands::{Command, Page, WordsFault, read, version};
 use std::alloc::{AllocError, Global};
 use std::test::Fail;
-use test_asserts::{holds, holds_at, same, same_at, shown};
 
 // How many calls the words want of `load`, or 0.
 fn calls_wanted(alloc: Global, words: &[String]) -> Result<u32, WordsFault>
@@ -75,8 +74,8 @@ fn words_and_what_they_say(rt: HostRuntime) -> Result<(), Fail> {
     ];
     for (line, want) in rows {
         let words = words_of(alloc, line)?;
-        let got = shown(alloc, &read(alloc, words.as_slice())?)?;
-        same_at(&rt, line, got.as_str(), want);
+        let got = format!(in alloc; "{:?}", read(alloc, words.as_slice())?)?;
+        assert_eq!(rt; got.as_str(), want, "of {line}");
     }
     Ok(())
 }
@@ -143,13 +142,12 @@ fn words_that_are_refused(rt: HostRuntime) -> Result<(), Fail> {
     ];
     for line in rows {
         let words = words_of(alloc, line)?;
-        holds_at(
-            &rt,
-            line,
+        assert!(rt;
             matches!(&read(alloc, words.as_slice()), Err(WordsFault::Refused)),
+            "of {line}"
         );
     }
-    holds(&rt, matches!(&read(alloc, &[]), Err(WordsFault::Refused)));
+    assert!(rt; matches!(&read(alloc, &[]), Err(WordsFault::Refused)));
     Ok(())
 }
 
@@ -164,11 +162,11 @@ fn pages(rt: HostRuntime) -> Result<(), Fail> {
     ];
     for (page, front) in pages {
         let text = page.text();
-        holds(&rt, text.starts_with(front) && text.ends_with("\n"));
-        holds(&rt, text.lines().all(|line| line.len() <= 80));
+        assert!(rt; text.starts_with(front) && text.ends_with("\n"));
+        assert!(rt; text.lines().all(|line| line.len() <= 80));
     }
-    same(&rt, version(), "mtp 0.1.0\n");
+    assert_eq!(rt; version(), "mtp 0.1.0\n");
     let words = words_of(rt.alloc(), "load 3")?;
-    same(&rt, calls_wanted(rt.alloc(), words.as_slice())?, 3);
+    assert_eq!(rt; calls_wanted(rt.alloc(), words.as_slice())?, 3);
     Ok(())
 }

@@ -13,7 +13,6 @@ use server_core::{Plain, Server};
 use server_node::{Conn, ConnEnd, serve_one};
 use std::alloc::Global;
 use std::test::*;
-use test_asserts::same;
 use test_keys::{KEY_ID, ring};
 
 // The call `add x 5`.
@@ -103,10 +102,9 @@ fn are_two_frames(text: &[u8]) -> bool {
 #[test]
 fn a_session_is_answered_and_attached(rt: HostRuntime) -> Result<(), Fail> {
     let (end, net) = served(rt.alloc(), &[])?;
-    same(
-        &rt,
+    assert_eq!(rt;
         (end, are_two_frames(written(&net))),
-        (ConnEnd::Ended, true),
+        (ConnEnd::Ended, true)
     );
     Ok(())
 }
@@ -116,7 +114,7 @@ fn a_session_is_answered_and_attached(rt: HostRuntime) -> Result<(), Fail> {
 fn each_call_that_fails_ends_it(rt: HostRuntime) -> Result<(), Fail> {
     for call in 1..=7u64 {
         let (end, _) = served(rt.alloc(), &[call])?;
-        same(&rt, end == ConnEnd::LinkFault, call <= 6);
+        assert_eq!(rt; end == ConnEnd::LinkFault, call <= 6);
     }
     Ok(())
 }

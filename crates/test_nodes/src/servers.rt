@@ -13,7 +13,6 @@ use octets::Octets;
 use statuses::Status;
 use std::alloc::{AllocError, Global};
 use std::test::*;
-use test_asserts::{holds, same, same_at};
 use test_keys::{KEY_ID, line, ring};
 
 // The call `add x 5`.
@@ -118,9 +117,9 @@ fn a_connection_is_served(rt: HostRuntime) -> Result<(), Fail> {
     let text = line(alloc, "perm")?;
     let line = "serve --keys f --port 4430 --conns 1";
     let (status, out, net) = ran(alloc, line, file(alloc, "f", text.as_str())?, &[], &[])?;
-    same(&rt, status, Status::Done);
-    same(&rt, out.written(), b"listening 4430\nserved 1\n".as_slice());
-    holds(&rt, are_two_frames(written(&net)));
+    assert_eq!(rt; status, Status::Done);
+    assert_eq!(rt; out.written(), b"listening 4430\nserved 1\n".as_slice());
+    assert!(rt; are_two_frames(written(&net)));
     Ok(())
 }
 
@@ -176,8 +175,8 @@ fn runs_that_end_otherwise(rt: HostRuntime) -> Result<(), Fail> {
     ];
     for (line, name, contents, failing, status, due) in rows {
         let (ended, out, _) = ran(alloc, line, file(alloc, name, contents)?, failing, &[])?;
-        same_at(&rt, due, ended, status);
-        same(&rt, out.written(), due.as_bytes());
+        assert_eq!(rt; ended, status, "{due}");
+        assert_eq!(rt; out.written(), due.as_bytes());
     }
     Ok(())
 }
@@ -200,13 +199,10 @@ fn each_write_that_fails_ends_it(rt: HostRuntime) -> Result<(), Fail> {
             5 => 22,
             _ => 24,
         };
-        same(&rt, status == Status::WriteFault, write <= 5);
-        holds(
-            &rt,
-            b"listening 4430\nserved 1\n".starts_with(out.written()),
-        );
-        same(&rt, out.written().len(), bytes);
-        same(&rt, net.calls().len(), if write <= 3 { 1 } else { 2 });
+        assert_eq!(rt; status == Status::WriteFault, write <= 5);
+        assert!(rt; b"listening 4430\nserved 1\n".starts_with(out.written()));
+        assert_eq!(rt; out.written().len(), bytes);
+        assert_eq!(rt; net.calls().len(), if write <= 3 { 1 } else { 2 });
     }
     Ok(())
 }

@@ -3,7 +3,6 @@
 use crate::bodies::{ADD_X_5, GET_X, NO_REQUEST};
 use crate::played::{Event, says};
 use std::test::Fail;
-use test_asserts::same;
 use test_keys::KEY_ID;
 
 // Adds 2^64 - 1 to `x`.
@@ -68,6 +67,6 @@ fn registers_behind_a_server(rt: HostRuntime) -> Result<(), Fail> {
     let together = Event::Together(48, 20, &calls);
     let run = Event::Work(0);
     let events = [together, run, run, run, run, run, run, run, run, run, run];
-    same(&rt, says(rt.alloc(), KEY_ID, &events)?.as_str(), REGISTERS);
+    assert_eq!(rt; says(rt.alloc(), KEY_ID, &events)?.as_str(), REGISTERS);
     Ok(())
 }

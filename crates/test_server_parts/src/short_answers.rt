@@ -2,21 +2,18 @@
 
 use server_answers::Short;
 use std::test::Fail;
-use test_asserts::same;
 
 #[test]
 fn short_answers(rt: HostRuntime) -> Result<(), Fail> {
     let failed = Short::MsgWaitFailed;
-    same(
-        &rt,
+    assert_eq!(rt;
         failed.content(),
-        b"\x19\xca\x44\x21\x90\x01\0\0\x0fMSG_WAIT_FAILED".as_slice(),
+        b"\x19\xca\x44\x21\x90\x01\0\0\x0fMSG_WAIT_FAILED".as_slice()
     );
-    same(&rt, failed.bytes().as_slice(), failed.content());
-    same(
-        &rt,
+    assert_eq!(rt; failed.bytes().as_slice(), failed.content());
+    assert_eq!(rt;
         (failed.is_good(), Short::BoolTrue.is_good()),
-        (false, true),
+        (false, true)
     );
     Ok(())
 }

@@ -13,7 +13,6 @@ use msg_key::{UP, aes_of, msg_key};
 use octets::{Buffer, Memory, Octets};
 use std::alloc::Global;
 use std::test::*;
-use test_asserts::{holds, holds_at, same, tells};
 use test_keys::{KEY_ID, bytes_from_0_to_255, ring};
 
 // Two packets made by another implementation of the equations: a few lines of Python over the SHA-1 and SHA-256 of its
@@ -120,7 +119,7 @@ fn lengths_and_paddings(rt: HostRuntime) -> Result<(), Fail> {
     ];
     let seal = MtSeal::new(ring(alloc, "perm")?);
     for (behind, said, expected) in rows {
-        same(&rt, outcome(alloc, &seal, behind, said)?, expected);
+        assert_eq!(rt; outcome(alloc, &seal, behind, said)?, expected);
     }
     Ok(())
 }
@@ -142,7 +141,7 @@ fn keys_and_sizes(rt: HostRuntime) -> Result<(), Fail> {
         (0, 71, Some(Refusal::Size { len: 71 })),
     ];
     for (now, size, expected) in rows {
-        same(&rt, refusal_at(rt.alloc(), now, size)?, expected);
+        assert_eq!(rt; refusal_at(rt.alloc(), now, size)?, expected);
     }
     Ok(())
 }
@@ -160,12 +159,11 @@ fn refusal_turned(alloc: Global, place: usize) -> Result<Option<Refusal>, Fail> 
 
 #[test]
 fn a_bit_of_the_key_is_turned(rt: HostRuntime) -> Result<(), Fail> {
-    same(
-        &rt,
+    assert_eq!(rt;
         refusal_turned(rt.alloc(), 3)?,
         Some(Refusal::NoKey {
-            id: KEY_ID ^ 0x0100_0000,
-        }),
+            id: KEY_ID ^ 0x0100_0000
+        })
     );
     Ok(())
 }
@@ -174,10 +172,9 @@ fn a_bit_of_the_key_is_turned(rt: HostRuntime) -> Result<(), Fail> {
 fn a_bit_of_the_text_is_turned(rt: HostRuntime) -> Result<(), Fail> {
     for place in [8, 23, 24, 71] {
         let found = refusal_turned(rt.alloc(), place)?;
-        holds_at(
-            &rt,
-            place,
+        assert!(rt;
             matches!(found, Some(Refusal::KeyMismatch { .. })),
+            "at {place}"
         );
     }
     Ok(())
@@ -218,10 +215,9 @@ fn packet_of<S: Seal>(alloc: Global, seal: &S, dir: Dir, number: u64) -> Result<
 #[test]
 fn a_seal_has_the_keys_of_its_ring(rt: HostRuntime) -> Result<(), Fail> {
     let seal = MtSeal::new(ring(rt.alloc(), "perm")?);
-    same(
-        &rt,
+    assert_eq!(rt;
         (seal.has(KEY_ID), seal.has(0), seal.ring().len()),
-        (true, false, 1),
+        (true, false, 1)
     );
     Ok(())
 }
@@ -233,7 +229,7 @@ fn sealed_as_another_does(rt: HostRuntime) -> Result<(), Fail> {
     let rows = [(Dir::Up, 4, UP_PACKET), (Dir::Down, 5, DOWN_PACKET)];
     for (dir, number, packet) in rows {
         let sealed = packet_of(alloc, &seal, dir, number)?;
-        same(&rt, sealed.as_slice(), packet.as_slice());
+        assert_eq!(rt; sealed.as_slice(), packet.as_slice());
     }
     Ok(())
 }
@@ -250,22 +246,17 @@ fn opened_down(alloc: Global, packet: &[u8]) -> Result<Envelope, Fail> {
 #[test]
 fn opened_as_another_does(rt: HostRuntime) -> Result<(), Fail> {
     let opened = opened_down(rt.alloc(), &DOWN_PACKET)?;
-    same(
-        &rt,
+    assert_eq!(rt;
         (
             opened.key,
             opened.salt,
             opened.session,
             opened.number,
-            opened.seq,
+            opened.seq
         ),
-        (KEY_ID, 0x0102_0304_0506_0708, 0x1112_1314_1516_1718, 5, 1),
+        (KEY_ID, 0x0102_0304_0506_0708, 0x1112_1314_1516_1718, 5, 1)
     );
-    same(
-        &rt,
-        opened.body.as_slice(),
-        [0xa0, 0xa1, 0xa2, 0xa3].as_slice(),
-    );
+    assert_eq!(rt; opened.body.as_slice(), [0xa0, 0xa1, 0xa2, 0xa3].as_slice());
     Ok(())
 }
 
@@ -273,10 +264,9 @@ fn opened_as_another_does(rt: HostRuntime) -> Result<(), Fail> {
 fn sealed_without_a_cipher(rt: HostRuntime) -> Result<(), Fail> {
     let seal = ClearSeal::new(ring(rt.alloc(), "perm")?);
     let packet = packet_of(rt.alloc(), &seal, Dir::Down, 5)?;
-    same(
-        &rt,
+    assert_eq!(rt;
         (packet.as_slice(), packet_bytes(4)),
-        (CLEAR_PACKET.as_slice(), 72),
+        (CLEAR_PACKET.as_slice(), 72)
     );
     Ok(())
 }
@@ -285,7 +275,7 @@ fn sealed_without_a_cipher(rt: HostRuntime) -> Result<(), Fail> {
 fn a_packet_down_is_none_up(rt: HostRuntime) -> Result<(), Fail> {
     let seal = ClearSeal::new(ring(rt.alloc(), "perm")?);
     let found = refusal(rt.alloc(), &seal, 0, &CLEAR_PACKET)?;
-    holds(&rt, matches!(found, Some(Refusal::KeyMismatch { .. })));
+    assert!(rt; matches!(found, Some(Refusal::KeyMismatch { .. })));
     Ok(())
 }
 
@@ -310,7 +300,7 @@ fn is_opened_again(alloc: Global) -> Result<bool, Fail> {
 
 #[test]
 fn opened_without_a_cipher(rt: HostRuntime) -> Result<(), Fail> {
-    holds(&rt, is_opened_again(rt.alloc())?);
+    assert!(rt; is_opened_again(rt.alloc())?);
     Ok(())
 }
 
@@ -336,7 +326,8 @@ fn refusals_are_told(rt: HostRuntime) -> Result<(), Fail> {
         ),
     ];
     for (refusal, text) in rows {
-        tells(&rt, rt.alloc(), &refusal, text)?;
+        let told = format!(in rt.alloc(); "{refusal}")?;
+        assert_eq!(rt; told.as_str(), text);
     }
     Ok(())
 }

@@ -9,7 +9,6 @@ use sim_text::{
 };
 use std::alloc::Global;
 use std::test::Fail;
-use test_asserts::same;
 
 /// A value of the register service.
 const FIVE: [u8; 12] = [3, 44, 27, 10, 5, 0, 0, 0, 0, 0, 0, 0];
@@ -120,6 +119,6 @@ fn texts(rt: HostRuntime) -> Result<(), Fail> {
     calls(alloc, &mut text)?;
     entries(alloc, &mut text)?;
     rest(alloc, &mut text)?;
-    same(&rt, text.as_slice(), TEXTS.as_bytes());
+    assert_eq!(rt; text.as_slice(), TEXTS.as_bytes());
     Ok(())
 }
