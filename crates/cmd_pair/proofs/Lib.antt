@@ -1,4 +1,0 @@
-pub mod Spawning
-pub mod Batches
-pub mod Reads
-pub mod Ends

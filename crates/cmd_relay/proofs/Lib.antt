@@ -1,5 +1,0 @@
-pub mod Words
-pub mod Readings
-pub mod Taking
-pub mod Ends
-pub mod Passing

@@ -1,4 +1,0 @@
-pub mod Captures
-pub mod Relays
-pub mod Runs
-pub mod Inner
