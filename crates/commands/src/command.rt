@@ -55,6 +55,8 @@ pub enum Command<'a> {
     Serve(ServeOptions<'a>),
     /// `call`: run a batch of calls.
     Call(CallOptions<'a>),
+    /// `pair`: run a batch of calls over a server that stops and one that is started anew.
+    Pair(PairOptions<'a>),
     /// `--help` among the words: print a page of help.
     Help(Page),
     /// `--version`: print the version.
@@ -91,6 +93,19 @@ pub struct CallOptions<'a> {
     pub retries: u32,
     /// `--perm`: the identifier of the permanent key behind a temporary one.
     pub perm: Option<u64>,
+}
+
+/// What `pair` is told.
+#[derive(Debug, Drop)]
+pub struct PairOptions<'a> {
+    /// `--keys`: the file of keys.
+    pub keys: FileName<'a>,
+    /// `--key`: the identifier of the key.
+    pub key: u64,
+    /// `--port`: the port of the first server, from 1 to 65,534. That of the second one is the next.
+    pub port: u16,
+    /// `--stop-after`: after how many packets the first server stops, from 1 to 1,000,000,000.
+    pub stop_after: u64,
 }
 
 /// Why words say no command.

@@ -16,6 +16,8 @@ pub enum Page {
     Serve,
     /// That of `call`.
     Call,
+    /// That of `pair`.
+    Pair,
 }
 
 const VERSION: &str = "mtp 0.1.0\n";
@@ -27,6 +29,7 @@ mtp sim [--wire]       plays a schedule and reports what became of each call
 mtp load N             plays the schedule of N calls and writes a summary
 mtp serve OPTIONS      serves connections
 mtp call OPTIONS       runs a script of calls as one batch
+mtp pair OPTIONS       runs one over a server that stops and a new one
 mtp COMMAND --help     tells what the options of a command mean
 mtp --help             writes this page
 mtp --version          writes the version
@@ -79,6 +82,21 @@ server on this machine, and writes a line for each call.
 --perm ID      the permanent key behind a temporary --key
 ";
 
+const PAIR: &str = "\
+mtp pair --keys F --key ID --port P --stop-after K
+
+Reads a script of calls from standard input and runs it as one batch against a
+server that it starts on port P and that stops after K packets; where that
+leaves a call undecided it starts another one on port P + 1 and goes on there.
+Writes a line for each call.
+
+--keys F          the file of the keys
+--key ID          the key to use, a permanent one: the 16 lower case
+                  hexadecimal digits of its identifier's bytes
+--port P          the port of the first server: 1 to 65534
+--stop-after K    stops the first server after K packets: 1 to 1000000000
+";
+
 impl Page {
     /// The text of the page.
     #[tactic(auto, unfolding(crate::specs::Pages::page_text))]
@@ -91,6 +109,7 @@ impl Page {
             Page::Load => LOAD,
             Page::Serve => SERVE,
             Page::Call => CALL,
+            Page::Pair => PAIR,
         }
     }
 }

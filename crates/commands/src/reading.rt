@@ -3,18 +3,21 @@
 ghost use Rattle.std.specs.Prelude.{◌≡◌, ◌≢◌, ◌↔◌, [], ℕ, Bool, List, IsTrue, IfOk, IfErr, IfSome, IfNone, map, string_bytes, codes};
 ghost use Rattle.std.specs.List.{list_any};
 ghost use Rattle.std.specs.Str.{bytes_eq};
-ghost use Rattle.commands.specs.Simple.{sim, load, serve, call};
+ghost use Rattle.commands.specs.Simple.{sim, load, serve, call, pair};
 ghost use Rattle.commands.specs.Values.{HasFlag, HasNumber};
-ghost use Rattle.commands.specs.Says.{IsLawful, Says, SaysServe, SaysCall, page_word};
+ghost use Rattle.commands.specs.Says.{IsLawful, Says, SaysServe, SaysCall, SaysPair, page_word};
 ghost use Rattle.commands.specs.Inner.{IsTold, RefusesUnlessMemory};
 ghost use Rattle.commands.specs.declared.command.Command.{Command};
 ghost use Rattle.commands.specs.declared.command.ServeOptions.{ServeOptions};
 ghost use Rattle.commands.specs.declared.command.CallOptions.{CallOptions};
+ghost use Rattle.commands.specs.declared.command.PairOptions.{PairOptions};
 ghost use Rattle.commands.specs.declared.page.Page.{Page};
 
-use crate::command::{CallOptions, Command, FileName, ServeOptions, WordsFault};
+use crate::command::{CallOptions, Command, FileName, PairOptions, ServeOptions, WordsFault};
 use crate::page::Page;
-use crate::simple::{Taken, call_command, load_command, serve_command, sim_command, take};
+use crate::simple::{
+    Taken, call_command, load_command, pair_command, serve_command, sim_command, take,
+};
 use std::alloc::Global;
 use transport::Form;
 
@@ -46,6 +49,7 @@ pub fn read<'a>(alloc: Global, words: &'a [String]) -> Result<Command<'a>, Words
         }),
         "serve" => Ok(Command::Serve(told_serve(alloc, words)?)),
         "call" => Ok(Command::Call(told_call(alloc, words)?)),
+        "pair" => Ok(Command::Pair(told_pair(alloc, words)?)),
         "--version" if words.len() == 1 => Ok(Command::Version),
         _ => Err(WordsFault::Refused),
     }
@@ -69,6 +73,7 @@ fn page_of(first: &str) -> Option<Page>
         "load" => Some(Page::Load),
         "serve" => Some(Page::Serve),
         "call" => Some(Page::Call),
+        "pair" => Some(Page::Pair),
         _ => None,
     }
 }
@@ -107,6 +112,15 @@ fn told_call<'a>(alloc: Global, words: &'a [String]) -> Result<CallOptions<'a>, 
 {
     let taken = take(call_command(alloc)?, words)?;
     call_options(&taken)
+}
+
+/// What `pair` is told.
+fn told_pair<'a>(alloc: Global, words: &'a [String]) -> Result<PairOptions<'a>, WordsFault>
+    ensures found { IfOk result (IsTold pair SaysPair (map string_bytes words.entry.now)) }
+    ensures refused { IfErr result (RefusesUnlessMemory pair SaysPair (map string_bytes words.entry.now)) }
+{
+    let taken = take(pair_command(alloc)?, words)?;
+    pair_options(&taken)
 }
 
 /// The options of `serve`.
@@ -149,5 +163,22 @@ fn call_options<'a>(taken: &Taken<'a>) -> Result<CallOptions<'a>, WordsFault>
         obfuscate,
         retries,
         perm,
+    })
+}
+
+/// The options of `pair`.
+fn pair_options<'a>(taken: &Taken<'a>) -> Result<PairOptions<'a>, WordsFault>
+    ensures found { IfOk result (SaysPair taken.now) }
+    ensures refused { IfErr result (λ _. (options : PairOptions) → SaysPair taken.now options → ⊥) }
+{
+    let keys = FileName::new(taken.needed("keys")?);
+    let key = taken.id("key")?;
+    let port = taken.number("port", 1, 65_534)? as u16;
+    let stop_after = taken.number("stop-after", 1, 1_000_000_000)?;
+    Ok(PairOptions {
+        keys,
+        key,
+        port,
+        stop_after,
     })
 }
