@@ -1,17 +1,18 @@
 -- What a run promises, by the command that was carried out.
-use Rattle.std.proofs.Common.{◌≡◌, ◌≢◌, ◌<◌, ◌⊎◌, ℕ, List, Bool, Option, Some, None, codes, inl, subst, ap, arith}
-use Rattle.clap.specs.Words.{Row}
+use Rattle.std.proofs.Common.{◌≡◌, ◌⊎◌, ℕ, List, Bool, inl, subst}
 use Rattle.cmd_call.specs.Owed.{Around, Files}
 use Rattle.cmd_call.specs.Runs.{CallRun}
+use Rattle.cmd_check.specs.Runs.{CheckRun}
 use Rattle.cmd_pair.specs.Runs.{PairRun}
 use Rattle.cmd_pair.specs.Servers.{Kids}
+use Rattle.cmd_relay.specs.Runs.{RelayRun}
 use Rattle.commands.specs.Pages.{page_text, version_text}
-use Rattle.commands.specs.Says.{Says, SaysPair, SaysServe}
-use Rattle.commands.specs.Values.{MayHaveNumber}
+use Rattle.commands.specs.Says.{Says}
 use Rattle.commands.specs.declared.command.CallOptions.{CallOptions}
 use Rattle.commands.specs.declared.command.Command.{Command}
 use Rattle.commands.specs.declared.command.Command.TheVariants as command
 use Rattle.commands.specs.declared.command.PairOptions.{PairOptions}
+use Rattle.commands.specs.declared.command.RelayOptions.{RelayOptions}
 use Rattle.commands.specs.declared.command.ServeOptions.{ServeOptions}
 use Rattle.commands.specs.declared.page.Page.{Page}
 use Rattle.cmd_sim.specs.Runs.{LoadRun, SimRun}
@@ -20,33 +21,7 @@ use Rattle.statuses.specs.Outside.{IsUntouched, Outside, PlainRun}
 use Rattle.statuses.specs.Statuses.{EndsBy, number_of}
 use Rattle.statuses.specs.declared.status.Status.{Status}
 use Rattle.statuses.specs.declared.status.Status.TheVariants as status
-use Rattle.mtp_app.specs.Obeys.{AreOffline, AreWithoutChildren, AreWithoutInput, IsAlone, IsApart, IsLawful, IsUnbegun, Obeys, Stays, draws_of, files_part, moments_of, net_part}
-
--- ---- what words say is lawful
-
-abbrev get_some : ℕ → Option ℕ → ℕ
-get_some other None = other
-get_some other (Some number) = number
-
--- a number that is at least 1 isn't 0
-not-none : (rows : List Row) (o : Option ℕ) → MayHaveNumber (codes "stop-after") 1 1000000000 rows o → o ≡ Some 0 → ⊥
-not-none rows None h e = cc
-not-none rows (Some number) h e = let none : number ≡ 0 = ap (get_some number) e in omega (arith, h.least_or_more)
-
-serve-lawful : (options : ServeOptions) (rows : List Row) → SaysServe rows options → options.stop_after ≢ Some 0
-serve-lawful options rows h e = not-none rows options.stop_after h.stop_after e
-
-pair-lawful : (options : PairOptions) (rows : List Row) → SaysPair rows options → options.port < 65535
-pair-lawful options rows h = omega (arith, h.port.most_or_less)
-
-pub says-lawful : (words : List (List ℕ)) (said : Command) → Says words said → IsLawful said
-says-lawful words (command.Sim wire) h = tt
-says-lawful words (command.Load calls) h = tt
-says-lawful words (command.Serve options) h = serve-lawful options _ h.means.1
-says-lawful words (command.Call options) h = h.means.1.lawful
-says-lawful words (command.Pair options) h = pair-lawful options _ h.means.1
-says-lawful words (command.Help page) h = tt
-says-lawful words command.Version h = tt
+use Rattle.mtp_app.specs.Obeys.{AreOffline, AreWithoutChildren, AreWithoutInput, IsAlone, IsApart, IsUnbegun, Obeys, Stays, draws_of, files_part, moments_of, net_part}
 
 -- ---- the command was carried out
 
@@ -71,6 +46,12 @@ module _ {S O F N C D P : Type 0} (input : Outside S) (out : Outside O) (files :
       → EndsBy n (λ one. PairRun options input out files around kids one ⊎ (IsUnbegun out files around one × IsAlone kids))
   pairs options same = (one, ends, inl (so (command.Pair options) same))
 
+  pub checks : said ≡ command.Check → EndsBy n (CheckRun input out)
+  checks same = (one, ends, so command.Check same)
+
+  pub relays : (options : RelayOptions) → said ≡ command.Relay options → EndsBy n (RelayRun options.form options.secret input out)
+  relays options same = (one, ends, so (command.Relay options) same)
+
   pub helps : (page : Page) → said ≡ command.Help page → EndsBy n (λ one. PlainRun out status.Done (page_text page) one)
   helps page same = (one, ends, so (command.Help page) same)
 
@@ -86,6 +67,8 @@ reads-not input files around kids words (command.Load calls) says h not = h.0
 reads-not input files around kids words (command.Serve options) says h not = h.0
 reads-not input files around kids words (command.Call options) says h not = absurd (not.no_call options says)
 reads-not input files around kids words (command.Pair options) says h not = absurd (not.no_pair options says)
+reads-not input files around kids words command.Check says h not = absurd (not.no_check says)
+reads-not input files around kids words (command.Relay options) says h not = absurd (not.no_relay options says)
 reads-not input files around kids words (command.Help page) says h not = h.0
 reads-not input files around kids words command.Version says h not = h.0
 
@@ -96,6 +79,8 @@ stays-apart input files around kids words (command.Load calls) says h not = h.1
 stays-apart input files around kids words (command.Serve options) says h not = absurd (not.no_serve options says)
 stays-apart input files around kids words (command.Call options) says h not = absurd (not.no_call options says)
 stays-apart input files around kids words (command.Pair options) says h not = absurd (not.no_pair options says)
+stays-apart input files around kids words command.Check says h not = h.0
+stays-apart input files around kids words (command.Relay options) says h not = h.0
 stays-apart input files around kids words (command.Help page) says h not = h.1
 stays-apart input files around kids words command.Version says h not = h.1
 
@@ -106,5 +91,7 @@ stays-alone input files around kids words (command.Load calls) says h not = h.2
 stays-alone input files around kids words (command.Serve options) says h not = h.1
 stays-alone input files around kids words (command.Call options) says h not = h
 stays-alone input files around kids words (command.Pair options) says h not = absurd (not options says)
+stays-alone input files around kids words command.Check says h not = h.1
+stays-alone input files around kids words (command.Relay options) says h not = h.1
 stays-alone input files around kids words (command.Help page) says h not = h.2
 stays-alone input files around kids words command.Version says h not = h.2

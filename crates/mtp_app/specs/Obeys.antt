@@ -1,15 +1,18 @@
 -- What the program promises, by the command that the words say.
-use Rattle.std.specs.Prelude.{◌≡◌, ◌≢◌, ◌<◌, ℕ, Bool, true, List, Some, ⊤}
+use Rattle.std.specs.Prelude.{◌≡◌, Bool, List, ℕ, ⊤}
 use Rattle.cmd_call.specs.Owed.{Around, Files, IsIdle}
 use Rattle.cmd_call.specs.Runs.{CallRun}
+use Rattle.cmd_check.specs.Runs.{CheckRun}
 use Rattle.cmd_pair.specs.Runs.{PairRun}
 use Rattle.cmd_pair.specs.Servers.{Kids}
+use Rattle.cmd_relay.specs.Runs.{RelayRun}
 use Rattle.commands.specs.Pages.{page_text, version_text}
 use Rattle.commands.specs.Says.{Says}
 use Rattle.commands.specs.declared.command.CallOptions.{CallOptions}
 use Rattle.commands.specs.declared.command.Command.{Command}
 use Rattle.commands.specs.declared.command.Command.TheVariants as command
 use Rattle.commands.specs.declared.command.PairOptions.{PairOptions}
+use Rattle.commands.specs.declared.command.RelayOptions.{RelayOptions}
 use Rattle.commands.specs.declared.command.ServeOptions.{ServeOptions}
 use Rattle.mt_edge.specs.Files.{FilesTold}
 use Rattle.mt_edge.specs.declared.net_call.NetCall.{NetCall}
@@ -18,17 +21,18 @@ use Rattle.cmd_serve.specs.Runs.{Draws, Moments, Part, ServeRun}
 use Rattle.statuses.specs.Outside.{IsUntouched, Outside, PlainRun}
 use Rattle.statuses.specs.declared.status.Status.{Status}
 use Rattle.statuses.specs.declared.status.Status.TheVariants as status
-use Rattle.transport.specs.declared.form.Form.TheVariants.{Full}
 
 -- ---- what a run leaves alone
 
--- the words say neither `sim` nor `call` nor `pair`
+-- the words say no command that reads the input
 pub record AreWithoutInput (words : List (List ℕ)) : Type 0 where
   pub no_sim : (wire : Bool) → Says words (command.Sim wire) → ⊥
   pub no_call : (options : CallOptions) → Says words (command.Call options) → ⊥
   pub no_pair : (options : PairOptions) → Says words (command.Pair options) → ⊥
+  pub no_check : Says words command.Check → ⊥
+  pub no_relay : (options : RelayOptions) → Says words (command.Relay options) → ⊥
 
--- the words say neither `serve` nor `call` nor `pair`
+-- the words say no command that connects to anything or is connected to
 pub record AreOffline (words : List (List ℕ)) : Type 0 where
   pub no_serve : (options : ServeOptions) → Says words (command.Serve options) → ⊥
   pub no_call : (options : CallOptions) → Says words (command.Call options) → ⊥
@@ -49,14 +53,7 @@ pub record IsUnbegun {O F N C D : Type 0} (out : Outside O) (files : Files F) (a
   pub unwritten : IsUntouched out
   pub apart : IsApart files around
 
--- ---- scaffolding, and no promise
-
--- what the words of a command say of it
-abbrev pub IsLawful : Command → Type 0
-IsLawful (command.Serve options) = options.stop_after ≢ Some 0
-IsLawful (command.Call options) = options.obfuscate ≡ true → options.form ≢ Full
-IsLawful (command.Pair options) = options.port < 65535
-IsLawful said = ⊤
+-- ---- what a run does
 
 abbrev pub files_part : {F : Type 0} → Files F → Part FilesTold F
 files_part files = record { told = files.told; faults = files.faults; before = files.before; after = files.after }
@@ -76,6 +73,8 @@ Obeys (command.Load calls) input out files around kids one = LoadRun calls out o
 Obeys (command.Serve options) input out files around kids one = ServeRun around.step options (files_part files) (net_part around) out (moments_of around) (draws_of around) one
 Obeys (command.Call options) input out files around kids one = CallRun options input out files around one
 Obeys (command.Pair options) input out files around kids one = PairRun options input out files around kids one
+Obeys command.Check input out files around kids one = CheckRun input out one
+Obeys (command.Relay options) input out files around kids one = RelayRun options.form options.secret input out one
 Obeys (command.Help page) input out files around kids one = PlainRun out status.Done (page_text page) one
 Obeys command.Version input out files around kids one = PlainRun out status.Done version_text one
 
@@ -90,5 +89,7 @@ Stays (command.Load calls) input files around kids = IsUntouched input × IsApar
 Stays (command.Serve options) input files around kids = IsUntouched input × IsAlone kids
 Stays (command.Call options) input files around kids = IsAlone kids
 Stays (command.Pair options) input files around kids = ⊤
+Stays command.Check input files around kids = IsApart files around × IsAlone kids
+Stays (command.Relay options) input files around kids = IsApart files around × IsAlone kids
 Stays (command.Help page) input files around kids = IsUntouched input × IsApart files around × IsAlone kids
 Stays command.Version input files around kids = IsUntouched input × IsApart files around × IsAlone kids

@@ -2,13 +2,10 @@ use Rattle.std.proofs.Common.{map, inr, refl}
 use Rattle.std.specs.Prelude.{string_bytes}
 use Rattle.commands.specs.declared.command.Command.TheVariants as command
 use Rattle.statuses.specs.declared.status.Status.TheVariants as status
-use Rattle.mtp_app.proofs.Obeying.{calls, helps, loads, pairs, reads-not, says-lawful, serves, sims, stays-alone, stays-apart, tells-version}
+use Rattle.mtp_app.proofs.Obeying.{calls, checks, helps, loads, pairs, reads-not, relays, serves, sims, stays-alone, stays-apart, tells-version}
 use Rattle.mtp_app.proofs.app.run.Goals as goal
 
 -- ---- a command was carried out
-
-pub obey-requires : goal.obey-requires
-obey-requires g c = says-lawful (map string_bytes c.args.words.now) c.in-Ok.command c.in-Ok.ensures.said
 
 pub returns-in-Ok-clause-sim : goal.returns-in-Ok-clause-sim
 returns-in-Ok-clause-sim g c = λ wire asked.
@@ -64,6 +61,28 @@ returns-in-Ok-clause-pair g c = λ options asked.
     (record { calls = g.P.Spawner.calls; faults = g.P.Spawner.faults; before = c.args.kids.now; after = c.obey.new.kids })
     c.number.result c.obey.result c.in-Ok.command c.number.ensures c.obey.ensures.obeys options
     (c.one_reading.ensures (map string_bytes c.args.words.now) c.in-Ok.command (command.Pair options) c.in-Ok.ensures.said asked)
+
+pub returns-in-Ok-clause-check : goal.returns-in-Ok-clause-check
+returns-in-Ok-clause-check g c = λ asked.
+    checks
+    (record { told = g.S.Source.left; faults = g.S.Source.faults; before = c.args.input.now; after = c.obey.new.input })
+    (record { told = g.O.Sink.written; faults = g.O.Sink.faults; before = c.args.out.now; after = c.obey.new.out })
+    (record { told = g.F.KeyFiles.told; faults = g.F.KeyFiles.faults; before = c.args.files.now; after = c.obey.new.files })
+    (record { calls = g.N.Net.calls; faults = g.N.Net.faults; given = g.C.Clock.given; step = g.D.Draw.step; net = c.args.net.now; net_then = c.obey.new.net; clock = c.args.clock.now; clock_then = c.obey.new.clock; draw = c.args.draw.now; draw_then = c.obey.new.draw })
+    (record { calls = g.P.Spawner.calls; faults = g.P.Spawner.faults; before = c.args.kids.now; after = c.obey.new.kids })
+    c.number.result c.obey.result c.in-Ok.command c.number.ensures c.obey.ensures.obeys
+    (c.one_reading.ensures (map string_bytes c.args.words.now) c.in-Ok.command command.Check c.in-Ok.ensures.said asked)
+
+pub returns-in-Ok-clause-relay : goal.returns-in-Ok-clause-relay
+returns-in-Ok-clause-relay g c = λ options asked.
+    relays
+    (record { told = g.S.Source.left; faults = g.S.Source.faults; before = c.args.input.now; after = c.obey.new.input })
+    (record { told = g.O.Sink.written; faults = g.O.Sink.faults; before = c.args.out.now; after = c.obey.new.out })
+    (record { told = g.F.KeyFiles.told; faults = g.F.KeyFiles.faults; before = c.args.files.now; after = c.obey.new.files })
+    (record { calls = g.N.Net.calls; faults = g.N.Net.faults; given = g.C.Clock.given; step = g.D.Draw.step; net = c.args.net.now; net_then = c.obey.new.net; clock = c.args.clock.now; clock_then = c.obey.new.clock; draw = c.args.draw.now; draw_then = c.obey.new.draw })
+    (record { calls = g.P.Spawner.calls; faults = g.P.Spawner.faults; before = c.args.kids.now; after = c.obey.new.kids })
+    c.number.result c.obey.result c.in-Ok.command c.number.ensures c.obey.ensures.obeys options
+    (c.one_reading.ensures (map string_bytes c.args.words.now) c.in-Ok.command (command.Relay options) c.in-Ok.ensures.said asked)
 
 pub returns-in-Ok-clause-help : goal.returns-in-Ok-clause-help
 returns-in-Ok-clause-help g c = λ page asked.
@@ -136,6 +155,12 @@ returns-in-Err-Refused-clause-call g c = λ options asked. absurd (c.in-Err-Refu
 pub returns-in-Err-Refused-clause-pair : goal.returns-in-Err-Refused-clause-pair
 returns-in-Err-Refused-clause-pair g c = λ options asked. absurd (c.in-Err-Refused.ensures.refused c.in-Err-Refused.field-0-is (command.Pair options) asked)
 
+pub returns-in-Err-Refused-clause-check : goal.returns-in-Err-Refused-clause-check
+returns-in-Err-Refused-clause-check g c = λ asked. absurd (c.in-Err-Refused.ensures.refused c.in-Err-Refused.field-0-is command.Check asked)
+
+pub returns-in-Err-Refused-clause-relay : goal.returns-in-Err-Refused-clause-relay
+returns-in-Err-Refused-clause-relay g c = λ options asked. absurd (c.in-Err-Refused.ensures.refused c.in-Err-Refused.field-0-is (command.Relay options) asked)
+
 pub returns-in-Err-Refused-clause-help : goal.returns-in-Err-Refused-clause-help
 returns-in-Err-Refused-clause-help g c = λ page asked. absurd (c.in-Err-Refused.ensures.refused c.in-Err-Refused.field-0-is (command.Help page) asked)
 
@@ -185,6 +210,12 @@ returns-in-Err-Memory-clause-pair g c = λ options asked. (
     refl,
   ),
 )
+
+pub returns-in-Err-Memory-clause-check : goal.returns-in-Err-Memory-clause-check
+returns-in-Err-Memory-clause-check g c = λ asked. (status.Memory, c.number-in-Err-Memory.ensures, c.memory_may_end_a_check.ensures _ _ refl)
+
+pub returns-in-Err-Memory-clause-relay : goal.returns-in-Err-Memory-clause-relay
+returns-in-Err-Memory-clause-relay g c = λ options asked. (status.Memory, c.number-in-Err-Memory.ensures, c.memory_may_end_a_relay.ensures options.form options.secret _ _ refl)
 
 pub returns-in-Err-Memory-clause-help : goal.returns-in-Err-Memory-clause-help
 returns-in-Err-Memory-clause-help g c = λ page asked. (status.Memory, c.number-in-Err-Memory.ensures, inr (refl, refl))
