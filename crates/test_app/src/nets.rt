@@ -1,15 +1,11 @@
 //! Both ends over links in memory: what each wrote is what the other reads, round for round.
 
-use msg_ids::Moment;
-use mt_edge::{
-    ChaChaDraw, ListClock, MemFiles, MemKids, MemLink, MemNet, MemSink, MemSource, NamedFile,
-    NetCall, Outcome, Seeded,
-};
-use mtp_app::run;
+use crate::runs::status_of;
+use mt_edge::{MemFiles, MemLink, MemNet, MemSink, MemSource, NamedFile, NetCall, Outcome};
 use octets::Octets;
 use std::alloc::{AllocError, Global};
-use std::process::Abort;
 use std::test::Fail;
+use test_asserts::{holds_at, same_at};
 
 /// The bytes of the first answer and of the attach behind it, in frames: each read of a client gives so many at most.
 const PIECE_BYTES: usize = 280;
@@ -94,17 +90,16 @@ fn ran(
     let mut input = MemSource::new(alloc, script, ROOM_BYTES, &[])?;
     let mut out = MemSink::new(alloc, ROOM_BYTES, ROOM_BYTES, &[])?;
     let mut net = net(alloc, come, lost)?;
-    let status = run(
+    let words = words_of(alloc, line)?;
+    let status = status_of(
         alloc,
-        words_of(alloc, line)?.as_slice(),
+        words.as_slice(),
         &mut input,
         &mut out,
         &mut files(alloc)?,
         &mut net,
-        &mut MemKids::new(alloc, Vec::new(alloc), &[], 0, 0, 0)?,
-        &mut ListClock::new(alloc, &[Moment::new(0)])?,
-        &mut ChaChaDraw::at(&[seed; 32], 0),
-    );
+        seed,
+    )?;
     Ok(Ended {
         status,
         out: Octets::copy(alloc, out.written())?,
@@ -125,17 +120,10 @@ fn both(alloc: Global, call: &str, lost: bool) -> Result<Ended, Fail> {
     Ok(client)
 }
 
-fn ends(
-    rt: &impl Abort,
-    alloc: Global,
-    call: &str,
-    lost: bool,
-    status: u8,
-    table: &str,
-) -> Result<(), Fail> {
+fn ends(alloc: Global, call: &str, lost: bool, status: u8, table: &str) -> Result<(), Fail> {
     let client = both(alloc, call, lost)?;
-    assert!(rt; client.out.as_slice() == table.as_bytes(), "{call}");
-    assert_eq!(rt; client.status, status, "{call}");
+    holds_at(call, client.out.as_slice() == table.as_bytes())?;
+    same_at(call, client.status, status)?;
     Ok(())
 }
 
@@ -154,7 +142,7 @@ fn batches_under_the_permanent_key(rt: HostRuntime) -> Result<(), Fail> {
         let call = format!(in rt.alloc();
             "call --keys k --key 32d1586ea457dfc8 --port 4430 --form {form}"
         )?;
-        ends(&rt, rt.alloc(), call.as_str(), lost, status, table)?;
+        ends(rt.alloc(), call.as_str(), lost, status, table)?;
     }
     Ok(())
 }
@@ -175,7 +163,7 @@ fn batches_under_the_temporary_key(rt: HostRuntime) -> Result<(), Fail> {
         let call = format!(in rt.alloc();
             "call --keys k --key 96d1b10e8f724a13 --port 4430 --form full{perm}"
         )?;
-        ends(&rt, rt.alloc(), call.as_str(), false, status, table)?;
+        ends(rt.alloc(), call.as_str(), false, status, table)?;
     }
     Ok(())
 }

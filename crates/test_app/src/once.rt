@@ -6,6 +6,7 @@ use crate::runs::ran_in;
 use octets::Octets;
 use std::alloc::Global;
 use std::test::Fail;
+use test_asserts::{holds_at, same};
 
 const EACH_SENTENCE_ON_CALLS: &str = "\
 a call executes at most once: a server that runs what comes again would run it twice | client; call 1 add x 5; flush 1; give 1; give 2; flush 1; give 3; give 3; work 1; give 3; attach 1; flush 1; give 6; give 7 | 0 | call 1 1 done 5; run 1 1 12 5\n\
@@ -20,7 +21,7 @@ what ran in a start has the service's replies: a service that outlives a restart
 
 #[test]
 fn each_sentence_on_calls(rt: HostRuntime) -> Result<(), Fail> {
-    all_as_told(&rt, rt.alloc(), EACH_SENTENCE_ON_CALLS)
+    all_as_told(rt.alloc(), EACH_SENTENCE_ON_CALLS)
 }
 
 /// Room for the report of so many calls, in bytes.
@@ -52,18 +53,18 @@ fn a_call_that_is_forgotten(rt: HostRuntime) -> Result<(), Fail> {
     let alloc = rt.alloc();
     let mut schedule = forgetting(alloc)?;
     let (status, written) = ran_in(alloc, &["sim"], schedule.as_slice(), REPORT_BYTES)?;
-    assert_eq!(rt; status, 0);
+    same(status, 0)?;
     let text = str::from_utf8(written.as_slice()).unwrap_or("");
-    assert!(rt; text.starts_with("call 1 1 sent\n"), "{text:.200}");
+    holds_at(text.get(..200), text.starts_with("call 1 1 sent\n"))?;
     // 5 packets of before, 10 of the calls, 4,096 of their results, and the one that comes again
     let last = format!(in alloc; "give {}\ngive {}\n", 4_112, 4_113)?;
     schedule.push_all(alloc, last.as_bytes())?;
     let (status, written) = ran_in(alloc, &["sim"], schedule.as_slice(), REPORT_BYTES)?;
-    assert_eq!(rt; status, 0);
+    same(status, 0)?;
     let text = str::from_utf8(written.as_slice()).unwrap_or("");
-    assert!(rt;
+    holds_at(
+        text.get(..200),
         text.starts_with("call 1 1 unknown forgotten\n"),
-        "{text:.200}"
-    );
+    )?;
     Ok(())
 }

@@ -6,16 +6,16 @@ use envelope::{Dir, Envelope, MtSeal, Seal};
 use mt_edge::StepDraw;
 use octets::Octets;
 use std::alloc::Global;
-use std::process::Abort;
 use std::test::Fail;
+use test_asserts::{holds_at, same};
 
 /// What is written of a schedule with `--wire` begins so.
-fn begins(rt: &impl Abort, alloc: Global, schedule: &str, front: &str) -> Result<(), Fail> {
+fn begins(alloc: Global, schedule: &str, front: &str) -> Result<(), Fail> {
     let schedule = lines(alloc, schedule)?;
     let (status, written) = ran(alloc, &["sim", "--wire"], schedule.as_slice())?;
-    assert_eq!(rt; status, 0);
+    same(status, 0)?;
     let text = str::from_utf8(written.as_slice()).unwrap_or("");
-    assert!(rt; text.starts_with(front), "{text}");
+    holds_at(text, text.starts_with(front))?;
     Ok(())
 }
 
@@ -23,19 +23,17 @@ fn begins(rt: &impl Abort, alloc: Global, schedule: &str, front: &str) -> Result
 fn bytes_of_packets(rt: HostRuntime) -> Result<(), Fail> {
     let alloc = rt.alloc();
     begins(
-        &rt,
         alloc,
         "",
         "packets 0 0 e3b0c44298fc1c149afbf4c8996fb92427ae41e4649b934ca495991b7852b855\n",
     )?;
     begins(
-        &rt,
         alloc,
         "client; call 1 add x 5; flush 1; give 1; give 2; flush 1; give 3; work 1; give 4; give 5",
         "call 1 1 done 5\nrun 1 1 12 5\npackets 5 600 d9774ad1b8388b0b5f13a679bd23c1a5d5ffb18b4e2608a46bd185355bd04e00\n",
     )?;
     let expired = "client temp; clock 7200; call 1 add x 5; flush 1; give 1";
-    begins(&rt, alloc, expired, "call 1 1 sent\npackets 1 88 ")
+    begins(alloc, expired, "call 1 1 sent\npackets 1 88 ")
 }
 
 // What a client wishes goes out with its next packet. It is answered with a body of 16 or 20 bytes, or with 52 bytes and an
@@ -48,7 +46,7 @@ fn wishes(rt: HostRuntime) -> Result<(), Fail> {
             "client; call 1 add x 5; flush 1; give 1; give 2; flush 1; give 3; {wish}; flush 1; give 5"
         )?;
         let front = format!(in alloc; "call 1 1 sent\npackets 6 {bytes} ")?;
-        begins(&rt, alloc, schedule.as_str(), front.as_str())?;
+        begins(alloc, schedule.as_str(), front.as_str())?;
     }
     Ok(())
 }
@@ -94,11 +92,11 @@ fn foreign_bytes_that_open(rt: HostRuntime) -> Result<(), Fail> {
     let digits = packet_digits(alloc)?;
     let schedule = format!(in alloc; "client\n\nforeign server {digits}")?;
     let (status, written) = ran(alloc, &["sim"], schedule.as_bytes())?;
-    assert_eq!(rt; status, 2);
-    assert_eq!(rt;
+    same(status, 2)?;
+    same(
         written.as_slice(),
-        b"refused at line 3: foreign bytes open\n".as_slice()
-    );
+        b"refused at line 3: foreign bytes open\n".as_slice(),
+    )?;
     Ok(())
 }
 
@@ -119,8 +117,8 @@ fn too_many_calls_and_clients(rt: HostRuntime) -> Result<(), Fail> {
     ];
     for (schedule, refusal) in cases {
         let (status, written) = ran(alloc, &["sim"], schedule.as_slice())?;
-        assert_eq!(rt; status, 2);
-        assert_eq!(rt; written.as_slice(), refusal);
+        same(status, 2)?;
+        same(written.as_slice(), refusal)?;
     }
     Ok(())
 }
@@ -157,8 +155,8 @@ fn sessions_that_a_client_learns(rt: HostRuntime) -> Result<(), Fail> {
     ];
     for (sessions, report) in cases {
         let (status, written) = ran(alloc, &["sim"], learning(alloc, sessions)?.as_slice())?;
-        assert_eq!(rt; status, 0);
-        assert_eq!(rt; written.as_slice(), lines(alloc, report)?.as_slice());
+        same(status, 0)?;
+        same(written.as_slice(), lines(alloc, report)?.as_slice())?;
     }
     Ok(())
 }

@@ -2,8 +2,8 @@
 
 use crate::runs::{lines, ran};
 use std::alloc::Global;
-use std::process::Abort;
 use std::test::Fail;
+use test_asserts::{holds_at, same_at};
 
 /// What a schedule shows, its lines, the status, and the lines that are written.
 #[derive(Drop)]
@@ -30,22 +30,22 @@ fn text_of(part: &str) -> &str {
 }
 
 /// Plays each line of a table.
-pub(crate) fn all_as_told(rt: &impl Abort, alloc: Global, table: &str) -> Result<(), Fail> {
+pub(crate) fn all_as_told(alloc: Global, table: &str) -> Result<(), Fail> {
     for line in table.lines() {
         let Some(row) = row_of(line) else {
             return Err(Fail::new("no row"));
         };
-        as_told(rt, alloc, &row)?;
+        as_told(alloc, &row)?;
     }
     Ok(())
 }
 
-fn as_told(rt: &impl Abort, alloc: Global, row: &Row) -> Result<(), Fail> {
+fn as_told(alloc: Global, row: &Row) -> Result<(), Fail> {
     let schedule = lines(alloc, row.schedule)?;
     let (status, written) = ran(alloc, &["sim"], schedule.as_slice())?;
     let due = lines(alloc, row.written)?;
-    assert!(rt; written.as_slice() == due.as_slice(), "{}", row.shows);
-    assert_eq!(rt; status, row.status, "{}", row.shows);
+    holds_at(row.shows, written.as_slice() == due.as_slice())?;
+    same_at(row.shows, status, row.status)?;
     Ok(())
 }
 
@@ -65,7 +65,7 @@ a packed call | client; call 1 packed; flush 1; give 1; give 2; flush 1; give 3;
 
 #[test]
 fn schedules_and_their_reports(rt: HostRuntime) -> Result<(), Fail> {
-    all_as_told(&rt, rt.alloc(), SCHEDULES_AND_THEIR_REPORTS)
+    all_as_told(rt.alloc(), SCHEDULES_AND_THEIR_REPORTS)
 }
 
 const CALLS_AFTER_CALLS_AND_DROPPED_ANSWERS: &str = "\
@@ -80,7 +80,7 @@ a call after one whose answer is dropped | client; call 1 add x 5; call 1 add x 
 
 #[test]
 fn calls_after_calls_and_dropped_answers(rt: HostRuntime) -> Result<(), Fail> {
-    all_as_told(&rt, rt.alloc(), CALLS_AFTER_CALLS_AND_DROPPED_ANSWERS)
+    all_as_told(rt.alloc(), CALLS_AFTER_CALLS_AND_DROPPED_ANSWERS)
 }
 
 const TEMPORARY_KEYS: &str = "\
@@ -91,7 +91,7 @@ a second before it does | client temp; clock 7199; call 1 add x 5; flush 1; give
 
 #[test]
 fn temporary_keys(rt: HostRuntime) -> Result<(), Fail> {
-    all_as_told(&rt, rt.alloc(), TEMPORARY_KEYS)
+    all_as_told(rt.alloc(), TEMPORARY_KEYS)
 }
 
 const REFUSALS: &str = "\
@@ -117,5 +117,5 @@ no foreign byte | foreign server - | 0 | -\n\
 
 #[test]
 fn refusals(rt: HostRuntime) -> Result<(), Fail> {
-    all_as_told(&rt, rt.alloc(), REFUSALS)
+    all_as_told(rt.alloc(), REFUSALS)
 }

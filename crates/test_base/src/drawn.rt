@@ -5,61 +5,49 @@ ghost use Rattle.draws.specs.Draws.{draw_after, next_bytes, word_after};
 
 use draws::laws::seeded_draws_go_on;
 use draws::{ChaChaDraw, Draw, Seeded, StepDraw, draw_bytes};
-use std::process::Abort;
+use std::test::Fail;
+use test_asserts::{holds, same};
 
-fn gives<D: Draw>(rt: &impl Abort, draw: &mut D, expected: &[u64]) {
+fn gives<D: Draw>(draw: &mut D, expected: &[u64]) -> Result<(), Fail> {
     for word in expected {
-        assert_eq!(rt; draw.word(), *word);
+        same(draw.word(), *word)?;
     }
+    Ok(())
 }
 
 #[test]
-fn step_words(rt: HostRuntime) {
+fn step_words() -> Result<(), Fail> {
     // 6364136223846793005 times 1, 2 and 3, modulo 2^64.
     let words = [
         6_364_136_223_846_793_005,
         12_728_272_447_693_586_010,
         645_664_597_830_827_399,
     ];
-    gives(&rt, &mut StepDraw::new(), &words);
+    gives(&mut StepDraw::new(), &words)?;
     let mut draw: StepDraw = Seeded::at(&[7; 32], 1);
-    gives(&rt, &mut draw, &[12_728_272_447_693_586_010]);
-    assert_eq!(rt; draw.place(), 2);
+    gives(&mut draw, &[12_728_272_447_693_586_010])?;
+    same(draw.place(), 2)?;
+    Ok(())
 }
 
 // The key stream of RFC 8439, A.1, vectors 1 to 4, of a nonce of zeros: words 0 and 1 of blocks 0 and 1 of a key of zeros,
 // of block 1 of a key that ends in 1, and of block 2 of a key whose second byte is 0xff.
 #[test]
-fn chacha_words(rt: HostRuntime) {
+fn chacha_words() -> Result<(), Fail> {
     let mut draw: ChaChaDraw = Seeded::at(&[0; 32], 0);
-    gives(
-        &rt,
-        &mut draw,
-        &[0x903d_f1a0_ade0_b876, 0x28bd_8653_e56a_5d40],
-    );
-    assert_eq!(rt; draw.place(), 2);
+    gives(&mut draw, &[0x903d_f1a0_ade0_b876, 0x28bd_8653_e56a_5d40])?;
+    same(draw.place(), 2)?;
     let mut draw: ChaChaDraw = Seeded::at(&[0; 32], 8);
-    gives(
-        &rt,
-        &mut draw,
-        &[0x7a38_5155_bee7_079f, 0x0d08_2d73_7c97_ba98],
-    );
+    gives(&mut draw, &[0x7a38_5155_bee7_079f, 0x0d08_2d73_7c97_ba98])?;
     let mut seed = [0; 32];
     seed[31] = 1;
     let mut draw: ChaChaDraw = Seeded::at(&seed, 8);
-    gives(
-        &rt,
-        &mut draw,
-        &[0x9249_f8ec_2452_eb3a, 0xddd4_ceb1_8d82_9d9b],
-    );
+    gives(&mut draw, &[0x9249_f8ec_2452_eb3a, 0xddd4_ceb1_8d82_9d9b])?;
     let mut seed = [0; 32];
     seed[1] = 0xff;
     let mut draw: ChaChaDraw = Seeded::at(&seed, 16);
-    gives(
-        &rt,
-        &mut draw,
-        &[0x4bc4_2ef1_fb4d_d572, 0x327f_1394_df92_2636],
-    );
+    gives(&mut draw, &[0x4bc4_2ef1_fb4d_d572, 0x327f_1394_df92_2636])?;
+    Ok(())
 }
 
 // What a sender does: it draws a number, and then a nonce.
@@ -87,16 +75,17 @@ fn drawn_again<D: Seeded + Drop>(seed: &[u8; 32]) -> bool
 
 // 8 bytes of the word 12728272447693586010 and 4 of 645664597830827399, the least first.
 #[test]
-fn bytes_of_words(rt: HostRuntime) {
+fn bytes_of_words() -> Result<(), Fail> {
     let mut draw = StepDraw::new();
     let (number, nonce) = number_and_nonce(&mut draw);
-    assert_eq!(rt; number, 6_364_136_223_846_793_005);
-    assert_eq!(rt;
+    same(number, 6_364_136_223_846_793_005)?;
+    same(
         nonce,
         [
-            0x5a, 0xfe, 0x2a, 0x99, 0x5a, 0xe8, 0xa3, 0xb0, 0x87, 0x7d, 0xc0, 0xe5
-        ]
-    );
-    assert_eq!(rt; draw.place(), 3);
-    assert!(rt; drawn_again::<ChaChaDraw>(&[1; 32]));
+            0x5a, 0xfe, 0x2a, 0x99, 0x5a, 0xe8, 0xa3, 0xb0, 0x87, 0x7d, 0xc0, 0xe5,
+        ],
+    )?;
+    same(draw.place(), 3)?;
+    holds(drawn_again::<ChaChaDraw>(&[1; 32]))?;
+    Ok(())
 }

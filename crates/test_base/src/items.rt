@@ -9,6 +9,7 @@ use service_tl::laws::items_again;
 use service_tl::{FutureSalt, FutureSaltList, Item, Message, Messages, is_service, parse, write};
 use std::alloc::Global;
 use std::test::*;
+use test_asserts::{holds, holds_at, same, shown, shows};
 use tl_codec::{IdList, Memory, Octets};
 
 // What is written of an item and parsed is that item.
@@ -50,8 +51,7 @@ fn ack_and_pong(alloc: Global, number: u64, ping_id: u64) -> Result<Octets, Memo
 }
 
 fn is_shown(alloc: Global, item: &Item, want: &str) -> Result<bool, Memory> {
-    let shown = format!(in alloc; "{item:?}")?;
-    Ok(shown.as_str() == want)
+    Ok(shown(alloc, item)?.as_str() == want)
 }
 
 // Whether a body is read as the item that is shown so, and that item is written as the body.
@@ -176,7 +176,7 @@ fn one_body_of_each_constructor(rt: HostRuntime) -> Result<(), Fail> {
     ];
     for (text, want) in rows {
         let body = hex::decode(alloc, text).ok().ok_or("hexadecimal digits")?;
-        assert!(rt; agrees(alloc, &body, want)?, "{want}");
+        holds_at(want, agrees(alloc, &body, want)?)?;
     }
     Ok(())
 }
@@ -222,23 +222,23 @@ fn bodies_that_are_read_otherwise(rt: HostRuntime) -> Result<(), Fail> {
     ];
     for (text, want) in rows {
         let bytes = hex::decode(alloc, text).ok().ok_or("hexadecimal digits")?;
-        let shown = format!(in alloc; "{:?}", parse(alloc, &bytes)?)?;
-        assert_eq!(rt; shown.as_str(), want);
+        shows(alloc, &parse(alloc, &bytes)?, want)?;
     }
     Ok(())
 }
 
 #[test]
-fn service_numbers_are_told(rt: HostRuntime) {
-    assert!(rt; is_service(0x3072cfa1) && is_service(0xf35c6d01) && is_service(0xcdd42a05));
-    assert!(rt; !is_service(0x75a3f765) && !is_service(0x0a1b2c01) && !is_service(0));
+fn service_numbers_are_told() -> Result<(), Fail> {
+    holds(is_service(0x3072cfa1) && is_service(0xf35c6d01) && is_service(0xcdd42a05))?;
+    holds(!is_service(0x75a3f765) && !is_service(0x0a1b2c01) && !is_service(0))?;
+    Ok(())
 }
 
 #[test]
 fn what_was_written_is_parsed(rt: HostRuntime) -> Result<(), Fail> {
     let alloc = rt.alloc();
     let again = written_and_parsed(alloc, &Item::Ping { ping_id: 7 })?;
-    assert!(rt; is_shown(alloc, &again, "Ping { ping_id: 7 }")?);
+    holds(is_shown(alloc, &again, "Ping { ping_id: 7 }")?)?;
     Ok(())
 }
 
@@ -252,7 +252,7 @@ fn two_items_stand_in_one_text(rt: HostRuntime) -> Result<(), Fail> {
     )
     .ok()
     .ok_or("hexadecimal digits")?;
-    assert!(rt; text.as_slice() == want.as_slice());
+    holds(text.as_slice() == want.as_slice())?;
     Ok(())
 }
 
@@ -270,8 +270,7 @@ fn other_spellings_are_spelt_anew(rt: HostRuntime) -> Result<(), Fail> {
     ];
     for (text, want) in rows {
         let body = hex::decode(alloc, text).ok().ok_or("hexadecimal digits")?;
-        let shown = format!(in alloc; "{:?}", spelt_anew(alloc, &body)?)?;
-        assert_eq!(rt; shown.as_str(), want);
+        shows(alloc, &spelt_anew(alloc, &body)?, want)?;
     }
     Ok(())
 }
@@ -289,22 +288,20 @@ fn lists_are_cloned(rt: HostRuntime) -> Result<(), Fail> {
         },
     )?;
     let copy = salts.clone()?;
-    assert!(rt; copy.as_slice() == salts.as_slice());
+    holds(copy.as_slice() == salts.as_slice())?;
     let message = Message {
         number: 8,
         seq: 1,
         body: Octets::copy(alloc, b"abcd")?,
     };
     let want = "Message { number: 8, seq: 1, body: Octets { bytes: [97, 98, 99, 100] } }";
-    let shown = format!(in alloc; "{:?}", message.clone()?)?;
-    assert_eq!(rt; shown.as_str(), want);
+    shows(alloc, &message.clone()?, want)?;
     let mut messages = Messages::with_capacity(alloc, 1)?;
     messages.push(alloc, message)?;
     let copies = messages.clone()?;
     for copy in copies.as_slice() {
-        let shown = format!(in alloc; "{copy:?}")?;
-        assert_eq!(rt; shown.as_str(), want);
+        shows(alloc, copy, want)?;
     }
-    assert_eq!(rt; copies.as_slice().len(), 1);
+    same(copies.as_slice().len(), 1)?;
     Ok(())
 }

@@ -5,6 +5,7 @@ ghost use Rattle.std.specs.Prelude.{◌≡◌, ◌<◌, ◌+◌, ◌^◌, ◌++�
 use octets::{Buffer, IdList, Memory, Octets};
 use std::alloc::Global;
 use std::test::*;
+use test_asserts::{same, tells};
 
 #[test]
 fn bytes_own_their_memory(rt: HostRuntime) -> Result<(), Fail> {
@@ -13,8 +14,8 @@ fn bytes_own_their_memory(rt: HostRuntime) -> Result<(), Fail> {
     text.push_all(alloc, b"de")?;
     let copy = text.clone()?;
     text.truncate(2);
-    assert_eq!(rt; text.as_slice(), b"ab".as_slice());
-    assert_eq!(rt; copy.as_slice(), b"abcde".as_slice());
+    same(text.as_slice(), b"ab".as_slice())?;
+    same(copy.as_slice(), b"abcde".as_slice())?;
     Ok(())
 }
 
@@ -22,8 +23,8 @@ fn bytes_own_their_memory(rt: HostRuntime) -> Result<(), Fail> {
 fn bytes_become_a_vec_and_come_back(rt: HostRuntime) -> Result<(), Fail> {
     let alloc = rt.alloc();
     let bytes = Octets::copy(alloc, b"abc")?.into_vec();
-    assert_eq!(rt; Octets::from(bytes).as_slice(), b"abc".as_slice());
-    assert_eq!(rt; Octets::new(alloc).as_slice().len(), 0);
+    same(Octets::from(bytes).as_slice(), b"abc".as_slice())?;
+    same(Octets::new(alloc).as_slice().len(), 0)?;
     Ok(())
 }
 
@@ -33,15 +34,15 @@ fn numbers_own_their_memory(rt: HostRuntime) -> Result<(), Fail> {
     let mut list = IdList::new(alloc);
     list.push_all(alloc, &[3, u64::MAX])?;
     list.push_all(alloc, &[4])?;
-    assert_eq!(rt; list.clone()?.ids(), [3, u64::MAX, 4].as_slice());
+    same(list.clone()?.ids(), [3, u64::MAX, 4].as_slice())?;
     Ok(())
 }
 
 #[test]
 fn numbers_come_from_a_vec_and_from_a_slice(rt: HostRuntime) -> Result<(), Fail> {
     let alloc = rt.alloc();
-    assert_eq!(rt; IdList::from(vec![in alloc; 7]?).ids(), [7].as_slice());
-    assert_eq!(rt; IdList::copy(alloc, &[4])?.ids(), [4].as_slice());
+    same(IdList::from(vec![in alloc; 7]?).ids(), [7].as_slice())?;
+    same(IdList::copy(alloc, &[4])?.ids(), [4].as_slice())?;
     Ok(())
 }
 
@@ -63,18 +64,17 @@ fn a_buffer_is_filled(rt: HostRuntime) -> Result<(), Fail> {
     let alloc = rt.alloc();
     let mut text = Octets::copy(alloc, b"ab")?;
     put(alloc, &mut text, b"cd", b"e")?;
-    assert_eq!(rt; text.as_slice(), b"abcde".as_slice());
+    same(text.as_slice(), b"abcde".as_slice())?;
     let mut buffer = Buffer::new(alloc, 2)?;
     buffer.reserve(alloc, 3)?;
     buffer.push_all(b"xyz");
-    assert_eq!(rt; buffer.as_slice(), b"xyz".as_slice());
-    assert_eq!(rt; buffer.room(), 0);
+    same(buffer.as_slice(), b"xyz".as_slice())?;
+    same(buffer.room(), 0)?;
     Ok(())
 }
 
 #[test]
 fn memory_is_told(rt: HostRuntime) -> Result<(), Fail> {
-    let told = format!(in rt.alloc(); "{Memory}")?;
-    assert_eq!(rt; told.as_str(), "out of memory");
+    tells(rt.alloc(), &Memory, "out of memory")?;
     Ok(())
 }

@@ -8,6 +8,7 @@ ghost use Rattle.tl_codec.specs.Reading.{read_at, with_rest, lent};
 use octets::Buffer;
 use std::alloc::Global;
 use std::test::*;
+use test_asserts::{holds, same, tells};
 use tl_codec::{Memory, Octets, Reader, TlFault, Writer, fill};
 
 // 254 bytes of content, behind the length in its long form and before two zeros.
@@ -31,9 +32,9 @@ fn spelt(alloc: Global, content: &[u8]) -> Result<Octets, Memory>
 fn strings_are_padded(rt: HostRuntime) -> Result<(), Fail> {
     let alloc = rt.alloc();
     let empty = spelt(alloc, &[])?;
-    assert_eq!(rt; empty.as_slice(), [0; 4].as_slice());
+    same(empty.as_slice(), [0; 4].as_slice())?;
     let abc = spelt(alloc, b"abc")?;
-    assert_eq!(rt; abc.as_slice(), b"\x03abc".as_slice());
+    same(abc.as_slice(), b"\x03abc".as_slice())?;
     Ok(())
 }
 
@@ -41,12 +42,12 @@ fn strings_are_padded(rt: HostRuntime) -> Result<(), Fail> {
 fn the_last_short_length_and_the_first_long_one(rt: HostRuntime) -> Result<(), Fail> {
     let alloc = rt.alloc();
     let short = spelt(alloc, &[7; 253])?;
-    assert_eq!(rt; short.as_slice().len(), 256);
-    assert!(rt; short.as_slice().starts_with(&[0xfd, 7]));
-    assert!(rt; short.as_slice().ends_with(&[7, 0, 0]));
+    same(short.as_slice().len(), 256)?;
+    holds(short.as_slice().starts_with(&[0xfd, 7]))?;
+    holds(short.as_slice().ends_with(&[7, 0, 0]))?;
     let long = spelt(alloc, &[7; 254])?;
     let want = sevens(alloc)?;
-    assert_eq!(rt; long.as_slice(), want.as_slice());
+    same(long.as_slice(), want.as_slice())?;
     Ok(())
 }
 
@@ -66,21 +67,22 @@ fn strings_are_read(rt: HostRuntime) -> Result<(), Fail> {
     ];
     for (text, want) in rows {
         let mut reader = Reader::new(text);
-        assert!(rt; reader.bytes() == want);
+        holds(reader.bytes() == want)?;
     }
     Ok(())
 }
 
 #[test]
-fn truths_are_read(rt: HostRuntime) {
+fn truths_are_read() -> Result<(), Fail> {
     let rows: [([u8; 4], Result<bool, TlFault>); 3] = [
         ([0xb5, 0x75, 0x72, 0x99], Ok(true)),
         ([0x37, 0x97, 0x79, 0xbc], Ok(false)),
         ([0; 4], Err(TlFault::BadTag { found: 0 })),
     ];
     for (text, want) in rows {
-        assert_eq!(rt; Reader::new(&text).boolean(), want);
+        same(Reader::new(&text).boolean(), want)?;
     }
+    Ok(())
 }
 
 // The same values behind a text, of which the room is taken once and which are written in place.
@@ -120,17 +122,18 @@ fn values_are_read_again(rt: HostRuntime) -> Result<(), Fail> {
     let mut text = Octets::new(alloc);
     filled(alloc, &mut text, 1, b"abcd", true)?;
     let bytes = b"\x01\0\0\0\x04abcd\0\0\0\xb5\x75\x72\x99";
-    assert_eq!(rt; text.as_slice(), bytes.as_slice());
+    same(text.as_slice(), bytes.as_slice())?;
     let mut reader = Reader::new(text.as_slice());
-    assert!(rt; number_or_name(&mut reader, 1) == Ok([].as_slice()));
-    assert!(rt; number_or_name(&mut reader, 1) == Ok(b"abcd".as_slice()));
-    assert_eq!(rt; reader.boolean(), Ok(true));
+    holds(number_or_name(&mut reader, 1) == Ok([].as_slice()))?;
+    holds(number_or_name(&mut reader, 1) == Ok(b"abcd".as_slice()))?;
+    same(reader.boolean(), Ok(true))?;
     let fault = TlFault::BadTag { found: 255 };
-    let told = format!(in alloc; "{fault}, {}", TlFault::from(Memory))?;
-    assert_eq!(rt;
-        told.as_str(),
-        "constructor 000000ff is another than the one that is due, out of memory"
-    );
+    tells(
+        alloc,
+        &fault,
+        "constructor 000000ff is another than the one that is due",
+    )?;
+    tells(alloc, &TlFault::from(Memory), "out of memory")?;
     Ok(())
 }
 
@@ -146,30 +149,32 @@ fn fields_are_written_one_after_the_other(rt: HostRuntime) -> Result<(), Fail> {
     writer.tag(alloc, 0x7abe77ec)?;
     writer.long(alloc, 0x0807060504030201)?;
     writer.raw(alloc, &[9; 16])?;
-    assert_eq!(rt; text.as_slice(), FIELDS);
+    same(text.as_slice(), FIELDS)?;
     Ok(())
 }
 
 #[test]
-fn fields_are_read_one_after_the_other(rt: HostRuntime) {
+fn fields_are_read_one_after_the_other() -> Result<(), Fail> {
     let mut reader = Reader::new(FIELDS);
-    assert_eq!(rt;
+    same(
         reader.tag(0x62d6b459),
-        Err(TlFault::BadTag { found: 0x7abe77ec })
-    );
-    assert_eq!(rt; reader.tag(0x7abe77ec), Ok(()));
-    assert_eq!(rt; reader.long(), Ok(0x0807060504030201));
-    assert_eq!(rt; reader.end(), Err(TlFault::Extra { bytes: 16 }));
+        Err(TlFault::BadTag { found: 0x7abe77ec }),
+    )?;
+    same(reader.tag(0x7abe77ec), Ok(()))?;
+    same(reader.long(), Ok(0x0807060504030201))?;
+    same(reader.end(), Err(TlFault::Extra { bytes: 16 }))?;
+    Ok(())
 }
 
 #[test]
-fn what_is_left_is_told(rt: HostRuntime) {
+fn what_is_left_is_told() -> Result<(), Fail> {
     let mut reader = Reader::new(&[9; 16]);
-    assert!(rt; reader.raw(12) == Ok([9; 12].as_slice()));
-    assert_eq!(rt; reader.int(), Ok(0x09090909));
-    assert_eq!(rt; reader.int(), Err(TlFault::Short { need: 4, have: 0 }));
-    assert_eq!(rt; reader.rest().len(), 0);
-    assert_eq!(rt; reader.end(), Ok(()));
+    holds(reader.raw(12) == Ok([9; 12].as_slice()))?;
+    same(reader.int(), Ok(0x09090909))?;
+    same(reader.int(), Err(TlFault::Short { need: 4, have: 0 }))?;
+    same(reader.rest().len(), 0)?;
+    same(reader.end(), Ok(()))?;
+    Ok(())
 }
 
 // A list with the one number 4.
@@ -181,14 +186,14 @@ fn a_list_is_written_and_read(rt: HostRuntime) -> Result<(), Fail> {
     let mut text = Octets::new(alloc);
     let mut writer = Writer::new(&mut text);
     writer.longs(alloc, &[4])?;
-    assert_eq!(rt; text.as_slice(), LIST);
+    same(text.as_slice(), LIST)?;
     let read = Reader::new(LIST).longs(alloc)?;
-    assert_eq!(rt; read.ids(), [4].as_slice());
+    same(read.ids(), [4].as_slice())?;
     Ok(())
 }
 
 #[test]
-fn lists_are_refused(rt: HostRuntime) {
+fn lists_are_refused(rt: HostRuntime) -> Result<(), Fail> {
     let rows: [(&[u8], TlFault); 4] = [
         (&LIST[..15], TlFault::Short { need: 8, have: 7 }),
         (
@@ -203,7 +208,8 @@ fn lists_are_refused(rt: HostRuntime) {
     ];
     for (text, want) in rows {
         let mut reader = Reader::new(text);
-        assert_eq!(rt; reader.longs(rt.alloc()).err(), Some(want));
-        assert_eq!(rt; reader.rest(), text);
+        same(reader.longs(rt.alloc()).err(), Some(want))?;
+        same(reader.rest(), text)?;
     }
+    Ok(())
 }

@@ -16,6 +16,7 @@ use octets::{Memory, Octets};
 use std::alloc::Global;
 use std::marker::Model;
 use std::test::*;
+use test_asserts::{holds, same, shown, shows, tells};
 
 // Where and why the container in message 100 isn't lawful.
 fn fault_of(alloc: Global, body: &[u8]) -> Result<Option<(u32, Why)>, Memory> {
@@ -157,42 +158,39 @@ fn faults_have_their_places(rt: HostRuntime) -> Result<(), Fail> {
     ];
     let alloc = rt.alloc();
     for (body, want) in rows {
-        assert!(rt; is_container(body));
-        assert_eq!(rt; fault_of(alloc, body)?, want);
+        holds(is_container(body))?;
+        same(fault_of(alloc, body)?, want)?;
     }
     Ok(())
+}
+
+// A message with number 4 and the body `abcd`, and behind it one with number 8 and none.
+fn abcd_and_none(alloc: Global) -> Result<Vec<Message>, Fail> {
+    let mut messages = Vec::new(alloc);
+    messages.push(made(4, 1, Octets::copy(alloc, b"abcd")?))?;
+    messages.push(made(8, 2, Octets::new(alloc)))?;
+    Ok(messages)
+}
+
+fn made(number: u64, seq: u32, body: Octets) -> Message {
+    Message { number, seq, body }
 }
 
 #[test]
 fn two_are_put_together_and_unfolded(rt: HostRuntime) -> Result<(), Fail> {
     let alloc = rt.alloc();
-    let first = Octets::copy(alloc, b"abcd")?;
-    let second = Octets::copy(alloc, b"")?;
-    let messages = [
-        Message {
-            number: 4,
-            seq: 1,
-            body: first,
-        },
-        Message {
-            number: 8,
-            seq: 2,
-            body: second,
-        },
-    ];
+    let messages = abcd_and_none(alloc)?;
     let mut text = Octets::copy(alloc, b"..")?;
-    assert!(rt; paired(alloc, &messages, &mut text)?);
+    holds(paired(alloc, messages.as_slice(), &mut text)?)?;
     let want =
         b"..\xdc\xf8\xf1\x73\x02\0\0\0\x04\0\0\0\0\0\0\0\x01\0\0\0\x04\0\0\0abcd\x08\0\0\0\0\0\0\0\x02\0\0\0\0\0\0\0";
-    assert_eq!(rt; text.as_slice(), want.as_slice());
+    same(text.as_slice(), want.as_slice())?;
     let (_, body) = want.split_at(2);
-    assert!(rt; is_container(body));
+    holds(is_container(body))?;
     match unfold(alloc, 12, body) {
         Unfolded::Messages(inner) => {
-            assert_eq!(rt;
-                format!(in alloc; "{:?}", inner.as_slice())?,
-                format!(in alloc; "{messages:?}")?
-            );
+            let want = shown(alloc, &messages.as_slice())?;
+            shows(alloc, &inner.as_slice(), want.as_str())?;
         }
         Unfolded::Invalid { .. } | Unfolded::Memory => return Err(Fail::new("not unfolded")),
     }
@@ -212,12 +210,14 @@ fn first_seq(number: u64, body: &[u8]) -> Option<u32>
 }
 
 // Puts two messages together where they fit, as a caller does that counts what it took.
-fn paired(alloc: Global, pair: &[Message; 2], into: &mut Octets) -> Result<bool, Memory>
+fn paired(alloc: Global, pair: &[Message], into: &mut Octets) -> Result<bool, Memory>
     ensures packed { IfOk result (λ done. OnTrue done (into.new ≡ into.old ++ container_of pair.now)) }
     ensures unchanged_on_memory { OnErr result (into.new ≡ into.old) }
 {
-    let first = pair[0].body.as_slice().len();
-    let second = pair[1].body.as_slice().len();
+    let [first, second] = pair else {
+        return Ok(false);
+    };
+    let (first, second) = (first.body.as_slice().len(), second.body.as_slice().len());
     if !fits(0, CONTAINER_HEAD_BYTES, first) {
         return Ok(false);
     }
@@ -239,14 +239,14 @@ fn lent_messages_are_put_together(rt: HostRuntime) -> Result<(), Fail> {
     };
     let mut text = Octets::new(alloc);
     container_of_parts(alloc, &[part], &mut text)?;
-    assert_eq!(rt; text.as_slice(), body.as_slice());
-    assert!(rt; is_container(body));
+    same(text.as_slice(), body.as_slice())?;
+    holds(is_container(body))?;
     let mut parts = Parts::read(8, body)?;
-    assert_eq!(rt; parts.len(), 1);
-    assert!(rt; parts.next() == Some(part));
-    assert!(rt; parts.is_empty());
-    assert!(rt; parts.next().is_none());
-    assert_eq!(rt; first_seq(8, body), Some(1));
+    same(parts.len(), 1)?;
+    holds(parts.next() == Some(part))?;
+    holds(parts.is_empty())?;
+    holds(parts.next().is_none())?;
+    same(first_seq(8, body), Some(1))?;
     Ok(())
 }
 
@@ -260,16 +260,16 @@ fn limits_are_taken(rt: HostRuntime) -> Result<(), Fail> {
         (0, usize::MAX, usize::MAX, false),
     ];
     for (count, bytes, next, want) in rows {
-        assert_eq!(rt; fits(count, bytes, next), want);
+        same(fits(count, bytes, next), want)?;
     }
     let alloc = rt.alloc();
     let mut body = Octets::copy(alloc, b"\xdc\xf8\xf1\x73\xfc\x03\0\0")?;
     for _ in 0..1_020 {
         body.push_all(alloc, b"\x04\0\0\0\0\0\0\0\x01\0\0\0\0\0\0\0")?;
     }
-    assert!(rt; is_container(body.as_slice()));
+    holds(is_container(body.as_slice()))?;
     match unfold(alloc, 100, body.as_slice()) {
-        Unfolded::Messages(inner) => assert_eq!(rt; inner.as_slice().len(), 1_020),
+        Unfolded::Messages(inner) => same(inner.as_slice().len(), 1_020)?,
         Unfolded::Invalid { .. } | Unfolded::Memory => return Err(Fail::new("not unfolded")),
     }
     Ok(())
@@ -286,18 +286,17 @@ fn faults_are_told(rt: HostRuntime) -> Result<(), Fail> {
         (Why::Extra, "bytes behind the last message"),
     ];
     for (why, want) in rows {
-        let told = format!(in rt.alloc(); "{why}")?;
-        assert_eq!(rt; told.as_str(), want);
+        tells(rt.alloc(), &why, want)?;
     }
     let fault = ContainerFault {
         place: 1,
         why: Why::Extra,
     };
-    let told = format!(in rt.alloc(); "{fault}")?;
-    assert_eq!(rt;
-        told.as_str(),
-        "bytes behind the last message at message 1 of a container"
-    );
+    tells(
+        rt.alloc(),
+        &fault,
+        "bytes behind the last message at message 1 of a container",
+    )?;
     Ok(())
 }
 
@@ -306,13 +305,14 @@ fn faults_are_told(rt: HostRuntime) -> Result<(), Fail> {
 fn packed_is_unfolded_again(rt: HostRuntime) -> Result<(), Fail> {
     let alloc = rt.alloc();
     let body = Octets::copy(alloc, b"abcd")?;
-    let messages = [Message {
+    let mut messages = Vec::new(alloc);
+    messages.push(Message {
         number: 4,
         seq: 1,
         body,
-    }];
-    match unfolded_again(alloc, 12, &messages)? {
-        Unfolded::Messages(inner) => assert_eq!(rt; inner.as_slice().len(), 1),
+    })?;
+    match unfolded_again(alloc, 12, messages.as_slice())? {
+        Unfolded::Messages(inner) => same(inner.as_slice().len(), 1)?,
         Unfolded::Invalid { .. } | Unfolded::Memory => return Err(Fail::new("not unfolded")),
     }
     Ok(())
@@ -333,7 +333,7 @@ fn list_is_unfolded_again(rt: HostRuntime) -> Result<(), Fail> {
         },
     )?;
     match list_unfolded_again(alloc, 12, &messages)? {
-        Unfolded::Messages(inner) => assert_eq!(rt; inner.as_slice().len(), 1),
+        Unfolded::Messages(inner) => same(inner.as_slice().len(), 1)?,
         Unfolded::Invalid { .. } | Unfolded::Memory => return Err(Fail::new("not unfolded")),
     }
     Ok(())
@@ -349,11 +349,11 @@ fn messages_are_packed_as_they_come(rt: HostRuntime) -> Result<(), Fail> {
             seq,
             body: Octets::copy(alloc, b"")?,
         };
-        assert!(rt; keeps_rules(100, &message));
-        assert!(rt; packer.add(alloc, message)? == (seq < 1_020));
+        holds(keeps_rules(100, &message))?;
+        holds(packer.add(alloc, message)? == (seq < 1_020))?;
     }
     let mut text = Octets::new(alloc);
-    assert!(rt; packer.pack(alloc, &mut text)?);
-    assert_eq!(rt; text.as_slice().len(), 16_328);
+    holds(packer.pack(alloc, &mut text)?)?;
+    same(text.as_slice().len(), 16_328)?;
     Ok(())
 }

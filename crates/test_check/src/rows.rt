@@ -4,8 +4,8 @@ ghost use Rattle.std.specs.Prelude.{◌<◌, ◌^◌, length};
 
 use octets::Octets;
 use std::alloc::Global;
-use std::process::Abort;
 use std::test::Fail;
+use test_asserts::same_at;
 use trace_check::{CheckFault, Checked, check};
 
 /// The lines that stand with `; ` between them, each with its newline.
@@ -52,23 +52,23 @@ fn row_of(line: &str) -> Option<Row<'_>> {
     })
 }
 
-fn as_told(rt: &impl Abort, alloc: Global, row: &Row) -> Result<(), Fail> {
+fn as_told(alloc: Global, row: &Row) -> Result<(), Fail> {
     let text = lines(alloc, row.text)?;
     if text.as_slice().len() > 100_000 {
         return Err(Fail::new("too long"));
     }
     let (sentence, line) = found(alloc, text.as_slice())?;
-    assert_eq!(rt; sentence, row.sentence, "{}", row.shows);
-    assert_eq!(rt; line, row.line, "{}", row.shows);
+    same_at(row.shows, sentence, row.sentence)?;
+    same_at(row.shows, line, row.line)?;
     Ok(())
 }
 
-fn all_as_told(rt: &impl Abort, alloc: Global, table: &str) -> Result<(), Fail> {
+fn all_as_told(alloc: Global, table: &str) -> Result<(), Fail> {
     for line in table.lines() {
         let Some(row) = row_of(line) else {
             return Err(Fail::new("no row"));
         };
-        as_told(rt, alloc, &row)?;
+        as_told(alloc, &row)?;
     }
     Ok(())
 }
@@ -102,7 +102,7 @@ an entry of neither kind | 9 | 1 | entry 1 9 4 - - run\n";
 
 #[test]
 fn rows_and_bad_lines(rt: HostRuntime) -> Result<(), Fail> {
-    all_as_told(&rt, rt.alloc(), ROWS_AND_BAD_LINES)
+    all_as_told(rt.alloc(), ROWS_AND_BAD_LINES)
 }
 
 const SENTENCES_ON_ENTRIES: &str = "\
@@ -121,7 +121,7 @@ session, made once | 5 | 5 | body 1 1 -; name 1 1 9 4; name 1 1 8 6; made 8; sta
 
 #[test]
 fn sentences_on_entries(rt: HostRuntime) -> Result<(), Fail> {
-    all_as_told(&rt, rt.alloc(), SENTENCES_ON_ENTRIES)
+    all_as_told(rt.alloc(), SENTENCES_ON_ENTRIES)
 }
 
 const CAUSES_AND_REPLIES: &str = "\
@@ -144,5 +144,5 @@ the least line | 5 | 3 | body 1 1 -; body 1 2 -; state 1 2 unknown ended; state 
 
 #[test]
 fn causes_and_replies(rt: HostRuntime) -> Result<(), Fail> {
-    all_as_told(&rt, rt.alloc(), CAUSES_AND_REPLIES)
+    all_as_told(rt.alloc(), CAUSES_AND_REPLIES)
 }

@@ -8,6 +8,7 @@ use call_table::{CallNo, CallState, Calls, Cause, Fate, Flags, Group, Living, Un
 use octets::{IdList, Memory, Octets};
 use std::alloc::Global;
 use std::test::Fail;
+use test_asserts::same;
 
 // Sends a queued call as this message, where its number is above the living ones, and says whether it did.
 fn send(
@@ -172,69 +173,69 @@ fn one_done(alloc: Global) -> Result<(Calls, Option<CallNo>), Fail> {
 #[test]
 fn calls_are_numbered(rt: HostRuntime) -> Result<(), Fail> {
     let (calls, numbers) = four_calls(rt.alloc())?;
-    assert_eq!(rt;
+    same(
         numbers,
         [
             Some(CallNo { n: 1 }),
             Some(CallNo { n: 2 }),
             Some(CallNo { n: 3 }),
-            Some(CallNo { n: 4 })
-        ]
-    );
-    assert_eq!(rt;
+            Some(CallNo { n: 4 }),
+        ],
+    )?;
+    same(
         (body(&calls, 3)?, after(&calls, 3)?, after(&calls, 4)?),
         (
             b"tri.".as_slice(),
             Some(CallNo { n: 1 }),
-            Some(CallNo { n: 1 })
-        )
-    );
+            Some(CallNo { n: 1 }),
+        ),
+    )?;
     Ok(())
 }
 
 #[test]
 fn numbers_of_messages_rise(rt: HostRuntime) -> Result<(), Fail> {
     let (calls, sent) = two_sent(rt.alloc())?;
-    assert_eq!(rt; sent, [true, true, false]);
-    assert_eq!(rt;
+    same(sent, [true, true, false])?;
+    same(
         (calls.living_at(0), calls.living_at(1), calls.living_at(2)),
-        (Some(4), Some(8), None)
-    );
+        (Some(4), Some(8), None),
+    )?;
     Ok(())
 }
 
 #[test]
 fn an_answered_call_is_done(rt: HostRuntime) -> Result<(), Fail> {
     let (calls, answered) = one_done(rt.alloc())?;
-    assert_eq!(rt; answered, Some(CallNo { n: 1 }));
-    assert_eq!(rt;
+    same(answered, Some(CallNo { n: 1 }))?;
+    same(
         (state(&calls, 1)?, state(&calls, 2)?, state(&calls, 3)?),
-        (CallState::Done(b"yes."), CallState::Sent, CallState::Queued)
-    );
+        (CallState::Done(b"yes."), CallState::Sent, CallState::Queued),
+    )?;
     Ok(())
 }
 
 #[test]
 fn an_answered_call_is_outstanding_no_more(rt: HostRuntime) -> Result<(), Fail> {
     let (calls, _) = one_done(rt.alloc())?;
-    assert_eq!(rt;
+    same(
         (
             calls.living_at(0),
             calls.owner(4),
             calls.owner(8),
-            calls.owner(12)
+            calls.owner(12),
         ),
-        (Some(8), None, Some(CallNo { n: 2 }), None)
-    );
-    assert_eq!(rt;
+        (Some(8), None, Some(CallNo { n: 2 }), None),
+    )?;
+    same(
         (
             living(&calls, 1)?,
             living(&calls, 2)?,
             calls.members(Group::Queued),
-            calls.members(Group::Outstanding)
+            calls.members(Group::Outstanding),
         ),
-        (None, Some(message(8, 3)), 2, 1)
-    );
+        (None, Some(message(8, 3)), 2, 1),
+    )?;
     Ok(())
 }
 
@@ -261,22 +262,22 @@ fn one_unknown(alloc: Global) -> Result<(Calls, Option<CallNo>), Fail> {
 #[test]
 fn a_marked_call_goes_alone(rt: HostRuntime) -> Result<(), Fail> {
     let (calls, flags) = one_marked(rt.alloc())?;
-    assert_eq!(rt; flags, Some(ALONE));
-    assert_eq!(rt;
+    same(flags, Some(ALONE))?;
+    same(
         (calls.member(Group::Alone, 0), calls.member(Group::Alone, 1)),
-        (Some(CallNo { n: 2 }), None)
-    );
+        (Some(CallNo { n: 2 }), None),
+    )?;
     Ok(())
 }
 
 #[test]
 fn a_call_that_is_decided_goes_no_more(rt: HostRuntime) -> Result<(), Fail> {
     let (calls, call) = one_unknown(rt.alloc())?;
-    assert_eq!(rt; call, Some(CallNo { n: 2 }));
-    assert_eq!(rt;
+    same(call, Some(CallNo { n: 2 }))?;
+    same(
         (calls.members(Group::Alone), state(&calls, 2)?),
-        (0, CallState::Unknown(Cause::Session))
-    );
+        (0, CallState::Unknown(Cause::Session)),
+    )?;
     Ok(())
 }
 
@@ -301,7 +302,7 @@ fn salts_of_a_name(rt: HostRuntime) -> Result<(), Fail> {
     ];
     let (mut calls, _) = one_sent(alloc)?;
     for (salt, under) in rows {
-        assert_eq!(rt; again(&mut calls, alloc, salt)?, Some(under));
+        same(again(&mut calls, alloc, salt)?, Some(under))?;
     }
     Ok(())
 }
@@ -332,17 +333,17 @@ fn held_anew(alloc: Global) -> Result<Calls, Fail> {
 
 #[test]
 fn a_new_name_has_no_old_salts(rt: HostRuntime) -> Result<(), Fail> {
-    assert_eq!(rt; under_anew(rt.alloc())?, (true, Some(Under::One(6))));
+    same(under_anew(rt.alloc())?, (true, Some(Under::One(6))))?;
     Ok(())
 }
 
 #[test]
 fn a_held_call_has_no_name(rt: HostRuntime) -> Result<(), Fail> {
     let calls = held_anew(rt.alloc())?;
-    assert_eq!(rt;
+    same(
         (calls.owner(4), calls.owner(8), calls.member(Group::Held, 0)),
-        (None, None, Some(CallNo { n: 1 }))
-    );
+        (None, None, Some(CallNo { n: 1 })),
+    )?;
     Ok(())
 }
 
@@ -358,17 +359,17 @@ fn owed(alloc: Global, count: u64) -> Result<Calls, Memory> {
 #[test]
 fn acknowledgements_push_out_the_oldest(rt: HostRuntime) -> Result<(), Fail> {
     let mut calls = owed(rt.alloc(), 8_193)?;
-    assert_eq!(rt;
+    same(
         (
             calls.acks(),
             calls.ack_at(0),
             calls.ack_at(8_191),
-            calls.ack_at(8_192)
+            calls.ack_at(8_192),
         ),
-        (8_192, Some(1), Some(8_192), None)
-    );
+        (8_192, Some(1), Some(8_192), None),
+    )?;
     calls.clear_acks();
-    assert_eq!(rt; calls.acks(), 0);
+    same(calls.acks(), 0)?;
     Ok(())
 }
 
@@ -392,11 +393,11 @@ fn inner(calls: &Calls, outer: u64) -> Option<&[u64]> {
 #[test]
 fn packets_push_out_the_oldest(rt: HostRuntime) -> Result<(), Fail> {
     let mut calls = remembering(rt.alloc(), 65)?;
-    assert_eq!(rt;
+    same(
         (inner(&calls, 0), inner(&calls, 1), inner(&calls, 64)),
-        (None, Some([101].as_slice()), Some([164].as_slice()))
-    );
+        (None, Some([101].as_slice()), Some([164].as_slice())),
+    )?;
     calls.forget_packets();
-    assert_eq!(rt; inner(&calls, 64), None);
+    same(inner(&calls, 64), None)?;
     Ok(())
 }

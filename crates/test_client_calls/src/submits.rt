@@ -5,6 +5,7 @@ use draws::StepDraw;
 use msg_ids::Moment;
 use std::alloc::Global;
 use std::test::*;
+use test_asserts::same;
 
 // A client with a call of the packed body, and what it answers to another one. Whether the last call is queued then.
 fn submits(
@@ -44,7 +45,7 @@ fn bodies_that_are_no_calls(rt: HostRuntime) -> Result<(), Fail> {
         (&[], None, Ok(true)),
     ];
     for (body, after, answer) in rows {
-        assert_eq!(rt; submits(rt.alloc(), body, after)?, answer);
+        same(submits(rt.alloc(), body, after)?, answer)?;
     }
     Ok(())
 }
@@ -58,6 +59,6 @@ fn sessions_are_drawn(rt: HostRuntime) -> Result<(), Fail> {
         Moment::new(7200),
         &mut StepDraw::new(),
     )?;
-    assert_eq!(rt; client.session(), 6_364_136_223_846_793_005);
+    same(client.session(), 6_364_136_223_846_793_005)?;
     Ok(())
 }

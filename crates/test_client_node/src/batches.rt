@@ -6,7 +6,7 @@ ghost use Rattle.client_core.specs.Keys.{keys_in};
 
 use client_core::{CallNo, CallState, Holder, OpeningClient};
 use client_node::{Batch, Plan, run_batch};
-use draws::{Draw, StepDraw};
+use draws::StepDraw;
 use envelope::MtSeal;
 use msg_ids::Moment;
 use mt_edge::{ListClock, MemLink, MemNet, NetCall, Outcome};
@@ -16,6 +16,7 @@ use server_core::Server;
 use server_output::Outs;
 use std::alloc::Global;
 use std::test::*;
+use test_asserts::{same, same_text};
 use test_clients::{adds, opens, packet, seal};
 use test_keys::{KEY_ID, ring};
 use transport::Form;
@@ -34,12 +35,12 @@ fn framed(into: &mut Vec<u8>, packet: &[u8]) -> Result<(), Fail> {
 }
 
 // A client hears the first answer, and sends what is due then.
-fn goes_on<D: Draw>(
+fn goes_on(
     alloc: Global,
     client: OpeningClient,
     seal: &MtSeal,
     answer: &[u8],
-    draw: &mut D,
+    draw: &mut StepDraw,
 ) -> Result<Octets, Fail>
     requires key { IsSome (entry_of KEY_ID seal.now) }
     requires its { keys_in client ≡ record { key = KEY_ID; bound_to = None } }
@@ -48,23 +49,52 @@ fn goes_on<D: Draw>(
     packet(client.flush(alloc, Moment::new(0), seal, draw))
 }
 
-// What a client sends over its first connection, or over a second one where that was lost, and the client then.
-fn sends_first<D: Draw>(
+// What a client sends next.
+fn sends(
+    alloc: Global,
+    client: &mut OpeningClient,
+    seal: &MtSeal,
+    draw: &mut StepDraw,
+) -> Result<Octets, Fail>
+    requires its { keys_in client.old ≡ record { key = KEY_ID; bound_to = None } }
+    requires key { IsSome (entry_of KEY_ID seal.now) }
+    ensures keys { keys_in client.new ≡ keys_in client.old }
+{
+    packet(client.flush(alloc, Moment::new(0), seal, draw))
+}
+
+// Its connection is lost, and another one is opened.
+fn attaches(client: &mut OpeningClient)
+    ensures keys { keys_in client.new ≡ keys_in client.old }
+{
+    client.attach();
+}
+
+// A client that sent its call, whose connection was lost then.
+fn loses_first(alloc: Global, seal: &MtSeal, draw: &mut StepDraw) -> Result<OpeningClient, Fail>
+    requires key { IsSome (entry_of KEY_ID seal.now) }
+    ensures keys { IfOk result (λ client. keys_in client ≡ record { key = KEY_ID; bound_to = None }) }
+{
+    let mut client = adds(alloc, draw)?;
+    sends(alloc, &mut client, seal, draw)?;
+    attaches(&mut client);
+    Ok(client)
+}
+
+// The client before it sends its call, over its first connection or over a second one where that was lost.
+fn begins(
     alloc: Global,
     seal: &MtSeal,
     was_lost: bool,
-    draw: &mut D,
-) -> Result<(OpeningClient, Octets), Fail>
+    draw: &mut StepDraw,
+) -> Result<OpeningClient, Fail>
     requires key { IsSome (entry_of KEY_ID seal.now) }
-    ensures keys { IfOk result (λ sent. keys_in sent.0 ≡ record { key = KEY_ID; bound_to = None }) }
+    ensures keys { IfOk result (λ client. keys_in client ≡ record { key = KEY_ID; bound_to = None }) }
 {
-    let mut client = adds(alloc, draw)?;
     if was_lost {
-        client.flush(alloc, Moment::new(0), seal, draw);
-        client.attach();
+        return loses_first(alloc, seal, draw);
     }
-    let sent = packet(client.flush(alloc, Moment::new(0), seal, draw))?;
-    Ok((client, sent))
+    adds(alloc, draw)
 }
 
 // The first packet that goes out, in its frame.
@@ -99,7 +129,8 @@ fn server_bytes(alloc: Global, seal: &MtSeal, was_lost: bool) -> Result<(Vec<u8>
     let (mut draw, mut words) = (StepDraw::new(), StepDraw::new());
     let mut server = Server::new(alloc, MtSeal::new(ring(alloc, "perm")?));
     let mut bytes = Vec::new(alloc);
-    let (client, sent) = sends_first(alloc, seal, was_lost, &mut draw)?;
+    let mut client = begins(alloc, seal, was_lost, &mut draw)?;
+    let sent = sends(alloc, &mut client, seal, &mut draw)?;
     answers(alloc, &mut server, sent.as_slice(), &mut words, &mut bytes)?;
     let first = bytes.len();
     if first == 0 {
@@ -116,6 +147,13 @@ fn server_bytes(alloc: Global, seal: &MtSeal, was_lost: bool) -> Result<(Vec<u8>
 // A net with these links, the last one first.
 fn net(alloc: Global, links: Vec<MemLink>) -> Result<MemNet, Fail> {
     Ok(MemNet::new(alloc, links, &[], 8)?)
+}
+
+// A net with this link.
+fn net_of(alloc: Global, link: MemLink) -> Result<MemNet, Fail> {
+    let mut links = Vec::new(alloc);
+    links.push(link)?;
+    net(alloc, links)
 }
 
 // How a client's batch ends over a net.
@@ -202,11 +240,11 @@ fn a_link_whose_first_read_fails_is_lost(rt: HostRuntime) -> Result<(), Fail> {
     let alloc = rt.alloc();
     let seal = seal(alloc)?;
     // A write of the start, one of the packet, and the read.
-    let links = vec![in alloc; link(alloc, &[], 1000, 3)?]?;
-    assert_eq!(rt;
-        call_ends(alloc, &seal, &mut net(alloc, links)?, 0)?,
-        (Batch::LinkLost, First::Sent)
-    );
+    let mut net = net_of(alloc, link(alloc, &[], 1000, 3)?)?;
+    same(
+        call_ends(alloc, &seal, &mut net, 0)?,
+        (Batch::LinkLost, First::Sent),
+    )?;
     Ok(())
 }
 
@@ -218,10 +256,10 @@ fn a_second_link_decides(rt: HostRuntime) -> Result<(), Fail> {
     let mut links = Vec::new(alloc);
     links.push(link(alloc, bytes.as_slice(), piece, 0)?)?;
     links.push(link(alloc, &[], 1000, 3)?)?;
-    assert_eq!(rt;
+    same(
         call_ends(alloc, &seal, &mut net(alloc, links)?, 1)?,
-        (Batch::Decided, First::Five)
-    );
+        (Batch::Decided, First::Five),
+    )?;
     Ok(())
 }
 
@@ -242,8 +280,7 @@ fn failed(net: &MemNet) -> Option<u64> {
 fn end_at(alloc: Global, failing: u64) -> Result<(Batch, Option<u64>, First), Fail> {
     let seal = seal(alloc)?;
     let (bytes, piece) = server_bytes(alloc, &seal, false)?;
-    let links = vec![in alloc; link(alloc, bytes.as_slice(), piece, failing)?]?;
-    let mut net = net(alloc, links)?;
+    let mut net = net_of(alloc, link(alloc, bytes.as_slice(), piece, failing)?)?;
     let (end, first) = call_ends(alloc, &seal, &mut net, 0)?;
     Ok((end, failed(&net), first))
 }
@@ -265,17 +302,33 @@ fn each_call_of_a_link_that_is_reached_loses_it(rt: HostRuntime) -> Result<(), F
         let (end, failed, first) = end_at(rt.alloc(), failing)?;
         told.push_str(&format!(in rt.alloc(); "{failing} {end:?} {failed:?} {first:?}\n")?)?;
     }
-    assert_eq!(rt; told.as_str(), ENDS);
+    same_text(told.as_str(), ENDS)?;
     Ok(())
+}
+
+// A client without a call.
+fn idle(alloc: Global, draw: &mut StepDraw) -> Result<OpeningClient, Fail>
+    ensures keys { IfOk result (λ client. keys_in client ≡ record { key = KEY_ID; bound_to = None }) }
+{
+    Ok(OpeningClient::new(alloc, KEY_ID, draw)?)
+}
+
+// How its batch ends over a net.
+fn idle_ends(alloc: Global, seal: &MtSeal, net: &mut MemNet) -> Result<Batch, Fail>
+    requires key { IsSome (entry_of KEY_ID seal.now) }
+{
+    let mut draw = StepDraw::new();
+    let client = idle(alloc, &mut draw)?;
+    let (_, end) = ends(alloc, client, seal, net, 0, &mut draw)?;
+    Ok(end)
 }
 
 #[test]
 fn no_call_needs_no_link(rt: HostRuntime) -> Result<(), Fail> {
-    let (alloc, mut draw) = (rt.alloc(), StepDraw::new());
-    let client = OpeningClient::new(alloc, KEY_ID, &mut draw)?;
-    let mut net = net(alloc, vec![in alloc; link(alloc, &[], 1000, 0)?]?)?;
-    let (_, end) = ends(alloc, client, &seal(alloc)?, &mut net, 0, &mut draw)?;
-    assert_eq!(rt; end, Batch::Decided);
-    assert_eq!(rt; net.calls().len(), 0);
+    let alloc = rt.alloc();
+    let seal = seal(alloc)?;
+    let mut net = net_of(alloc, link(alloc, &[], 1000, 0)?)?;
+    same(idle_ends(alloc, &seal, &mut net)?, Batch::Decided)?;
+    same(net.calls().len(), 0)?;
     Ok(())
 }

@@ -10,6 +10,7 @@ use envelope::{MtSeal, Seal};
 use msg_ids::Moment;
 use std::alloc::Global;
 use std::test::*;
+use test_asserts::{holds, same};
 use test_clients::{envelope_of, message_of, opened_by, told};
 use test_keys::{KEY_ID, TEMP_ID, both_keys};
 
@@ -62,13 +63,13 @@ const ASKED: &[u8] = b"\xdc\xf8\xf1\x73\x02\0\0\0\
 fn a_binding_is_asked_for_before_any_call(rt: HostRuntime) -> Result<(), Fail> {
     let seal = seal(rt.alloc())?;
     let (client, flush) = asks(rt.alloc(), &seal)?;
-    assert_eq!(rt; client.binding(), Some(BindState::Asked(8)));
+    same(client.binding(), Some(BindState::Asked(8)))?;
     let sent = message_of(envelope_of(rt.alloc(), &seal, flush)?)?;
-    assert_eq!(rt;
+    same(
         (sent.named(), sent.body.as_slice().len()),
-        ((5, 12, 2), 192)
-    );
-    assert!(rt; sent.body.as_slice().starts_with(ASKED));
+        ((5, 12, 2), 192),
+    )?;
+    holds(sent.body.as_slice().starts_with(ASKED))?;
     Ok(())
 }
 
@@ -120,7 +121,7 @@ fn answers_and_notices_about_a_binding(rt: HostRuntime) -> Result<(), Fail> {
         ),
     ];
     for (body, state) in rows {
-        assert_eq!(rt; bound_by(rt.alloc(), &seal, body)?, Some(state));
+        same(bound_by(rt.alloc(), &seal, body)?, Some(state))?;
     }
     Ok(())
 }

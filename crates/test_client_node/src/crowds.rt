@@ -11,6 +11,7 @@ use msg_ids::Moment;
 use octets::{Memory, Octets};
 use std::alloc::Global;
 use std::test::*;
+use test_asserts::{holds, same};
 use test_clients::{SentMessage, envelope_of, message_of, seal, sent_again, told};
 use test_keys::KEY_ID;
 
@@ -67,9 +68,9 @@ fn acknowledgement(alloc: Global, from: u32, to: u32) -> Result<Octets, Memory> 
 #[test]
 fn the_oldest_of_8193_acknowledgements_is_dropped(rt: HostRuntime) -> Result<(), Fail> {
     let sent = acknowledges(rt.alloc())?;
-    assert_eq!(rt; sent.named(), (5, 20, 4));
+    same(sent.named(), (5, 20, 4))?;
     let due = acknowledgement(rt.alloc(), 1, 8193)?;
-    assert!(rt; sent.body.as_slice() == due.as_slice());
+    holds(sent.body.as_slice() == due.as_slice())?;
     Ok(())
 }
 
@@ -99,13 +100,13 @@ fn sends_behind(alloc: Global, count: u8) -> Result<Option<Envelope>, Fail> {
 #[test]
 fn the_64th_packet_is_remembered_too(rt: HostRuntime) -> Result<(), Fail> {
     let sent = message_of(sends_behind(rt.alloc(), 63)?)?;
-    assert_eq!(rt; sent.named(), (5, 12, 3));
-    assert_eq!(rt; sent.body.as_slice(), [1, 0, 0, 0].as_slice());
+    same(sent.named(), (5, 12, 3))?;
+    same(sent.body.as_slice(), [1, 0, 0, 0].as_slice())?;
     Ok(())
 }
 
 #[test]
 fn the_65th_packet_pushes_the_first_one_out(rt: HostRuntime) -> Result<(), Fail> {
-    assert!(rt; sends_behind(rt.alloc(), 64)?.is_none());
+    holds(sends_behind(rt.alloc(), 64)?.is_none())?;
     Ok(())
 }

@@ -12,6 +12,7 @@ use octets::Octets;
 use server_core::Server;
 use std::alloc::Global;
 use std::test::*;
+use test_asserts::same;
 use test_clients::{opens, packet, seal, submitted};
 use test_keys::{KEY_ID, ring};
 
@@ -72,10 +73,10 @@ fn a_ping_is_answered(rt: HostRuntime) -> Result<(), Fail> {
     let packet = answer_to_ping(alloc, &seal)?;
     match seal.unseal(alloc, Moment::new(0), Dir::Down, packet.as_slice()) {
         Opened::Envelope(envelope) => {
-            assert_eq!(rt;
+            same(
                 envelope.body.as_slice(),
-                b"\xc5\x73\x77\x34\x14\0\0\0\0\0\0\0\x4d\0\0\0\0\0\0\0".as_slice()
-            );
+                b"\xc5\x73\x77\x34\x14\0\0\0\0\0\0\0\x4d\0\0\0\0\0\0\0".as_slice(),
+            )?;
             Ok(())
         }
         Opened::Refused(_) | Opened::Memory => Err(Fail::new("it doesn't open")),

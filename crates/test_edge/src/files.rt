@@ -10,6 +10,7 @@ use octets::Octets;
 use std::alloc::Global;
 use std::fs;
 use std::test::Fail;
+use test_asserts::{holds, same};
 
 /// What a journal does: it adds bytes behind the end, and makes sure of them.
 fn add<K: Disk>(disk: &mut K, bytes: &[u8]) -> Act
@@ -49,18 +50,18 @@ fn loses(disk: &MemDisk, alloc: Global, acts: usize, want: &[u8]) -> Result<bool
 fn files_in_memory(rt: HostRuntime) -> Result<(), Fail> {
     let alloc = rt.alloc();
     let mut disk = MemDisk::new(alloc, b"ab", &[4, 8], 8, 8)?;
-    assert_eq!(rt; add(&mut disk, b"cd"), Act::Ready);
-    assert_eq!(rt; add(&mut disk, b"ef"), Act::Failed);
-    assert_eq!(rt; byte_at(&mut disk, 0), Some(b'a'));
-    assert_eq!(rt;
+    same(add(&mut disk, b"cd"), Act::Ready)?;
+    same(add(&mut disk, b"ef"), Act::Failed)?;
+    same(byte_at(&mut disk, 0), Some(b'a'))?;
+    same(
         (disk.contents(), disk.calls().last().copied(), disk.faults()),
         (
             b"abcd".as_slice(),
             Some(DiskCall::Read { at: 0, count: 1 }),
-            1
-        )
-    );
-    assert!(rt; loses(&disk, alloc, 1, b"ab")? && loses(&disk, alloc, 2, b"abcd")?);
+            1,
+        ),
+    )?;
+    holds(loses(&disk, alloc, 1, b"ab")? && loses(&disk, alloc, 2, b"abcd")?)?;
     Ok(())
 }
 
@@ -119,19 +120,19 @@ fn is_file(file: Option<&MemFile>, name: &[u8], contents: &[u8]) -> bool {
 #[test]
 fn files_in_memory_by_name(rt: HostRuntime) -> Result<(), Fail> {
     let mut disks = two_files(rt.alloc())?;
-    assert!(rt;
+    holds(
         add_by_name(&mut disks, "journal", b"x") == Act::Failed
-            && add_by_name(&mut disks, "journal", b"y") == Act::Ready
-    );
-    assert_eq!(rt;
+            && add_by_name(&mut disks, "journal", b"y") == Act::Ready,
+    )?;
+    same(
         (
             first_beside(&mut disks, "journal", "other"),
-            first_beside(&mut disks, "other", "other")
+            first_beside(&mut disks, "other", "other"),
         ),
-        (Some(b'y'), None)
-    );
-    assert!(rt; is_file(disks.files().first(), b"journal", b"y"));
-    assert_eq!(rt; (disks.asked().len(), disks.faults()), (6, 2));
+        (Some(b'y'), None),
+    )?;
+    holds(is_file(disks.files().first(), b"journal", b"y"))?;
+    same((disks.asked().len(), disks.faults()), (6, 2))?;
     Ok(())
 }
 
@@ -142,21 +143,21 @@ fn files_of_this_machine(rt: HostRuntime) -> Result<(), Fail> {
     let DiskOpen::Disk(mut disk) = disks.open(name) else {
         return Err("no file".into());
     };
-    assert_eq!(rt; add(&mut disk, b"abc"), Act::Ready);
-    assert_eq!(rt; (disk.cut(1), disk.len()), (Act::Ready, DiskLen::Len(1)));
-    assert_eq!(rt;
+    same(add(&mut disk, b"abc"), Act::Ready)?;
+    same((disk.cut(1), disk.len()), (Act::Ready, DiskLen::Len(1)))?;
+    same(
         (disk.write(1, b"xyz"), byte_at(&mut disk, 2)),
-        (Act::Ready, Some(b'y'))
-    );
-    assert_eq!(rt;
+        (Act::Ready, Some(b'y')),
+    )?;
+    same(
         (byte_at(&mut disk, 0), disk.len()),
-        (Some(b'a'), DiskLen::Len(4))
-    );
-    assert_eq!(rt; disk.read(3, &mut [0u8; 2]), Act::Failed);
+        (Some(b'a'), DiskLen::Len(4)),
+    )?;
+    same(disk.read(3, &mut [0u8; 2]), Act::Failed)?;
     disks.done(disk);
     fs::remove_file(&rt, name)?;
-    assert!(rt; matches!(disks.open("no_such_folder/file"), DiskOpen::Failed));
-    assert_eq!(rt; disks.faults(), 2);
+    holds(matches!(disks.open("no_such_folder/file"), DiskOpen::Failed))?;
+    same(disks.faults(), 2)?;
     Ok(())
 }
 
@@ -183,15 +184,15 @@ fn front<D: Disks>(disks: &mut D, name: &str) -> Option<([u8; 4], u64)> {
 fn files_that_are_opened_again(rt: HostRuntime) -> Result<(), Fail> {
     let (first, second) = ("disks_first.tmp", "disks_second.tmp");
     let mut disks = FileDisks::new(&rt);
-    assert!(rt;
+    holds(
         add_by_name(&mut disks, first, b"abc") == Act::Ready
             && add_by_name(&mut disks, second, b"vwxyz") == Act::Ready
-            && add_by_name(&mut disks, first, b"d") == Act::Ready
-    );
-    assert_eq!(rt;
+            && add_by_name(&mut disks, first, b"d") == Act::Ready,
+    )?;
+    same(
         (front(&mut disks, first), front(&mut disks, second)),
-        (Some((*b"abcd", 4)), Some((*b"vwxy", 5)))
-    );
+        (Some((*b"abcd", 4)), Some((*b"vwxy", 5))),
+    )?;
     fs::remove_file(&rt, first)?;
     fs::remove_file(&rt, second)?;
     Ok(())

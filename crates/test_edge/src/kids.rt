@@ -6,6 +6,7 @@ use mt_edge::{Act, ChildKids, Got, Line, Link, MemKid, MemKids, MemLink, Spawner
 use octets::Octets;
 use std::alloc::{AllocError, Global};
 use std::test::Fail;
+use test_asserts::{holds, same};
 
 /// What a node does: it reads a link to its end, and hands on whether the end came.
 fn read_to_end<L: Link>(link: &mut L) -> bool
@@ -25,8 +26,8 @@ fn read_to_end<L: Link>(link: &mut L) -> bool
 #[test]
 fn links_are_read_to_their_end(rt: HostRuntime) -> Result<(), Fail> {
     let mut link = MemLink::new(rt.alloc(), b"hello", 3, &[5], 0, 6)?;
-    assert!(rt; read_to_end(&mut link));
-    assert!(rt; !read_to_end(&mut link));
+    holds(read_to_end(&mut link))?;
+    holds(!read_to_end(&mut link))?;
     Ok(())
 }
 
@@ -79,19 +80,19 @@ fn children_in_memory(rt: HostRuntime) -> Result<(), Fail> {
     })?;
     let mut kids = MemKids::new(alloc, kids, &[8], 8, 2, 8)?;
     let words = words(alloc, "serve", "--conns")?;
-    assert_eq!(rt;
+    same(
         life(&mut kids, alloc, words.as_slice()),
-        (Act::Ready, "ready", Act::Ready)
-    );
-    assert_eq!(rt;
+        (Act::Ready, "ready", Act::Ready),
+    )?;
+    same(
         life(&mut kids, alloc, words.as_slice()),
-        (Act::Ready, "end", Act::Failed)
-    );
-    assert_eq!(rt;
+        (Act::Ready, "end", Act::Failed),
+    )?;
+    same(
         life(&mut kids, alloc, words.as_slice()),
-        (Act::Failed, "failed", Act::Failed)
-    );
-    assert_eq!(rt; (kids.calls().len(), kids.faults()), (8, 4));
+        (Act::Failed, "failed", Act::Failed),
+    )?;
+    same((kids.calls().len(), kids.faults()), (8, 4))?;
     Ok(())
 }
 
@@ -101,19 +102,19 @@ fn children_of_this_machine(rt: HostRuntime) -> Result<(), Fail> {
     let mut kids = ChildKids::new(&rt, String::from_str(alloc, "sh")?);
     let good = words(alloc, "-c", "echo ready")?;
     let bad = words(alloc, "-c", "exit 3")?;
-    assert_eq!(rt;
+    same(
         life(&mut kids, alloc, good.as_slice()),
-        (Act::Ready, "ready", Act::Ready)
-    );
-    assert_eq!(rt;
+        (Act::Ready, "ready", Act::Ready),
+    )?;
+    same(
         life(&mut kids, alloc, bad.as_slice()),
-        (Act::Ready, "end", Act::Failed)
-    );
+        (Act::Ready, "end", Act::Failed),
+    )?;
     let mut kids = ChildKids::new(&rt, String::from_str(alloc, "no_such_program")?);
-    assert_eq!(rt;
+    same(
         life(&mut kids, alloc, good.as_slice()),
-        (Act::Failed, "failed", Act::Failed)
-    );
+        (Act::Failed, "failed", Act::Failed),
+    )?;
     Ok(())
 }
 
@@ -140,11 +141,11 @@ fn a_start_that_failed_in_memory(rt: HostRuntime) -> Result<(), Fail> {
     kids.push(MemKid { lines, status: 0 })?;
     let mut kids = MemKids::new(alloc, kids, &[], 4, 2, 8)?;
     let words = words(alloc, "serve", "--conns")?;
-    assert_eq!(rt;
+    same(
         life_beside(&mut kids, alloc, words.as_slice(), words.as_slice()),
-        (Act::Ready, Act::Failed, "ready", Act::Ready)
-    );
-    assert_eq!(rt; kids.faults(), 1);
+        (Act::Ready, Act::Failed, "ready", Act::Ready),
+    )?;
+    same(kids.faults(), 1)?;
     Ok(())
 }
 
@@ -154,9 +155,9 @@ fn a_start_that_failed_on_this_machine(rt: HostRuntime) -> Result<(), Fail> {
     let mut kids = ChildKids::new(&rt, String::from_str(alloc, "sh")?);
     let good = words(alloc, "-c", "echo ready")?;
     let faulty = words(alloc, "-c", "echo \0")?;
-    assert_eq!(rt;
+    same(
         life_beside(&mut kids, alloc, good.as_slice(), faulty.as_slice()),
-        (Act::Ready, Act::Failed, "ready", Act::Ready)
-    );
+        (Act::Ready, Act::Failed, "ready", Act::Ready),
+    )?;
     Ok(())
 }

@@ -13,8 +13,8 @@ use mt_edge::{
 use octets::Octets;
 use std::fs;
 use std::io::{self, ErrorKind, Read, Write};
-use std::process::Abort;
 use std::test::Fail;
+use test_asserts::{holds, same};
 
 /// What a node does: it reads once and writes once, and hands on what came of both.
 fn read_and_write<L: Link>(link: &mut L, into: &mut [u8], piece: &[u8]) -> (Got, Put)
@@ -47,16 +47,16 @@ fn links_cut_fail_and_end(rt: HostRuntime) -> Result<(), Fail> {
     let alloc = rt.alloc();
     let mut link = MemLink::new(alloc, b"hello", 3, &[2], 4, 5)?;
     let mut into = [0u8; 8];
-    assert_eq!(rt; link.read(&mut into), Got::Bytes(3));
-    assert_eq!(rt; &into[..3], b"hel".as_slice());
-    assert_eq!(rt; link.read(&mut into), Got::Failed);
-    assert_eq!(rt; link.read(&mut into), Got::Bytes(2));
-    assert_eq!(rt; &into[..2], b"lo".as_slice());
-    assert_eq!(rt; link.read(&mut into), Got::End);
-    assert_eq!(rt; link.write(b"abcd"), Put::Took(3));
-    assert_eq!(rt; link.write(b"de"), Put::Failed);
-    assert_eq!(rt; link.read(&mut into), Got::Failed);
-    assert_eq!(rt; link.faults(), 3);
+    same(link.read(&mut into), Got::Bytes(3))?;
+    same(&into[..3], b"hel".as_slice())?;
+    same(link.read(&mut into), Got::Failed)?;
+    same(link.read(&mut into), Got::Bytes(2))?;
+    same(&into[..2], b"lo".as_slice())?;
+    same(link.read(&mut into), Got::End)?;
+    same(link.write(b"abcd"), Put::Took(3))?;
+    same(link.write(b"de"), Put::Failed)?;
+    same(link.read(&mut into), Got::Failed)?;
+    same(link.faults(), 3)?;
     Ok(())
 }
 
@@ -65,10 +65,10 @@ fn closed_links_fail(rt: HostRuntime) -> Result<(), Fail> {
     let mut into = [0u8; 4];
     let mut link = MemLink::new(rt.alloc(), b"abc", 2, &[], 8, 4)?;
     link.close();
-    assert_eq!(rt;
+    same(
         read_and_write(&mut link, &mut into, b"x"),
-        (Got::Failed, Put::Failed)
-    );
+        (Got::Failed, Put::Failed),
+    )?;
     Ok(())
 }
 
@@ -116,15 +116,15 @@ fn nets_note_their_calls(rt: HostRuntime) -> Result<(), Fail> {
     let mut links = Vec::new(alloc);
     links.push(MemLink::new(alloc, b"abc", 2, &[], 8, 4)?)?;
     let mut net = MemNet::new(alloc, links, &[4], 8)?;
-    assert_eq!(rt; net.listen(443), Act::Ready);
-    assert_eq!(rt; exchange(&mut net), (Got::Bytes(2), Put::Took(2)));
-    assert!(rt; !take_and_give_back(&mut net));
-    assert!(rt; matches!(net.connect(80), Linked::Failed));
-    assert_eq!(rt; net.faults(), 2);
+    same(net.listen(443), Act::Ready)?;
+    same(exchange(&mut net), (Got::Bytes(2), Put::Took(2)))?;
+    holds(!take_and_give_back(&mut net))?;
+    holds(matches!(net.connect(80), Linked::Failed))?;
+    same(net.faults(), 2)?;
     let wanted = ["listens", "right", "no link", "connects"];
-    assert_eq!(rt; net.calls().len(), wanted.len());
+    same(net.calls().len(), wanted.len())?;
     for (call, want) in net.calls().iter().zip(wanted) {
-        assert_eq!(rt; kind_of(call), want);
+        same(kind_of(call), want)?;
     }
     Ok(())
 }
@@ -133,7 +133,7 @@ fn nets_note_their_calls(rt: HostRuntime) -> Result<(), Fail> {
 fn clocks_go_on_with_their_last_moment(rt: HostRuntime) -> Result<(), Fail> {
     let mut clock = ListClock::new(rt.alloc(), &[Moment::new(7), Moment::new(9)])?;
     for seconds in [7, 9, 9] {
-        assert_eq!(rt; clock.now().seconds(), seconds);
+        same(clock.now().seconds(), seconds)?;
     }
     Ok(())
 }
@@ -183,24 +183,24 @@ fn make_odd(is_short: bool, fails_flush: bool) -> Odd {
 }
 
 #[test]
-fn objects_of_std_that_fail(rt: HostRuntime) -> Result<(), Fail> {
+fn objects_of_std_that_fail() -> Result<(), Fail> {
     let mut into = [0u8; 4];
     let mut source = ReadSource::new(make_odd(true, false));
-    assert_eq!(rt; source.read(&mut into), Got::Failed);
-    assert_eq!(rt; source.faults(), 1);
+    same(source.read(&mut into), Got::Failed)?;
+    same(source.faults(), 1)?;
     let mut source = ReadSource::new(b"".as_slice());
-    assert_eq!(rt; source.read(&mut into), Got::End);
-    assert_eq!(rt; source.faults(), 0);
+    same(source.read(&mut into), Got::End)?;
+    same(source.faults(), 0)?;
     let mut sink = WriteSink::new(make_odd(false, false));
-    assert_eq!(rt; sink.write(b"abc"), Put::Failed);
-    assert_eq!(rt; sink.faults(), 1);
+    same(sink.write(b"abc"), Put::Failed)?;
+    same(sink.faults(), 1)?;
     let mut sink = WriteSink::new(make_odd(true, true));
-    assert_eq!(rt; sink.write(b"abc"), Put::Failed);
+    same(sink.write(b"abc"), Put::Failed)?;
     let mut sink = WriteSink::new(make_odd(true, false));
-    assert_eq!(rt; sink.write(b"abc"), Put::Took(1));
-    assert_eq!(rt; sink.write(b"bc"), Put::Took(1));
-    assert_eq!(rt; sink.faults(), 0);
-    assert_eq!(rt; sink.into_inner().passed, 2);
+    same(sink.write(b"abc"), Put::Took(1))?;
+    same(sink.write(b"bc"), Put::Took(1))?;
+    same(sink.faults(), 0)?;
+    same(sink.into_inner().passed, 2)?;
     Ok(())
 }
 
@@ -212,22 +212,22 @@ fn files_are_read_by_name(rt: HostRuntime) -> Result<(), Fail> {
     let contents = Octets::copy(alloc, b"key")?;
     files.push(NamedFile { name, contents })?;
     let mut files = MemFiles::new(alloc, files, &[3], 4)?;
-    assert!(rt;
-        matches!(files.read(alloc, "ring"), FileGot::Contents(text) if text.as_slice() == b"key".as_slice())
-    );
-    assert!(rt; matches!(files.read(alloc, "other"), FileGot::Failed));
-    assert!(rt; matches!(files.read(alloc, "ring"), FileGot::Failed));
+    holds(
+        matches!(files.read(alloc, "ring"), FileGot::Contents(text) if text.as_slice() == b"key".as_slice()),
+    )?;
+    holds(matches!(files.read(alloc, "other"), FileGot::Failed))?;
+    holds(matches!(files.read(alloc, "ring"), FileGot::Failed))?;
     let name = "mt_edge_file.tmp";
     fs::write(&rt, name, b"key".as_slice())?;
     let mut files = DiskFiles::new(&rt);
-    assert!(rt;
-        matches!(files.read(alloc, name), FileGot::Contents(text) if text.as_slice() == b"key".as_slice())
-    );
+    holds(
+        matches!(files.read(alloc, name), FileGot::Contents(text) if text.as_slice() == b"key".as_slice()),
+    )?;
     let long = vec![in alloc; 7u8; 1_048_577]?;
     fs::write(&rt, name, long.as_slice())?;
-    assert!(rt; matches!(files.read(alloc, name), FileGot::Failed));
+    holds(matches!(files.read(alloc, name), FileGot::Failed))?;
     fs::remove_file(&rt, name)?;
-    assert!(rt; matches!(files.read(alloc, name), FileGot::Failed));
+    holds(matches!(files.read(alloc, name), FileGot::Failed))?;
     Ok(())
 }
 
@@ -248,25 +248,26 @@ fn sockets_of_this_machine(rt: HostRuntime) -> Result<(), Fail> {
         return Err("no free port".into());
     };
     let mut other = TcpNet::new(&rt);
-    assert_eq!(rt; other.listen(port), Act::Failed);
+    same(other.listen(port), Act::Failed)?;
     let (Linked::Link(mut near), Linked::Link(mut far)) = (other.connect(port), net.accept()) else {
         return Err("no connection".into());
     };
     let mut into = [0u8; 4];
-    assert_eq!(rt; near.write(b"abc"), Put::Took(3));
-    assert_eq!(rt; far.read(&mut into), Got::Bytes(3));
-    assert_eq!(rt; &into[..3], b"abc".as_slice());
-    assert_eq!(rt; far.write(b"de"), Put::Took(2));
-    assert_eq!(rt; near.read(&mut into), Got::Bytes(2));
+    same(near.write(b"abc"), Put::Took(3))?;
+    same(far.read(&mut into), Got::Bytes(3))?;
+    same(&into[..3], b"abc".as_slice())?;
+    same(far.write(b"de"), Put::Took(2))?;
+    same(near.read(&mut into), Got::Bytes(2))?;
     net.done(far);
-    assert_eq!(rt; near.read(&mut into), Got::End);
+    same(near.read(&mut into), Got::End)?;
     other.done(near);
     Ok(())
 }
 
 #[test]
-fn the_clock_of_this_machine(rt: HostRuntime) {
+fn the_clock_of_this_machine(rt: HostRuntime) -> Result<(), Fail> {
     let mut clock = SystemClock::new(&rt);
     let first = clock.now();
-    assert!(rt; first.seconds() > 1_600_000_000 && clock.now() >= first);
+    holds(first.seconds() > 1_600_000_000 && clock.now() >= first)?;
+    Ok(())
 }

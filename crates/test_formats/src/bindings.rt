@@ -10,6 +10,7 @@ use octets::{Memory, Octets};
 use std::alloc::Global;
 use std::test::Fail;
 use temp_keys::{BindFault, Binding, Bound, Inner, InnerField, bind_message, check};
+use test_asserts::{same, tells};
 use test_keys::{KEY_ID, TEMP_ID, both_keys, bytes_from_0_to_255};
 
 const NUMBER: u64 = 0x65a1_b2c3_d4e5_f608;
@@ -44,7 +45,7 @@ fn message_made_outside(rt: HostRuntime) -> Result<(), Fail> {
         &INNER,
         &mut StepDraw::new(),
     )?;
-    assert_eq!(rt; message.as_slice(), MESSAGE.as_slice());
+    same(message.as_slice(), MESSAGE.as_slice())?;
     Ok(())
 }
 
@@ -146,7 +147,7 @@ fn calls_and_their_answers(rt: HostRuntime) -> Result<(), Fail> {
             row.number,
             &binding,
         );
-        assert_eq!(rt; answer, row.answer);
+        same(answer, row.answer)?;
     }
     Ok(())
 }
@@ -158,7 +159,9 @@ fn other_messages(rt: HostRuntime) -> Result<(), Fail> {
     let ring = both_keys(alloc)?;
     let mut longer = Octets::copy(alloc, &MESSAGE)?;
     longer.push_all(alloc, &[0])?;
-    let mut messages = vec![in alloc; Octets::copy(alloc, &MESSAGE[..103])?, longer]?;
+    let mut messages = Vec::new(alloc);
+    messages.push(Octets::copy(alloc, &MESSAGE[..103])?)?;
+    messages.push(longer)?;
     for place in [0, 8, 103] {
         let mut message = MESSAGE;
         message[place] ^= 1;
@@ -179,7 +182,7 @@ fn other_messages(rt: HostRuntime) -> Result<(), Fail> {
             NUMBER,
             &binding,
         );
-        assert_eq!(rt; answer, Err(BindFault::Seal));
+        same(answer, Err(BindFault::Seal))?;
     }
     Ok(())
 }
@@ -257,7 +260,7 @@ fn faults_are_told(rt: HostRuntime) -> Result<(), Fail> {
         (BindFault::Expired, "the binding has expired"),
     ];
     for (fault, told) in rows {
-        assert_eq!(rt; format!(in alloc; "{fault}")?.as_str(), told);
+        tells(alloc, &fault, told)?;
     }
     Ok(())
 }

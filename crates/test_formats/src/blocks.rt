@@ -4,6 +4,7 @@ ghost use Rattle.std.specs.Prelude.{◌≡◌};
 
 use aes_core::Key256;
 use std::test::Fail;
+use test_asserts::{same, shows};
 
 struct Row {
     key: [u8; 32],
@@ -47,14 +48,14 @@ const ROWS: [Row; 2] = [
 ];
 
 #[test]
-fn blocks_of_the_standards(rt: HostRuntime) -> Result<(), Fail> {
+fn blocks_of_the_standards() -> Result<(), Fail> {
     for row in &ROWS {
         let key = Key256::new(&row.key);
         let mut block = row.plain;
         key.encrypt_block(&mut block);
-        assert_eq!(rt; block, row.enciphered);
+        same(block, row.enciphered)?;
         key.decrypt_block(&mut block);
-        assert_eq!(rt; block, row.plain);
+        same(block, row.plain)?;
     }
     Ok(())
 }
@@ -62,20 +63,20 @@ fn blocks_of_the_standards(rt: HostRuntime) -> Result<(), Fail> {
 // 1,000 blocks in turn from the first row on, each under the key of the two outputs before it. Both
 // answers were computed with OpenSSL 3.0.19.
 #[test]
-fn blocks_under_keys_of_their_outputs(rt: HostRuntime) -> Result<(), Fail> {
+fn blocks_under_keys_of_their_outputs() -> Result<(), Fail> {
     let first = &ROWS[0];
     let (mut key, mut block) = (first.key, first.plain);
     for _ in 0..1000 {
         Key256::new(&key).encrypt_block(&mut block);
         key = next_key(&key, &block);
     }
-    assert_eq!(rt; block, CHAIN_ENCIPHERED);
+    same(block, CHAIN_ENCIPHERED)?;
     (key, block) = (first.key, first.plain);
     for _ in 0..1000 {
         Key256::new(&key).decrypt_block(&mut block);
         key = next_key(&key, &block);
     }
-    assert_eq!(rt; block, CHAIN_DECIPHERED);
+    same(block, CHAIN_DECIPHERED)?;
     Ok(())
 }
 
@@ -108,7 +109,6 @@ fn a_key_does_not_show(rt: HostRuntime) -> Result<(), Fail> {
     let key = Key256::new(&row.key);
     let mut block = row.plain;
     there_and_back(&key, &mut block);
-    let shown = format!(in rt.alloc(); "{key:?}")?;
-    assert_eq!(rt; shown.as_str(), "Key256 { .. }");
+    shows(rt.alloc(), &key, "Key256 { .. }")?;
     Ok(())
 }

@@ -8,6 +8,7 @@ use aes_core::Key256;
 use auth_keys::AuthKey;
 use msg_key::{DOWN, UP, aes_of, msg_key};
 use std::test::*;
+use test_asserts::same;
 
 // A plain text with its padding: salt, session, number, sequence number, length, a body of 4 bytes and 12 of padding.
 const PLAIN: [u8; 48] = [
@@ -60,19 +61,19 @@ fn key_of_text(key: &AuthKey, plain: &[u8]) -> Key256
 }
 
 #[test]
-fn keys_of_both_directions(rt: HostRuntime) -> Result<(), Fail> {
+fn keys_of_both_directions() -> Result<(), Fail> {
     let key = AuthKey::new(&bytes_from_0_to_255());
-    assert_eq!(rt; msg_key(&key, UP, &PLAIN), UP_MESSAGE_KEY);
+    same(msg_key(&key, UP, &PLAIN), UP_MESSAGE_KEY)?;
     let (cipher_key, iv) = aes_of(&key, UP, &UP_MESSAGE_KEY);
     let mut zeros = [0; 16];
     cipher_key.encrypt_block(&mut zeros);
-    assert_eq!(rt; zeros, UP_ZEROS);
-    assert_eq!(rt; iv, UP_IV);
-    assert_eq!(rt; msg_key(&key, DOWN, &PLAIN), DOWN_MESSAGE_KEY);
+    same(zeros, UP_ZEROS)?;
+    same(iv, UP_IV)?;
+    same(msg_key(&key, DOWN, &PLAIN), DOWN_MESSAGE_KEY)?;
     let (_cipher_key, iv) = aes_of(&key, DOWN, &DOWN_MESSAGE_KEY);
     let mut zeros = [0; 16];
     key_of_text(&key, &PLAIN).encrypt_block(&mut zeros);
-    assert_eq!(rt; zeros, DOWN_ZEROS);
-    assert_eq!(rt; iv, DOWN_IV);
+    same(zeros, DOWN_ZEROS)?;
+    same(iv, DOWN_IV)?;
     Ok(())
 }

@@ -7,6 +7,7 @@ use mt_edge::{MemFiles, NamedFile};
 use octets::Octets;
 use std::alloc::Global;
 use std::test::*;
+use test_asserts::{same, same_at};
 
 // Files of which one has a ring and one a bad second line.
 fn files(alloc: Global) -> Result<MemFiles, Fail> {
@@ -34,9 +35,9 @@ fn key_files_and_their_faults(rt: HostRuntime) -> Result<(), Fail> {
     ];
     for (name, due) in rows {
         let found = read_ring(alloc, name, &mut files(alloc)?).map(|ring| ring.len());
-        assert_eq!(rt; found, due, "{name}");
+        same_at(name, found, due)?;
     }
     let line = refused_line(alloc, 2)?;
-    assert_eq!(rt; line.as_slice(), b"key file refused at line 2\n".as_slice());
+    same(line.as_slice(), b"key file refused at line 2\n".as_slice())?;
     Ok(())
 }

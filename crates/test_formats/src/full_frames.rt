@@ -11,6 +11,7 @@ use frame_full::{Deframer, FrameFault, Framer, Next};
 use octets::{Memory, Octets};
 use std::alloc::Global;
 use std::test::*;
+use test_asserts::{holds, same};
 
 // Feeds a piece and copies the packet that comes next, where there is one.
 fn take_packet(
@@ -111,12 +112,12 @@ fn frames_are_counted(rt: HostRuntime) -> Result<(), Fail> {
     let mut stream = Octets::new(alloc);
     framer.frame(alloc, b"\x6c\xfe\xff\xff", &mut stream)?;
     framer.frame(alloc, b"abcdefgh", &mut stream)?;
-    assert_eq!(rt; stream.as_slice(), want.as_slice());
+    same(stream.as_slice(), want.as_slice())?;
     for size in [1, 7, 36] {
-        assert_eq!(rt;
+        same(
             read(alloc, want, size, b"\x6c\xfe\xff\xffabcdefgh")?,
-            (true, None)
-        );
+            (true, None),
+        )?;
     }
     Ok(())
 }
@@ -148,7 +149,7 @@ fn rows_of_faults(rt: HostRuntime) -> Result<(), Fail> {
     ];
     for (stream, fault) in rows {
         for size in [1, 7, 16] {
-            assert_eq!(rt; read(alloc, stream, size, b"")?, (true, fault));
+            same(read(alloc, stream, size, b"")?, (true, fault))?;
         }
     }
     Ok(())
@@ -161,8 +162,8 @@ fn what_is_written_is_read(rt: HostRuntime) -> Result<(), Fail> {
     let mut deframer = Deframer::new(alloc);
     let mut packet = Octets::new(alloc);
     for payload in [[7; 88], [9; 88]] {
-        assert!(rt; written_and_read(&mut framer, &mut deframer, alloc, &payload, &mut packet)?);
-        assert_eq!(rt; packet.as_slice(), payload.as_slice());
+        holds(written_and_read(&mut framer, &mut deframer, alloc, &payload, &mut packet)?)?;
+        same(packet.as_slice(), payload.as_slice())?;
     }
     Ok(())
 }
@@ -172,21 +173,19 @@ fn a_fault_stays(rt: HostRuntime) -> Result<(), Fail> {
     let alloc = rt.alloc();
     let mut deframer = Deframer::new(alloc);
     let mut packet = Octets::new(alloc);
-    assert!(rt; !take_packet(&mut deframer, alloc, b"\x10\0\0\0\0\0\0\0", &mut packet)?);
-    assert!(rt;
-        take_packet(
-            &mut deframer,
-            alloc,
-            b"\x6c\xfe\xff\xff\x0d\x2f\x41\x07",
-            &mut packet
-        )?
-    );
-    assert_eq!(rt; packet.as_slice(), b"\x6c\xfe\xff\xff".as_slice());
+    holds(!take_packet(&mut deframer, alloc, b"\x10\0\0\0\0\0\0\0", &mut packet)?)?;
+    holds(take_packet(
+        &mut deframer,
+        alloc,
+        b"\x6c\xfe\xff\xff\x0d\x2f\x41\x07",
+        &mut packet,
+    )?)?;
+    same(packet.as_slice(), b"\x6c\xfe\xff\xff".as_slice())?;
     let again = b"\x10\0\0\0\0\0\0\0\x6c\xfe\xff\xff\x0d\x2f\x41\x07";
     deframer.feed(alloc, again)?;
     let fault = FrameFault::Count { said: 0, want: 1 };
-    assert_eq!(rt; deframer.next(), Next::Fault(fault));
+    same(deframer.next(), Next::Fault(fault))?;
     deframer.feed(alloc, again)?;
-    assert_eq!(rt; deframer.next(), Next::Fault(fault));
+    same(deframer.next(), Next::Fault(fault))?;
     Ok(())
 }

@@ -9,6 +9,7 @@ use frame_len::{Deframer, FrameFault, Framer, Next};
 use octets::{Memory, Octets};
 use std::alloc::Global;
 use std::test::*;
+use test_asserts::{holds, same};
 
 // Feeds a piece and copies the packet that comes next, where there is one.
 fn take_packet(
@@ -138,10 +139,10 @@ fn rows_of_streams(rt: HostRuntime) -> Result<(), Fail> {
     for (padded, stream, count, fault) in rows {
         let want: &[u8] = if count == 1 { b"\x6c\xfe\xff\xff" } else { b"" };
         for size in [1, 3, 9] {
-            assert_eq!(rt;
+            same(
                 read(alloc, padded, stream, size, want)?,
-                (count, true, fault)
-            );
+                (count, true, fault),
+            )?;
         }
     }
     Ok(())
@@ -165,10 +166,10 @@ fn padding_is_no_payload(rt: HostRuntime) -> Result<(), Fail> {
         let mut stream = Octets::copy(alloc, &[len, 0, 0, 0])?;
         stream.push_all(alloc, &bytes[..len as usize])?;
         for size in [1, 7, 95] {
-            assert_eq!(rt;
+            same(
                 read(alloc, true, stream.as_slice(), size, &bytes[..payload])?,
-                (1, true, None)
-            );
+                (1, true, None),
+            )?;
         }
     }
     Ok(())
@@ -180,8 +181,8 @@ fn what_is_written_is_read(rt: HostRuntime) -> Result<(), Fail> {
     let mut packet = Octets::new(alloc);
     for padded in [false, true] {
         let mut deframer = Deframer::new(alloc, padded);
-        assert!(rt; written_and_read(&mut deframer, alloc, padded, &[7; 88], &mut packet)?);
-        assert_eq!(rt; packet.as_slice(), [7; 88].as_slice());
+        holds(written_and_read(&mut deframer, alloc, padded, &[7; 88], &mut packet)?)?;
+        same(packet.as_slice(), [7; 88].as_slice())?;
     }
     Ok(())
 }
@@ -193,17 +194,17 @@ fn a_fault_stays(rt: HostRuntime) -> Result<(), Fail> {
         let mut framer = Framer::new(padded);
         let mut frame = Octets::new(alloc);
         framer.frame(alloc, b"\x6c\xfe\xff\xff", &mut frame)?;
-        assert_eq!(rt; frame.as_slice(), b"\x04\0\0\0\x6c\xfe\xff\xff".as_slice());
+        same(frame.as_slice(), b"\x04\0\0\0\x6c\xfe\xff\xff".as_slice())?;
         let mut deframer = Deframer::new(alloc, padded);
         let mut packet = Octets::new(alloc);
-        assert!(rt; !take_packet(&mut deframer, alloc, b"\x04\0\0\0\x6c", &mut packet)?);
-        assert!(rt; take_packet(&mut deframer, alloc, b"\xfe\xff\xff", &mut packet)?);
-        assert_eq!(rt; packet.as_slice(), b"\x6c\xfe\xff\xff".as_slice());
+        holds(!take_packet(&mut deframer, alloc, b"\x04\0\0\0\x6c", &mut packet)?)?;
+        holds(take_packet(&mut deframer, alloc, b"\xfe\xff\xff", &mut packet)?)?;
+        same(packet.as_slice(), b"\x6c\xfe\xff\xff".as_slice())?;
         deframer.feed(alloc, b"\x02\0\0\0")?;
         let fault = FrameFault::BadLength { len: 2 };
-        assert_eq!(rt; deframer.next(), Next::Fault(fault));
+        same(deframer.next(), Next::Fault(fault))?;
         deframer.feed(alloc, frame.as_slice())?;
-        assert_eq!(rt; deframer.next(), Next::Fault(fault));
+        same(deframer.next(), Next::Fault(fault))?;
     }
     Ok(())
 }

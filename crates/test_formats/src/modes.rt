@@ -6,6 +6,7 @@ ghost use Rattle.cipher_modes.specs.CounterMode.{applied, advanced};
 use aes_core::Key256;
 use cipher_modes::{Ctr, ige_decrypt, ige_encrypt};
 use std::test::Fail;
+use test_asserts::{same, same_at, shows};
 
 // The key of FIPS 197's first edition (2001), appendix C.3, its block, and the block's answer.
 const KEY: [u8; 32] = [
@@ -85,48 +86,48 @@ const CARRIED_STREAM: [u8; 32] = [
 ];
 
 #[test]
-fn ige_of_one_block_under_zeros(rt: HostRuntime) -> Result<(), Fail> {
+fn ige_of_one_block_under_zeros() -> Result<(), Fail> {
     let key = Key256::new(&KEY);
     let mut text = BLOCK;
     ige_encrypt(&key, &[0; 32], &mut text);
-    assert_eq!(rt; text, BLOCK_ENCIPHERED);
+    same(text, BLOCK_ENCIPHERED)?;
     ige_decrypt(&key, &[0; 32], &mut text);
-    assert_eq!(rt; text, BLOCK);
+    same(text, BLOCK)?;
     Ok(())
 }
 
 #[test]
-fn ige_of_five_blocks(rt: HostRuntime) -> Result<(), Fail> {
+fn ige_of_five_blocks() -> Result<(), Fail> {
     let key = Key256::new(&KEY);
     let mut text = IGE_PLAIN;
     ige_encrypt(&key, &IGE_IV, &mut text);
-    assert_eq!(rt; text, IGE_ENCIPHERED);
+    same(text, IGE_ENCIPHERED)?;
     ige_decrypt(&key, &IGE_IV, &mut text);
-    assert_eq!(rt; text, IGE_PLAIN);
+    same(text, IGE_PLAIN)?;
     Ok(())
 }
 
 #[test]
-fn ctr_of_the_standard_in_pieces(rt: HostRuntime) -> Result<(), Fail> {
+fn ctr_of_the_standard_in_pieces() -> Result<(), Fail> {
     for piece_bytes in [1, 7, 64] {
         let mut stream = Ctr::new(&CTR_KEY, &CTR_COUNTER);
         let mut text = CTR_PLAIN;
         for piece in text.chunks_mut(piece_bytes) {
             stream.apply(piece);
         }
-        assert_eq!(rt; text, CTR_ENCIPHERED, "in pieces of {piece_bytes}");
+        same_at(piece_bytes, text, CTR_ENCIPHERED)?;
     }
     Ok(())
 }
 
 #[test]
-fn ctr_whose_counter_wraps(rt: HostRuntime) -> Result<(), Fail> {
+fn ctr_whose_counter_wraps() -> Result<(), Fail> {
     let mut wrapped = [0; 32];
     Ctr::new(&KEY, &[0xff; 16]).apply(&mut wrapped);
-    assert_eq!(rt; wrapped, WRAPPED_STREAM);
+    same(wrapped, WRAPPED_STREAM)?;
     let mut carried = [0; 32];
     Ctr::new(&KEY, &CARRIED_COUNTER).apply(&mut carried);
-    assert_eq!(rt; carried, CARRIED_STREAM);
+    same(carried, CARRIED_STREAM)?;
     Ok(())
 }
 
@@ -151,10 +152,9 @@ fn two_pieces(stream: &mut Ctr, front: &mut [u8], back: &mut [u8])
 fn a_stream_does_not_show(rt: HostRuntime) -> Result<(), Fail> {
     let mut text = IGE_PLAIN;
     there_and_back(&Key256::new(&KEY), &IGE_IV, &mut text);
-    assert_eq!(rt; text, IGE_PLAIN);
+    same(text, IGE_PLAIN)?;
     let mut stream = Ctr::new(&KEY, &BLOCK);
     two_pieces(&mut stream, &mut text, &mut [0; 5]);
-    let shown = format!(in rt.alloc(); "{stream:?}")?;
-    assert_eq!(rt; shown.as_str(), "Ctr { index: 5, used: 5, .. }");
+    shows(rt.alloc(), &stream, "Ctr { index: 5, used: 5, .. }")?;
     Ok(())
 }

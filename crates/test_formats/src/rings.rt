@@ -11,6 +11,7 @@ use auth_keys::{AuthKey, KeyFault, KeyKind, Ring};
 use msg_ids::Moment;
 use std::alloc::{AllocError, Global};
 use std::test::Fail;
+use test_asserts::{holds, same, same_at, shows, tells};
 
 // The identifiers of the two keys, by Python's hashlib: int.from_bytes(sha1(key).digest()[12:20], "little").
 const UP_ID: u64 = 0xc8df_57a4_6e58_d132;
@@ -46,16 +47,55 @@ fn count(alloc: Global, text: &str) -> Result<usize, KeyFault> {
 #[test]
 fn identifiers_of_keys(rt: HostRuntime) -> Result<(), Fail> {
     let key = AuthKey::new(&up());
-    assert_eq!(rt; key.id(), UP_ID);
-    assert_eq!(rt;
+    same(key.id(), UP_ID)?;
+    same(
         key.id().to_le_bytes(),
-        [0x32, 0xd1, 0x58, 0x6e, 0xa4, 0x57, 0xdf, 0xc8]
-    );
-    assert_eq!(rt; *key.bytes(), up());
-    assert_eq!(rt; AuthKey::new(&down()).id(), DOWN_ID);
-    let shown = format!(in rt.alloc(); "{key:?}")?;
-    assert_eq!(rt; shown.as_str(), "AuthKey { id: 14474384091129631026, .. }");
+        [0x32, 0xd1, 0x58, 0x6e, 0xa4, 0x57, 0xdf, 0xc8],
+    )?;
+    same(*key.bytes(), up())?;
+    same(AuthKey::new(&down()).id(), DOWN_ID)?;
+    shows(rt.alloc(), &key, "AuthKey { id: 14474384091129631026, .. }")?;
     Ok(())
+}
+
+// Texts in which `UP` stands for the digits of the key `00` to `ff`, and `DOWN` for those of the other, and what each is.
+const TEXTS: [(&str, Result<usize, KeyFault>); 18] = [
+    ("", Ok(0)),
+    ("perm UP", Ok(1)),
+    ("perm\tUP", Ok(1)),
+    ("# keys\n\nperm UP\ntemp 7200 DOWN\n", Ok(2)),
+    ("temp 1\tUP\ntemp\t4000000000 DOWN\n", Ok(2)),
+    ("perm 00", Err(KeyFault::BadLine { line: 1 })),
+    ("temp 0 UP", Err(KeyFault::BadLine { line: 1 })),
+    ("temp 01 UP", Err(KeyFault::BadLine { line: 1 })),
+    ("temp 4000000001 UP", Err(KeyFault::BadLine { line: 1 })),
+    ("\nperm UP\nperm  DOWN", Err(KeyFault::BadLine { line: 3 })),
+    ("perm UP\r\n", Err(KeyFault::BadLine { line: 1 })),
+    (" \nperm UP\n", Err(KeyFault::BadLine { line: 1 })),
+    ("perm UP\n\t\n", Err(KeyFault::BadLine { line: 2 })),
+    ("perm\t\tUP", Err(KeyFault::BadLine { line: 1 })),
+    ("\tperm UP", Err(KeyFault::BadLine { line: 1 })),
+    ("temp 1 UP\t", Err(KeyFault::BadLine { line: 1 })),
+    (
+        "perm UP\nperm UP\n",
+        Err(KeyFault::SameId {
+            line: 2,
+            first_line: 1,
+        }),
+    ),
+    (
+        "#\nperm UP\n\ntemp 9 UP\nperm 0",
+        Err(KeyFault::SameId {
+            line: 4,
+            first_line: 2,
+        }),
+    ),
+];
+
+// Such a text with the digits.
+fn with_digits(alloc: Global, text: &str, up: &str, down: &str) -> Result<String, AllocError> {
+    let text = text.replace(alloc, "UP", up)?;
+    text.as_str().replace(alloc, "DOWN", down)
 }
 
 #[test]
@@ -63,79 +103,9 @@ fn rings_and_faults_of_texts(rt: HostRuntime) -> Result<(), Fail> {
     let alloc = rt.alloc();
     let up = hex::encode(alloc, up().as_slice())?;
     let down = hex::encode_upper(alloc, down().as_slice())?;
-    let rows = [
-        (String::new(alloc), Ok(0)),
-        (format!(in alloc; "perm {up}")?, Ok(1)),
-        (format!(in alloc; "perm\t{up}")?, Ok(1)),
-        (
-            format!(in alloc; "# keys\n\nperm {up}\ntemp 7200 {down}\n")?,
-            Ok(2),
-        ),
-        (
-            format!(in alloc; "temp 1\t{up}\ntemp\t4000000000 {down}\n")?,
-            Ok(2),
-        ),
-        (
-            String::from_str(alloc, "perm 00")?,
-            Err(KeyFault::BadLine { line: 1 }),
-        ),
-        (
-            format!(in alloc; "temp 0 {up}")?,
-            Err(KeyFault::BadLine { line: 1 }),
-        ),
-        (
-            format!(in alloc; "temp 01 {up}")?,
-            Err(KeyFault::BadLine { line: 1 }),
-        ),
-        (
-            format!(in alloc; "temp 4000000001 {up}")?,
-            Err(KeyFault::BadLine { line: 1 }),
-        ),
-        (
-            format!(in alloc; "\nperm {up}\nperm  {down}")?,
-            Err(KeyFault::BadLine { line: 3 }),
-        ),
-        (
-            format!(in alloc; "perm {up}\r\n")?,
-            Err(KeyFault::BadLine { line: 1 }),
-        ),
-        (
-            format!(in alloc; " \nperm {up}\n")?,
-            Err(KeyFault::BadLine { line: 1 }),
-        ),
-        (
-            format!(in alloc; "perm {up}\n\t\n")?,
-            Err(KeyFault::BadLine { line: 2 }),
-        ),
-        (
-            format!(in alloc; "perm\t\t{up}")?,
-            Err(KeyFault::BadLine { line: 1 }),
-        ),
-        (
-            format!(in alloc; "\tperm {up}")?,
-            Err(KeyFault::BadLine { line: 1 }),
-        ),
-        (
-            format!(in alloc; "temp 1 {up}\t")?,
-            Err(KeyFault::BadLine { line: 1 }),
-        ),
-        (
-            format!(in alloc; "perm {up}\nperm {up}\n")?,
-            Err(KeyFault::SameId {
-                line: 2,
-                first_line: 1,
-            }),
-        ),
-        (
-            format!(in alloc; "#\nperm {up}\n\ntemp 9 {up}\nperm 0")?,
-            Err(KeyFault::SameId {
-                line: 4,
-                first_line: 2,
-            }),
-        ),
-    ];
-    for (text, expected) in &rows {
-        assert_eq!(rt; count(alloc, text), *expected, "{text}");
+    for (text, expected) in TEXTS {
+        let whole = with_digits(alloc, text, up.as_str(), down.as_str())?;
+        same_at(text, count(alloc, whole.as_str()), expected)?;
     }
     Ok(())
 }
@@ -145,7 +115,9 @@ fn like_keys(alloc: Global, count: u8) -> Result<String, AllocError> {
     let mut text = String::new(alloc);
     for byte in 0..count {
         let digits = hex::encode(alloc, [byte; 256].as_slice())?;
-        text.push_str(&format!(in alloc; "perm {digits}\n")?)?;
+        text.push_str("perm ")?;
+        text.push_str(digits.as_str())?;
+        text.push_str("\n")?;
     }
     Ok(text)
 }
@@ -154,14 +126,14 @@ fn like_keys(alloc: Global, count: u8) -> Result<String, AllocError> {
 fn at_most_64_keys(rt: HostRuntime) -> Result<(), Fail> {
     let alloc = rt.alloc();
     let mut text = like_keys(alloc, 64)?;
-    assert_eq!(rt; count(alloc, &text), Ok(64));
+    same(count(alloc, &text), Ok(64))?;
     // A key too many that has the identifier of another is too many.
     text.push_str(&like_keys(alloc, 1)?)?;
-    assert_eq!(rt; count(alloc, &text), Err(KeyFault::TooMany { line: 65 }));
-    assert_eq!(rt;
+    same(count(alloc, &text), Err(KeyFault::TooMany { line: 65 }))?;
+    same(
         count(alloc, &like_keys(alloc, 65)?),
-        Err(KeyFault::TooMany { line: 65 })
-    );
+        Err(KeyFault::TooMany { line: 65 }),
+    )?;
     Ok(())
 }
 
@@ -190,18 +162,18 @@ fn read_again(alloc: Global, ring: &mut Ring, text: &[u8]) -> Result<(), KeyFaul
 fn keys_of_a_ring(rt: HostRuntime) -> Result<(), Fail> {
     let alloc = rt.alloc();
     let mut ring = Ring::read(alloc, b"")?;
-    assert!(rt; ring.is_empty());
+    holds(ring.is_empty())?;
     let up = hex::encode(alloc, up().as_slice())?;
     let down = hex::encode(alloc, down().as_slice())?;
-    let text = format!(in alloc; "perm {up}\ntemp 7200 {down}")?;
+    let text = with_digits(alloc, "perm UP\ntemp 7200 DOWN", up.as_str(), down.as_str())?;
     if u32::try_from(text.len()).is_ok() {
         read_again(alloc, &mut ring, text.as_bytes())?;
     }
-    assert_eq!(rt;
+    same(
         read_again(alloc, &mut ring, b"perm"),
-        Err(KeyFault::BadLine { line: 1 })
-    );
-    assert_eq!(rt; ring.len(), 2);
+        Err(KeyFault::BadLine { line: 1 }),
+    )?;
+    same(ring.len(), 2)?;
     let expires = Moment::new(7_200);
     let rows = [
         (UP_ID, Some(KeyKind::Perm), true, true),
@@ -209,10 +181,10 @@ fn keys_of_a_ring(rt: HostRuntime) -> Result<(), Fail> {
         (7, None, false, false),
     ];
     for (id, kind, before, at) in rows {
-        assert_eq!(rt; ring.kind(id), kind);
-        assert_eq!(rt; ring.find(id).map(|key| key.id()), kind.map(|_| id));
-        assert_eq!(rt; good_key(&ring, id, Moment::new(7_199)).is_some(), before);
-        assert_eq!(rt; good_key(&ring, id, expires).is_some(), at);
+        same(ring.kind(id), kind)?;
+        same(ring.find(id).map(|key| key.id()), kind.map(|_| id))?;
+        same(good_key(&ring, id, Moment::new(7_199)).is_some(), before)?;
+        same(good_key(&ring, id, expires).is_some(), at)?;
     }
     Ok(())
 }
@@ -233,7 +205,7 @@ fn faults_are_told(rt: HostRuntime) -> Result<(), Fail> {
         (KeyFault::Memory, "out of memory"),
     ];
     for (fault, told) in rows {
-        assert_eq!(rt; format!(in alloc; "{fault}")?.as_str(), told);
+        tells(alloc, &fault, told)?;
     }
     Ok(())
 }

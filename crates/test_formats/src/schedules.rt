@@ -6,6 +6,7 @@ ghost use Rattle.sched_text.specs.Schedule.{Spells};
 use sched_text::{Events, Lines, SchedFault, call_of, read};
 use std::alloc::Global;
 use std::test::*;
+use test_asserts::{holds, holds_at, same, shows, tells};
 
 // The first text's events, or the second's where the first has none.
 fn first_or_second(alloc: Global, first: &[u8], second: &[u8]) -> Result<Events, SchedFault>
@@ -93,11 +94,10 @@ fn every_line(rt: HostRuntime) -> Result<(), Fail> {
         (b"# jump\n\n#\nrestart\n\n# no more", "Restart"),
     ];
     for (text, want) in rows {
-        assert!(rt; text.len() < 100);
+        holds(text.len() < 100)?;
         let events = read(alloc, text)?;
-        assert_eq!(rt; events.len(), 1);
-        let shown = format!(in alloc; "{:?}", events.event(0))?;
-        assert_eq!(rt; shown.as_str(), want);
+        holds(events.len() == 1)?;
+        shows(alloc, events.event(0), want)?;
     }
     Ok(())
 }
@@ -147,10 +147,10 @@ fn bad_lines(rt: HostRuntime) -> Result<(), Fail> {
         (b"client\njump\nleap", 2),
     ];
     for (text, want) in rows {
-        assert!(rt; text.len() < 100);
+        holds(text.len() < 100)?;
         match read(alloc, text) {
-            Ok(_) => assert!(rt; false, "a bad line was read"),
-            Err(fault) => assert_eq!(rt; fault, SchedFault::BadLine { line: want }),
+            Ok(_) => holds_at("a bad line was read", false)?,
+            Err(fault) => same(fault, SchedFault::BadLine { line: want })?,
         }
     }
     Ok(())
@@ -160,19 +160,19 @@ fn bad_lines(rt: HostRuntime) -> Result<(), Fail> {
 fn lines_have_their_numbers(rt: HostRuntime) -> Result<(), Fail> {
     let alloc = rt.alloc();
     let events = first_or_second(alloc, b"jump", b"\n# one\nclient\n\nflush 1\n")?;
-    assert_eq!(rt; events.len(), 2);
-    assert_eq!(rt; (events.line(0), events.line(1)), (3, 5));
-    assert!(rt; read(alloc, b"")?.is_empty());
-    assert!(rt; read(alloc, b"\n")?.is_empty());
+    holds(events.len() == 2)?;
+    same((events.line(0), events.line(1)), (3, 5))?;
+    holds(read(alloc, b"")?.is_empty())?;
+    holds(read(alloc, b"\n")?.is_empty())?;
     let mut lines = Lines::new(b"#\nadd x 5");
-    assert_eq!(rt; lines.next().map(|(line, _)| line), Some(2));
-    assert!(rt; lines.next().is_none());
-    assert!(rt; call_of(alloc, b"pad 1")?.is_some());
-    assert!(rt; call_of(alloc, b"client")?.is_none());
+    same(lines.next().map(|(line, _)| line), Some(2))?;
+    holds(lines.next().is_none())?;
+    holds(call_of(alloc, b"pad 1")?.is_some())?;
+    holds(call_of(alloc, b"client")?.is_none())?;
     let longest = call_of(alloc, b"pad 1048576")?.map(|call| call.body.as_slice().len());
-    assert_eq!(rt; longest, Some(1_048_576));
+    same(longest, Some(1_048_576))?;
     let fault = SchedFault::BadLine { line: 7 };
-    let shown = format!(in alloc; "{fault}, {}", SchedFault::Memory)?;
-    assert_eq!(rt; shown.as_str(), "line 7 is no event, out of memory");
+    tells(alloc, &fault, "line 7 is no event")?;
+    tells(alloc, &SchedFault::Memory, "out of memory")?;
     Ok(())
 }

@@ -6,6 +6,7 @@ ghost use Rattle.call_script.specs.Scripts.{Spells};
 use call_script::{Script, ScriptFault, read_script};
 use std::alloc::Global;
 use std::test::*;
+use test_asserts::{holds, holds_at, same, tells};
 
 // The first text's calls, or the second's where the first has none.
 fn first_or_second(alloc: Global, first: &[u8], second: &[u8]) -> Result<Script, ScriptFault>
@@ -32,12 +33,12 @@ fn five_calls(rt: HostRuntime) -> Result<(), Fail> {
         (b"\xa1\xcf\x72\x30\0\0\0\0", Some(3), 6),
         (b"\x0a\xf0", Some(18446744073709551615), 7),
     ];
-    assert_eq!(rt; script.len(), 5);
+    holds(script.len() == 5)?;
     for (k, (body, after, line)) in rows.into_iter().enumerate() {
-        assert_eq!(rt; script.body(k), body);
-        assert_eq!(rt; (script.after(k), script.line(k)), (after, line));
+        same(script.body(k), body)?;
+        same((script.after(k), script.line(k)), (after, line))?;
     }
-    assert!(rt; read_script(alloc, b"")?.is_empty());
+    holds(read_script(alloc, b"")?.is_empty())?;
     Ok(())
 }
 
@@ -57,14 +58,14 @@ fn bad_lines(rt: HostRuntime) -> Result<(), Fail> {
         (b"pad 1048577\njump", 1),
     ];
     for (text, want) in rows {
-        assert!(rt; text.len() < 100);
+        holds(text.len() < 100)?;
         match read_script(alloc, text) {
-            Ok(_) => assert!(rt; false, "a bad line was read"),
-            Err(fault) => assert_eq!(rt; fault, ScriptFault::BadLine { line: want }),
+            Ok(_) => holds_at("a bad line was read", false)?,
+            Err(fault) => same(fault, ScriptFault::BadLine { line: want })?,
         }
     }
     let fault = ScriptFault::BadLine { line: 7 };
-    let shown = format!(in alloc; "{fault}, {}", ScriptFault::Memory)?;
-    assert_eq!(rt; shown.as_str(), "line 7 is no call, out of memory");
+    tells(alloc, &fault, "line 7 is no call")?;
+    tells(alloc, &ScriptFault::Memory, "out of memory")?;
     Ok(())
 }

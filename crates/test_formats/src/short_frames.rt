@@ -11,6 +11,7 @@ use frame_short::{Deframer, FrameFault, Framer, Next};
 use octets::{Memory, Octets};
 use std::alloc::Global;
 use std::test::*;
+use test_asserts::{holds, same};
 
 // Feeds a piece and copies the packet that comes next, where there is one.
 fn take_packet(
@@ -123,16 +124,16 @@ fn frames_are_read_in_any_pieces(rt: HostRuntime) -> Result<(), Fail> {
     let mut stream = Octets::new(alloc);
     let mut framer = Framer::new();
     put(&mut framer, alloc, &[3; 504], &mut stream)?;
-    assert_eq!(rt; stream.as_slice().len(), 505);
+    same(stream.as_slice().len(), 505)?;
     put(&mut framer, alloc, &[7; 508], &mut stream)?;
     let bytes = stream.as_slice();
-    assert_eq!(rt; bytes.len(), 1017);
-    assert_eq!(rt; bytes[0], 0x7e);
-    assert_eq!(rt; &bytes[505..509], b"\x7f\x7f\0\0".as_slice());
+    holds(bytes.len() == 1017)?;
+    same(bytes[0], 0x7e)?;
+    same(&bytes[505..509], b"\x7f\x7f\0\0".as_slice())?;
     let mut want = Octets::copy(alloc, &[3; 504])?;
     want.push_all(alloc, &[7; 508])?;
     for size in [1, 7, 506, 507, 508, 1017] {
-        assert_eq!(rt; read(alloc, bytes, size, want.as_slice())?, (2, true, None));
+        same(read(alloc, bytes, size, want.as_slice())?, (2, true, None))?;
     }
     Ok(())
 }
@@ -163,7 +164,7 @@ fn rows_of_streams(rt: HostRuntime) -> Result<(), Fail> {
     for (stream, count, fault) in rows {
         let want: &[u8] = if count == 1 { b"\x6c\xfe\xff\xff" } else { b"" };
         for size in [1, 3, 9] {
-            assert_eq!(rt; read(alloc, stream, size, want)?, (count, true, fault));
+            same(read(alloc, stream, size, want)?, (count, true, fault))?;
         }
     }
     Ok(())
@@ -176,8 +177,8 @@ fn what_is_written_is_read(rt: HostRuntime) -> Result<(), Fail> {
     let mut deframer = Deframer::new(alloc);
     let mut packet = Octets::new(alloc);
     for payload in [[7; 88], [9; 88]] {
-        assert!(rt; written_and_read(&mut framer, &mut deframer, alloc, &payload, &mut packet)?);
-        assert_eq!(rt; packet.as_slice(), payload.as_slice());
+        holds(written_and_read(&mut framer, &mut deframer, alloc, &payload, &mut packet)?)?;
+        same(packet.as_slice(), payload.as_slice())?;
     }
     Ok(())
 }
@@ -188,16 +189,16 @@ fn a_fault_stays(rt: HostRuntime) -> Result<(), Fail> {
     let mut framer = Framer::new();
     let mut frame = Octets::new(alloc);
     framer.frame(alloc, b"\x6c\xfe\xff\xff", &mut frame)?;
-    assert_eq!(rt; frame.as_slice(), b"\x01\x6c\xfe\xff\xff".as_slice());
+    same(frame.as_slice(), b"\x01\x6c\xfe\xff\xff".as_slice())?;
     let mut deframer = Deframer::new(alloc);
     let mut packet = Octets::new(alloc);
-    assert!(rt; !take_packet(&mut deframer, alloc, b"\x01\x6c", &mut packet)?);
-    assert!(rt; take_packet(&mut deframer, alloc, b"\xfe\xff\xff", &mut packet)?);
-    assert_eq!(rt; packet.as_slice(), b"\x6c\xfe\xff\xff".as_slice());
+    holds(!take_packet(&mut deframer, alloc, b"\x01\x6c", &mut packet)?)?;
+    holds(take_packet(&mut deframer, alloc, b"\xfe\xff\xff", &mut packet)?)?;
+    same(packet.as_slice(), b"\x6c\xfe\xff\xff".as_slice())?;
     deframer.feed(alloc, b"\xff")?;
     let fault = FrameFault::BadLength { len: 255 };
-    assert_eq!(rt; deframer.next(), Next::Fault(fault));
+    same(deframer.next(), Next::Fault(fault))?;
     deframer.feed(alloc, frame.as_slice())?;
-    assert_eq!(rt; deframer.next(), Next::Fault(fault));
+    same(deframer.next(), Next::Fault(fault))?;
     Ok(())
 }

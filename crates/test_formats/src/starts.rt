@@ -7,6 +7,7 @@ use cipher_modes::laws::ctr_undoes_itself;
 use draws::{Draw, Seeded, StepDraw};
 use obfus::{Init, ObfusFault, Pair, Tag};
 use std::test::*;
+use test_asserts::{holds, holds_at, same, shows, tells};
 
 const SECRET: [u8; 16] = [
     0xa0, 0xa1, 0xa2, 0xa3, 0xa4, 0xa5, 0xa6, 0xa7, 0xa8, 0xa9, 0xaa, 0xab, 0xac, 0xad, 0xae, 0xaf,
@@ -84,29 +85,29 @@ fn next_bytes(mut pair: Pair) -> ([u8; 16], [u8; 16]) {
 }
 
 #[test]
-fn starts_of_another_implementation(rt: HostRuntime) -> Result<(), Fail> {
+fn starts_of_another_implementation() -> Result<(), Fail> {
     let mut draw = words_from(1_824_739_628_307_071_498);
     let mut made = Init::make(&mut draw, Tag::Padded, 2);
-    assert_eq!(rt; made.wire, PADDED_WIRE);
+    same(made.wire, PADDED_WIRE)?;
     let mut up = [0; 16];
     made.up.apply(&mut up);
-    assert_eq!(rt; up, PADDED_UP);
+    same(up, PADDED_UP)?;
     let Ok(pair) = Init::read(&PADDED_WIRE) else {
         return Err(Fail::new("a start isn't read"));
     };
-    assert_eq!(rt; (pair.tag, pair.dc), (Tag::Padded, 2));
-    assert_eq!(rt; next_bytes(pair), (PADDED_UP, PADDED_DOWN));
+    same((pair.tag, pair.dc), (Tag::Padded, 2))?;
+    same(next_bytes(pair), (PADDED_UP, PADDED_DOWN))?;
     let mut draw = words_from(15_641_190_205_301_778_279);
     let mut made = Init::make_with(&mut draw, Tag::Intermediate, 0xfffd, &SECRET);
-    assert_eq!(rt; made.wire, SECRET_WIRE);
+    same(made.wire, SECRET_WIRE)?;
     let mut down = [0; 16];
     made.down.apply(&mut down);
-    assert_eq!(rt; down, SECRET_DOWN);
+    same(down, SECRET_DOWN)?;
     let Ok(pair) = Init::read_with(&SECRET_WIRE, &SECRET) else {
         return Err(Fail::new("a start with a secret isn't read"));
     };
-    assert_eq!(rt; (pair.tag, pair.dc), (Tag::Intermediate, 0xfffd));
-    assert_eq!(rt; next_bytes(pair), (SECRET_UP, SECRET_DOWN));
+    same((pair.tag, pair.dc), (Tag::Intermediate, 0xfffd))?;
+    same(next_bytes(pair), (SECRET_UP, SECRET_DOWN))?;
     Ok(())
 }
 
@@ -116,15 +117,14 @@ fn a_start_without_its_secret(rt: HostRuntime) -> Result<(), Fail> {
         return Err(Fail::new("a start is read without its secret"));
     };
     let found = [0x88, 0x60, 0x81, 0x9b];
-    assert_eq!(rt; fault, ObfusFault::Tag { found });
-    let told = format!(in rt.alloc(); "{fault}")?;
-    assert_eq!(rt; told.as_str(), "no framing has the tag 8860819b");
+    same(fault, ObfusFault::Tag { found })?;
+    tells(rt.alloc(), &fault, "no framing has the tag 8860819b")?;
     Ok(())
 }
 
 // The first four bytes that no start may have, and some that it may.
 #[test]
-fn first_bytes(rt: HostRuntime) {
+fn first_bytes() -> Result<(), Fail> {
     let rows: [(u64, &[u8]); 9] = [
         (5_383_791_521_531_687_434, b"\x01\0\0\0"),
         (6_192_201_290_120_226_663, b"\x01EAD"),
@@ -138,9 +138,10 @@ fn first_bytes(rt: HostRuntime) {
     ];
     for (place, first) in rows {
         let made = Init::make(&mut words_from(place), Tag::Abridged, 1);
-        assert!(rt; made.wire.starts_with(first), "at {place}");
-        assert_eq!(rt; made.wire[4], 1);
+        holds_at(place, made.wire.starts_with(first))?;
+        same(made.wire[4], 1)?;
     }
+    Ok(())
 }
 
 #[test]
@@ -149,13 +150,13 @@ fn texts_come_back(rt: HostRuntime) -> Result<(), Fail> {
     let mut down = [0xaa; 77];
     let mut draw = words_from(0);
     let read = through_both_ends(&mut draw, Tag::Padded, 2, &mut up, &mut down);
-    assert_eq!(rt; read, Some((Tag::Padded, 2)));
-    assert!(rt; up == [0x55; 1000] && down == [0xaa; 77]);
+    same(read, Some((Tag::Padded, 2)))?;
+    holds(up == [0x55; 1000] && down == [0xaa; 77])?;
     let made = Init::make(&mut draw, Tag::Abridged, 1);
-    let shown = format!(in rt.alloc(); "{made:?}")?;
-    assert_eq!(rt;
-        shown.as_str(),
-        "Init { up: Ctr { index: 4, used: 0, .. }, down: Ctr { index: 0, used: 0, .. }, .. }"
-    );
+    shows(
+        rt.alloc(),
+        &made,
+        "Init { up: Ctr { index: 4, used: 0, .. }, down: Ctr { index: 0, used: 0, .. }, .. }",
+    )?;
     Ok(())
 }

@@ -5,6 +5,7 @@ ghost use Rattle.crc_core.specs.Crc32.{crc32};
 
 use crc_core::{Crc, crc32};
 use std::test::Fail;
+use test_asserts::{same, same_at};
 
 // Texts and their checks. The first is the check value of the catalogues of such checks; the others are by Python's
 // `zlib.crc32`.
@@ -17,22 +18,22 @@ const ROWS: [(&[u8], u32); 5] = [
 ];
 
 #[test]
-fn checks_of_whole_texts(rt: HostRuntime) -> Result<(), Fail> {
+fn checks_of_whole_texts() -> Result<(), Fail> {
     for (text, check) in ROWS {
-        assert_eq!(rt; crc32(text), check);
+        same(crc32(text), check)?;
     }
     Ok(())
 }
 
 #[test]
-fn checks_of_pieces(rt: HostRuntime) -> Result<(), Fail> {
+fn checks_of_pieces() -> Result<(), Fail> {
     for (text, check) in ROWS {
         for piece_bytes in [1, 7, 43] {
             let mut crc = Crc::new();
             for piece in text.chunks(piece_bytes) {
                 crc.push(piece);
             }
-            assert_eq!(rt; crc.value(), check, "in pieces of {piece_bytes}");
+            same_at(piece_bytes, crc.value(), check)?;
         }
     }
     Ok(())
@@ -49,12 +50,12 @@ fn of_two_pieces(front: &[u8], back: &[u8]) -> u32
 }
 
 #[test]
-fn a_sum_goes_on_after_it_is_read(rt: HostRuntime) -> Result<(), Fail> {
-    assert_eq!(rt; of_two_pieces(b"1234", b"56789"), 0xcbf43926);
+fn a_sum_goes_on_after_it_is_read() -> Result<(), Fail> {
+    same(of_two_pieces(b"1234", b"56789"), 0xcbf43926)?;
     let mut crc = Crc::new();
     crc.push(b"a");
-    assert_eq!(rt; crc.value(), 0xe8b7be43);
+    same(crc.value(), 0xe8b7be43)?;
     crc.push(b"b");
-    assert_eq!(rt; crc.value(), crc32(b"ab"));
+    same(crc.value(), crc32(b"ab"))?;
     Ok(())
 }

@@ -6,6 +6,7 @@ ghost use Rattle.commands.specs.Says.{Says};
 use commands::{Command, Page, WordsFault, read, version};
 use std::alloc::{AllocError, Global};
 use std::test::Fail;
+use test_asserts::{holds, holds_at, same, same_at, shown};
 
 // How many calls the words want of `load`, or 0.
 fn calls_wanted(alloc: Global, words: &[String]) -> Result<u32, WordsFault>
@@ -74,8 +75,8 @@ fn words_and_what_they_say(rt: HostRuntime) -> Result<(), Fail> {
     ];
     for (line, want) in rows {
         let words = words_of(alloc, line)?;
-        let got = format!(in alloc; "{:?}", read(alloc, words.as_slice())?)?;
-        assert_eq!(rt; got.as_str(), want, "of {line}");
+        let got = shown(alloc, &read(alloc, words.as_slice())?)?;
+        same_at(line, got.as_str(), want)?;
     }
     Ok(())
 }
@@ -142,12 +143,12 @@ fn words_that_are_refused(rt: HostRuntime) -> Result<(), Fail> {
     ];
     for line in rows {
         let words = words_of(alloc, line)?;
-        assert!(rt;
+        holds_at(
+            line,
             matches!(&read(alloc, words.as_slice()), Err(WordsFault::Refused)),
-            "of {line}"
-        );
+        )?;
     }
-    assert!(rt; matches!(&read(alloc, &[]), Err(WordsFault::Refused)));
+    holds(matches!(&read(alloc, &[]), Err(WordsFault::Refused)))?;
     Ok(())
 }
 
@@ -162,11 +163,11 @@ fn pages(rt: HostRuntime) -> Result<(), Fail> {
     ];
     for (page, front) in pages {
         let text = page.text();
-        assert!(rt; text.starts_with(front) && text.ends_with("\n"));
-        assert!(rt; text.lines().all(|line| line.len() <= 80));
+        holds(text.starts_with(front) && text.ends_with("\n"))?;
+        holds(text.lines().all(|line| line.len() <= 80))?;
     }
-    assert_eq!(rt; version(), "mtp 0.1.0\n");
+    same(version(), "mtp 0.1.0\n")?;
     let words = words_of(rt.alloc(), "load 3")?;
-    assert_eq!(rt; calls_wanted(rt.alloc(), words.as_slice())?, 3);
+    same(calls_wanted(rt.alloc(), words.as_slice())?, 3)?;
     Ok(())
 }

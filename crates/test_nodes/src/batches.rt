@@ -11,6 +11,7 @@ use octets::{Memory, Octets};
 use statuses::Status;
 use std::alloc::{AllocError, Global};
 use std::test::*;
+use test_asserts::same_at;
 use test_keys::line;
 
 // The key `00` to `ff`, whose identifier is that of the bytes 12 to 19 of its SHA-1, by Python's hashlib.
@@ -126,8 +127,8 @@ fn runs_and_what_they_write(rt: HostRuntime) -> Result<(), Fail> {
     ];
     for (row, status, text) in rows {
         let (ended, written) = runs(alloc, row)?;
-        assert_eq!(rt; ended, status, "of {row:?}");
-        assert_eq!(rt; written.as_slice(), text.as_bytes(), "of {row:?}");
+        same_at(row, ended, status)?;
+        same_at(row, written.as_slice(), text.as_bytes())?;
     }
     Ok(())
 }

@@ -13,6 +13,7 @@ use server_core::{Plain, Server};
 use server_node::{Conn, ConnEnd, serve_one};
 use std::alloc::Global;
 use std::test::*;
+use test_asserts::{holds, same};
 use test_keys::{KEY_ID, ring};
 
 // The call `add x 5`.
@@ -102,10 +103,7 @@ fn are_two_frames(text: &[u8]) -> bool {
 #[test]
 fn a_session_is_answered_and_attached(rt: HostRuntime) -> Result<(), Fail> {
     let (end, net) = served(rt.alloc(), &[])?;
-    assert_eq!(rt;
-        (end, are_two_frames(written(&net))),
-        (ConnEnd::Ended, true)
-    );
+    same((end, are_two_frames(written(&net))), (ConnEnd::Ended, true))?;
     Ok(())
 }
 
@@ -114,7 +112,7 @@ fn a_session_is_answered_and_attached(rt: HostRuntime) -> Result<(), Fail> {
 fn each_call_that_fails_ends_it(rt: HostRuntime) -> Result<(), Fail> {
     for call in 1..=7u64 {
         let (end, _) = served(rt.alloc(), &[call])?;
-        assert_eq!(rt; end == ConnEnd::LinkFault, call <= 6);
+        same(end == ConnEnd::LinkFault, call <= 6)?;
     }
     Ok(())
 }
@@ -145,10 +143,10 @@ fn as_many_packets_as_are_left(rt: HostRuntime) -> Result<(), Fail> {
         let link = MemLink::new(alloc, text.as_slice(), 1_000, &[], 1_000, 10)?;
         let mut left = Some(count);
         let (came_to, net) = ended(alloc, MtSeal::new(ring(alloc, "perm")?), link, &mut left)?;
-        assert_eq!(rt; came_to, end);
-        assert_eq!(rt; left, Some(count - answered));
-        assert_eq!(rt; written(&net).len() as u64, 8 * answered);
-        assert!(rt; written(&net).starts_with(error.as_slice()));
+        same(came_to, end)?;
+        same(left, Some(count - answered))?;
+        same(written(&net).len() as u64, 8 * answered)?;
+        holds(written(&net).starts_with(error.as_slice()))?;
     }
     Ok(())
 }

@@ -13,6 +13,7 @@ use octets::Octets;
 use statuses::Status;
 use std::alloc::{AllocError, Global};
 use std::test::*;
+use test_asserts::{holds, same, same_at};
 use test_keys::{KEY_ID, line, ring};
 
 // The call `add x 5`.
@@ -117,9 +118,9 @@ fn a_connection_is_served(rt: HostRuntime) -> Result<(), Fail> {
     let text = line(alloc, "perm")?;
     let line = "serve --keys f --port 4430 --conns 1";
     let (status, out, net) = ran(alloc, line, file(alloc, "f", text.as_str())?, &[], &[])?;
-    assert_eq!(rt; status, Status::Done);
-    assert_eq!(rt; out.written(), b"listening 4430\nserved 1\n".as_slice());
-    assert!(rt; are_two_frames(written(&net)));
+    same(status, Status::Done)?;
+    same(out.written(), b"listening 4430\nserved 1\n".as_slice())?;
+    holds(are_two_frames(written(&net)))?;
     Ok(())
 }
 
@@ -175,8 +176,8 @@ fn runs_that_end_otherwise(rt: HostRuntime) -> Result<(), Fail> {
     ];
     for (line, name, contents, failing, status, due) in rows {
         let (ended, out, _) = ran(alloc, line, file(alloc, name, contents)?, failing, &[])?;
-        assert_eq!(rt; ended, status, "{due}");
-        assert_eq!(rt; out.written(), due.as_bytes());
+        same_at(due, ended, status)?;
+        same(out.written(), due.as_bytes())?;
     }
     Ok(())
 }
@@ -199,10 +200,10 @@ fn each_write_that_fails_ends_it(rt: HostRuntime) -> Result<(), Fail> {
             5 => 22,
             _ => 24,
         };
-        assert_eq!(rt; status == Status::WriteFault, write <= 5);
-        assert!(rt; b"listening 4430\nserved 1\n".starts_with(out.written()));
-        assert_eq!(rt; out.written().len(), bytes);
-        assert_eq!(rt; net.calls().len(), if write <= 3 { 1 } else { 2 });
+        same(status == Status::WriteFault, write <= 5)?;
+        holds(b"listening 4430\nserved 1\n".starts_with(out.written()))?;
+        same(out.written().len(), bytes)?;
+        same(net.calls().len(), if write <= 3 { 1 } else { 2 })?;
     }
     Ok(())
 }

@@ -6,6 +6,7 @@ use octets::{Memory, Octets};
 use secret_relay::{Form, FrameFault, Relay, RelayFault};
 use std::alloc::Global;
 use std::test::*;
+use test_asserts::{holds, same, shows, tells};
 
 // The client's start, and behind it packets of 504 and 508 bytes, in the abridged form.
 fn capture(alloc: Global) -> Result<Octets, Memory> {
@@ -44,7 +45,7 @@ fn packets_go_out_whole(rt: HostRuntime) -> Result<(), Fail> {
     let mut relay = Relay::new(Form::Intermediate, &SECRET);
     let mut out = Octets::new(alloc);
     relay.up(alloc, &start(Tag::Abridged).wire, &mut out)?;
-    assert_eq!(rt; out.as_slice(), [0xee, 0xee, 0xee, 0xee].as_slice());
+    same(out.as_slice(), [0xee, 0xee, 0xee, 0xee].as_slice())?;
     // The last two cuts lie inside the length of the second packet.
     for cuts in [
         [0, 0],
@@ -54,9 +55,9 @@ fn packets_go_out_whole(rt: HostRuntime) -> Result<(), Fail> {
     ] {
         let out = cut_at(alloc, &cuts)?;
         let out = out.as_slice();
-        assert_eq!(rt; out.len(), 4 + 508 + 512);
-        assert!(rt; out.starts_with(&[0xee, 0xee, 0xee, 0xee, 0xf8, 0x01, 0x00, 0x00]));
-        assert!(rt; out[512..].starts_with(&[0xfc, 0x01, 0x00, 0x00]));
+        same(out.len(), 4 + 508 + 512)?;
+        holds(out.starts_with(&[0xee, 0xee, 0xee, 0xee, 0xf8, 0x01, 0x00, 0x00]))?;
+        holds(out[512..].starts_with(&[0xfc, 0x01, 0x00, 0x00]))?;
     }
     Ok(())
 }
@@ -66,16 +67,16 @@ fn the_server_may_not_begin(rt: HostRuntime) -> Result<(), Fail> {
     let alloc = rt.alloc();
     let mut relay = Relay::new(Form::Intermediate, &SECRET);
     let mut out = Octets::new(alloc);
-    assert_eq!(rt; relay.down(alloc, &[0], &mut out), Err(RelayFault::Early));
-    assert_eq!(rt; relay.down(alloc, &[], &mut out), Err(RelayFault::Early));
+    same(relay.down(alloc, &[0], &mut out), Err(RelayFault::Early))?;
+    same(relay.down(alloc, &[], &mut out), Err(RelayFault::Early))?;
     let wire = start(Tag::Padded).wire;
     let front = wire.get(..63).ok_or("63 bytes of a start")?;
     relay.up(alloc, front, &mut out)?;
-    assert_eq!(rt; relay.down(alloc, &[0], &mut out), Err(RelayFault::Early));
+    same(relay.down(alloc, &[0], &mut out), Err(RelayFault::Early))?;
     let last = wire.get(63..).ok_or("a start of 64 bytes")?;
     relay.up(alloc, last, &mut out)?;
     relay.down(alloc, &[4, 0, 0], &mut out)?;
-    assert_eq!(rt; out.as_slice(), [0xee, 0xee, 0xee, 0xee].as_slice());
+    same(out.as_slice(), [0xee, 0xee, 0xee, 0xee].as_slice())?;
     Ok(())
 }
 
@@ -93,12 +94,11 @@ fn a_start_with_another_tag(rt: HostRuntime) -> Result<(), Fail> {
     let fault = RelayFault::Start {
         found: [0x10, 0x20, 0x30, 0x40],
     };
-    assert_eq!(rt; relay.up(alloc, &wire, &mut out), Err(fault));
-    assert_eq!(rt; relay.up(alloc, &[], &mut out), Err(fault));
-    assert_eq!(rt; relay.down(alloc, &[0], &mut out), Err(fault));
-    assert_eq!(rt; out.as_slice().len(), 0);
-    let told = format!(in alloc; "{fault}")?;
-    assert_eq!(rt; told.as_str(), "no framing has the tag 10203040");
+    same(relay.up(alloc, &wire, &mut out), Err(fault))?;
+    same(relay.up(alloc, &[], &mut out), Err(fault))?;
+    same(relay.down(alloc, &[0], &mut out), Err(fault))?;
+    same(out.as_slice().len(), 0)?;
+    tells(alloc, &fault, "no framing has the tag 10203040")?;
     Ok(())
 }
 
@@ -109,13 +109,13 @@ fn a_packet_that_padding_hides(rt: HostRuntime) -> Result<(), Fail> {
     let mut relay = Relay::new(Form::Padded, &SECRET);
     let mut out = Octets::new(alloc);
     let fault = RelayFault::Length { len: 508 };
-    assert_eq!(rt; relay.up(alloc, capture.as_slice(), &mut out), Err(fault));
+    same(relay.up(alloc, capture.as_slice(), &mut out), Err(fault))?;
     let text = out.as_slice();
-    assert_eq!(rt; text.len(), 4 + 508);
-    assert!(rt; text.starts_with(&[0xdd, 0xdd, 0xdd, 0xdd, 0xf8, 0x01, 0x00, 0x00]));
-    assert_eq!(rt; relay.up(alloc, &[0], &mut out), Err(fault));
-    assert_eq!(rt; relay.down(alloc, &[0], &mut out), Err(fault));
-    assert_eq!(rt; out.as_slice().len(), 4 + 508);
+    same(text.len(), 4 + 508)?;
+    holds(text.starts_with(&[0xdd, 0xdd, 0xdd, 0xdd, 0xf8, 0x01, 0x00, 0x00]))?;
+    same(relay.up(alloc, &[0], &mut out), Err(fault))?;
+    same(relay.down(alloc, &[0], &mut out), Err(fault))?;
+    same(out.as_slice().len(), 4 + 508)?;
     Ok(())
 }
 
@@ -129,28 +129,24 @@ fn a_frame_that_is_none(rt: HostRuntime) -> Result<(), Fail> {
     let text = Octets::copy(alloc, &[1, 9, 9, 9, 9, 0])?;
     let text = through(&mut init.up, text);
     let fault = RelayFault::Frame(FrameFault::BadLength { len: 0 });
-    assert_eq!(rt; relay.up(alloc, text.as_slice(), &mut out), Err(fault));
-    assert_eq!(rt;
+    same(relay.up(alloc, text.as_slice(), &mut out), Err(fault))?;
+    same(
         out.as_slice(),
-        [0xee, 0xee, 0xee, 0xee, 4, 0, 0, 0, 9, 9, 9, 9].as_slice()
-    );
+        [0xee, 0xee, 0xee, 0xee, 4, 0, 0, 0, 9, 9, 9, 9].as_slice(),
+    )?;
     let mut relay = Relay::new(Form::Intermediate, &SECRET);
     let mut other = Octets::new(alloc);
     relay.up(alloc, &init.wire, &mut out)?;
     let fault = RelayFault::Frame(FrameFault::TooLong { len: 0x0100_0000 });
-    assert_eq!(rt; relay.down(alloc, &[0, 0, 0, 1], &mut other), Err(fault));
-    assert_eq!(rt; relay.up(alloc, &[0], &mut other), Err(fault));
-    assert_eq!(rt; other.as_slice().len(), 0);
+    same(relay.down(alloc, &[0, 0, 0, 1], &mut other), Err(fault))?;
+    same(relay.up(alloc, &[0], &mut other), Err(fault))?;
+    same(other.as_slice().len(), 0)?;
     Ok(())
 }
 
 #[test]
 fn a_relay_shows_no_secret(rt: HostRuntime) -> Result<(), Fail> {
     let relay = Relay::new(Form::Padded, &[7; 16]);
-    let told = format!(in rt.alloc(); "{relay:?}")?;
-    assert_eq!(rt;
-        told.as_str(),
-        "Relay { form: Padded, phase: Awaits(First { count: 0, .. }), .. }"
-    );
-    Ok(())
+    let wanted = "Relay { form: Padded, phase: Awaits(First { count: 0, .. }), .. }";
+    shows(rt.alloc(), &relay, wanted)
 }

@@ -6,6 +6,7 @@ use octets::Octets;
 use secret_relay::{Form, Relay};
 use std::alloc::Global;
 use std::test::*;
+use test_asserts::holds;
 
 const SIZES: [usize; 4] = [4, 40, 504, 1_048];
 
@@ -73,7 +74,7 @@ fn every_form_towards_every_other(rt: HostRuntime) -> Result<(), Fail> {
     for tag in TAGS {
         for form in FORMS {
             for step in [1, 7, 100_000] {
-                assert!(rt; is_relayed(rt.alloc(), tag, form, step)?);
+                holds(is_relayed(rt.alloc(), tag, form, step)?)?;
             }
         }
     }

@@ -3,6 +3,7 @@
 use crate::bodies::ADD_X_5;
 use crate::played::{Event, says};
 use std::test::Fail;
+use test_asserts::same;
 use test_keys::TEMP_ID;
 
 // `auth.bindTempAuthKey` of the keys of the ring, with the nonce 0123456789abcdef, for session 9, up to 7,200. The message
@@ -55,6 +56,6 @@ fn calls_are_taken_once_their_key_is_bound(rt: HostRuntime) -> Result<(), Fail> 
         Event::Alone((20, 7, ADD_X_5)),
         Event::Work(0),
     ];
-    assert_eq!(rt; says(rt.alloc(), TEMP_ID, &events)?.as_str(), BOUND);
+    same(says(rt.alloc(), TEMP_ID, &events)?.as_str(), BOUND)?;
     Ok(())
 }

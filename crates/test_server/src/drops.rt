@@ -3,6 +3,7 @@
 use crate::bodies::{ADD_X_1, ADD_X_2, AFTER_8_ADD_X_4, DROP_8, DROP_12};
 use crate::played::{Event, says};
 use std::test::Fail;
+use test_asserts::same;
 use test_keys::KEY_ID;
 
 // 16 waits for 8. Where 8 is dropped unfinished, the request is answered first, then 8, then 16. 12 runs, its kept reply is
@@ -43,6 +44,6 @@ fn answers_are_dropped(rt: HostRuntime) -> Result<(), Fail> {
         Event::Alone((32, 11, DROP_12)),
         Event::Alone((12, 3, ADD_X_2)),
     ];
-    assert_eq!(rt; says(rt.alloc(), KEY_ID, &events)?.as_str(), DROPPED);
+    same(says(rt.alloc(), KEY_ID, &events)?.as_str(), DROPPED)?;
     Ok(())
 }

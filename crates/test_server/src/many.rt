@@ -6,6 +6,7 @@ use octets::Octets;
 use regs_service::{Regs, Service};
 use std::alloc::Global;
 use std::test::Fail;
+use test_asserts::{same, same_text};
 use test_keys::KEY_ID;
 
 // The call `add x 5` of a session, which it hears first, under salt 0: the unique number that it says.
@@ -42,14 +43,14 @@ fn uniques(alloc: Global, sessions: [u64; 3]) -> Result<[u64; 3], Fail> {
 // two words of padding alone, so the second is made again with word 1,035.
 #[test]
 fn the_session_heard_least_recently_is_lost(rt: HostRuntime) -> Result<(), Fail> {
-    assert_eq!(rt;
+    same(
         uniques(rt.alloc(), [1, 3, 2])?,
         [
             102_028_171_459_178_465,
             1_936_993_793_492_482_197,
             1_393_357_367_120_833_263,
-        ]
-    );
+        ],
+    )?;
     Ok(())
 }
 
@@ -109,18 +110,25 @@ answered 16412 012c1b0a017800000100000000000000 19ca4421a4010000094a4f42535f4655
 
 #[test]
 fn jobs_have_an_end(rt: HostRuntime) -> Result<(), Fail> {
-    assert_eq!(rt; one_more(rt.alloc())?.as_str(), FULL_OF_JOBS);
+    same_text(one_more(rt.alloc())?.as_str(), FULL_OF_JOBS)?;
+    Ok(())
+}
+
+// Puts these bytes at the end.
+fn put_bytes(alloc: Global, into: &mut Octets, bytes: &[u8]) -> Result<(), Fail> {
+    into.push_all(alloc, bytes)?;
     Ok(())
 }
 
 // `msgs_ack` of so many times 4, and then of 9.
 fn acks(alloc: Global, others: u32) -> Result<Octets, Fail> {
-    let mut body = Octets::copy(alloc, b"\x59\xb4\xd6\x62\x15\xc4\xb5\x1c")?;
-    body.push_all(alloc, &others.saturating_add(1).to_le_bytes())?;
+    let mut body = Octets::new(alloc);
+    put_bytes(alloc, &mut body, b"\x59\xb4\xd6\x62\x15\xc4\xb5\x1c")?;
+    put_bytes(alloc, &mut body, &others.saturating_add(1).to_le_bytes())?;
     for _ in 0..others {
-        body.push_all(alloc, b"\x04\0\0\0\0\0\0\0")?;
+        put_bytes(alloc, &mut body, b"\x04\0\0\0\0\0\0\0")?;
     }
-    body.push_all(alloc, b"\x09\0\0\0\0\0\0\0")?;
+    put_bytes(alloc, &mut body, b"\x09\0\0\0\0\0\0\0")?;
     Ok(body)
 }
 
@@ -154,7 +162,7 @@ answered 12 (65556) 19ca442190010000084241445f424f4459000000\n\
 
 #[test]
 fn acknowledgements_have_an_end(rt: HostRuntime) -> Result<(), Fail> {
-    assert_eq!(rt; acknowledged(rt.alloc(), 8_191)?.as_str(), ACKS_TAKEN);
-    assert_eq!(rt; acknowledged(rt.alloc(), 8_192)?.as_str(), ACKS_REFUSED);
+    same(acknowledged(rt.alloc(), 8_191)?.as_str(), ACKS_TAKEN)?;
+    same(acknowledged(rt.alloc(), 8_192)?.as_str(), ACKS_REFUSED)?;
     Ok(())
 }

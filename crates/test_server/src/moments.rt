@@ -3,6 +3,7 @@
 use crate::bodies::{ADD_X_5, TWO_SALTS};
 use crate::played::{Event, says};
 use std::test::Fail;
+use test_asserts::same;
 use test_keys::KEY_ID;
 
 // The salts of 0 to 3,600 and of 1,800 to 5,400: the second and the third word that are drawn.
@@ -15,7 +16,7 @@ const SALTS: &str = "\
 #[test]
 fn salts_are_told(rt: HostRuntime) -> Result<(), Fail> {
     let events = [Event::Alone((8, 1, TWO_SALTS))];
-    assert_eq!(rt; says(rt.alloc(), KEY_ID, &events)?.as_str(), SALTS);
+    same(says(rt.alloc(), KEY_ID, &events)?.as_str(), SALTS)?;
     Ok(())
 }
 
@@ -36,6 +37,6 @@ const TOO_HIGH: &str = "\
 fn a_number_that_was_too_high_stays_refused(rt: HostRuntime) -> Result<(), Fail> {
     let call = (31 << 32, 1, ADD_X_5);
     let events = [Event::Alone(call), Event::Tick(40), Event::Alone(call)];
-    assert_eq!(rt; says(rt.alloc(), KEY_ID, &events)?.as_str(), TOO_HIGH);
+    same(says(rt.alloc(), KEY_ID, &events)?.as_str(), TOO_HIGH)?;
     Ok(())
 }

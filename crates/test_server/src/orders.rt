@@ -6,6 +6,7 @@ use crate::bodies::{
 };
 use crate::played::{Event, says};
 use std::test::Fail;
+use test_asserts::same;
 use test_keys::KEY_ID;
 
 // The call 16 waits for 8 and 12, which are ready. They run in the other order, then it does.
@@ -35,7 +36,7 @@ fn a_call_runs_after_two_others(rt: HostRuntime) -> Result<(), Fail> {
         Event::Work(0),
         Event::Work(0),
     ];
-    assert_eq!(rt; says(rt.alloc(), KEY_ID, &events)?.as_str(), ORDER);
+    same(says(rt.alloc(), KEY_ID, &events)?.as_str(), ORDER)?;
     Ok(())
 }
 
@@ -65,7 +66,7 @@ fn a_call_fails_with_one_that_it_waits_for(rt: HostRuntime) -> Result<(), Fail> 
         Event::Work(0),
         Event::Work(0),
     ];
-    assert_eq!(rt; says(rt.alloc(), KEY_ID, &events)?.as_str(), FAILED);
+    same(says(rt.alloc(), KEY_ID, &events)?.as_str(), FAILED)?;
     Ok(())
 }
 
@@ -89,7 +90,7 @@ fn a_call_fails_before_the_next_message_is_answered(rt: HostRuntime) -> Result<(
         Event::Alone((16, 5, AFTER_8_ADD_X_4)),
         Event::Together(24, 6, &messages),
     ];
-    assert_eq!(rt; says(rt.alloc(), KEY_ID, &events)?.as_str(), JUDGED);
+    same(says(rt.alloc(), KEY_ID, &events)?.as_str(), JUDGED)?;
     Ok(())
 }
 
@@ -117,6 +118,6 @@ fn calls_wait_for_thirty_seconds(rt: HostRuntime) -> Result<(), Fail> {
         Event::Tick(29),
         Event::Tick(30),
     ];
-    assert_eq!(rt; says(rt.alloc(), KEY_ID, &events)?.as_str(), OVERDUE);
+    same(says(rt.alloc(), KEY_ID, &events)?.as_str(), OVERDUE)?;
     Ok(())
 }

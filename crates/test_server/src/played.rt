@@ -53,11 +53,17 @@ pub(crate) struct Played {
     key: u64,
 }
 
+// A server without a session.
+fn fresh(alloc: Global) -> Result<Server<ClearSeal>, Fail> {
+    Ok(Server::new(alloc, ClearSeal::new(both_keys(alloc)?)))
+}
+
 impl Played {
     /// A fresh server, whose sessions have this key.
     pub(crate) fn new(alloc: Global, key: u64) -> Result<Played, Fail> {
+        let server = fresh(alloc)?;
         Ok(Played {
-            server: Server::new(alloc, ClearSeal::new(both_keys(alloc)?)),
+            server,
             draw: StepDraw::new(),
             key,
         })

@@ -9,6 +9,7 @@ use octets::Octets;
 use server_core::{Heard, Server};
 use std::alloc::Global;
 use std::test::*;
+use test_asserts::same;
 use test_keys::{KEY_ID, ring};
 
 // `msgs_ack` of 7, and the call `add x 5`.
@@ -85,12 +86,12 @@ SSSSSSSSSSSSKSSSSSSSSSSSSSSSKSSSSSSSSSSSSSSSKSSSSSSSSSSSSSSSKSSSSSSSSSSSSSSS";
 fn a_packet_that_is_cut_is_refused(rt: HostRuntime) -> Result<(), Fail> {
     let alloc = rt.alloc();
     let (mut server, packet) = answered(alloc)?;
-    assert_eq!(rt;
+    same(
         prefixes(alloc, &mut server, packet.as_slice())?.as_str(),
-        PREFIXES
-    );
-    assert_eq!(rt; server.unfinished(), 0);
-    assert_eq!(rt; heard(alloc, &mut server, packet.as_slice())?, "answered");
-    assert_eq!(rt; server.ready(), 1);
+        PREFIXES,
+    )?;
+    same(server.unfinished(), 0)?;
+    same(heard(alloc, &mut server, packet.as_slice())?, "answered")?;
+    same(server.ready(), 1)?;
     Ok(())
 }

@@ -3,6 +3,7 @@
 use crate::bodies::{ADD_X_5, GET_X, NO_REQUEST};
 use crate::played::{Event, says};
 use std::test::Fail;
+use test_asserts::same;
 use test_keys::KEY_ID;
 
 // Adds 2^64 - 1 to `x`.
@@ -67,6 +68,6 @@ fn registers_behind_a_server(rt: HostRuntime) -> Result<(), Fail> {
     let together = Event::Together(48, 20, &calls);
     let run = Event::Work(0);
     let events = [together, run, run, run, run, run, run, run, run, run, run];
-    assert_eq!(rt; says(rt.alloc(), KEY_ID, &events)?.as_str(), REGISTERS);
+    same(says(rt.alloc(), KEY_ID, &events)?.as_str(), REGISTERS)?;
     Ok(())
 }

@@ -3,6 +3,7 @@
 use crate::bodies::{ADD_X_1, ADD_X_2, ADD_X_5, PING_7};
 use crate::played::{Event, says};
 use std::test::Fail;
+use test_asserts::same;
 use test_keys::KEY_ID;
 
 // As long as no message is accepted, each event says that the session is new, and then the notice, which isn't
@@ -31,7 +32,7 @@ fn a_session_says_that_it_is_new_until_it_accepts(rt: HostRuntime) -> Result<(),
         Event::Alone((8, 1, ADD_X_1)),
         Event::Attach,
     ];
-    assert_eq!(rt; says(rt.alloc(), KEY_ID, &events)?.as_str(), FIRST);
+    same(says(rt.alloc(), KEY_ID, &events)?.as_str(), FIRST)?;
     Ok(())
 }
 
@@ -55,7 +56,7 @@ fn each_number_is_acknowledged_once(rt: HostRuntime) -> Result<(), Fail> {
         (24, 7, PING_7),
     ];
     let events = [Event::Together(28, 8, &messages)];
-    assert_eq!(rt; says(rt.alloc(), KEY_ID, &events)?.as_str(), ACKED);
+    same(says(rt.alloc(), KEY_ID, &events)?.as_str(), ACKED)?;
     Ok(())
 }
 
@@ -98,6 +99,6 @@ fn a_kept_reply_is_said_again(rt: HostRuntime) -> Result<(), Fail> {
         Event::Alone((16, 2, ACK_13)),
         Event::Alone((8, 1, ADD_X_5)),
     ];
-    assert_eq!(rt; says(rt.alloc(), KEY_ID, &events)?.as_str(), REPEATED);
+    same(says(rt.alloc(), KEY_ID, &events)?.as_str(), REPEATED)?;
     Ok(())
 }

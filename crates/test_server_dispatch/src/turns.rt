@@ -13,6 +13,7 @@ use service_tl::Item;
 use std::alloc::Global;
 use std::test::Fail;
 use temp_keys::Binding;
+use test_asserts::same;
 use test_keys::{KEY_ID, TEMP_ID, both_keys};
 use waits::Jobs;
 
@@ -78,30 +79,33 @@ fn drops_a_call(alloc: Global, ring: &Ring) -> Result<(Entries, usize, usize, us
     Ok((turn.entries, ready, before, jobs.len()))
 }
 
+// The entry of this place: its number, whether it ran, and its reply.
+fn entry(entries: &Entries, place: usize) -> Option<(u64, bool, &[u8])> {
+    let entry = entries.as_slice().get(place)?;
+    Some((entry.number, entry.ran, entry.reply.as_slice()))
+}
+
 #[test]
 fn a_dropped_call_takes_those_with_it_that_wait_for_it(rt: HostRuntime) -> Result<(), Fail> {
     let alloc = rt.alloc();
     let (entries, ready, before, after) = drops_a_call(alloc, &both_keys(alloc)?)?;
-    assert_eq!(rt; (ready, before, after), (2, 3, 1));
-    let entries = entries.as_slice();
-    assert_eq!(rt; entries.len(), 2);
-    assert_eq!(rt;
-        (
-            entries[0].number,
-            entries[0].ran,
-            entries[0].reply.as_slice()
-        ),
-        (8, false, b"\x86\xe5\x78\xcd".as_slice())
-    );
-    assert_eq!(rt;
-        (
-            entries[1].number,
-            entries[1].ran,
-            entries[1].reply.as_slice()
-        ),
-        (16, false, Short::MsgWaitFailed.content())
-    );
+    same((ready, before, after), (2, 3, 1))?;
+    same(entries.as_slice().len(), 2)?;
+    same(
+        entry(&entries, 0),
+        Some((8, false, b"\x86\xe5\x78\xcd".as_slice())),
+    )?;
+    same(
+        entry(&entries, 1),
+        Some((16, false, Short::MsgWaitFailed.content())),
+    )?;
     Ok(())
+}
+
+// The key and the session of the first entry.
+fn owner(entries: &Entries) -> Option<(u64, u64)> {
+    let entry = entries.as_slice().first()?;
+    Some((entry.key, entry.session))
 }
 
 // A call under a temporary key, the binding of that key by this message, and a call again. The entries, how many jobs
@@ -141,38 +145,51 @@ fn calls_under_a_temporary_key_wait_for_its_binding(rt: HostRuntime) -> Result<(
     let alloc = rt.alloc();
     let ring = both_keys(alloc)?;
     let (entries, jobs, bound) = binds_a_key(alloc, &ring, &MESSAGE)?;
-    assert_eq!(rt; (entries.as_slice().len(), jobs, bound), (1, 1, true));
-    let entry = &entries.as_slice()[0];
-    assert_eq!(rt;
-        (entry.key, entry.session, entry.number),
-        (TEMP_ID, SESSION, 8)
-    );
-    assert_eq!(rt;
-        (entry.ran, entry.reply.as_slice()),
-        (false, Short::AuthKeyPermEmpty.content())
-    );
+    same((entries.as_slice().len(), jobs, bound), (1, 1, true))?;
+    same(
+        entry(&entries, 0),
+        Some((8, false, Short::AuthKeyPermEmpty.content())),
+    )?;
+    same(owner(&entries), Some((TEMP_ID, SESSION)))?;
     let (entries, jobs, bound) = binds_a_key(alloc, &ring, &MESSAGE[..100])?;
-    assert_eq!(rt; (entries.as_slice().len(), jobs, bound), (2, 0, false));
+    same((entries.as_slice().len(), jobs, bound), (2, 0, false))?;
     Ok(())
 }
 
 // The numbers that are acknowledged of a call that comes twice, one of even sequence number, one that came before, a refused one
 // and a container.
 fn acknowledged(alloc: Global) -> Result<Vec<u64>, Memory> {
-    let judged = [
-        judgement(8, 1, Verdict::Accepted(Item::Call)),
-        judgement(12, 2, Verdict::Accepted(Item::Call)),
-        judgement(4, 3, Verdict::Again(Mark::Waiting)),
-        judgement(8, 1, Verdict::Again(Mark::Service)),
-        judgement(16, 5, Verdict::Noticed(33)),
-        judgement(20, 7, Verdict::Again(Mark::Container)),
+    let rows = [
+        (8, 1, Came::Call),
+        (12, 2, Came::Call),
+        (4, 3, Came::Again(Mark::Waiting)),
+        (8, 1, Came::Again(Mark::Service)),
+        (16, 5, Came::Refused),
+        (20, 7, Came::Again(Mark::Container)),
     ];
+    let mut judged = Vec::new(alloc);
+    for (number, seq, came) in rows {
+        judged.push(judgement(number, seq, came))?;
+    }
     let mut acks = Vec::with_capacity(alloc, judged.len())?;
-    acks_in(&judged, &mut acks);
+    acks_in(judged.as_slice(), &mut acks);
     Ok(acks)
 }
 
-fn judgement(number: u64, seq: u32, verdict: Verdict) -> Judgement {
+// What came: a call that is new, a message that came before, one that is refused.
+#[derive(Clone, Copy)]
+enum Came {
+    Call,
+    Again(Mark),
+    Refused,
+}
+
+fn judgement(number: u64, seq: u32, came: Came) -> Judgement {
+    let verdict = match came {
+        Came::Call => Verdict::Accepted(Item::Call),
+        Came::Again(mark) => Verdict::Again(mark),
+        Came::Refused => Verdict::Noticed(33),
+    };
     Judgement {
         number,
         seq,
@@ -183,6 +200,6 @@ fn judgement(number: u64, seq: u32, verdict: Verdict) -> Judgement {
 #[test]
 fn a_call_is_acknowledged_once(rt: HostRuntime) -> Result<(), Fail> {
     let acks = acknowledged(rt.alloc())?;
-    assert_eq!(rt; acks.as_slice(), [8, 4].as_slice());
+    same(acks.as_slice(), [8, 4].as_slice())?;
     Ok(())
 }

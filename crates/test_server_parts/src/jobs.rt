@@ -7,8 +7,8 @@ use bytes::Bytes;
 use msg_ids::Moment;
 use octets::{IdList, Memory};
 use std::alloc::Global;
-use std::process::Abort;
 use std::test::Fail;
+use test_asserts::{holds, same};
 use waits::{JOB_BYTES_MAX, JOBS_MAX, Job, Jobs, WAIT_SECONDS};
 
 // Accepts a job where its session has room for it, and says whether it did.
@@ -74,47 +74,47 @@ fn ready_number(jobs: &Jobs, place: usize) -> u64 {
 }
 
 // Jobs 8 and 12, and 16 after both, are run as they get ready; 8 and 12 are answered in an order.
-fn runs_in_order(rt: &impl Abort, alloc: Global, first: u64, second: u64) -> Result<(), Fail> {
+fn runs_in_order(alloc: Global, first: u64, second: u64) -> Result<(), Fail> {
     let mut jobs = Jobs::new(alloc);
-    assert!(rt; call(&mut jobs, alloc, 1, 8, &[])?);
-    assert!(rt; call(&mut jobs, alloc, 1, 12, &[])?);
-    assert!(rt; call(&mut jobs, alloc, 1, 16, &[8, 12])?);
-    assert_eq!(rt; jobs.ready(), 2);
-    assert_eq!(rt; jobs.load(1, 1), (3, 28));
-    assert_eq!(rt; jobs.waiting(1, 1), 1);
-    assert_eq!(rt; (ready_number(&jobs, 0), ready_number(&jobs, 1)), (8, 12));
-    assert_eq!(rt; ready_number(&jobs, 2), 0);
-    assert_eq!(rt; number_of(next(&mut jobs)), 8);
-    assert_eq!(rt; number_of(next(&mut jobs)), 12);
+    holds(call(&mut jobs, alloc, 1, 8, &[])?)?;
+    holds(call(&mut jobs, alloc, 1, 12, &[])?)?;
+    holds(call(&mut jobs, alloc, 1, 16, &[8, 12])?)?;
+    same(jobs.ready(), 2)?;
+    same(jobs.load(1, 1), (3, 28))?;
+    same(jobs.waiting(1, 1), 1)?;
+    same((ready_number(&jobs, 0), ready_number(&jobs, 1)), (8, 12))?;
+    same(ready_number(&jobs, 2), 0)?;
+    same(number_of(next(&mut jobs)), 8)?;
+    same(number_of(next(&mut jobs)), 12)?;
     jobs.settle(1, 1, first, true);
-    assert_eq!(rt; jobs.ready(), 0);
-    assert_eq!(rt; jobs.load(1, 1), (1, 12));
+    same(jobs.ready(), 0)?;
+    same(jobs.load(1, 1), (1, 12))?;
     jobs.settle(1, 1, second, true);
-    assert_eq!(rt; jobs.waiting(1, 1), 0);
-    assert_eq!(rt; jobs.ready(), 1);
-    assert_eq!(rt; number_of(next(&mut jobs)), 16);
-    assert_eq!(rt; jobs.len(), 0);
+    same(jobs.waiting(1, 1), 0)?;
+    same(jobs.ready(), 1)?;
+    same(number_of(next(&mut jobs)), 16)?;
+    same(jobs.len(), 0)?;
     Ok(())
 }
 
 #[test]
 fn a_job_waits_for_each_of_two_others(rt: HostRuntime) -> Result<(), Fail> {
-    runs_in_order(&rt, rt.alloc(), 8, 12)?;
-    runs_in_order(&rt, rt.alloc(), 12, 8)
+    runs_in_order(rt.alloc(), 8, 12)?;
+    runs_in_order(rt.alloc(), 12, 8)
 }
 
 #[test]
 fn a_job_fails_with_one_that_it_waits_for(rt: HostRuntime) -> Result<(), Fail> {
     let alloc = rt.alloc();
     let mut jobs = Jobs::new(alloc);
-    assert!(rt; call(&mut jobs, alloc, 1, 12, &[8])?);
-    assert!(rt; call(&mut jobs, alloc, 1, 16, &[8])?);
-    assert_eq!(rt; number_of(jobs.failed()), 0);
+    holds(call(&mut jobs, alloc, 1, 12, &[8])?)?;
+    holds(call(&mut jobs, alloc, 1, 16, &[8])?)?;
+    same(number_of(jobs.failed()), 0)?;
     jobs.settle(1, 1, 8, false);
-    assert_eq!(rt; jobs.ready(), 0);
-    assert_eq!(rt; number_of(jobs.failed()), 12);
-    assert_eq!(rt; number_of(jobs.failed()), 16);
-    assert_eq!(rt; number_of(jobs.failed()), 0);
+    same(jobs.ready(), 0)?;
+    same(number_of(jobs.failed()), 12)?;
+    same(number_of(jobs.failed()), 16)?;
+    same(number_of(jobs.failed()), 0)?;
     Ok(())
 }
 
@@ -128,10 +128,10 @@ fn is_overdue(alloc: Global, now: u64) -> Result<u64, Fail> {
 
 #[test]
 fn a_job_waits_for_thirty_seconds(rt: HostRuntime) -> Result<(), Fail> {
-    assert_eq!(rt; WAIT_SECONDS, 30);
-    assert_eq!(rt; is_overdue(rt.alloc(), 129)?, 0);
-    assert_eq!(rt; is_overdue(rt.alloc(), 130)?, 16);
-    assert_eq!(rt; is_overdue(rt.alloc(), 131)?, 16);
+    same(WAIT_SECONDS, 30)?;
+    same(is_overdue(rt.alloc(), 129)?, 0)?;
+    same(is_overdue(rt.alloc(), 130)?, 16)?;
+    same(is_overdue(rt.alloc(), 131)?, 16)?;
     Ok(())
 }
 
@@ -146,8 +146,8 @@ fn overdue_at(alloc: Global, now: u64) -> Result<(usize, usize), Fail> {
 
 #[test]
 fn overdue_jobs_are_counted(rt: HostRuntime) -> Result<(), Fail> {
-    assert_eq!(rt; overdue_at(rt.alloc(), 129)?, (0, 0));
-    assert_eq!(rt; overdue_at(rt.alloc(), 130)?, (2, 1));
+    same(overdue_at(rt.alloc(), 129)?, (0, 0))?;
+    same(overdue_at(rt.alloc(), 130)?, (2, 1))?;
     Ok(())
 }
 
@@ -155,21 +155,21 @@ fn overdue_jobs_are_counted(rt: HostRuntime) -> Result<(), Fail> {
 fn sessions_have_jobs_of_their_own(rt: HostRuntime) -> Result<(), Fail> {
     let alloc = rt.alloc();
     let mut jobs = Jobs::new(alloc);
-    assert!(rt; call(&mut jobs, alloc, 1, 12, &[8])?);
-    assert!(rt; call(&mut jobs, alloc, 2, 12, &[8])?);
-    assert!(rt; call(&mut jobs, alloc, 2, 16, &[])?);
+    holds(call(&mut jobs, alloc, 1, 12, &[8])?)?;
+    holds(call(&mut jobs, alloc, 2, 12, &[8])?)?;
+    holds(call(&mut jobs, alloc, 2, 16, &[])?)?;
     jobs.settle(1, 2, 8, true);
-    assert_eq!(rt; jobs.ready(), 2);
-    assert_eq!(rt; jobs.load(1, 1), (1, 12));
-    assert_eq!(rt; jobs.load(1, 2), (2, 8));
+    same(jobs.ready(), 2)?;
+    same(jobs.load(1, 1), (1, 12))?;
+    same(jobs.load(1, 2), (2, 8))?;
     let mut copy = jobs.copy(alloc)?;
-    assert_eq!(rt; number_of(copy.cancel(1, 2, 12)), 12);
-    assert!(rt; !copy.has(1, 2, 12));
-    assert!(rt; copy.has(1, 1, 12));
+    same(number_of(copy.cancel(1, 2, 12)), 12)?;
+    holds(!copy.has(1, 2, 12))?;
+    holds(copy.has(1, 1, 12))?;
     jobs.forget(1, 2);
-    assert!(rt; !jobs.has(1, 2, 16));
-    assert_eq!(rt; jobs.len(), 1);
-    assert_eq!(rt; copy.len(), 2);
+    holds(!jobs.has(1, 2, 16))?;
+    same(jobs.len(), 1)?;
+    same(copy.len(), 2)?;
     Ok(())
 }
 
@@ -181,31 +181,31 @@ fn sessions_keep_theirs_among_others(rt: HostRuntime) -> Result<(), Fail> {
     let mut jobs = Jobs::new(alloc);
     for round in 0..40u64 {
         for session in 1..=3u64 {
-            assert!(rt; call(&mut jobs, alloc, session, 8 + 4 * round, &[])?);
+            holds(call(&mut jobs, alloc, session, 8 + 4 * round, &[])?)?;
         }
     }
-    assert!(rt; call(&mut jobs, alloc, 2, 400, &[8])?);
-    assert_eq!(rt; number_of(next(&mut jobs)), 8);
-    assert_eq!(rt; number_of(jobs.cancel(1, 3, 12)), 12);
+    holds(call(&mut jobs, alloc, 2, 400, &[8])?)?;
+    same(number_of(next(&mut jobs)), 8)?;
+    same(number_of(jobs.cancel(1, 3, 12)), 12)?;
     jobs.forget(1, 2);
-    assert_eq!(rt; jobs.len(), 78);
-    assert_eq!(rt; jobs.waiting(1, 2), 0);
-    assert!(rt; !jobs.has(1, 2, 400));
-    assert!(rt; call(&mut jobs, alloc, 2, 404, &[408])?);
+    same(jobs.len(), 78)?;
+    same(jobs.waiting(1, 2), 0)?;
+    holds(!jobs.has(1, 2, 400))?;
+    holds(call(&mut jobs, alloc, 2, 404, &[408])?)?;
     jobs.settle(1, 2, 408, true);
-    assert_eq!(rt; jobs.blocked(1, 2), 0);
+    same(jobs.blocked(1, 2), 0)?;
     for _ in 0..76 {
         next(&mut jobs);
     }
-    assert_eq!(rt; jobs.len(), 3);
+    same(jobs.len(), 3)?;
     jobs.reserve(alloc, 4)?;
-    assert_eq!(rt; jobs.len(), 3);
-    assert!(rt; jobs.has(1, 1, 164));
-    assert!(rt; jobs.has(1, 3, 164));
-    assert!(rt; !jobs.has(1, 3, 12));
-    assert_eq!(rt; jobs.load(1, 2), (1, 4));
-    assert_eq!(rt; number_of(jobs.cancel(1, 3, 164)), 164);
-    assert_eq!(rt; number_of(next(&mut jobs)), 164);
-    assert_eq!(rt; number_of(next(&mut jobs)), 404);
+    same(jobs.len(), 3)?;
+    holds(jobs.has(1, 1, 164))?;
+    holds(jobs.has(1, 3, 164))?;
+    holds(!jobs.has(1, 3, 12))?;
+    same(jobs.load(1, 2), (1, 4))?;
+    same(number_of(jobs.cancel(1, 3, 164)), 164)?;
+    same(number_of(next(&mut jobs)), 164)?;
+    same(number_of(next(&mut jobs)), 404)?;
     Ok(())
 }

@@ -14,6 +14,7 @@ use octets::{IdList, Memory, Octets};
 use salt_line::SaltLine;
 use std::alloc::Global;
 use std::test::*;
+use test_asserts::{holds, same};
 
 /// The valid salt of the tests.
 const SALT: u64 = 7;
@@ -163,9 +164,9 @@ fn messages_are_judged_by_the_first_case(rt: HostRuntime) -> Result<(), Fail> {
             row.salt,
             row.body,
         )?;
-        assert_eq!(rt; told, row.wanted);
-        assert_eq!(rt; count, 1);
-        assert_eq!(rt; inbox.heard(), row.after_call || row.wanted == ACCEPTED);
+        same(told, row.wanted)?;
+        same(count, 1)?;
+        same(inbox.heard(), row.after_call || row.wanted == ACCEPTED)?;
     }
     Ok(())
 }
@@ -197,18 +198,18 @@ fn a_call_keeps_its_mark(rt: HostRuntime) -> Result<(), Fail> {
         alone(1_000 * SECOND, 1, SALT, &CALL, AGAIN_WAITING),
     ];
     let mut inbox = Inbox::new(alloc)?;
-    assert!(rt; judged_as_wanted(&mut inbox, alloc, &again)?);
+    holds(judged_as_wanted(&mut inbox, alloc, &again)?)?;
     let container_between = [
         row_after_call(8, 1, &CALL, ACCEPTED),
         row_after_call(8, 2, &EMPTY_CONTAINER, 19),
         row_after_call(8, 1, &CALL, AGAIN_WAITING),
     ];
     let mut inbox = Inbox::new(alloc)?;
-    assert!(rt; judged_as_wanted(&mut inbox, alloc, &container_between)?);
-    assert!(rt; matches!(inbox.mark(8), Some(Mark::Waiting)));
+    holds(judged_as_wanted(&mut inbox, alloc, &container_between)?)?;
+    holds(matches!(inbox.mark(8), Some(Mark::Waiting)))?;
     let copy = inbox.copy(alloc)?;
-    assert!(rt; matches!(copy.mark(8), Some(Mark::Waiting)));
-    assert!(rt; copy.heard());
+    holds(matches!(copy.mark(8), Some(Mark::Waiting)))?;
+    holds(copy.heard())?;
     Ok(())
 }
 
@@ -253,22 +254,22 @@ fn containers_are_judged_with_their_messages(rt: HostRuntime) -> Result<(), Fail
         let bytes = body.as_slice();
         let kept = bytes.len().saturating_sub(cut);
         let judged = judged(&mut inbox, alloc, 0, number, seq, SALT, &bytes[..kept])?;
-        assert_eq!(rt; counted(&judged), (wanted, wanted_count));
+        same(counted(&judged), (wanted, wanted_count))?;
         for place in 1..=messages as usize {
             let accepted = match judged.as_slice().get(place) {
                 Some(inner) => inner.number == 4 * place as u64 && inner.verdict.is_accepted(),
                 None => false,
             };
-            assert_eq!(rt; accepted, wanted == ACCEPTED);
+            same(accepted, wanted == ACCEPTED)?;
         }
-        assert_eq!(rt; inbox.mark(4).is_none(), wanted == 64 || messages == 0);
+        same(inbox.mark(4).is_none(), wanted == 64 || messages == 0)?;
         let (again, _) = judge(&mut inbox, alloc, 0, number, seq, SALT, &bytes[..kept])?;
         let wanted_again = if wanted == ACCEPTED {
             AGAIN_CONTAINER
         } else {
             AGAIN
         };
-        assert_eq!(rt; again, wanted_again);
+        same(again, wanted_again)?;
     }
     Ok(())
 }
@@ -280,11 +281,11 @@ fn no_container_stands_in_another(rt: HostRuntime) -> Result<(), Fail> {
     body.push_all(alloc, &[4, 0, 0, 0, 0, 0, 0, 0, 0, 0, 0, 0, 8, 0, 0, 0])?;
     body.push_all(alloc, &EMPTY_CONTAINER)?;
     let mut inbox = Inbox::new(alloc)?;
-    assert_eq!(rt;
+    same(
         judge(&mut inbox, alloc, 0, 8, 2, SALT, body.as_slice())?,
-        (64, 1)
-    );
-    assert!(rt; inbox.mark(4).is_none());
+        (64, 1),
+    )?;
+    holds(inbox.mark(4).is_none())?;
     Ok(())
 }
 
@@ -295,12 +296,12 @@ fn the_floor_rises_over_a_full_window(rt: HostRuntime) -> Result<(), Fail> {
     for place in 1..=16_385 {
         judge(&mut inbox, alloc, 0, 4 * place, 1, 0, &CALL)?;
     }
-    assert_eq!(rt; inbox.floor(), 4);
+    same(inbox.floor(), 4)?;
     let copy = inbox.copy(alloc)?;
-    assert_eq!(rt; copy.floor(), 4);
-    assert_eq!(rt; judge(&mut inbox, alloc, 0, 4, 1, SALT, &CALL)?, (20, 1));
-    assert_eq!(rt; judge(&mut inbox, alloc, 0, 8, 1, SALT, &CALL)?, (AGAIN, 1));
-    assert!(rt; !inbox.heard());
+    same(copy.floor(), 4)?;
+    same(judge(&mut inbox, alloc, 0, 4, 1, SALT, &CALL)?, (20, 1))?;
+    same(judge(&mut inbox, alloc, 0, 8, 1, SALT, &CALL)?, (AGAIN, 1))?;
+    holds(!inbox.heard())?;
     Ok(())
 }
 
@@ -315,10 +316,10 @@ fn states_are_told(rt: HostRuntime) -> Result<(), Fail> {
     judge(&mut inbox, alloc, 0, 24, 2, SALT, &ACK)?;
     let ids = IdList::copy(alloc, &[0, 4, 8, 12, 16, 20, 28])?;
     let states = inbox.states(alloc, &ids)?;
-    assert_eq!(rt; states.as_slice(), [1, 4, 4, 0x24, 4, 2, 3].as_slice());
-    assert!(rt; answer(&mut inbox, 12));
+    same(states.as_slice(), [1, 4, 4, 0x24, 4, 2, 3].as_slice())?;
+    holds(answer(&mut inbox, 12))?;
     let states = inbox.states(alloc, &ids)?;
-    assert_eq!(rt; states.as_slice(), [1, 4, 4, 0x64, 4, 2, 3].as_slice());
+    same(states.as_slice(), [1, 4, 4, 0x64, 4, 2, 3].as_slice())?;
     Ok(())
 }
 

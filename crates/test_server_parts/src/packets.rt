@@ -11,13 +11,14 @@ use packing::{Part, front, number, packed_size, packets};
 use service_tl::{Item, Messages};
 use std::alloc::Global;
 use std::test::Fail;
+use test_asserts::{holds, same};
 
 #[test]
 fn items_are_numbered(rt: HostRuntime) -> Result<(), Fail> {
     let alloc = rt.alloc();
     let start = Moment::new(0);
     let mut numbers = Numbers::new();
-    assert!(rt; numbers.room() > 3);
+    holds(numbers.room() > 3)?;
     let new = Item::NewSessionCreated {
         first_msg_id: 4,
         unique_id: 7,
@@ -31,9 +32,9 @@ fn items_are_numbered(rt: HostRuntime) -> Result<(), Fail> {
         req_msg_id: 4,
         result: Octets::new(alloc),
     };
-    assert_eq!(rt; number(start, &mut numbers, &new), (7, 1));
-    assert_eq!(rt; number(start, &mut numbers, &pong), (9, 2));
-    assert_eq!(rt; number(start, &mut numbers, &result), (13, 3));
+    same(number(start, &mut numbers, &new), (7, 1))?;
+    same(number(start, &mut numbers, &pong), (9, 2))?;
+    same(number(start, &mut numbers, &result), (13, 3))?;
     Ok(())
 }
 
@@ -46,6 +47,14 @@ fn packed(alloc: Global, messages: &[Part<'_>]) -> Result<Messages, Memory>
         return Err(Memory);
     }
     packets(alloc, Moment::new(0), &mut numbers, messages)
+}
+
+// The packet that a list has alone, or none: its number, its seq and its body.
+fn sole(packets: &Messages) -> Option<(u64, u32, &[u8])> {
+    match packets.as_slice() {
+        [packet] => Some((packet.number, packet.seq, packet.body.as_slice())),
+        _ => None,
+    }
 }
 
 #[test]
@@ -62,20 +71,23 @@ fn one_goes_alone_and_two_in_a_container(rt: HostRuntime) -> Result<(), Fail> {
         body: b"efgh",
     };
     let none = packed(alloc, &[])?;
-    assert!(rt; none.as_slice().is_empty());
+    holds(none.as_slice().is_empty())?;
     let alone = packed(alloc, &[one])?;
-    assert_eq!(rt; alone.as_slice().len(), 1);
-    assert_eq!(rt; alone.as_slice()[0].number, 5);
-    assert_eq!(rt; alone.as_slice()[0].seq, 1);
-    assert_eq!(rt; alone.as_slice()[0].body.as_slice(), b"abcd".as_slice());
+    same(sole(&alone), Some((5, 1, b"abcd".as_slice())))?;
     let both = packed(alloc, &[one, two])?;
-    assert_eq!(rt; both.as_slice().len(), 1);
-    assert_eq!(rt; both.as_slice()[0].number, 7);
-    assert_eq!(rt; both.as_slice()[0].seq, 0);
     let body =
         b"\xdc\xf8\xf1\x73\x02\0\0\0\x05\0\0\0\0\0\0\0\x01\0\0\0\x04\0\0\0abcd\x09\0\0\0\0\0\0\0\x03\0\0\0\x04\0\0\0efgh";
-    assert_eq!(rt; both.as_slice()[0].body.as_slice(), body.as_slice());
+    same(sole(&both), Some((7, 0, body.as_slice())))?;
     Ok(())
+}
+
+// How many messages go into the first packet, and its size.
+fn first_packet(messages: &[Part<'_>]) -> Option<(usize, usize)> {
+    if messages.is_empty() {
+        return None;
+    }
+    let count = front(messages);
+    Some((count, packed_size(&messages[..count])))
 }
 
 #[test]
@@ -88,22 +100,22 @@ fn fifteen_great_results_go_by_threes(rt: HostRuntime) -> Result<(), Fail> {
         body: body.as_slice(),
     };
     let great = [result; 15];
-    assert_eq!(rt; front(&great), 3);
-    assert_eq!(rt; front(&great[3..]), 3);
-    assert_eq!(rt; front(&great[12..]), 3);
-    assert_eq!(rt; packed_size(&great[..3]), 786_524);
+    for messages in [&great[..], &great[3..], &great[12..]] {
+        same(first_packet(messages), Some((3, 786_524)))?;
+    }
     Ok(())
 }
 
+// 1,020 of 16 bytes behind a head of 8, and then one that goes alone.
 #[test]
-fn small_messages_go_by_1020(rt: HostRuntime) -> Result<(), Fail> {
+fn small_messages_go_by_1020() -> Result<(), Fail> {
     let small = Part {
         number: 5,
         seq: 1,
         body: b"",
     };
     let many = [small; 1_021];
-    assert_eq!(rt; front(&many), 1_020);
-    assert_eq!(rt; front(&many[1_020..]), 1);
+    same(first_packet(&many), Some((1_020, 16_328)))?;
+    same(first_packet(&many[1_020..]), Some((1, 0)))?;
     Ok(())
 }

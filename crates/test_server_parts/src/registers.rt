@@ -7,6 +7,7 @@ use octets::{Memory, Octets};
 use regs_service::{NoMemory, Regs, Service, is_register_name, laws};
 use std::alloc::Global;
 use std::test::*;
+use test_asserts::{holds, same};
 
 // One more run of a server that keeps what it served.
 fn one_more<V: Service>(alloc: Global, service: &mut V, request: &[u8]) -> Result<Octets, NoMemory>
@@ -84,15 +85,15 @@ fn sums_and_refusals(rt: HostRuntime) -> Result<(), Fail> {
     let mut regs = Regs::fresh(alloc);
     for (request, want) in rows {
         let foreseen = regs.foresee(alloc, request)?;
-        assert_eq!(rt; foreseen.as_slice(), want);
+        same(foreseen.as_slice(), want)?;
         let reply = regs.run(alloc, request)?;
-        assert_eq!(rt; reply.as_slice(), want);
+        same(reply.as_slice(), want)?;
     }
     let mut copy = regs.copy(alloc)?;
     let reply = one_more(alloc, &mut copy, GET_X)?;
-    assert_eq!(rt; reply.as_slice(), VALUE_5);
-    assert!(rt; is_register_name(b"x"));
-    assert!(rt; fails_and_goes_on::<Regs>(alloc, ADD_X_5, GET_X).is_err());
+    same(reply.as_slice(), VALUE_5)?;
+    holds(is_register_name(b"x"))?;
+    holds(fails_and_goes_on::<Regs>(alloc, ADD_X_5, GET_X).is_err())?;
     Ok(())
 }
 
@@ -109,16 +110,16 @@ fn names_have_an_end(rt: HostRuntime) -> Result<(), Fail> {
         request[7] = b'a' + bytes[1] % 16;
         request[8] = b'a' + bytes[1] / 16;
         let reply = regs.run(alloc, &request)?;
-        assert_eq!(rt; reply.as_slice(), VALUE_5);
+        same(reply.as_slice(), VALUE_5)?;
     }
     let reply = regs.run(alloc, ADD_X_5)?;
-    assert_eq!(rt; reply.as_slice(), TOO_MANY);
-    assert_eq!(rt; regs.names(), 65_536);
+    same(reply.as_slice(), TOO_MANY)?;
+    same(regs.names(), 65_536)?;
     let reply = regs.run(alloc, ADD_X_ALL)?;
-    assert_eq!(rt; reply.as_slice(), TOO_MANY);
+    same(reply.as_slice(), TOO_MANY)?;
     let reply = regs.run(alloc, GET_X)?;
-    assert_eq!(rt; reply.as_slice(), VALUE_0);
+    same(reply.as_slice(), VALUE_0)?;
     let reply = regs.run(alloc, b"\x01\x2c\x1b\x0a\x04aaaa\0\0\0\0\0\0\0\0\0\0\0")?;
-    assert_eq!(rt; reply.as_slice(), VALUE_5);
+    same(reply.as_slice(), VALUE_5)?;
     Ok(())
 }

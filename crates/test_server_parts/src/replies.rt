@@ -7,6 +7,7 @@ use octets::Memory;
 use outbox::{Body, Bytes, KEPT_BYTES_MAX, KEPT_REPLIES_MAX, Kept, Outbox};
 use std::alloc::Global;
 use std::test::Fail;
+use test_asserts::{holds, same};
 
 // Keeps a reply where it fits, and says whether it did; else the oldest one is dropped.
 fn keep_or_drop(outbox: &mut Outbox, alloc: Global, kept: Kept) -> Result<bool, Memory>
@@ -56,19 +57,19 @@ fn seventeen_replies(rt: HostRuntime) -> Result<(), Fail> {
             body: body.copy()?,
         };
         if body.len() == 262_156 {
-            assert_eq!(rt; keep_or_drop(&mut outbox, rt.alloc(), kept)?, true);
+            same(keep_or_drop(&mut outbox, rt.alloc(), kept)?, true)?;
         }
     }
-    assert_eq!(rt; dropped.as_slice(), [(16, 4), (17, 8)].as_slice());
-    assert_eq!(rt; (outbox.len(), outbox.bytes()), (15, 3_932_340));
-    assert_eq!(rt; calls(&outbox), [Some(12), Some(16), Some(20), Some(24)]);
-    assert_eq!(rt; outbox.ack(17), Some(16));
-    assert_eq!(rt; outbox.ack(17), None);
-    assert_eq!(rt; outbox.bytes(), 3_670_184);
-    assert!(rt; outbox.by_call(16).is_none());
-    assert_eq!(rt; outbox.by_call(20).map(|kept| kept.number), Some(21));
-    assert_eq!(rt; outbox.by_number(21).map(|kept| kept.call), Some(20));
-    assert_eq!(rt; number_in_copy(&outbox, rt.alloc(), 68, 13)?, Some(69));
-    assert_eq!(rt; (KEPT_REPLIES_MAX, KEPT_BYTES_MAX), (4_096, 4_194_304));
+    same(dropped.as_slice(), [(16, 4), (17, 8)].as_slice())?;
+    same((outbox.len(), outbox.bytes()), (15, 3_932_340))?;
+    same(calls(&outbox), [Some(12), Some(16), Some(20), Some(24)])?;
+    same(outbox.ack(17), Some(16))?;
+    same(outbox.ack(17), None)?;
+    same(outbox.bytes(), 3_670_184)?;
+    holds(outbox.by_call(16).is_none())?;
+    same(outbox.by_call(20).map(|kept| kept.number), Some(21))?;
+    same(outbox.by_number(21).map(|kept| kept.call), Some(20))?;
+    same(number_in_copy(&outbox, rt.alloc(), 68, 13)?, Some(69))?;
+    same((KEPT_REPLIES_MAX, KEPT_BYTES_MAX), (4_096, 4_194_304))?;
     Ok(())
 }

@@ -9,6 +9,7 @@ use salt_line::laws::current_salts_are_valid;
 use salt_line::{SaltLine, SaltRow};
 use std::alloc::Global;
 use std::test::Fail;
+use test_asserts::{holds, same};
 
 const NO_ROW: SaltRow = SaltRow {
     since: 0,
@@ -27,11 +28,11 @@ const WORDS: [u64; 4] = [
 #[test]
 fn first_salt_is_valid_for_an_hour(rt: HostRuntime) -> Result<(), Fail> {
     let line = SaltLine::new(rt.alloc(), Moment::new(1_000), 7)?;
-    assert!(rt; line.judge(Moment::new(1_000), 7));
-    assert!(rt; line.judge(Moment::new(4_599), 7));
-    assert!(rt; !line.judge(Moment::new(4_600), 7));
-    assert!(rt; !line.judge(Moment::new(1_000), 0));
-    assert!(rt; !line.judge(Moment::new(1_000), 8));
+    holds(line.judge(Moment::new(1_000), 7))?;
+    holds(line.judge(Moment::new(4_599), 7))?;
+    holds(!line.judge(Moment::new(4_600), 7))?;
+    holds(!line.judge(Moment::new(1_000), 0))?;
+    holds(!line.judge(Moment::new(1_000), 8))?;
     Ok(())
 }
 
@@ -40,14 +41,14 @@ fn first_salt_is_valid_for_an_hour(rt: HostRuntime) -> Result<(), Fail> {
 fn words_in_order_of_need(rt: HostRuntime) -> Result<(), Fail> {
     let mut draw = StepDraw::new();
     let mut line = SaltLine::new(rt.alloc(), Moment::new(0), 7)?;
-    assert_eq!(rt; line.current(Moment::new(1_799), &mut draw), 7);
-    assert_eq!(rt; line.current(Moment::new(1_800), &mut draw), WORDS[0]);
-    assert_eq!(rt; line.current(Moment::new(3_599), &mut draw), WORDS[0]);
-    assert_eq!(rt; line.current(Moment::new(3_600), &mut draw), WORDS[1]);
-    assert!(rt; line.judge(Moment::new(5_399), WORDS[0]));
-    assert!(rt; !line.judge(Moment::new(5_400), WORDS[0]));
+    same(line.current(Moment::new(1_799), &mut draw), 7)?;
+    same(line.current(Moment::new(1_800), &mut draw), WORDS[0])?;
+    same(line.current(Moment::new(3_599), &mut draw), WORDS[0])?;
+    same(line.current(Moment::new(3_600), &mut draw), WORDS[1])?;
+    holds(line.judge(Moment::new(5_399), WORDS[0]))?;
+    holds(!line.judge(Moment::new(5_400), WORDS[0]))?;
     let mut rows = [NO_ROW; 64];
-    assert_eq!(rt; line.future(Moment::new(3_600), 2, &mut draw, &mut rows), 2);
+    same(line.future(Moment::new(3_600), 2, &mut draw, &mut rows), 2)?;
     let first = SaltRow {
         since: 3_600,
         until: 7_200,
@@ -58,9 +59,9 @@ fn words_in_order_of_need(rt: HostRuntime) -> Result<(), Fail> {
         until: 9_000,
         salt: WORDS[2],
     };
-    assert_eq!(rt; rows[0], first);
-    assert_eq!(rt; rows[1], second);
-    assert_eq!(rt; rows[2], NO_ROW);
+    same(rows[0], first)?;
+    same(rows[1], second)?;
+    same(rows[2], NO_ROW)?;
     Ok(())
 }
 
@@ -69,16 +70,16 @@ fn rows_drawn_ahead(rt: HostRuntime) -> Result<(), Fail> {
     let mut draw = StepDraw::new();
     let mut line = SaltLine::new(rt.alloc(), Moment::new(0), 7)?;
     let mut rows = [NO_ROW; 64];
-    assert_eq!(rt; line.future(Moment::new(1_799), 3, &mut draw, &mut rows), 3);
-    assert_eq!(rt; rows[0].salt, 7);
-    assert_eq!(rt; rows[2].salt, WORDS[1]);
-    assert_eq!(rt; line.current(Moment::new(3_600), &mut draw), WORDS[1]);
-    assert_eq!(rt; line.current(Moment::new(100_000), &mut draw), WORDS[2]);
-    assert_eq!(rt;
+    same(line.future(Moment::new(1_799), 3, &mut draw, &mut rows), 3)?;
+    same(rows[0].salt, 7)?;
+    same(rows[2].salt, WORDS[1])?;
+    same(line.current(Moment::new(3_600), &mut draw), WORDS[1])?;
+    same(line.current(Moment::new(100_000), &mut draw), WORDS[2])?;
+    same(
         line.future(Moment::new(100_000), 100, &mut draw, &mut rows),
-        64
-    );
-    assert_eq!(rt; rows[1].salt, WORDS[3]);
+        64,
+    )?;
+    same(rows[1].salt, WORDS[3])?;
     Ok(())
 }
 
@@ -113,7 +114,7 @@ fn salts_of_a_session<D: Draw>(alloc: Global, draw: &mut D) -> Result<usize, Mem
 
 #[test]
 fn a_session(rt: HostRuntime) -> Result<(), Fail> {
-    assert!(rt; gives_and_judges(rt.alloc(), &mut StepDraw::new())?);
-    assert_eq!(rt; salts_of_a_session(rt.alloc(), &mut StepDraw::new())?, 4);
+    holds(gives_and_judges(rt.alloc(), &mut StepDraw::new())?)?;
+    same(salts_of_a_session(rt.alloc(), &mut StepDraw::new())?, 4)?;
     Ok(())
 }

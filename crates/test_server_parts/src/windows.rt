@@ -9,6 +9,7 @@ use id_window::{Cross, Mark, WINDOW_NUMBERS, Window};
 use octets::Memory;
 use std::alloc::Global;
 use std::test::Fail;
+use test_asserts::same;
 
 // Notes a call where it is new and crosses nothing, and says whether it did.
 fn accept_call(window: &mut Window, alloc: Global, number: u64, seq: u32) -> Result<bool, Memory>
@@ -77,22 +78,22 @@ fn a_full_window_forgets_its_least_number(rt: HostRuntime) -> Result<(), Fail> {
     let mut window = Window::new(rt.alloc())?;
     for k in 1..16_385u64 {
         let forgotten = note_new(&mut window, rt.alloc(), 4 * k, 2 * k as u32, Mark::Service)?;
-        assert_eq!(rt; forgotten, None);
+        same(forgotten, None)?;
     }
-    assert_eq!(rt; window.floor(), 0);
-    assert_eq!(rt; window.greatest(), 65_536);
+    same(window.floor(), 0)?;
+    same(window.greatest(), 65_536)?;
     let forgotten = note_new(&mut window, rt.alloc(), 65_540, 65_535, Mark::Waiting)?;
-    assert_eq!(rt; forgotten, Some((4, Mark::Service)));
-    assert_eq!(rt; window.floor(), 4);
+    same(forgotten, Some((4, Mark::Service)))?;
+    same(window.floor(), 4)?;
     // Below the full window a number comes straight back.
     let forgotten = note_new(&mut window, rt.alloc(), 6, 0, Mark::Noticed(18))?;
-    assert_eq!(rt; forgotten, Some((6, Mark::Noticed(18))));
-    assert_eq!(rt; window.floor(), 6);
-    assert_eq!(rt; window.find(6), None);
-    assert_eq!(rt; window.find(8), Some(Mark::Service));
+    same(forgotten, Some((6, Mark::Noticed(18))))?;
+    same(window.floor(), 6)?;
+    same(window.find(6), None)?;
+    same(window.find(8), Some(Mark::Service))?;
     let copy = window.copy(rt.alloc())?;
-    assert_eq!(rt; copy.find(65_540), Some(Mark::Waiting));
-    assert_eq!(rt; (copy.floor(), copy.greatest()), (6, 65_540));
+    same(copy.find(65_540), Some(Mark::Waiting))?;
+    same((copy.floor(), copy.greatest()), (6, 65_540))?;
     Ok(())
 }
 
@@ -109,30 +110,30 @@ fn crossing_rows(rt: HostRuntime) -> Result<(), Fail> {
         (4, 0, Cross::None),
     ];
     for (number, seq, cross) in rows {
-        assert_eq!(rt; window.crosses(number, seq), cross);
+        same(window.crosses(number, seq), cross)?;
     }
     // A noticed number crosses nothing, and even seqs may be shared.
     note_new(&mut window, rt.alloc(), 16, 9, Mark::Noticed(34))?;
-    assert_eq!(rt; window.crosses(20, 9), Cross::None);
+    same(window.crosses(20, 9), Cross::None)?;
     note_new(&mut window, rt.alloc(), 20, 4, Mark::Service)?;
-    assert_eq!(rt; window.crosses(24, 4), Cross::None);
-    assert_eq!(rt; window.crosses(24, 3), Cross::Low);
+    same(window.crosses(24, 4), Cross::None)?;
+    same(window.crosses(24, 3), Cross::Low)?;
     Ok(())
 }
 
 #[test]
 fn marks_change(rt: HostRuntime) -> Result<(), Fail> {
     let mut window = Window::new(rt.alloc())?;
-    assert_eq!(rt;
+    same(
         accept_and_answer(&mut window, rt.alloc(), 8, 1),
-        Some(Mark::Replied(true))
-    );
-    assert_eq!(rt; window.find(8), Some(Mark::Replied(true)));
-    assert_eq!(rt;
+        Some(Mark::Replied(true)),
+    )?;
+    same(window.find(8), Some(Mark::Replied(true)))?;
+    same(
         find_in_copy(&window, rt.alloc(), 8)?,
-        Some(Mark::Replied(true))
-    );
-    assert_eq!(rt; accept_call(&mut window, rt.alloc(), 8, 3)?, false);
-    assert_eq!(rt; WINDOW_NUMBERS, 16_384);
+        Some(Mark::Replied(true)),
+    )?;
+    same(accept_call(&mut window, rt.alloc(), 8, 3)?, false)?;
+    same(WINDOW_NUMBERS, 16_384)?;
     Ok(())
 }

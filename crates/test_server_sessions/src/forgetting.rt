@@ -9,6 +9,7 @@ use server_output::OutgoingMessages;
 use server_session::{DroppedReply, SessionState};
 use std::alloc::Global;
 use std::test::*;
+use test_asserts::same;
 
 // The session's first salt: the second word of the draw, 2 times its step.
 const SALT: u64 = 12_728_272_447_693_586_010;
@@ -91,40 +92,46 @@ fn dropped(alloc: Global) -> Result<(Option<DroppedReply>, usize), Memory> {
 fn all_that_is_kept_is_said_again(rt: HostRuntime) -> Result<(), Fail> {
     let alloc = rt.alloc();
     let standing = answered(alloc)?;
-    assert_eq!(rt; said_again(alloc, &standing)?.len(), 2);
+    same(said_again(alloc, &standing)?.len(), 2)?;
     Ok(())
 }
 
 #[test]
 fn an_acknowledged_reply_is_not_kept(rt: HostRuntime) -> Result<(), Fail> {
-    assert_eq!(rt; acknowledged(rt.alloc())?, (1, Some(Mark::Acked(true))));
+    same(acknowledged(rt.alloc())?, (1, Some(Mark::Acked(true))))?;
     Ok(())
 }
 
 #[test]
 fn a_dropped_reply_is_told(rt: HostRuntime) -> Result<(), Fail> {
-    assert_eq!(rt; dropped(rt.alloc())?, (Some(reply()), 1));
+    same(dropped(rt.alloc())?, (Some(reply()), 1))?;
     Ok(())
+}
+
+// The body of the message that is owed alone.
+fn sole(owing: &OutgoingMessages) -> &[u8] {
+    if owing.len() != 1 {
+        return &[];
+    }
+    owing.at(0).body
 }
 
 #[test]
 fn a_request_to_drop_is_answered(rt: HostRuntime) -> Result<(), Fail> {
     let told = told(rt.alloc())?;
-    assert_eq!(rt; told.len(), 1);
-    assert_eq!(rt;
-        told.at(0).body,
-        b"\x01\x6d\x5c\xf3\x0c\0\0\0\0\0\0\0\xb7\xd8\x3a\xa4\x09\0\0\0\0\0\0\0\x03\0\0\0\x10\0\0\0".as_slice()
-    );
+    same(
+        sole(&told),
+        b"\x01\x6d\x5c\xf3\x0c\0\0\0\0\0\0\0\xb7\xd8\x3a\xa4\x09\0\0\0\0\0\0\0\x03\0\0\0\x10\0\0\0".as_slice(),
+    )?;
     Ok(())
 }
 
 #[test]
 fn states_are_told(rt: HostRuntime) -> Result<(), Fail> {
     let states = states(rt.alloc())?;
-    assert_eq!(rt; states.len(), 1);
-    assert_eq!(rt;
-        states.at(0).body,
-        b"\x7d\xb5\xde\x04\x0c\0\0\0\0\0\0\0\x04\x01\x64\x02\x03\0\0\0".as_slice()
-    );
+    same(
+        sole(&states),
+        b"\x7d\xb5\xde\x04\x0c\0\0\0\0\0\0\0\x04\x01\x64\x02\x03\0\0\0".as_slice(),
+    )?;
     Ok(())
 }

@@ -9,6 +9,7 @@ use regs_service::{Regs, Service};
 use server_core::{Desk, DeskFault, Plain, Server};
 use std::alloc::Global;
 use std::test::*;
+use test_asserts::{holds, same};
 use test_keys::{KEY_ID, ring};
 
 #[test]
@@ -18,13 +19,13 @@ fn an_unknown_session_owes_nothing(rt: HostRuntime) -> Result<(), Fail> {
     let mut draw = StepDraw::new();
     for seconds in [0, 1_000, 5] {
         let effects = server.attach(alloc, KEY_ID, 9, Moment::new(seconds), &mut draw)?;
-        assert_eq!(rt; effects.out.as_slice().len(), 0);
-        assert_eq!(rt; effects.entries.as_slice().len(), 0);
+        same(effects.out.as_slice().len(), 0)?;
+        same(effects.entries.as_slice().len(), 0)?;
     }
-    assert!(rt; !server.lose(KEY_ID, 9));
+    holds(!server.lose(KEY_ID, 9))?;
     server.restart(alloc);
-    assert_eq!(rt; (server.ready(), server.unfinished()), (0, 0));
-    assert!(rt; server.seal().has(KEY_ID));
+    same((server.ready(), server.unfinished()), (0, 0))?;
+    holds(server.seal().has(KEY_ID))?;
     Ok(())
 }
 
@@ -34,8 +35,8 @@ fn a_tick_with_nothing_due_says_nothing(rt: HostRuntime) -> Result<(), Fail> {
     let mut server = Server::new(alloc, MtSeal::new(ring(alloc, "perm")?));
     let mut draw = StepDraw::new();
     let effects = server.tick(alloc, Moment::new(30), &mut draw)?;
-    assert_eq!(rt; effects.out.as_slice().len(), 0);
-    assert_eq!(rt; effects.entries.as_slice().len(), 0);
+    same(effects.out.as_slice().len(), 0)?;
+    same(effects.entries.as_slice().len(), 0)?;
     Ok(())
 }
 
@@ -77,7 +78,7 @@ fn a_plain_desk_drops_what_does_not_open(rt: HostRuntime) -> Result<(), Fail> {
         Moment::new(30),
         b"too short",
     )?;
-    assert_eq!(rt; sent, 0);
-    assert_eq!(rt; desk.ready(), 0);
+    same(sent, 0)?;
+    same(desk.ready(), 0)?;
     Ok(())
 }

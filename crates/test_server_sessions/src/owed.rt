@@ -12,6 +12,7 @@ use salt_line::SaltRow;
 use server_output::{Header, OutgoingMessages, Outs, Packets, packets_most};
 use std::alloc::Global;
 use std::test::*;
+use test_asserts::same;
 use test_keys::{KEY_ID, ring};
 
 const HEADER: Header = Header {
@@ -70,7 +71,7 @@ fn sizes(outs: &Outs) -> (usize, Option<(u64, u64, usize)>) {
 fn three_things_go_in_one_packet(rt: HostRuntime) -> Result<(), Fail> {
     let seal = ClearSeal::new(ring(rt.alloc(), "perm")?);
     let outs = sent(rt.alloc(), &seal)?;
-    assert_eq!(rt; sizes(&outs), (1, Some((KEY_ID, 9, 216))));
+    same(sizes(&outs), (1, Some((KEY_ID, 9, 216))))?;
     Ok(())
 }
 
@@ -94,16 +95,16 @@ fn first_opened(alloc: Global) -> Result<Envelope, Fail> {
 #[test]
 fn they_are_named_as_the_header_says(rt: HostRuntime) -> Result<(), Fail> {
     let envelope = first_opened(rt.alloc())?;
-    assert_eq!(rt;
+    same(
         (
             envelope.key,
             envelope.salt,
             envelope.session,
             envelope.number,
-            envelope.seq
+            envelope.seq,
         ),
-        (KEY_ID, HEADER.salt, 9, 15, 2)
-    );
+        (KEY_ID, HEADER.salt, 9, 15, 2),
+    )?;
     Ok(())
 }
 
@@ -112,7 +113,7 @@ fn they_are_a_container(rt: HostRuntime) -> Result<(), Fail> {
     let body =
         b"\xdc\xf8\xf1\x73\x03\0\0\0\x07\0\0\0\0\0\0\0\x01\0\0\0\x1c\0\0\0\x08\x09\xc2\x9e\x04\0\0\0\0\0\0\0\x07\0\0\0\0\0\0\0\x08\x07\x06\x05\x04\x03\x02\x01\x09\0\0\0\0\0\0\0\x02\0\0\0\x1c\0\0\0\x7b\x44\xab\xed\x04\0\0\0\0\0\0\0\x01\0\0\0\x30\0\0\0\x08\x07\x06\x05\x04\x03\x02\x01\x0d\0\0\0\0\0\0\0\x03\0\0\0\x18\0\0\0\x01\x6d\x5c\xf3\x08\0\0\0\0\0\0\0answered in.";
     let envelope = first_opened(rt.alloc())?;
-    assert_eq!(rt; envelope.body.as_slice(), body.as_slice());
+    same(envelope.body.as_slice(), body.as_slice())?;
     Ok(())
 }
 
@@ -195,7 +196,7 @@ fn what_is_said_is_spelt(rt: HostRuntime) -> Result<(), Fail> {
     ];
     let (owing, _, _) = first_answers(rt.alloc())?;
     for (place, number, seq, body) in rows {
-        assert_eq!(rt; part(&owing, place), Some((number, seq, body)));
+        same(part(&owing, place), Some((number, seq, body)))?;
     }
     Ok(())
 }
@@ -203,10 +204,10 @@ fn what_is_said_is_spelt(rt: HostRuntime) -> Result<(), Fail> {
 #[test]
 fn what_is_said_is_counted(rt: HostRuntime) -> Result<(), Fail> {
     let (owing, number, seq) = first_answers(rt.alloc())?;
-    assert_eq!(rt; (owing.len(), number, seq), (8, 33, 1));
-    assert_eq!(rt;
+    same((owing.len(), number, seq), (8, 33, 1))?;
+    same(
         (owing.is_empty(), owing.has_said(33), owing.has_said(8)),
-        (false, true, false)
-    );
+        (false, true, false),
+    )?;
     Ok(())
 }

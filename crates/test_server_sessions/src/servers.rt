@@ -10,6 +10,7 @@ use octets::{Memory, Octets};
 use server_core::{Heard, Reply, Server};
 use std::alloc::Global;
 use std::test::*;
+use test_asserts::same;
 use test_keys::{KEY_ID, ring};
 
 // The call `add x 5`.
@@ -66,22 +67,22 @@ fn first_packet(reply: &Reply) -> &[u8] {
 #[test]
 fn a_session_heard_first_answers_in_168_bytes(rt: HostRuntime) -> Result<(), Fail> {
     let (server, reply) = heard(rt.alloc())?;
-    assert_eq!(rt;
+    same(
         reply.heard,
         Heard::Judged {
             key: KEY_ID,
-            session: 9
-        }
-    );
-    assert_eq!(rt;
+            session: 9,
+        },
+    )?;
+    same(
         (
             reply.out.as_slice().len(),
             first_packet(&reply).len(),
             reply.entries.as_slice().len(),
-            server.unfinished()
+            server.unfinished(),
         ),
-        (1, 168, 0, 0)
-    );
+        (1, 168, 0, 0),
+    )?;
     Ok(())
 }
 
@@ -100,12 +101,12 @@ fn it_says_that_it_is_new_and_which_salt_is_right(rt: HostRuntime) -> Result<(),
         b"\xdc\xf8\xf1\x73\x02\0\0\0\x07\0\0\0\0\0\0\0\x01\0\0\0\x1c\0\0\0\x08\x09\xc2\x9e\x04\0\0\0\0\0\0\0\x2d\x7f\x95\x4c\x2d\xf4\x51\x58\x5a\xfe\x2a\x99\x5a\xe8\xa3\xb0\x09\0\0\0\0\0\0\0\x02\0\0\0\x1c\0\0\0\x7b\x44\xab\xed\x04\0\0\0\0\0\0\0\x01\0\0\0\x30\0\0\0\x5a\xfe\x2a\x99\x5a\xe8\xa3\xb0";
     let (server, reply) = heard(rt.alloc())?;
     let envelope = opened(rt.alloc(), server.seal(), first_packet(&reply))?;
-    assert_eq!(rt;
+    same(
         (envelope.key, envelope.salt, envelope.session),
-        (KEY_ID, SALT, 9)
-    );
-    assert_eq!(rt; (envelope.number, envelope.seq), (15, 2));
-    assert_eq!(rt; envelope.body.as_slice(), body.as_slice());
+        (KEY_ID, SALT, 9),
+    )?;
+    same((envelope.number, envelope.seq), (15, 2))?;
+    same(envelope.body.as_slice(), body.as_slice())?;
     Ok(())
 }
 
@@ -114,7 +115,7 @@ fn a_packet_of_no_key_is_refused(rt: HostRuntime) -> Result<(), Fail> {
     let alloc = rt.alloc();
     let mut server = Server::new(alloc, MtSeal::new(ring(alloc, "perm")?));
     let reply = server.on_packet(alloc, Moment::new(0), &[0; 72], &mut StepDraw::new())?;
-    assert_eq!(rt; reply.heard, Heard::NotOpened(Refusal::NoKey { id: 0 }));
-    assert_eq!(rt; reply.out.as_slice().len(), 0);
+    same(reply.heard, Heard::NotOpened(Refusal::NoKey { id: 0 }))?;
+    same(reply.out.as_slice().len(), 0)?;
     Ok(())
 }

@@ -14,6 +14,7 @@ use server_output::{OutgoingMessages, Outs, Packets, packets_most};
 use server_session::SessionState;
 use std::alloc::Global;
 use std::test::*;
+use test_asserts::same;
 use test_keys::{KEY_ID, ring};
 
 // The session says that it is new and which salt is right, and sends that.
@@ -52,10 +53,7 @@ fn first_packet(outs: &Outs) -> &[u8] {
 fn a_session_heard_first_owes_168_bytes(rt: HostRuntime) -> Result<(), Fail> {
     let seal = MtSeal::new(ring(rt.alloc(), "perm")?);
     let outs = sent(rt.alloc(), &seal)?;
-    assert_eq!(rt;
-        (outs.as_slice().len(), first_packet(&outs).len()),
-        (1, 168)
-    );
+    same((outs.as_slice().len(), first_packet(&outs).len()), (1, 168))?;
     Ok(())
 }
 
@@ -71,7 +69,7 @@ fn named(alloc: Global, seal: &MtSeal, packet: &[u8]) -> Result<(u64, u64, u32),
 fn what_a_session_says_first_has_its_names(rt: HostRuntime) -> Result<(), Fail> {
     let seal = MtSeal::new(ring(rt.alloc(), "perm")?);
     let outs = sent(rt.alloc(), &seal)?;
-    assert_eq!(rt; named(rt.alloc(), &seal, first_packet(&outs))?, (9, 15, 2));
+    same(named(rt.alloc(), &seal, first_packet(&outs))?, (9, 15, 2))?;
     Ok(())
 }
 
@@ -108,7 +106,7 @@ fn judged(alloc: Global) -> Result<(SessionState, usize), Memory> {
 #[test]
 fn a_judged_call_waits(rt: HostRuntime) -> Result<(), Fail> {
     let (standing, count) = judged(rt.alloc())?;
-    assert_eq!(rt; (count, standing.mark(4)), (1, Some(Mark::Waiting)));
+    same((count, standing.mark(4)), (1, Some(Mark::Waiting)))?;
     Ok(())
 }
 
@@ -163,10 +161,10 @@ fn a_reply_is_kept_until_4096_others_are(rt: HostRuntime) -> Result<(), Fail> {
         (4097, Mark::Dropped(true), 0, 1),
     ];
     for (count, mark, first, second) in rows {
-        assert_eq!(rt;
+        same(
             kept_after(rt.alloc(), count)?,
-            (true, Some(mark), first, second)
-        );
+            (true, Some(mark), first, second),
+        )?;
     }
     Ok(())
 }
@@ -174,9 +172,9 @@ fn a_reply_is_kept_until_4096_others_are(rt: HostRuntime) -> Result<(), Fail> {
 #[test]
 fn a_session_that_answered_has_its_names(rt: HostRuntime) -> Result<(), Fail> {
     let (standing, _) = answered(rt.alloc(), 4097)?;
-    assert_eq!(rt;
+    same(
         (standing.key(), standing.number(), standing.is_of(KEY_ID, 9)),
-        (KEY_ID, 9, true)
-    );
+        (KEY_ID, 9, true),
+    )?;
     Ok(())
 }

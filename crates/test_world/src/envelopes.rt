@@ -13,6 +13,7 @@ use msg_key::{UP, aes_of, msg_key};
 use octets::{Buffer, Memory, Octets};
 use std::alloc::Global;
 use std::test::*;
+use test_asserts::{holds, holds_at, same, tells};
 use test_keys::{KEY_ID, bytes_from_0_to_255, ring};
 
 // Two packets made by another implementation of the equations: a few lines of Python over the SHA-1 and SHA-256 of its
@@ -119,7 +120,7 @@ fn lengths_and_paddings(rt: HostRuntime) -> Result<(), Fail> {
     ];
     let seal = MtSeal::new(ring(alloc, "perm")?);
     for (behind, said, expected) in rows {
-        assert_eq!(rt; outcome(alloc, &seal, behind, said)?, expected);
+        same(outcome(alloc, &seal, behind, said)?, expected)?;
     }
     Ok(())
 }
@@ -141,7 +142,7 @@ fn keys_and_sizes(rt: HostRuntime) -> Result<(), Fail> {
         (0, 71, Some(Refusal::Size { len: 71 })),
     ];
     for (now, size, expected) in rows {
-        assert_eq!(rt; refusal_at(rt.alloc(), now, size)?, expected);
+        same(refusal_at(rt.alloc(), now, size)?, expected)?;
     }
     Ok(())
 }
@@ -159,12 +160,12 @@ fn refusal_turned(alloc: Global, place: usize) -> Result<Option<Refusal>, Fail> 
 
 #[test]
 fn a_bit_of_the_key_is_turned(rt: HostRuntime) -> Result<(), Fail> {
-    assert_eq!(rt;
+    same(
         refusal_turned(rt.alloc(), 3)?,
         Some(Refusal::NoKey {
-            id: KEY_ID ^ 0x0100_0000
-        })
-    );
+            id: KEY_ID ^ 0x0100_0000,
+        }),
+    )?;
     Ok(())
 }
 
@@ -172,10 +173,7 @@ fn a_bit_of_the_key_is_turned(rt: HostRuntime) -> Result<(), Fail> {
 fn a_bit_of_the_text_is_turned(rt: HostRuntime) -> Result<(), Fail> {
     for place in [8, 23, 24, 71] {
         let found = refusal_turned(rt.alloc(), place)?;
-        assert!(rt;
-            matches!(found, Some(Refusal::KeyMismatch { .. })),
-            "at {place}"
-        );
+        holds_at(place, matches!(found, Some(Refusal::KeyMismatch { .. })))?;
     }
     Ok(())
 }
@@ -215,10 +213,10 @@ fn packet_of<S: Seal>(alloc: Global, seal: &S, dir: Dir, number: u64) -> Result<
 #[test]
 fn a_seal_has_the_keys_of_its_ring(rt: HostRuntime) -> Result<(), Fail> {
     let seal = MtSeal::new(ring(rt.alloc(), "perm")?);
-    assert_eq!(rt;
+    same(
         (seal.has(KEY_ID), seal.has(0), seal.ring().len()),
-        (true, false, 1)
-    );
+        (true, false, 1),
+    )?;
     Ok(())
 }
 
@@ -229,7 +227,7 @@ fn sealed_as_another_does(rt: HostRuntime) -> Result<(), Fail> {
     let rows = [(Dir::Up, 4, UP_PACKET), (Dir::Down, 5, DOWN_PACKET)];
     for (dir, number, packet) in rows {
         let sealed = packet_of(alloc, &seal, dir, number)?;
-        assert_eq!(rt; sealed.as_slice(), packet.as_slice());
+        same(sealed.as_slice(), packet.as_slice())?;
     }
     Ok(())
 }
@@ -246,17 +244,17 @@ fn opened_down(alloc: Global, packet: &[u8]) -> Result<Envelope, Fail> {
 #[test]
 fn opened_as_another_does(rt: HostRuntime) -> Result<(), Fail> {
     let opened = opened_down(rt.alloc(), &DOWN_PACKET)?;
-    assert_eq!(rt;
+    same(
         (
             opened.key,
             opened.salt,
             opened.session,
             opened.number,
-            opened.seq
+            opened.seq,
         ),
-        (KEY_ID, 0x0102_0304_0506_0708, 0x1112_1314_1516_1718, 5, 1)
-    );
-    assert_eq!(rt; opened.body.as_slice(), [0xa0, 0xa1, 0xa2, 0xa3].as_slice());
+        (KEY_ID, 0x0102_0304_0506_0708, 0x1112_1314_1516_1718, 5, 1),
+    )?;
+    same(opened.body.as_slice(), [0xa0, 0xa1, 0xa2, 0xa3].as_slice())?;
     Ok(())
 }
 
@@ -264,10 +262,10 @@ fn opened_as_another_does(rt: HostRuntime) -> Result<(), Fail> {
 fn sealed_without_a_cipher(rt: HostRuntime) -> Result<(), Fail> {
     let seal = ClearSeal::new(ring(rt.alloc(), "perm")?);
     let packet = packet_of(rt.alloc(), &seal, Dir::Down, 5)?;
-    assert_eq!(rt;
+    same(
         (packet.as_slice(), packet_bytes(4)),
-        (CLEAR_PACKET.as_slice(), 72)
-    );
+        (CLEAR_PACKET.as_slice(), 72),
+    )?;
     Ok(())
 }
 
@@ -275,7 +273,7 @@ fn sealed_without_a_cipher(rt: HostRuntime) -> Result<(), Fail> {
 fn a_packet_down_is_none_up(rt: HostRuntime) -> Result<(), Fail> {
     let seal = ClearSeal::new(ring(rt.alloc(), "perm")?);
     let found = refusal(rt.alloc(), &seal, 0, &CLEAR_PACKET)?;
-    assert!(rt; matches!(found, Some(Refusal::KeyMismatch { .. })));
+    holds(matches!(found, Some(Refusal::KeyMismatch { .. })))?;
     Ok(())
 }
 
@@ -300,7 +298,7 @@ fn is_opened_again(alloc: Global) -> Result<bool, Fail> {
 
 #[test]
 fn opened_without_a_cipher(rt: HostRuntime) -> Result<(), Fail> {
-    assert!(rt; is_opened_again(rt.alloc())?);
+    holds(is_opened_again(rt.alloc())?)?;
     Ok(())
 }
 
@@ -326,8 +324,7 @@ fn refusals_are_told(rt: HostRuntime) -> Result<(), Fail> {
         ),
     ];
     for (refusal, text) in rows {
-        let told = format!(in rt.alloc(); "{refusal}")?;
-        assert_eq!(rt; told.as_str(), text);
+        tells(rt.alloc(), &refusal, text)?;
     }
     Ok(())
 }

@@ -9,6 +9,7 @@ use sim_text::{
 };
 use std::alloc::Global;
 use std::test::Fail;
+use test_asserts::same;
 
 /// A value of the register service.
 const FIVE: [u8; 12] = [3, 44, 27, 10, 5, 0, 0, 0, 0, 0, 0, 0];
@@ -119,6 +120,6 @@ fn texts(rt: HostRuntime) -> Result<(), Fail> {
     calls(alloc, &mut text)?;
     entries(alloc, &mut text)?;
     rest(alloc, &mut text)?;
-    assert_eq!(rt; text.as_slice(), TEXTS.as_bytes());
+    same(text.as_slice(), TEXTS.as_bytes())?;
     Ok(())
 }

@@ -10,6 +10,7 @@ use regs_service::Regs;
 use sim_world::World;
 use std::alloc::Global;
 use std::test::*;
+use test_asserts::same;
 use test_keys::{KEY_ID, TEMP_ID, both_keys};
 
 // A new world.
@@ -65,13 +66,13 @@ fn schedules(rt: HostRuntime) -> Result<(), Fail> {
     let alloc = rt.alloc();
     let first =
         b"client\ncall 1 add x 5\nflush 1\ngive 1\ngive 2\nflush 1\ngive 3\nwork 1\ngive 4\ngive 5\n";
-    assert_eq!(rt; run(alloc, first)?, (0, 5, Some(5)));
+    same(run(alloc, first)?, (0, 5, Some(5)))?;
     let lost =
         b"client\ncall 1 add x 5\nflush 1\ngive 1\ngive 2\nflush 1\ngive 3\nwork 1\nrestart\ngive 3\ngive 6\ngive 5\n";
-    assert_eq!(rt; run(alloc, lost)?, (0, 6, None));
+    same(run(alloc, lost)?, (0, 6, None))?;
     let refused =
         b"client\ncall 1 add x 5\nflush 2\ngive 1\nwork 1\nrenew 1\ncall 1 pad 4 after 7\nlose 2\n";
-    assert_eq!(rt; run(alloc, refused)?, (6, 0, None));
+    same(run(alloc, refused)?, (6, 0, None))?;
     Ok(())
 }
 
@@ -81,12 +82,12 @@ fn cores_of_a_world(rt: HostRuntime) -> Result<(), Fail> {
     let alloc = rt.alloc();
     let mut world = world(alloc)?;
     let schedule = b"client\ncall 1 add x 5\nflush 1\ngive 1\ngive 2\nflush 1\ngive 3\n";
-    assert_eq!(rt; stepped(alloc, &mut world, schedule)?, 0);
-    assert_eq!(rt; world.server().ready(), 1);
-    assert_eq!(rt; world.clients(), 1);
+    same(stepped(alloc, &mut world, schedule)?, 0)?;
+    same(world.server().ready(), 1)?;
+    same(world.clients(), 1)?;
     if world.clients() != 1 {
         return Err(Fail::new("no client"));
     }
-    assert_eq!(rt; world.client(1).session(), 6_364_136_223_846_793_005);
+    same(world.client(1).session(), 6_364_136_223_846_793_005)?;
     Ok(())
 }

@@ -12,6 +12,7 @@ use draws::{Draw, Seeded, StepDraw};
 use octets::{Memory, Octets};
 use std::alloc::Global;
 use std::test::*;
+use test_asserts::{holds, same, same_at, shows};
 use transport::{Form, Framed, Next, RawStep, Wire};
 
 // What a client sends first of the padded form, obfuscated, where the first word drawn was `ef10203040506070`.
@@ -192,11 +193,11 @@ fn each_form_in_any_pieces(rt: HostRuntime) -> Result<(), Fail> {
         (Form::Full, false, short, 516 + 520),
     ];
     for (form, obfuscate, second, size) in rows {
-        assert_eq!(rt;
+        same_at(
+            form,
             sent_and_read(rt.alloc(), form, obfuscate, second)?,
             (size, true),
-            "{form:?}"
-        );
+        )?;
     }
     Ok(())
 }
@@ -219,7 +220,7 @@ fn padded_up(alloc: Global) -> Result<Octets, Memory> {
 #[test]
 fn sent_as_by_another_implementation(rt: HostRuntime) -> Result<(), Fail> {
     let (_, sent) = padded(rt.alloc())?;
-    assert_eq!(rt; sent.as_slice(), padded_up(rt.alloc())?.as_slice());
+    same(sent.as_slice(), padded_up(rt.alloc())?.as_slice())?;
     Ok(())
 }
 
@@ -239,10 +240,10 @@ fn answered(alloc: Global) -> Result<(bool, bool, Octets), Fail> {
 #[test]
 fn answered_as_by_another_implementation(rt: HostRuntime) -> Result<(), Fail> {
     let (first, second, answer) = answered(rt.alloc())?;
-    assert_eq!(rt;
+    same(
         (first, second, answer.as_slice()),
-        (true, true, PADDED_DOWN.as_slice())
-    );
+        (true, true, PADDED_DOWN.as_slice()),
+    )?;
     Ok(())
 }
 
@@ -258,10 +259,10 @@ fn taken(alloc: Global) -> Result<(bool, bool, Octets), Memory> {
 #[test]
 fn an_answer_is_taken_in_two_pieces(rt: HostRuntime) -> Result<(), Fail> {
     let (first, second, packet) = taken(rt.alloc())?;
-    assert_eq!(rt;
+    same(
         (first, second, packet.as_slice()),
-        (false, true, ERROR.as_slice())
-    );
+        (false, true, ERROR.as_slice()),
+    )?;
     Ok(())
 }
 
@@ -311,10 +312,10 @@ fn no_form(rt: HostRuntime) -> Result<(), Fail> {
     for (first, number) in rows {
         let start = start(alloc, first, number)?;
         let start = start.as_slice();
-        assert_eq!(rt;
+        same(
             (has_no_tag(alloc, start)?, is_awaited(alloc, start)?),
-            (true, true)
-        );
+            (true, true),
+        )?;
     }
     Ok(())
 }
@@ -327,7 +328,7 @@ const FULL: &[u8; 36] =
 #[test]
 fn full_frames_are_read_from_the_first_byte(rt: HostRuntime) -> Result<(), Fail> {
     let text = b"packet\x6c\xfe\xff\xffpacketabcdefgh";
-    assert!(rt; is_read(rt.alloc(), FULL, &[1, 7, 8, 9, 36], text)?);
+    holds(is_read(rt.alloc(), FULL, &[1, 7, 8, 9, 36], text)?)?;
     Ok(())
 }
 
@@ -341,14 +342,17 @@ fn full_sent(alloc: Global) -> Result<Octets, Memory> {
 
 #[test]
 fn full_frames_are_sent(rt: HostRuntime) -> Result<(), Fail> {
-    assert_eq!(rt; full_sent(rt.alloc())?.as_slice(), FULL.as_slice());
+    same(full_sent(rt.alloc())?.as_slice(), FULL.as_slice())?;
     Ok(())
 }
 
 #[test]
 fn an_end_is_shown_without_its_bytes(rt: HostRuntime) -> Result<(), Fail> {
     let (step, _) = read(rt.alloc(), &FULL[..7], 7)?;
-    let shown = format!(in rt.alloc(); "{step:?}")?;
-    assert_eq!(rt; shown.as_str(), "Raw(Wire { state: Raw { count: 7, .. } })");
+    shows(
+        rt.alloc(),
+        &step,
+        "Raw(Wire { state: Raw { count: 7, .. } })",
+    )?;
     Ok(())
 }
