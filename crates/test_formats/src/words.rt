@@ -65,12 +65,24 @@ fn words_and_what_they_say(rt: HostRuntime) -> Result<(), Fail> {
             "call --keys k --key 0000000000000000 --port 1 --form intermediate --obfuscate",
             "Call(CallOptions { keys: FileName { text: \"k\" }, key: 0, port: 1, form: Intermediate, obfuscate: true, retries: 0, perm: None })",
         ),
+        (
+            "pair --keys f --key 0102030405060708 --port 65534 --stop-after 1000000000",
+            "Pair(PairOptions { keys: FileName { text: \"f\" }, key: 578437695752307201, port: 65534, stop_after: 1000000000 })",
+        ),
+        ("check", "Check"),
+        (
+            "relay --secret 000102030405060708090a0b0c0d0e0F --form padded",
+            "Relay(RelayOptions { secret: Secret(..), form: Padded })",
+        ),
         ("--help", "Help(Program)"),
         ("--help sim", "Help(Program)"),
         ("sim --help", "Help(Sim)"),
         ("load x --help", "Help(Load)"),
         ("serve --port 0 --help", "Help(Serve)"),
         ("call --help --bogus", "Help(Call)"),
+        ("pair --help", "Help(Pair)"),
+        ("check --help", "Help(Check)"),
+        ("relay --help", "Help(Relay)"),
         ("--version", "Version"),
     ];
     for (line, want) in rows {
@@ -133,9 +145,16 @@ fn words_that_are_refused(rt: HostRuntime) -> Result<(), Fail> {
         "call --keys k --key 0102030405060708 --port 1 --form full --retries 00",
         "call --keys k --key 0102030405060708 --port 1 --form full --perm 0",
         "pair",
-        "pair --help",
-        "check",
+        "pair --keys f --key 0102030405060708 --port 65535 --stop-after 1",
+        "pair --keys f --key 0102030405060708 --port 1 --stop-after 0",
+        "pair --keys f --key 0102030405060708 --port 1",
+        "check x",
         "relay",
+        "relay --form padded",
+        "relay --secret 000102030405060708090a0b0c0d0e0f",
+        "relay --secret 000102030405060708090a0b0c0d0e0f --form full",
+        "relay --secret 000102030405060708090a0b0c0d0e --form padded",
+        "relay --secret 000102030405060708090a0b0c0d0e0g --form padded",
         "help",
         "-h",
         "--version x",
@@ -160,6 +179,9 @@ fn pages(rt: HostRuntime) -> Result<(), Fail> {
         (Page::Load, "mtp load "),
         (Page::Serve, "mtp serve "),
         (Page::Call, "mtp call "),
+        (Page::Pair, "mtp pair "),
+        (Page::Check, "mtp check\n"),
+        (Page::Relay, "mtp relay "),
     ];
     for (page, front) in pages {
         let text = page.text();
@@ -169,5 +191,20 @@ fn pages(rt: HostRuntime) -> Result<(), Fail> {
     same(version(), "mtp 0.1.0\n")?;
     let words = words_of(rt.alloc(), "load 3")?;
     same(calls_wanted(rt.alloc(), words.as_slice())?, 3)?;
+    Ok(())
+}
+
+#[test]
+fn a_secret_is_its_digits(rt: HostRuntime) -> Result<(), Fail> {
+    let words = words_of(
+        rt.alloc(),
+        "relay --secret 000102030405060708090a0b0c0d0eff --form abridged",
+    )?;
+    let Command::Relay(options) = read(rt.alloc(), words.as_slice())? else {
+        return Err(Fail::new("another command"));
+    };
+    same(options.secret.as_bytes()[0], 0)?;
+    same(options.secret.as_bytes()[1], 1)?;
+    same(options.secret.as_bytes()[15], 255)?;
     Ok(())
 }
