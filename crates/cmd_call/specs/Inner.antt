@@ -1,4 +1,4 @@
--- Words of private contracts, which are no promise of this crate.
+-- Words of the contracts of parts: the first three are those of public ones, the others are no promise of this crate.
 use Rattle.std.specs.Prelude.{◌≡◌, ◌⊎◌, ℕ, true, Option, Some, None, Result, Ok, Err, List}
 use Rattle.auth_keys.specs.declared.ring.RingKey.{RingKey}
 use Rattle.call_script.specs.Scripts.{Spells}

@@ -17,12 +17,12 @@ use octets::Memory;
 use std::alloc::Global;
 
 /// The call that isn't taken.
-#[derive(Clone, Copy)]
-pub(crate) struct Untaken {
-    /// The number of its line.
-    pub(crate) line: u32,
+#[derive(Clone, Copy, Debug)]
+pub struct Untaken {
+    /// The number of its line, from 1.
+    pub line: u32,
     /// Why it isn't taken.
-    pub(crate) fault: SubmitFault,
+    pub fault: SubmitFault,
 }
 
 /// A client under these keys. The number of its session is drawn.
@@ -30,11 +30,7 @@ pub(crate) struct Untaken {
 /// # Errors
 ///
 /// `Memory`, and then nothing was drawn.
-pub(crate) fn opening<D: Draw>(
-    alloc: Global,
-    keys: Acting,
-    draw: &mut D,
-) -> Result<OpeningClient, Memory>
+pub fn opening<D: Draw>(alloc: Global, keys: Acting, draw: &mut D) -> Result<OpeningClient, Memory>
     ensures stands { IfOk result (λ client. Stands client (client_under (keys_of keys) (word_after D.step 0 draw.old))) }
     ensures keys { IfOk result (λ client. keys_in client ≡ keys_of keys) }
     ensures after { OnOk result (draw.new ≡ draw_after D.step 1 draw.old) }
@@ -53,11 +49,7 @@ pub(crate) fn opening<D: Draw>(
 /// # Errors
 ///
 /// The first call that isn't taken.
-pub(crate) fn submit_all(
-    client: &mut OpeningClient,
-    alloc: Global,
-    script: &Script,
-) -> Result<(), Untaken>
+pub fn submit_all(client: &mut OpeningClient, alloc: Global, script: &Script) -> Result<(), Untaken>
     ensures told { (whole : Client) → Stands client.old whole → calls_of whole ≡ [] → TellsUntaken (untaken script.now) result }
     ensures stands { OnOk result ((whole : Client) → Stands client.old whole → Stands client.new (given_all script.now whole)) }
     ensures keys { keys_in client.new ≡ keys_in client.old }

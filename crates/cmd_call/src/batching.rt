@@ -65,11 +65,15 @@ pub(crate) fn run<N: Net, C: Clock, D: Draw>(
         clock,
         draw,
     );
-    told(alloc, &holder, end)
+    batch_answer(alloc, &holder, end)
 }
 
-/// What is told of a client's batch.
-fn told(alloc: Global, holder: &Holder, end: Batch) -> Result<Answer, Memory>
+/// What is told of a client's batch that ended so: the table of its calls and, unless each is decided, a line on that.
+///
+/// # Errors
+///
+/// `Memory`, also where the batch ended by that.
+pub fn batch_answer(alloc: Global, holder: &Holder, end: Batch) -> Result<Answer, Memory>
     ensures { (whole : Client) → StandsFor holder.now whole → IfOk result (λ answer. TellsBatch end (calls_of whole) answer.status answer.text) }
 {
     match end {

@@ -150,12 +150,16 @@ fn answer_under<N: Net, C: Clock, D: Draw>(
     let mut client = opening(alloc, keys, draw)?;
     match submit_all(&mut client, alloc, script) {
         Ok(()) => run(alloc, options, client, ring, net, clock, draw),
-        Err(untaken) => refused(alloc, &untaken),
+        Err(untaken) => refused_call(alloc, &untaken),
     }
 }
 
-/// A call isn't taken.
-fn refused(alloc: Global, untaken: &Untaken) -> Result<Answer, Memory>
+/// The answer where a call isn't taken: the number of its line, and why.
+///
+/// # Errors
+///
+/// `Memory`, also where the call isn't taken for want of it.
+pub fn refused_call(alloc: Global, untaken: &Untaken) -> Result<Answer, Memory>
     ensures { IfOk result (λ answer. IsRefusalOf untaken.now.line (fault_of untaken.now.fault) answer.status answer.text) }
 {
     match submit_cause(&untaken.fault) {

@@ -8,8 +8,8 @@ use auth_keys::{KeyKind, Ring};
 use msg_ids::Moment;
 
 /// The keys under which a client acts.
-#[derive(Clone, Copy)]
-pub(crate) enum Acting {
+#[derive(Clone, Copy, Debug)]
+pub enum Acting {
     /// A permanent key.
     Perm {
         /// Its identifier.
@@ -27,7 +27,7 @@ pub(crate) enum Acting {
 }
 
 /// The keys of a ring with these identifiers, `perm` for a temporary key alone; none where the ring lacks one that is needed.
-pub(crate) fn keys_in_ring(ring: &Ring, key: u64, perm: Option<u64>) -> Option<Acting>
+pub fn keys_in_ring(ring: &Ring, key: u64, perm: Option<u64>) -> Option<Acting>
     ensures keys { option_map keys_of result ≡ keys_for ring.now key perm }
 {
     match ring.kind(key)? {

@@ -3,18 +3,25 @@
 ghost use Rattle.std.specs.Prelude.{◌≡◌, ◌≢◌, ◌↔◌, [], ℕ, Bool, List, IsTrue, IfOk, IfErr, IfSome, IfNone, map, string_bytes, codes};
 ghost use Rattle.std.specs.List.{list_any};
 ghost use Rattle.std.specs.Str.{bytes_eq};
-ghost use Rattle.commands.specs.Simple.{sim, load, serve, call};
+ghost use Rattle.commands.specs.Simple.{sim, load, serve, call, pair, check, relay};
 ghost use Rattle.commands.specs.Values.{HasFlag, HasNumber};
-ghost use Rattle.commands.specs.Says.{IsLawful, Says, SaysServe, SaysCall, page_word};
-ghost use Rattle.commands.specs.Inner.{IsTold, RefusesUnlessMemory};
+ghost use Rattle.commands.specs.Says.{IsLawful, Says, SaysServe, SaysCall, SaysPair, SaysRelay, page_word};
+ghost use Rattle.commands.specs.Inner.{IsTold, RefusesUnlessMemory, SaysNothing};
 ghost use Rattle.commands.specs.declared.command.Command.{Command};
 ghost use Rattle.commands.specs.declared.command.ServeOptions.{ServeOptions};
 ghost use Rattle.commands.specs.declared.command.CallOptions.{CallOptions};
+ghost use Rattle.commands.specs.declared.command.PairOptions.{PairOptions};
+ghost use Rattle.commands.specs.declared.command.RelayOptions.{RelayOptions};
 ghost use Rattle.commands.specs.declared.page.Page.{Page};
 
-use crate::command::{CallOptions, Command, FileName, ServeOptions, WordsFault};
+use crate::command::{
+    CallOptions, Command, FileName, PairOptions, RelayOptions, ServeOptions, WordsFault,
+};
 use crate::page::Page;
-use crate::simple::{Taken, call_command, load_command, serve_command, sim_command, take};
+use crate::simple::{
+    Taken, call_command, check_command, load_command, pair_command, relay_command, serve_command,
+    sim_command, take,
+};
 use std::alloc::Global;
 use transport::Form;
 
@@ -46,6 +53,12 @@ pub fn read<'a>(alloc: Global, words: &'a [String]) -> Result<Command<'a>, Words
         }),
         "serve" => Ok(Command::Serve(told_serve(alloc, words)?)),
         "call" => Ok(Command::Call(told_call(alloc, words)?)),
+        "pair" => Ok(Command::Pair(told_pair(alloc, words)?)),
+        "check" => {
+            told_check(alloc, words)?;
+            Ok(Command::Check)
+        }
+        "relay" => Ok(Command::Relay(told_relay(alloc, words)?)),
         "--version" if words.len() == 1 => Ok(Command::Version),
         _ => Err(WordsFault::Refused),
     }
@@ -69,6 +82,9 @@ fn page_of(first: &str) -> Option<Page>
         "load" => Some(Page::Load),
         "serve" => Some(Page::Serve),
         "call" => Some(Page::Call),
+        "pair" => Some(Page::Pair),
+        "check" => Some(Page::Check),
+        "relay" => Some(Page::Relay),
         _ => None,
     }
 }
@@ -107,6 +123,33 @@ fn told_call<'a>(alloc: Global, words: &'a [String]) -> Result<CallOptions<'a>, 
 {
     let taken = take(call_command(alloc)?, words)?;
     call_options(&taken)
+}
+
+/// What `pair` is told.
+fn told_pair<'a>(alloc: Global, words: &'a [String]) -> Result<PairOptions<'a>, WordsFault>
+    ensures found { IfOk result (IsTold pair SaysPair (map string_bytes words.entry.now)) }
+    ensures refused { IfErr result (RefusesUnlessMemory pair SaysPair (map string_bytes words.entry.now)) }
+{
+    let taken = take(pair_command(alloc)?, words)?;
+    pair_options(&taken)
+}
+
+/// That `check` is told nothing.
+fn told_check(alloc: Global, words: &[String]) -> Result<(), WordsFault>
+    ensures found { IfOk result (IsTold check SaysNothing (map string_bytes words.now)) }
+    ensures refused { IfErr result (RefusesUnlessMemory check SaysNothing (map string_bytes words.now)) }
+{
+    take(check_command(alloc)?, words)?;
+    Ok(())
+}
+
+/// What `relay` is told.
+fn told_relay(alloc: Global, words: &[String]) -> Result<RelayOptions, WordsFault>
+    ensures found { IfOk result (IsTold relay SaysRelay (map string_bytes words.now)) }
+    ensures refused { IfErr result (RefusesUnlessMemory relay SaysRelay (map string_bytes words.now)) }
+{
+    let taken = take(relay_command(alloc)?, words)?;
+    relay_options(&taken)
 }
 
 /// The options of `serve`.
@@ -150,4 +193,34 @@ fn call_options<'a>(taken: &Taken<'a>) -> Result<CallOptions<'a>, WordsFault>
         retries,
         perm,
     })
+}
+
+/// The options of `pair`.
+fn pair_options<'a>(taken: &Taken<'a>) -> Result<PairOptions<'a>, WordsFault>
+    ensures found { IfOk result (SaysPair taken.now) }
+    ensures refused { IfErr result (λ _. (options : PairOptions) → SaysPair taken.now options → ⊥) }
+{
+    let keys = FileName::new(taken.needed("keys")?);
+    let key = taken.id("key")?;
+    let port = taken.number("port", 1, 65_534)? as u16;
+    let stop_after = taken.number("stop-after", 1, 1_000_000_000)?;
+    Ok(PairOptions {
+        keys,
+        key,
+        port,
+        stop_after,
+    })
+}
+
+/// The options of `relay`.
+fn relay_options(taken: &Taken<'_>) -> Result<RelayOptions, WordsFault>
+    ensures found { IfOk result (SaysRelay taken.now) }
+    ensures refused { IfErr result (λ _. (options : RelayOptions) → SaysRelay taken.now options → ⊥) }
+{
+    let secret = taken.secret("secret")?;
+    let form = taken.form("form")?;
+    if form == Form::Full {
+        return Err(WordsFault::Refused);
+    }
+    Ok(RelayOptions { secret, form })
 }

@@ -1,14 +1,17 @@
 -- What a run promises, by the command that was carried out.
-use Rattle.std.proofs.Common.{◌≡◌, ◌≢◌, ◌⊎◌, ℕ, List, Bool, Option, Some, None, codes, inl, subst, ap, arith}
+use Rattle.std.proofs.Common.{◌≡◌, ◌≢◌, ◌<◌, ◌⊎◌, ℕ, List, Bool, Option, Some, None, codes, inl, subst, ap, arith}
 use Rattle.clap.specs.Words.{Row}
 use Rattle.cmd_call.specs.Owed.{Around, Files}
 use Rattle.cmd_call.specs.Runs.{CallRun}
+use Rattle.cmd_pair.specs.Runs.{PairRun}
+use Rattle.cmd_pair.specs.Servers.{Kids}
 use Rattle.commands.specs.Pages.{page_text, version_text}
-use Rattle.commands.specs.Says.{Says, SaysServe}
+use Rattle.commands.specs.Says.{Says, SaysPair, SaysServe}
 use Rattle.commands.specs.Values.{MayHaveNumber}
 use Rattle.commands.specs.declared.command.CallOptions.{CallOptions}
 use Rattle.commands.specs.declared.command.Command.{Command}
 use Rattle.commands.specs.declared.command.Command.TheVariants as command
+use Rattle.commands.specs.declared.command.PairOptions.{PairOptions}
 use Rattle.commands.specs.declared.command.ServeOptions.{ServeOptions}
 use Rattle.commands.specs.declared.page.Page.{Page}
 use Rattle.cmd_sim.specs.Runs.{LoadRun, SimRun}
@@ -17,7 +20,7 @@ use Rattle.statuses.specs.Outside.{IsUntouched, Outside, PlainRun}
 use Rattle.statuses.specs.Statuses.{EndsBy, number_of}
 use Rattle.statuses.specs.declared.status.Status.{Status}
 use Rattle.statuses.specs.declared.status.Status.TheVariants as status
-use Rattle.mtp_app.specs.Obeys.{AreOffline, AreWithoutInput, IsApart, IsLawful, IsUnbegun, Obeys, Stays, draws_of, files_part, moments_of, net_part}
+use Rattle.mtp_app.specs.Obeys.{AreOffline, AreWithoutChildren, AreWithoutInput, IsAlone, IsApart, IsLawful, IsUnbegun, Obeys, Stays, draws_of, files_part, moments_of, net_part}
 
 -- ---- what words say is lawful
 
@@ -33,19 +36,23 @@ not-none rows (Some number) h e = let none : number ≡ 0 = ap (get_some number)
 serve-lawful : (options : ServeOptions) (rows : List Row) → SaysServe rows options → options.stop_after ≢ Some 0
 serve-lawful options rows h e = not-none rows options.stop_after h.stop_after e
 
+pair-lawful : (options : PairOptions) (rows : List Row) → SaysPair rows options → options.port < 65535
+pair-lawful options rows h = omega (arith, h.port.most_or_less)
+
 pub says-lawful : (words : List (List ℕ)) (said : Command) → Says words said → IsLawful said
 says-lawful words (command.Sim wire) h = tt
 says-lawful words (command.Load calls) h = tt
 says-lawful words (command.Serve options) h = serve-lawful options _ h.means.1
 says-lawful words (command.Call options) h = h.means.1.lawful
+says-lawful words (command.Pair options) h = pair-lawful options _ h.means.1
 says-lawful words (command.Help page) h = tt
 says-lawful words command.Version h = tt
 
 -- ---- the command was carried out
 
-module _ {S O F N C D : Type 0} (input : Outside S) (out : Outside O) (files : Files F) (around : Around N C D) (n : ℕ) (one : Status) (said : Command) (ends : n ≡ number_of one) (obeyed : Obeys said input out files around one) where
-  so : (other : Command) → said ≡ other → Obeys other input out files around one
-  so other same = subst (λ (command : Command). Obeys command input out files around one) same obeyed
+module _ {S O F N C D P : Type 0} (input : Outside S) (out : Outside O) (files : Files F) (around : Around N C D) (kids : Kids P) (n : ℕ) (one : Status) (said : Command) (ends : n ≡ number_of one) (obeyed : Obeys said input out files around kids one) where
+  so : (other : Command) → said ≡ other → Obeys other input out files around kids one
+  so other same = subst (λ (command : Command). Obeys command input out files around kids one) same obeyed
 
   pub sims : (wire : Bool) → said ≡ command.Sim wire → EndsBy n (SimRun wire input out)
   sims wire same = (one, ends, so (command.Sim wire) same)
@@ -60,6 +67,10 @@ module _ {S O F N C D : Type 0} (input : Outside S) (out : Outside O) (files : F
   pub calls : (options : CallOptions) → said ≡ command.Call options → EndsBy n (λ one. CallRun options input out files around one ⊎ IsUnbegun out files around one)
   calls options same = (one, ends, inl (so (command.Call options) same))
 
+  pub pairs : (options : PairOptions) → said ≡ command.Pair options
+      → EndsBy n (λ one. PairRun options input out files around kids one ⊎ (IsUnbegun out files around one × IsAlone kids))
+  pairs options same = (one, ends, inl (so (command.Pair options) same))
+
   pub helps : (page : Page) → said ≡ command.Help page → EndsBy n (λ one. PlainRun out status.Done (page_text page) one)
   helps page same = (one, ends, so (command.Help page) same)
 
@@ -68,20 +79,32 @@ module _ {S O F N C D : Type 0} (input : Outside S) (out : Outside O) (files : F
 
 -- ---- what it leaves alone
 
-pub reads-not : {S F N C D : Type 0} (input : Outside S) (files : Files F) (around : Around N C D) (words : List (List ℕ)) (said : Command) → Says words said → Stays said input files around
+pub reads-not : {S F N C D P : Type 0} (input : Outside S) (files : Files F) (around : Around N C D) (kids : Kids P) (words : List (List ℕ)) (said : Command) → Says words said → Stays said input files around kids
     → AreWithoutInput words → IsUntouched input
-reads-not input files around words (command.Sim wire) says h not = absurd (not.no_sim wire says)
-reads-not input files around words (command.Load calls) says h not = h.0
-reads-not input files around words (command.Serve options) says h not = h
-reads-not input files around words (command.Call options) says h not = absurd (not.no_call options says)
-reads-not input files around words (command.Help page) says h not = h.0
-reads-not input files around words command.Version says h not = h.0
+reads-not input files around kids words (command.Sim wire) says h not = absurd (not.no_sim wire says)
+reads-not input files around kids words (command.Load calls) says h not = h.0
+reads-not input files around kids words (command.Serve options) says h not = h.0
+reads-not input files around kids words (command.Call options) says h not = absurd (not.no_call options says)
+reads-not input files around kids words (command.Pair options) says h not = absurd (not.no_pair options says)
+reads-not input files around kids words (command.Help page) says h not = h.0
+reads-not input files around kids words command.Version says h not = h.0
 
-pub stays-apart : {S F N C D : Type 0} (input : Outside S) (files : Files F) (around : Around N C D) (words : List (List ℕ)) (said : Command) → Says words said → Stays said input files around
+pub stays-apart : {S F N C D P : Type 0} (input : Outside S) (files : Files F) (around : Around N C D) (kids : Kids P) (words : List (List ℕ)) (said : Command) → Says words said → Stays said input files around kids
     → AreOffline words → IsApart files around
-stays-apart input files around words (command.Sim wire) says h not = h
-stays-apart input files around words (command.Load calls) says h not = h.1
-stays-apart input files around words (command.Serve options) says h not = absurd (not.no_serve options says)
-stays-apart input files around words (command.Call options) says h not = absurd (not.no_call options says)
-stays-apart input files around words (command.Help page) says h not = h.1
-stays-apart input files around words command.Version says h not = h.1
+stays-apart input files around kids words (command.Sim wire) says h not = h.0
+stays-apart input files around kids words (command.Load calls) says h not = h.1
+stays-apart input files around kids words (command.Serve options) says h not = absurd (not.no_serve options says)
+stays-apart input files around kids words (command.Call options) says h not = absurd (not.no_call options says)
+stays-apart input files around kids words (command.Pair options) says h not = absurd (not.no_pair options says)
+stays-apart input files around kids words (command.Help page) says h not = h.1
+stays-apart input files around kids words command.Version says h not = h.1
+
+pub stays-alone : {S F N C D P : Type 0} (input : Outside S) (files : Files F) (around : Around N C D) (kids : Kids P) (words : List (List ℕ)) (said : Command) → Says words said → Stays said input files around kids
+    → AreWithoutChildren words → IsAlone kids
+stays-alone input files around kids words (command.Sim wire) says h not = h.1
+stays-alone input files around kids words (command.Load calls) says h not = h.2
+stays-alone input files around kids words (command.Serve options) says h not = h.1
+stays-alone input files around kids words (command.Call options) says h not = h
+stays-alone input files around kids words (command.Pair options) says h not = absurd (not options says)
+stays-alone input files around kids words (command.Help page) says h not = h.2
+stays-alone input files around kids words command.Version says h not = h.2

@@ -1,12 +1,15 @@
 -- What the program promises, by the command that the words say.
-use Rattle.std.specs.Prelude.{◌≡◌, ◌≢◌, ℕ, Bool, true, List, Some, ⊤}
+use Rattle.std.specs.Prelude.{◌≡◌, ◌≢◌, ◌<◌, ℕ, Bool, true, List, Some, ⊤}
 use Rattle.cmd_call.specs.Owed.{Around, Files, IsIdle}
 use Rattle.cmd_call.specs.Runs.{CallRun}
+use Rattle.cmd_pair.specs.Runs.{PairRun}
+use Rattle.cmd_pair.specs.Servers.{Kids}
 use Rattle.commands.specs.Pages.{page_text, version_text}
 use Rattle.commands.specs.Says.{Says}
 use Rattle.commands.specs.declared.command.CallOptions.{CallOptions}
 use Rattle.commands.specs.declared.command.Command.{Command}
 use Rattle.commands.specs.declared.command.Command.TheVariants as command
+use Rattle.commands.specs.declared.command.PairOptions.{PairOptions}
 use Rattle.commands.specs.declared.command.ServeOptions.{ServeOptions}
 use Rattle.mt_edge.specs.Files.{FilesTold}
 use Rattle.mt_edge.specs.declared.net_call.NetCall.{NetCall}
@@ -19,15 +22,21 @@ use Rattle.transport.specs.declared.form.Form.TheVariants.{Full}
 
 -- ---- what a run leaves alone
 
--- the words say neither `sim` nor `call`
+-- the words say neither `sim` nor `call` nor `pair`
 pub record AreWithoutInput (words : List (List ℕ)) : Type 0 where
   pub no_sim : (wire : Bool) → Says words (command.Sim wire) → ⊥
   pub no_call : (options : CallOptions) → Says words (command.Call options) → ⊥
+  pub no_pair : (options : PairOptions) → Says words (command.Pair options) → ⊥
 
--- the words say neither `serve` nor `call`
+-- the words say neither `serve` nor `call` nor `pair`
 pub record AreOffline (words : List (List ℕ)) : Type 0 where
   pub no_serve : (options : ServeOptions) → Says words (command.Serve options) → ⊥
   pub no_call : (options : CallOptions) → Says words (command.Call options) → ⊥
+  pub no_pair : (options : PairOptions) → Says words (command.Pair options) → ⊥
+
+-- the words don't say `pair`
+abbrev pub AreWithoutChildren : List (List ℕ) → Type 0
+AreWithoutChildren words = (options : PairOptions) → Says words (command.Pair options) → ⊥
 
 -- files, net, clock and drawn words are as they were
 pub record IsApart {F N C D : Type 0} (files : Files F) (around : Around N C D) : Type 0 where
@@ -46,6 +55,7 @@ pub record IsUnbegun {O F N C D : Type 0} (out : Outside O) (files : Files F) (a
 abbrev pub IsLawful : Command → Type 0
 IsLawful (command.Serve options) = options.stop_after ≢ Some 0
 IsLawful (command.Call options) = options.obfuscate ≡ true → options.form ≢ Full
+IsLawful (command.Pair options) = options.port < 65535
 IsLawful said = ⊤
 
 abbrev pub files_part : {F : Type 0} → Files F → Part FilesTold F
@@ -60,19 +70,25 @@ moments_of around = record { before = around.given around.clock; after = around.
 abbrev pub draws_of : {N C D : Type 0} → Around N C D → Draws D
 draws_of around = record { before = around.draw; after = around.draw_then }
 
-abbrev pub Obeys : {S O F N C D : Type 0} → Command → Outside S → Outside O → Files F → Around N C D → Status → Type 0
-Obeys (command.Sim wire) input out files around one = SimRun wire input out one
-Obeys (command.Load calls) input out files around one = LoadRun calls out one
-Obeys (command.Serve options) input out files around one = ServeRun around.step options (files_part files) (net_part around) out (moments_of around) (draws_of around) one
-Obeys (command.Call options) input out files around one = CallRun options input out files around one
-Obeys (command.Help page) input out files around one = PlainRun out status.Done (page_text page) one
-Obeys command.Version input out files around one = PlainRun out status.Done version_text one
+abbrev pub Obeys : {S O F N C D P : Type 0} → Command → Outside S → Outside O → Files F → Around N C D → Kids P → Status → Type 0
+Obeys (command.Sim wire) input out files around kids one = SimRun wire input out one
+Obeys (command.Load calls) input out files around kids one = LoadRun calls out one
+Obeys (command.Serve options) input out files around kids one = ServeRun around.step options (files_part files) (net_part around) out (moments_of around) (draws_of around) one
+Obeys (command.Call options) input out files around kids one = CallRun options input out files around one
+Obeys (command.Pair options) input out files around kids one = PairRun options input out files around kids one
+Obeys (command.Help page) input out files around kids one = PlainRun out status.Done (page_text page) one
+Obeys command.Version input out files around kids one = PlainRun out status.Done version_text one
+
+-- no call of the spawner was made
+abbrev pub IsAlone : {P : Type 0} → Kids P → Type 0
+IsAlone kids = kids.after ≡ kids.before
 
 -- what a command leaves alone
-abbrev pub Stays : {S F N C D : Type 0} → Command → Outside S → Files F → Around N C D → Type 0
-Stays (command.Sim wire) input files around = IsApart files around
-Stays (command.Load calls) input files around = IsUntouched input × IsApart files around
-Stays (command.Serve options) input files around = IsUntouched input
-Stays (command.Call options) input files around = ⊤
-Stays (command.Help page) input files around = IsUntouched input × IsApart files around
-Stays command.Version input files around = IsUntouched input × IsApart files around
+abbrev pub Stays : {S F N C D P : Type 0} → Command → Outside S → Files F → Around N C D → Kids P → Type 0
+Stays (command.Sim wire) input files around kids = IsApart files around × IsAlone kids
+Stays (command.Load calls) input files around kids = IsUntouched input × IsApart files around × IsAlone kids
+Stays (command.Serve options) input files around kids = IsUntouched input × IsAlone kids
+Stays (command.Call options) input files around kids = IsAlone kids
+Stays (command.Pair options) input files around kids = ⊤
+Stays (command.Help page) input files around kids = IsUntouched input × IsApart files around × IsAlone kids
+Stays command.Version input files around kids = IsUntouched input × IsApart files around × IsAlone kids

@@ -2,11 +2,13 @@
 
 ghost use Rattle.std.specs.Prelude.{◌≡◌, ◌⊎◌, ℕ, Bool, map, string_bytes};
 ghost use Rattle.cmd_call.specs.Runs.{CallRun};
+ghost use Rattle.cmd_pair.specs.Runs.{PairRun};
 ghost use Rattle.commands.specs.Pages.{page_text, version_text};
 ghost use Rattle.commands.specs.Says.{Says};
 ghost use Rattle.commands.specs.declared.command.CallOptions.{CallOptions};
 ghost use Rattle.commands.specs.declared.command.Command.{Command as Said};
 ghost use Rattle.commands.specs.declared.command.Command.TheVariants as command;
+ghost use Rattle.commands.specs.declared.command.PairOptions.{PairOptions};
 ghost use Rattle.commands.specs.declared.command.ServeOptions.{ServeOptions};
 ghost use Rattle.commands.specs.declared.page.Page.{Page};
 ghost use Rattle.cmd_sim.specs.Runs.{LoadRun, SimRun};
@@ -15,9 +17,10 @@ ghost use Rattle.statuses.specs.Lines.{words_refused};
 ghost use Rattle.statuses.specs.Outside.{PlainRun};
 ghost use Rattle.statuses.specs.Statuses.{EndsBy};
 ghost use Rattle.statuses.specs.declared.status.Status.TheVariants as status;
-ghost use Rattle.mtp_app.specs.Obeys.{AreOffline, AreWithoutInput, IsLawful, IsUnbegun, Obeys, Stays};
+ghost use Rattle.mtp_app.specs.Obeys.{AreOffline, AreWithoutChildren, AreWithoutInput, IsLawful, IsUnbegun, Obeys, Stays};
 
 use cmd_call::run_call;
+use cmd_pair::run_pair;
 use cmd_serve::run_serve;
 use cmd_sim::laws::memory_may_run_out;
 use cmd_sim::{run_load, run_sim};
@@ -37,13 +40,16 @@ const WORDS_REFUSED: &str = "words refused\n";
 /// - `serve --keys F --port P --conns N [--stop-after K]` serves connections of the net.
 /// - `call --keys F --key ID --port P --form FORM [--obfuscate] [--retries R] [--perm ID]` reads a script and runs it as one
 ///   batch over connections of the net.
+/// - `pair --keys F --key ID --port P --stop-after K` reads a script, starts a server that stops behind K packets, and runs it as
+///   one batch over that server and, where that loses its connection, over a second one.
 /// - `--help`, alone or behind the name of a command, and `--version` write a text.
 ///
-/// Status 0: what was to be written is written, and by `call` each call is done. 1: the words are refused. 2: the input is refused, with the line and the
+/// Status 0: what was to be written is written, and by `call` and `pair` each call is done. 1: the words are refused. 2: the input is refused, with the line and the
 /// cause. 3: the input can't be read. 4: the output can't be written. 5: the key file isn't read or is refused, or lacks a
 /// key. 6: each call is decided, and one isn't done. 7: more connections were lost than may be. 8: one connection gave as
 /// many pieces as it may. 9: memory ran out. 10: a client has something to send and fewer than
-/// 2,048 numbers left. 11: no connections can be taken.
+/// 2,048 numbers left. 11: no connections can be taken, or a server can't be
+/// started, read or waited for.
 pub fn run<S: Source, O: Sink, F: KeyFiles, N: Net, P: Spawner, C: Clock, D: Seeded>(
     alloc: Global,
     words: &[String],
@@ -78,6 +84,15 @@ pub fn run<S: Source, O: Sink, F: KeyFiles, N: Net, P: Spawner, C: Clock, D: See
         (record { told = O.written; faults = O.faults; before = out.old; after = out.new })
         (record { told = F.told; faults = F.faults; before = files.old; after = files.new })
         (record { calls = N.calls; faults = N.faults; given = C.given; step = D.step; net = net.old; net_then = net.new; clock = clock.old; clock_then = clock.new; draw = draw.old; draw_then = draw.new }) one) }
+    ensures pair { (options : PairOptions) → Says (map string_bytes words.now) (command.Pair options) → EndsBy result (λ one. PairRun options
+        (record { told = S.left; faults = S.faults; before = input.old; after = input.new })
+        (record { told = O.written; faults = O.faults; before = out.old; after = out.new })
+        (record { told = F.told; faults = F.faults; before = files.old; after = files.new })
+        (record { calls = N.calls; faults = N.faults; given = C.given; step = D.step; net = net.old; net_then = net.new; clock = clock.old; clock_then = clock.new; draw = draw.old; draw_then = draw.new })
+        (record { calls = P.calls; faults = P.faults; before = kids.old; after = kids.new }) one ⊎ (IsUnbegun
+        (record { told = O.written; faults = O.faults; before = out.old; after = out.new })
+        (record { told = F.told; faults = F.faults; before = files.old; after = files.new })
+        (record { calls = N.calls; faults = N.faults; given = C.given; step = D.step; net = net.old; net_then = net.new; clock = clock.old; clock_then = clock.new; draw = draw.old; draw_then = draw.new }) one × (kids.new ≡ kids.old))) }
     ensures help { (page : Page) → Says (map string_bytes words.now) (command.Help page) → EndsBy result (λ one. PlainRun
         (record { told = O.written; faults = O.faults; before = out.old; after = out.new }) status.Done (page_text page) one) }
     ensures version { Says (map string_bytes words.now) command.Version → EndsBy result (λ one. PlainRun
@@ -85,29 +100,30 @@ pub fn run<S: Source, O: Sink, F: KeyFiles, N: Net, P: Spawner, C: Clock, D: See
     // Words that say no command are refused.
     ensures refused { ((said : Said) → Says (map string_bytes words.now) said → ⊥) → EndsBy result (λ one. PlainRun
         (record { told = O.written; faults = O.faults; before = out.old; after = out.new }) status.WordsRefused words_refused one) }
-    // Only `sim` and `call` read the input.
+    // Only `sim`, `call` and `pair` read the input.
     ensures unread { AreWithoutInput (map string_bytes words.now) → input.new ≡ input.old }
-    // Only `serve` and `call` use files, the net, the clock or drawn words; no command starts a child.
+    // Only `serve`, `call` and `pair` use files, the net, the clock or drawn words, and only `pair` starts children.
     ensures offline { AreOffline (map string_bytes words.now) → (files.new ≡ files.old) × (net.new ≡ net.old) × (clock.new ≡ clock.old) × (draw.new ≡ draw.old) }
-    ensures alone { kids.new ≡ kids.old }
+    ensures alone { AreWithoutChildren (map string_bytes words.now) → kids.new ≡ kids.old }
 {
     one_reading();
     memory_may_run_out::<S, O>();
     match read(alloc, words) {
-        Ok(command) => obey(alloc, &command, input, out, files, net, clock, draw).number(),
+        Ok(command) => obey(alloc, &command, input, out, files, net, kids, clock, draw).number(),
         Err(WordsFault::Refused) => plain(alloc, Status::WordsRefused, WORDS_REFUSED, out).number(),
         Err(WordsFault::Memory) => Status::Memory.number(),
     }
 }
 
 /// Carries out a command.
-fn obey<S: Source, O: Sink, F: KeyFiles, N: Net, C: Clock, D: Seeded>(
+fn obey<S: Source, O: Sink, F: KeyFiles, N: Net, P: Spawner, C: Clock, D: Seeded>(
     alloc: Global,
     command: &Command,
     input: &mut S,
     out: &mut O,
     files: &mut F,
     net: &mut N,
+    kids: &mut P,
     clock: &mut C,
     draw: &mut D,
 ) -> Status
@@ -117,17 +133,22 @@ fn obey<S: Source, O: Sink, F: KeyFiles, N: Net, C: Clock, D: Seeded>(
         (record { told = O.written; faults = O.faults; before = out.old; after = out.new })
         (record { told = F.told; faults = F.faults; before = files.old; after = files.new })
         (record { calls = N.calls; faults = N.faults; given = C.given; step = D.step; net = net.old; net_then = net.new; clock = clock.old; clock_then = clock.new; draw = draw.old; draw_then = draw.new })
+        (record { calls = P.calls; faults = P.faults; before = kids.old; after = kids.new })
         result }
     ensures stays { Stays command.now
         (record { told = S.left; faults = S.faults; before = input.old; after = input.new })
         (record { told = F.told; faults = F.faults; before = files.old; after = files.new })
-        (record { calls = N.calls; faults = N.faults; given = C.given; step = D.step; net = net.old; net_then = net.new; clock = clock.old; clock_then = clock.new; draw = draw.old; draw_then = draw.new }) }
+        (record { calls = N.calls; faults = N.faults; given = C.given; step = D.step; net = net.old; net_then = net.new; clock = clock.old; clock_then = clock.new; draw = draw.old; draw_then = draw.new })
+        (record { calls = P.calls; faults = P.faults; before = kids.old; after = kids.new }) }
 {
     match command {
         Command::Sim { wire } => run_sim(alloc, *wire, input, out),
         Command::Load { calls } => run_load(alloc, *calls, out),
         Command::Serve(options) => run_serve(alloc, options, out, files, net, clock, draw),
         Command::Call(options) => run_call(alloc, options, input, out, files, net, clock, draw),
+        Command::Pair(options) => run_pair(
+            alloc, options, input, out, files, net, kids, clock, draw,
+        ),
         Command::Help(page) => plain(alloc, Status::Done, page.text(), out),
         Command::Version => plain(alloc, Status::Done, version(), out),
     }

@@ -1,6 +1,6 @@
 //! The program `mtp`, apart from the real outside: its words, its input, its output and its status. What each command
 //! promises is a word of the crate that carries it out (`SimRun` and `LoadRun` of `cmd_sim`, `CallRun` of `cmd_call`,
-//! `ServeRun` of `cmd_serve`); `specs/Obeys.antt` lists them.
+//! `ServeRun` of `cmd_serve`, `PairRun` of `cmd_pair`); `specs/Obeys.antt` lists them.
 #![tactic(auto)]
 
 mod app;

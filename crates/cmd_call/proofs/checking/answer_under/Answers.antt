@@ -31,8 +31,8 @@ returns-in-Err-clause-owed g c =
     let around = around_of g.N.Net.calls g.N.Net.faults g.C.Clock.given g.D.Draw.step c.args.net.now c.args.net.now c.args.clock.now c.args.clock.now c.args.draw.now c.opening.new.draw in
     let keys = keys_of c.args.keys in
     let first = client_under keys (word_after g.D.Draw.step 0 c.args.draw.now) in
-    owes_refusal c.args.options.now c.args.script.now around c.refused.result c.args.ring keys c.in-Err.untaken.line (fault_of c.in-Err.untaken.fault) (record { net = refl; clock = refl }) c.in_ok-client.ensures.after
-    (c.in-Err.ensures.told first c.in_ok-client.ensures.stands refl) c.refused.ensures
+    owes_refusal c.args.options.now c.args.script.now around c.refused_call.result c.args.ring keys c.in-Err.untaken.line (fault_of c.in-Err.untaken.fault) (record { net = refl; clock = refl }) c.in_ok-client.ensures.after
+    (c.in-Err.ensures.told first c.in_ok-client.ensures.stands refl) c.refused_call.ensures
 
 pub returns-in-Err-clause-connects : goal.returns-in-Err-clause-connects
 returns-in-Err-clause-connects g c =
@@ -53,4 +53,4 @@ returns-in-Ok-clause-left g c =
 
 pub returns-in-Err-clause-left : goal.returns-in-Err-clause-left
 returns-in-Err-clause-left g c =
-    if_err c.refused.result _ (inl (record { offline = record { net = refl; clock = refl }; drawn = inr c.in_ok-client.ensures.after }))
+    if_err c.refused_call.result _ (inl (record { offline = record { net = refl; clock = refl }; drawn = inr c.in_ok-client.ensures.after }))

@@ -2,7 +2,7 @@ use Rattle.std.proofs.Common.{map, inr, refl}
 use Rattle.std.specs.Prelude.{string_bytes}
 use Rattle.commands.specs.declared.command.Command.TheVariants as command
 use Rattle.statuses.specs.declared.status.Status.TheVariants as status
-use Rattle.mtp_app.proofs.Obeying.{calls, helps, loads, reads-not, says-lawful, serves, sims, stays-apart, tells-version}
+use Rattle.mtp_app.proofs.Obeying.{calls, helps, loads, pairs, reads-not, says-lawful, serves, sims, stays-alone, stays-apart, tells-version}
 use Rattle.mtp_app.proofs.app.run.Goals as goal
 
 -- ---- a command was carried out
@@ -17,6 +17,7 @@ returns-in-Ok-clause-sim g c = λ wire asked.
     (record { told = g.O.Sink.written; faults = g.O.Sink.faults; before = c.args.out.now; after = c.obey.new.out })
     (record { told = g.F.KeyFiles.told; faults = g.F.KeyFiles.faults; before = c.args.files.now; after = c.obey.new.files })
     (record { calls = g.N.Net.calls; faults = g.N.Net.faults; given = g.C.Clock.given; step = g.D.Draw.step; net = c.args.net.now; net_then = c.obey.new.net; clock = c.args.clock.now; clock_then = c.obey.new.clock; draw = c.args.draw.now; draw_then = c.obey.new.draw })
+    (record { calls = g.P.Spawner.calls; faults = g.P.Spawner.faults; before = c.args.kids.now; after = c.obey.new.kids })
     c.number.result c.obey.result c.in-Ok.command c.number.ensures c.obey.ensures.obeys wire
     (c.one_reading.ensures (map string_bytes c.args.words.now) c.in-Ok.command (command.Sim wire) c.in-Ok.ensures.said asked)
 
@@ -27,6 +28,7 @@ returns-in-Ok-clause-load g c = λ count asked.
     (record { told = g.O.Sink.written; faults = g.O.Sink.faults; before = c.args.out.now; after = c.obey.new.out })
     (record { told = g.F.KeyFiles.told; faults = g.F.KeyFiles.faults; before = c.args.files.now; after = c.obey.new.files })
     (record { calls = g.N.Net.calls; faults = g.N.Net.faults; given = g.C.Clock.given; step = g.D.Draw.step; net = c.args.net.now; net_then = c.obey.new.net; clock = c.args.clock.now; clock_then = c.obey.new.clock; draw = c.args.draw.now; draw_then = c.obey.new.draw })
+    (record { calls = g.P.Spawner.calls; faults = g.P.Spawner.faults; before = c.args.kids.now; after = c.obey.new.kids })
     c.number.result c.obey.result c.in-Ok.command c.number.ensures c.obey.ensures.obeys count
     (c.one_reading.ensures (map string_bytes c.args.words.now) c.in-Ok.command (command.Load count) c.in-Ok.ensures.said asked)
 
@@ -37,6 +39,7 @@ returns-in-Ok-clause-serve g c = λ options asked.
     (record { told = g.O.Sink.written; faults = g.O.Sink.faults; before = c.args.out.now; after = c.obey.new.out })
     (record { told = g.F.KeyFiles.told; faults = g.F.KeyFiles.faults; before = c.args.files.now; after = c.obey.new.files })
     (record { calls = g.N.Net.calls; faults = g.N.Net.faults; given = g.C.Clock.given; step = g.D.Draw.step; net = c.args.net.now; net_then = c.obey.new.net; clock = c.args.clock.now; clock_then = c.obey.new.clock; draw = c.args.draw.now; draw_then = c.obey.new.draw })
+    (record { calls = g.P.Spawner.calls; faults = g.P.Spawner.faults; before = c.args.kids.now; after = c.obey.new.kids })
     c.number.result c.obey.result c.in-Ok.command c.number.ensures c.obey.ensures.obeys options
     (c.one_reading.ensures (map string_bytes c.args.words.now) c.in-Ok.command (command.Serve options) c.in-Ok.ensures.said asked)
 
@@ -47,8 +50,20 @@ returns-in-Ok-clause-call g c = λ options asked.
     (record { told = g.O.Sink.written; faults = g.O.Sink.faults; before = c.args.out.now; after = c.obey.new.out })
     (record { told = g.F.KeyFiles.told; faults = g.F.KeyFiles.faults; before = c.args.files.now; after = c.obey.new.files })
     (record { calls = g.N.Net.calls; faults = g.N.Net.faults; given = g.C.Clock.given; step = g.D.Draw.step; net = c.args.net.now; net_then = c.obey.new.net; clock = c.args.clock.now; clock_then = c.obey.new.clock; draw = c.args.draw.now; draw_then = c.obey.new.draw })
+    (record { calls = g.P.Spawner.calls; faults = g.P.Spawner.faults; before = c.args.kids.now; after = c.obey.new.kids })
     c.number.result c.obey.result c.in-Ok.command c.number.ensures c.obey.ensures.obeys options
     (c.one_reading.ensures (map string_bytes c.args.words.now) c.in-Ok.command (command.Call options) c.in-Ok.ensures.said asked)
+
+pub returns-in-Ok-clause-pair : goal.returns-in-Ok-clause-pair
+returns-in-Ok-clause-pair g c = λ options asked.
+    pairs
+    (record { told = g.S.Source.left; faults = g.S.Source.faults; before = c.args.input.now; after = c.obey.new.input })
+    (record { told = g.O.Sink.written; faults = g.O.Sink.faults; before = c.args.out.now; after = c.obey.new.out })
+    (record { told = g.F.KeyFiles.told; faults = g.F.KeyFiles.faults; before = c.args.files.now; after = c.obey.new.files })
+    (record { calls = g.N.Net.calls; faults = g.N.Net.faults; given = g.C.Clock.given; step = g.D.Draw.step; net = c.args.net.now; net_then = c.obey.new.net; clock = c.args.clock.now; clock_then = c.obey.new.clock; draw = c.args.draw.now; draw_then = c.obey.new.draw })
+    (record { calls = g.P.Spawner.calls; faults = g.P.Spawner.faults; before = c.args.kids.now; after = c.obey.new.kids })
+    c.number.result c.obey.result c.in-Ok.command c.number.ensures c.obey.ensures.obeys options
+    (c.one_reading.ensures (map string_bytes c.args.words.now) c.in-Ok.command (command.Pair options) c.in-Ok.ensures.said asked)
 
 pub returns-in-Ok-clause-help : goal.returns-in-Ok-clause-help
 returns-in-Ok-clause-help g c = λ page asked.
@@ -57,6 +72,7 @@ returns-in-Ok-clause-help g c = λ page asked.
     (record { told = g.O.Sink.written; faults = g.O.Sink.faults; before = c.args.out.now; after = c.obey.new.out })
     (record { told = g.F.KeyFiles.told; faults = g.F.KeyFiles.faults; before = c.args.files.now; after = c.obey.new.files })
     (record { calls = g.N.Net.calls; faults = g.N.Net.faults; given = g.C.Clock.given; step = g.D.Draw.step; net = c.args.net.now; net_then = c.obey.new.net; clock = c.args.clock.now; clock_then = c.obey.new.clock; draw = c.args.draw.now; draw_then = c.obey.new.draw })
+    (record { calls = g.P.Spawner.calls; faults = g.P.Spawner.faults; before = c.args.kids.now; after = c.obey.new.kids })
     c.number.result c.obey.result c.in-Ok.command c.number.ensures c.obey.ensures.obeys page
     (c.one_reading.ensures (map string_bytes c.args.words.now) c.in-Ok.command (command.Help page) c.in-Ok.ensures.said asked)
 
@@ -67,6 +83,7 @@ returns-in-Ok-clause-version g c = λ asked.
     (record { told = g.O.Sink.written; faults = g.O.Sink.faults; before = c.args.out.now; after = c.obey.new.out })
     (record { told = g.F.KeyFiles.told; faults = g.F.KeyFiles.faults; before = c.args.files.now; after = c.obey.new.files })
     (record { calls = g.N.Net.calls; faults = g.N.Net.faults; given = g.C.Clock.given; step = g.D.Draw.step; net = c.args.net.now; net_then = c.obey.new.net; clock = c.args.clock.now; clock_then = c.obey.new.clock; draw = c.args.draw.now; draw_then = c.obey.new.draw })
+    (record { calls = g.P.Spawner.calls; faults = g.P.Spawner.faults; before = c.args.kids.now; after = c.obey.new.kids })
     c.number.result c.obey.result c.in-Ok.command c.number.ensures c.obey.ensures.obeys
     (c.one_reading.ensures (map string_bytes c.args.words.now) c.in-Ok.command command.Version c.in-Ok.ensures.said asked)
 
@@ -79,6 +96,7 @@ returns-in-Ok-clause-unread g c = λ not.
     (record { told = g.S.Source.left; faults = g.S.Source.faults; before = c.args.input.now; after = c.obey.new.input })
     (record { told = g.F.KeyFiles.told; faults = g.F.KeyFiles.faults; before = c.args.files.now; after = c.obey.new.files })
     (record { calls = g.N.Net.calls; faults = g.N.Net.faults; given = g.C.Clock.given; step = g.D.Draw.step; net = c.args.net.now; net_then = c.obey.new.net; clock = c.args.clock.now; clock_then = c.obey.new.clock; draw = c.args.draw.now; draw_then = c.obey.new.draw })
+    (record { calls = g.P.Spawner.calls; faults = g.P.Spawner.faults; before = c.args.kids.now; after = c.obey.new.kids })
     (map string_bytes c.args.words.now) c.in-Ok.command c.in-Ok.ensures.said c.obey.ensures.stays not
 
 pub returns-in-Ok-clause-offline : goal.returns-in-Ok-clause-offline
@@ -88,8 +106,18 @@ returns-in-Ok-clause-offline g c = λ not.
     (record { told = g.S.Source.left; faults = g.S.Source.faults; before = c.args.input.now; after = c.obey.new.input })
     (record { told = g.F.KeyFiles.told; faults = g.F.KeyFiles.faults; before = c.args.files.now; after = c.obey.new.files })
     (record { calls = g.N.Net.calls; faults = g.N.Net.faults; given = g.C.Clock.given; step = g.D.Draw.step; net = c.args.net.now; net_then = c.obey.new.net; clock = c.args.clock.now; clock_then = c.obey.new.clock; draw = c.args.draw.now; draw_then = c.obey.new.draw })
+    (record { calls = g.P.Spawner.calls; faults = g.P.Spawner.faults; before = c.args.kids.now; after = c.obey.new.kids })
     (map string_bytes c.args.words.now) c.in-Ok.command c.in-Ok.ensures.said c.obey.ensures.stays not in
     (apart.files_stay, apart.idle.offline.net, apart.idle.offline.clock, apart.idle.draw)
+
+pub returns-in-Ok-clause-alone : goal.returns-in-Ok-clause-alone
+returns-in-Ok-clause-alone g c = λ not.
+    stays-alone
+    (record { told = g.S.Source.left; faults = g.S.Source.faults; before = c.args.input.now; after = c.obey.new.input })
+    (record { told = g.F.KeyFiles.told; faults = g.F.KeyFiles.faults; before = c.args.files.now; after = c.obey.new.files })
+    (record { calls = g.N.Net.calls; faults = g.N.Net.faults; given = g.C.Clock.given; step = g.D.Draw.step; net = c.args.net.now; net_then = c.obey.new.net; clock = c.args.clock.now; clock_then = c.obey.new.clock; draw = c.args.draw.now; draw_then = c.obey.new.draw })
+    (record { calls = g.P.Spawner.calls; faults = g.P.Spawner.faults; before = c.args.kids.now; after = c.obey.new.kids })
+    (map string_bytes c.args.words.now) c.in-Ok.command c.in-Ok.ensures.said c.obey.ensures.stays not
 
 -- ---- the words say no command
 
@@ -104,6 +132,9 @@ returns-in-Err-Refused-clause-serve g c = λ options asked. absurd (c.in-Err-Ref
 
 pub returns-in-Err-Refused-clause-call : goal.returns-in-Err-Refused-clause-call
 returns-in-Err-Refused-clause-call g c = λ options asked. absurd (c.in-Err-Refused.ensures.refused c.in-Err-Refused.field-0-is (command.Call options) asked)
+
+pub returns-in-Err-Refused-clause-pair : goal.returns-in-Err-Refused-clause-pair
+returns-in-Err-Refused-clause-pair g c = λ options asked. absurd (c.in-Err-Refused.ensures.refused c.in-Err-Refused.field-0-is (command.Pair options) asked)
 
 pub returns-in-Err-Refused-clause-help : goal.returns-in-Err-Refused-clause-help
 returns-in-Err-Refused-clause-help g c = λ page asked. absurd (c.in-Err-Refused.ensures.refused c.in-Err-Refused.field-0-is (command.Help page) asked)
@@ -139,6 +170,20 @@ returns-in-Err-Memory-clause-call g c = λ options asked. (
     unwritten = refl;
     apart = record { files_stay = refl; idle = record { offline = record { net = refl; clock = refl }; draw = refl } };
   }),
+)
+
+pub returns-in-Err-Memory-clause-pair : goal.returns-in-Err-Memory-clause-pair
+returns-in-Err-Memory-clause-pair g c = λ options asked. (
+  status.Memory,
+  c.number-in-Err-Memory.ensures,
+  inr (
+    record {
+      said = refl;
+      unwritten = refl;
+      apart = record { files_stay = refl; idle = record { offline = record { net = refl; clock = refl }; draw = refl } };
+    },
+    refl,
+  ),
 )
 
 pub returns-in-Err-Memory-clause-help : goal.returns-in-Err-Memory-clause-help

@@ -1,0 +1,34 @@
+//! Laws of batches, each the contract of a function that does nothing.
+
+ghost use Rattle.std.specs.Prelude.{◌≡◌, ℕ, List, true};
+ghost use Rattle.auth_keys.specs.declared.ring.RingKey.{RingKey};
+ghost use Rattle.client_node.specs.Course.{Course, is_decided};
+ghost use Rattle.client_node.specs.Standing.{IsReading};
+ghost use Rattle.client_node.specs.Talks.{Rules};
+ghost use Rattle.client_node.specs.Trace.{Attempt, EndsBy, UndecidedIn};
+ghost use Rattle.client_node.specs.declared.plan.Batch.{Batch};
+ghost use Rattle.client_node.specs.declared.plan.Batch.TheVariants as batch;
+ghost use Rattle.client_node.specs.declared.plan.Plan.{Plan};
+ghost use Rattle.client_rules.specs.Client.{Client, calls_of};
+ghost use Rattle.envelope.specs.Lock.{mt_lock};
+ghost use Rattle.statuses.specs.declared.status.Status.{Status};
+ghost use Rattle.cmd_call.specs.Owed.{HasCause};
+ghost use Rattle.cmd_call.specs.Reading.{reading_under};
+ghost use Rattle.cmd_call.specs.Table.{TellsBatch};
+
+use draws::Draw;
+use ring_rules::laws::packets_open_as_worked_out;
+
+/// What is worked out of packets under a ring is what they open to, under the lock of the protocol.
+pub fn rings_read_packets()
+    ensures { (ring : List RingKey) → IsReading mt_lock ring (reading_under ring) }
+{
+    packets_open_as_worked_out();
+}
+
+/// The status that tells how a batch ended has its cause in the attempts by which it ended, and comes there and nowhere else.
+pub fn statuses_have_causes<D: Draw>()
+    ensures { (rules : Rules D) (plan : Plan) (course : Course D) (end : Batch) (attempts : List Attempt) → EndsBy rules plan course end attempts
+        → (left : Client) (one : Status) (due : List ℕ) → UndecidedIn end left → (end ≡ batch.Decided → is_decided left ≡ true) → TellsBatch end (calls_of left) one due
+        → HasCause rules plan course attempts left one }
+{}

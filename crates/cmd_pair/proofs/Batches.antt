@@ -1,0 +1,131 @@
+-- What came of the batches, and what is told of it.
+use Rattle.std.proofs.Common.{◌≡◌, ◌≢◌, ◌∙◌, inl, inr, ℕ, ◌+◌, Bool, true, false, List, Option, Result, Ok, Err, IfOk, codes, ap, sym, subst, refl}
+use Rattle.std.specs.Prelude.{MatchResult}
+use Rattle.auth_keys.specs.declared.ring.RingKey.{RingKey}
+use Rattle.call_table.specs.Table.{Call}
+use Rattle.cmd_call.specs.Owed.{Around, HasCause}
+use Rattle.cmd_call.specs.Table.{TellsBatch, are_done, decided_status}
+use Rattle.client_core.specs.declared.holder.Holder.{Holder}
+use Rattle.client_node.specs.Course.{Course, is_decided}
+use Rattle.client_node.specs.Standing.{AllDecided, StandsFor}
+use Rattle.client_node.specs.Talks.{Rules}
+use Rattle.client_node.specs.Trace.{Attempt, EndsBy, UndecidedIn, after_all}
+use Rattle.client_node.specs.declared.plan.Batch.{Batch}
+use Rattle.client_node.specs.declared.plan.Batch.TheVariants as batch
+use Rattle.client_node.specs.declared.plan.Plan.{Plan}
+use Rattle.client_rules.specs.Client.{Client, calls_of}
+use Rattle.commands.specs.declared.command.PairOptions.{PairOptions}
+use Rattle.mt_edge.specs.Faults.{one_more}
+use Rattle.mt_edge.specs.declared.kid_call.KidCall.{KidCall}
+use Rattle.octets.specs.declared.memory.Memory.{Memory}
+use Rattle.statuses.specs.declared.answer.Answer.{Answer}
+use Rattle.statuses.specs.declared.status.Status.{Status}
+use Rattle.statuses.specs.declared.status.Status.TheVariants as status
+use Rattle.cmd_pair.specs.Batches.{IsBatch, LastBatch, LostFirst, OwesPair, plan_at, rules_for}
+use Rattle.cmd_pair.specs.Inner.{AnswersBy, HaltsSpawning, PairBy, ServesBy}
+use Rattle.cmd_pair.specs.Servers.{AreBoth, FailsNever, FailsOnce, IsFrontOf, IsSecondFront, Kids, Made, WasServed, asks, first_words, kids_of, second_words}
+use Rattle.cmd_pair.specs.declared.halt.Halt.{Halt}
+use Rattle.cmd_pair.specs.declared.halt.Halt.TheVariants as halts
+use Rattle.cmd_pair.proofs.Spawning.{made-both}
+
+-- ---- one server and the other
+
+pub spawns-by : {X P : Type 0} (words other : List (List ℕ)) (result : Result X Halt) (kids : Kids P) → words ≡ other → ServesBy words result kids → ServesBy other result kids
+spawns-by words other result kids same serves = subst (λ (some : List (List ℕ)). ServesBy some result kids) same serves
+
+module _ {N C D P : Type 0} (options : PairOptions) (ring : List RingKey) (course : Course D) (around : Around N C D) (calls : P → Option (List KidCall)) (faults : P → ℕ) (first last : P) where
+  -- the first server couldn't be served
+  pub halts-first : (halt : Halt) → HaltsSpawning (first_words options) (kids_of calls faults first last) halt → PairBy options ring course around (kids_of calls faults first last) (Err halt)
+  halts-first halts.ChildFault h = (inl h.0, h.1)
+  halts-first halts.Memory h = tt
+  halts-first halts.ReadFault h = absurd h
+  halts-first (halts.Refused answer) h = absurd h
+
+  -- the first batch is the last one
+  pub ends-first : (kept : Holder) (end : Batch) → IsBatch ring options.port course around end kept → (end ≡ batch.LinkLost → ⊥) → ServesBy {X = Holder × Batch} (first_words options) (Ok (kept, end)) (kids_of calls faults first last)
+      → PairBy options ring course around (kids_of calls faults first last) (Ok (kept, end))
+  ends-first kept end trace other serves = inl (trace, other, serves.0)
+
+  module _ (between : P) (lost : LostFirst options ring course around) (before : Made (kids_of calls faults first between) (WasServed (first_words options))) (never : FailsNever (kids_of calls faults first between)) where
+    -- the second server couldn't be served
+    pub halts-second : (halt : Halt) → HaltsSpawning (second_words options) (kids_of calls faults between last) halt → PairBy options ring course around (kids_of calls faults first last) (Err halt)
+    halts-second halts.ChildFault h = (
+      inr (
+        lost,
+        made-both (WasServed (first_words options)) (IsFrontOf (asks (second_words options))) (IsSecondFront options) (calls first) (calls between) (calls last)
+            (λ one other was front. record { one = one; other = other; whole = refl; first = was; second = front }) before h.0,
+      ),
+      h.1 ∙ ap one_more never,
+    )
+    halts-second halts.Memory h = tt
+    halts-second halts.ReadFault h = absurd h
+    halts-second (halts.Refused answer) h = absurd h
+
+    -- it was
+    pub ends-second : (kept : Holder) (end : Batch)
+        → IsBatch ring (options.port + 1) (after_all (rules_for around.step ring) (plan_at options.port) course lost.trace.attempts) (record around { net = lost.net; clock = lost.clock; draw = lost.draw }) end kept
+        → ServesBy {X = Holder × Batch} (second_words options) (Ok (kept, end)) (kids_of calls faults between last)
+        → PairBy options ring course around (kids_of calls faults first last) (Ok (kept, end))
+    ends-second kept end trace serves = inr (
+      lost,
+      trace,
+      made-both (WasServed (first_words options)) (WasServed (second_words options)) (AreBoth options) (calls first) (calls between) (calls last)
+          (λ one other was is. record { one = one; other = other; whole = refl; first = was; second = is }) before serves.0,
+    )
+
+-- ---- what is told
+
+decided-not-lost : (all : Bool) → decided_status all ≡ status.LinkLost → ⊥
+decided-not-lost true is = cc
+decided-not-lost false is = cc
+
+not-lost : (end : Batch) (calls : List Call) (one : Status) (due : List ℕ) → end ≢ batch.LinkLost → TellsBatch end calls one due → one ≢ status.LinkLost
+not-lost batch.Decided calls one due other told is = decided-not-lost (are_done calls) (sym told.0 ∙ is)
+not-lost batch.LinkLost calls one due other told is = other refl
+not-lost batch.TurnsSpent calls one due other told is = let e = told.0 in cc
+not-lost batch.Spent calls one due other told is = let e = told.0 in cc
+not-lost batch.Memory calls one due other told is = told
+
+module _ {D : Type 0} (law : (rules : Rules D) (plan : Plan) (course : Course D) (end : Batch) (attempts : List Attempt) → EndsBy rules plan course end attempts → (left : Client) (one : Status) (due : List ℕ)
+    → UndecidedIn end left → (end ≡ batch.Decided → is_decided left ≡ true) → TellsBatch end (calls_of left) one due → HasCause rules plan course attempts left one) where
+  last-batch : {N C : Type 0} (ring : List RingKey) (port : ℕ) (course : Course D) (around : Around N C D) (end : Batch) (kept : Holder) (trace : IsBatch ring port course around end kept) (one : Status) (due : List ℕ)
+      → (end ≡ batch.Decided → AllDecided kept) → TellsBatch end (calls_of (after_all (rules_for around.step ring) (plan_at port) course trace.attempts).client) one due
+      → LastBatch ring port course around one due
+  last-batch ring port course around end kept trace one due decided told =
+      let left = (after_all (rules_for around.step ring) (plan_at port) course trace.attempts).client in
+      record {
+        end = end;
+        kept = kept;
+        trace = trace;
+        left = left;
+        its = refl;
+        told = told;
+        cause = law (rules_for around.step ring) (plan_at port) course end trace.attempts trace.ended left one due trace.undecided (λ e. (decided e).stands left trace.stands.client) told;
+      }
+
+  module _ {N C P : Type 0} (options : PairOptions) (ring : List RingKey) (course : Course D) (around : Around N C D) (kids : Kids P) (kept : Holder) (end : Batch) (decided : end ≡ batch.Decided → AllDecided kept) where
+    owes : (one : Status) (due : List ℕ) → PairBy options ring course around kids (Ok (kept, end)) → ((whole : Client) → StandsFor kept whole → TellsBatch end (calls_of whole) one due)
+        → OwesPair options ring course around kids one due
+    owes one due (inl h) told =
+        let so = told (after_all (rules_for around.step ring) (plan_at options.port) course h.0.attempts).client h.0.stands.client in
+        inl (inl (record { last = last-batch ring options.port course around end kept h.0 one due decided so; not_lost = not-lost end _ one due h.1 so; children = h.2 }))
+    owes one due (inr h) told =
+        let behind = after_all (rules_for around.step ring) (plan_at options.port) course h.0.trace.attempts in
+        let so = told (after_all (rules_for around.step ring) (plan_at (options.port + 1)) behind h.1.attempts).client h.1.stands.client in
+        inl (inr (record { first = h.0; last = last-batch ring (options.port + 1) behind (record around { net = h.0.net; clock = h.0.clock; draw = h.0.draw }) end kept h.1 one due decided so; children = h.2 }))
+
+    pub answers : (answer : Result Answer Memory) (result : Result Answer Halt) → PairBy options ring course around kids (Ok (kept, end))
+        → ((whole : Client) → StandsFor kept whole → IfOk answer (λ one. TellsBatch end (calls_of whole) one.status one.text))
+        → MatchResult answer (λ one. result ≡ Ok one) (λ memory. result ≡ Err halts.Memory) → AnswersBy options ring course around kids result
+    answers (Ok one) result pair told is = subst (λ (some : Result Answer Halt). AnswersBy options ring course around kids some) (sym is) (owes one.status one.text pair told)
+    answers (Err memory) result pair told is = subst (λ (some : Result Answer Halt). AnswersBy options ring course around kids some) (sym is) refl
+
+-- ---- a child fault
+
+pub child-fault : {N C D P : Type 0} (options : PairOptions) (ring : List RingKey) (course : Course D) (around : Around N C D) (kids : Kids P) (answer : Result Answer Memory) (result : Result Answer Halt)
+    → PairBy options ring course around kids (Err halts.ChildFault) → IfOk answer (λ one. one.status ≡ status.NotListening) → IfOk answer (λ one. one.text ≡ codes "child fault\n")
+    → MatchResult answer (λ one. result ≡ Ok one) (λ memory. result ≡ Err halts.Memory) → AnswersBy options ring course around kids result
+child-fault options ring course around kids (Ok one) result h said text is =
+    subst (λ (some : Result Answer Halt). AnswersBy options ring course around kids some) (sym is) (inr (record { said = said; told = text; counted = h.1; halts = h.0 }))
+child-fault options ring course around kids (Err memory) result h said text is =
+    subst (λ (some : Result Answer Halt). AnswersBy options ring course around kids some) (sym is) refl

@@ -1,0 +1,4 @@
+pub mod Spawning
+pub mod Batches
+pub mod Reads
+pub mod Ends

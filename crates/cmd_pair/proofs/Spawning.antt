@@ -1,0 +1,101 @@
+-- The calls of a spawner, one part and then another.
+use Rattle.std.proofs.Common.{◌≡◌, ◌∙◌, ◌⊎◌, inl, inr, ℕ, ◌-◌, ◌^◌, ◌<◌, ◌≤◌, List, [], ◌∷◌, ◌++◌, map, Option, Some, None, ap, sym, refl, append_assoc, append-nil, arith}
+use Rattle.std.specs.Prelude.{IfSome, IsSomeAnd}
+use Rattle.std.proofs.lemmas.Bool.{cases_lt}
+use Rattle.mt_edge.specs.Faults.{Rose, one_more}
+use Rattle.mt_edge.specs.Kids.{MayNote}
+use Rattle.mt_edge.specs.declared.act.Act.{Act}
+use Rattle.mt_edge.specs.declared.act.Act.TheVariants.{Ready}
+use Rattle.mt_edge.specs.declared.kid_call.KidCall.{KidCall}
+use Rattle.mt_edge.specs.declared.kid_call.KidCall.TheVariants as call
+use Rattle.mt_edge.specs.declared.spawner.Line.{Line}
+use Rattle.cmd_pair.specs.Inner.{WasBegun}
+use Rattle.cmd_pair.specs.Servers.{Ask, GoesOn, IsFrontOf, MadeIn, ReadsLine, Starts, Waits, WasServed, ask_of, asks}
+
+-- ---- what is told, in parts
+
+pub made-both : (P Q R : List KidCall → Type 0) (first middle last : Option (List KidCall)) → ((one other : List KidCall) → P one → Q other → R (one ++ other))
+    → MadeIn first middle P → MadeIn middle last Q → MadeIn first last R
+made-both P Q R None middle last both p q = tt
+made-both P Q R (Some before) None last both p q = absurd p
+made-both P Q R (Some before) (Some between) None both p q = absurd q
+made-both P Q R (Some before) (Some between) (Some after) both p q =
+    (p.0 ++ q.0, q.1 ∙ ap (λ (calls : List KidCall). calls ++ q.0) p.1 ∙ append_assoc before p.0 q.0, both p.0 q.0 p.2 q.2)
+
+pub made-as : (P Q : List KidCall → Type 0) (first last : Option (List KidCall)) → ((made : List KidCall) → P made → Q made) → MadeIn first last P → MadeIn first last Q
+made-as P Q None last so p = tt
+made-as P Q (Some before) None so p = absurd p
+made-as P Q (Some before) (Some after) so p = (p.0, p.1, so p.0 p.2)
+
+-- a call was noted
+pub made-one : (one : KidCall) (first last : Option (List KidCall)) → IfSome first (λ before. IsSomeAnd last (λ after. after ≡ before ++ one ∷ []))
+    → MadeIn first last (λ made. made ≡ one ∷ [])
+made-one one None last h = tt
+made-one one (Some before) None h = absurd h
+made-one one (Some before) (Some after) h = (one ∷ [], h, refl)
+
+-- or it may have been
+abbrev pub MayBe : KidCall → List KidCall → Type 0
+MayBe one made = (made ≡ one ∷ []) ⊎ (made ≡ [])
+
+noted : (one : KidCall) (before after : List KidCall) → MayNote one before after → (made : List KidCall) × (after ≡ before ++ made) × MayBe one made
+noted one before after (inl h) = (one ∷ [], h, inl refl)
+noted one before after (inr h) = ([], h ∙ sym (append-nil before), inr refl)
+
+pub made-may : (one : KidCall) (first last : Option (List KidCall)) → IfSome first (λ before. IsSomeAnd last (λ after. MayNote one before after)) → MadeIn first last (MayBe one)
+made-may one None last h = tt
+made-may one (Some before) None h = absurd h
+made-may one (Some before) (Some after) h = noted one before after h
+
+-- ---- fronts
+
+front-by : (due rest : List Ask) (made known : List KidCall) → made ≡ known → due ≡ map ask_of known ++ rest → IsFrontOf due made
+front-by due rest made known same whole = record { rest = rest; whole = whole ∙ ap (λ (calls : List KidCall). map ask_of calls ++ rest) (sym same) }
+
+module _ (words : List (List ℕ)) where
+  -- the start failed
+  pub front-start : (answer : Act) (made : List KidCall) → MayBe (call.Start words answer) made → IsFrontOf (asks words) made
+  front-start answer made (inl h) = front-by (asks words) (ReadsLine ∷ Waits ∷ []) made (call.Start words answer ∷ []) h refl
+  front-start answer made (inr h) = front-by (asks words) (asks words) made [] h refl
+
+  -- the line wasn't read
+  pub front-line : (line : Line) (one other : List KidCall) → one ≡ call.Start words Ready ∷ [] → MayBe (call.Line line) other → IsFrontOf (asks words) (one ++ other)
+  front-line line one other start (inl h) =
+      front-by (asks words) (Waits ∷ []) (one ++ other) (call.Start words Ready ∷ call.Line line ∷ []) (ap (λ (calls : List KidCall). calls ++ other) start ∙ ap (λ (calls : List KidCall). call.Start words Ready ∷ calls) h) refl
+  front-line line one other start (inr h) =
+      front-by (asks words) (ReadsLine ∷ Waits ∷ []) (one ++ other) (call.Start words Ready ∷ []) (ap (λ (calls : List KidCall). calls ++ other) start ∙ ap (λ (calls : List KidCall). call.Start words Ready ∷ calls) h) refl
+
+  -- it was
+  pub begun : (line : Line) (one other : List KidCall) → GoesOn line → one ≡ call.Start words Ready ∷ [] → other ≡ call.Line line ∷ [] → WasBegun words (one ++ other)
+  begun line one other goes start read = record {
+    line = line;
+    goes_on = goes;
+    are = ap (λ (calls : List KidCall). calls ++ other) start ∙ ap (λ (calls : List KidCall). call.Start words Ready ∷ calls) read;
+  }
+
+  -- the wait failed
+  pub front-wait : (answer : Act) (one other : List KidCall) → WasBegun words one → MayBe (call.Wait answer) other → IsFrontOf (asks words) (one ++ other)
+  front-wait answer one other was (inl h) =
+      front-by (asks words) [] (one ++ other) (call.Start words Ready ∷ call.Line was.line ∷ call.Wait answer ∷ [])
+      (ap (λ (calls : List KidCall). calls ++ other) was.are ∙ ap (λ (calls : List KidCall). call.Start words Ready ∷ call.Line was.line ∷ calls) h) refl
+  front-wait answer one other was (inr h) =
+      front-by (asks words) (Waits ∷ []) (one ++ other) (call.Start words Ready ∷ call.Line was.line ∷ [])
+      (ap (λ (calls : List KidCall). calls ++ other) was.are ∙ ap (λ (calls : List KidCall). call.Start words Ready ∷ call.Line was.line ∷ calls) h) refl
+
+  -- it didn't
+  pub served : (one other : List KidCall) → WasBegun words one → other ≡ call.Wait Ready ∷ [] → WasServed words (one ++ other)
+  served one other was waited = record {
+    line = was.line;
+    goes_on = was.goes_on;
+    are = ap (λ (calls : List KidCall). calls ++ other) was.are ∙ ap (λ (calls : List KidCall). call.Start words Ready ∷ call.Line was.line ∷ calls) waited;
+  }
+
+-- ---- faults
+
+rises-by : (before after : ℕ) → after ≡ one_more before → (before < 2 ^ 64 - 1) ⊎ (2 ^ 64 - 1 ≤ before) → Rose before after
+rises-by before after same (inl less) = inl (omega (arith, same, less))
+rises-by before after same (inr full) = inr (omega (arith, same, full))
+
+-- one more fault is a rise, or the last value
+pub rises : (before after : ℕ) → after ≡ one_more before → Rose before after
+rises before after same = rises-by before after same (cases_lt before (2 ^ 64 - 1))

@@ -1,0 +1,5 @@
+pub mod Servers
+pub mod Checks
+pub mod Batches
+pub mod Runs
+pub mod Inner

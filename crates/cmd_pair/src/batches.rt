@@ -1,0 +1,160 @@
+//! The batches over the servers, one after the other.
+
+ghost use Rattle.std.specs.Prelude.{◌≡◌, ◌<◌, ◌↔◌, IsTrue, IfOk};
+ghost use Rattle.cmd_call.specs.Owed.{around_of};
+ghost use Rattle.client_node.specs.Course.{Course};
+ghost use Rattle.client_node.specs.Standing.{AllDecided, HasKeys, StandsAs};
+ghost use Rattle.cmd_pair.specs.Batches.{IsBatch};
+ghost use Rattle.cmd_pair.specs.Inner.{AnswersBy, PairBy, ServesBy};
+ghost use Rattle.cmd_pair.specs.Servers.{kids_of, server_words};
+
+use crate::halt::{Halt, told};
+use crate::servers::{Server, begin, words_of};
+use auth_keys::Ring;
+use client_core::{Holder, OpeningClient};
+use client_node::{Batch, Plan, run_batch};
+use cmd_call::batch_answer;
+use cmd_call::laws::{rings_read_packets, statuses_have_causes};
+use commands::PairOptions;
+use draws::Draw;
+use envelope::MtSeal;
+use mt_edge::{Act, Clock, Net, Spawner};
+use octets::Memory;
+use statuses::{Answer, Status};
+use std::alloc::Global;
+use transport::Form;
+
+/// Starts a server, runs a client's batch over it, and waits for the server's end.
+///
+/// # Errors
+///
+/// `ChildFault`: a call of the spawner failed. `Memory`.
+fn over_server<P: Spawner, N: Net, C: Clock, D: Draw>(
+    alloc: Global,
+    server: &Server<'_>,
+    client: Holder,
+    seal: &MtSeal,
+    kids: &mut P,
+    net: &mut N,
+    clock: &mut C,
+    draw: &mut D,
+) -> Result<(Holder, Batch), Halt>
+    requires { HasKeys seal.now client }
+    ensures spawns { ServesBy (server_words server.now.keys.now server.now.port server.now.stop_after) result (kids_of P.calls P.faults kids.old kids.new) }
+    ensures ran { (course : Course D) (drawn : D) → StandsAs client draw.old course → IfOk result (λ done. IsBatch seal.now server.now.port course
+        (around_of N.calls N.faults C.given D.step net.old net.new clock.old clock.new drawn draw.new) done.1 done.0) }
+    ensures decided { IfOk result (λ done. done.1 ≡ Batch.Decided → AllDecided done.0) }
+    ensures keys { IfOk result (λ done. HasKeys seal.now done.0) }
+{
+    rings_read_packets();
+    let words = match words_of(alloc, server) {
+        Ok(words) => words,
+        Err(Memory) => return Err(Halt::Memory),
+    };
+    if let Err(halt) = begin(alloc, words.as_slice(), kids) {
+        return Err(halt);
+    }
+    let plan = Plan {
+        port: server.port,
+        form: Form::Intermediate,
+        obfuscate: false,
+        retries: 0,
+    };
+    let (client, end) = run_batch(alloc, client, &plan, net, seal, clock, draw);
+    // (a server that nothing was connected to never ends)
+    if ran_out(end) {
+        return Err(Halt::Memory);
+    }
+    match kids.wait() {
+        Act::Ready => Ok((client, end)),
+        Act::Failed => Err(Halt::ChildFault),
+    }
+}
+
+/// Whether memory ran out in a batch.
+fn ran_out(end: Batch) -> bool
+    ensures { IsTrue result ↔ (end ≡ Batch.Memory) }
+{
+    matches!(end, Batch::Memory)
+}
+
+/// Runs a client's batch over a server that stops, and, where that loses its connection, goes on with the client over a
+/// second one.
+///
+/// # Errors
+///
+/// `ChildFault`: a call of the spawner failed. `Memory`.
+fn over_both<P: Spawner, N: Net, C: Clock, D: Draw>(
+    alloc: Global,
+    options: &PairOptions<'_>,
+    client: Holder,
+    seal: &MtSeal,
+    kids: &mut P,
+    net: &mut N,
+    clock: &mut C,
+    draw: &mut D,
+) -> Result<(Holder, Batch), Halt>
+    requires port { options.now.port < 65535 }
+    requires keys { HasKeys seal.now client }
+    ensures ran { (course : Course D) (drawn : D) → StandsAs client draw.old course → PairBy options.now seal.now course
+        (around_of N.calls N.faults C.given D.step net.old net.new clock.old clock.new drawn draw.new)
+        (kids_of P.calls P.faults kids.old kids.new) result }
+    ensures decided { IfOk result (λ done. done.1 ≡ Batch.Decided → AllDecided done.0) }
+{
+    let first = Server {
+        keys: options.keys.as_str(),
+        port: options.port,
+        stop_after: Some(options.stop_after),
+    };
+    let (client, end) = match over_server(alloc, &first, client, seal, kids, net, clock, draw) {
+        Ok(done) => done,
+        Err(halt) => return Err(halt),
+    };
+    if !is_lost(end) {
+        return Ok((client, end));
+    }
+    let second = Server {
+        keys: options.keys.as_str(),
+        port: options.port + 1,
+        stop_after: None,
+    };
+    over_server(alloc, &second, client, seal, kids, net, clock, draw)
+}
+
+/// Whether a batch lost its connection.
+fn is_lost(end: Batch) -> bool
+    ensures { IsTrue result ↔ (end ≡ Batch.LinkLost) }
+{
+    matches!(end, Batch::LinkLost)
+}
+
+/// Runs a client's batch under the keys of a ring over the servers, and tells what became of it.
+///
+/// # Errors
+///
+/// `Memory`.
+pub(crate) fn run<P: Spawner, N: Net, C: Clock, D: Draw>(
+    alloc: Global,
+    options: &PairOptions<'_>,
+    client: OpeningClient,
+    ring: Ring,
+    kids: &mut P,
+    net: &mut N,
+    clock: &mut C,
+    draw: &mut D,
+) -> Result<Answer, Halt>
+    requires port { options.now.port < 65535 }
+    requires keys { HasKeys ring (Holder.Opening client) }
+    ensures { (course : Course D) (drawn : D) → StandsAs (Holder.Opening client) draw.old course → AnswersBy options.now ring course
+        (around_of N.calls N.faults C.given D.step net.old net.new clock.old clock.new drawn draw.new)
+        (kids_of P.calls P.faults kids.old kids.new) result }
+{
+    statuses_have_causes::<D>();
+    let seal = MtSeal::new(ring);
+    let client = Holder::Opening(client);
+    match over_both(alloc, options, client, &seal, kids, net, clock, draw) {
+        Ok((client, end)) => told(batch_answer(alloc, &client, end)),
+        Err(Halt::ChildFault) => told(Answer::new(alloc, Status::NotListening, b"child fault\n")),
+        Err(_) => Err(Halt::Memory),
+    }
+}

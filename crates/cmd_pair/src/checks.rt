@@ -1,0 +1,155 @@
+//! The checks of script, key file, key and calls, in this order.
+
+ghost use Rattle.std.specs.Prelude.{◌≡◌, ◌⊎◌, IfErr, IfOk};
+ghost use Rattle.cmd_call.specs.Owed.{AskedFor, files_of};
+ghost use Rattle.key_files.specs.Files.{refused_at};
+ghost use Rattle.cmd_pair.specs.Checks.{HasRing, HasScript};
+ghost use Rattle.cmd_pair.specs.Inner.{HaltsAtCalls, HaltsAtFile, HaltsAtScript, HaltsBefore, IsGiven, IsTaken};
+
+use crate::halt::{Halt, refused};
+use auth_keys::Ring;
+use call_script::{Script, ScriptFault, read_script};
+use client_core::OpeningClient;
+use cmd_call::{keys_in_ring, opening, refused_call, submit_all};
+use commands::PairOptions;
+use draws::Draw;
+use key_files::{KeysFault, read_ring, refused_line};
+use mt_edge::{KeyFiles, ReadFault, Source, read_all};
+use octets::Memory;
+use statuses::{Answer, Status, refusal};
+use std::alloc::Global;
+
+/// The most bytes of a script.
+const SCRIPT_BYTES_MAX: usize = 16_777_216;
+
+/// The script that the input is.
+///
+/// # Errors
+///
+/// `Refused`: it has too many bytes, or a line outside the grammar. `ReadFault`, `Memory`.
+fn script_of<S: Source>(alloc: Global, input: &mut S) -> Result<Script, Halt>
+    ensures script { IfOk result (HasScript (record { told = S.left; faults = S.faults; before = input.old; after = input.new })) }
+    ensures halts { IfErr result (HaltsAtScript (record { told = S.left; faults = S.faults; before = input.old; after = input.new })) }
+{
+    match read_all(alloc, input, SCRIPT_BYTES_MAX) {
+        Ok(text) => match read_script(alloc, text.as_slice()) {
+            Ok(script) => Ok(script),
+            Err(ScriptFault::BadLine { line }) => Err(refused(refusal(
+                alloc,
+                Status::InputRefused,
+                line,
+                "bad line",
+            ))),
+            Err(ScriptFault::Memory) => Err(Halt::Memory),
+        },
+        Err(ReadFault::TooLong) => Err(refused(Answer::new(
+            alloc,
+            Status::InputRefused,
+            b"input too long\n",
+        ))),
+        Err(ReadFault::Failed) => Err(Halt::ReadFault),
+        Err(ReadFault::Memory) => Err(Halt::Memory),
+    }
+}
+
+/// The ring that the key file is.
+///
+/// # Errors
+///
+/// `Refused`: it can't be read, or a line of it is refused. `Memory`.
+fn ring_of<F: KeyFiles>(
+    alloc: Global,
+    options: &PairOptions<'_>,
+    files: &mut F,
+) -> Result<Ring, Halt>
+    ensures ring { IfOk result (HasRing options.now (files_of F.told F.faults files.old files.new)) }
+    ensures halts { IfErr result (HaltsAtFile options.now (files_of F.told F.faults files.old files.new)) }
+    ensures asked { AskedFor options.now.keys (files_of F.told F.faults files.old files.new) }
+{
+    match read_ring(alloc, options.keys.as_str(), files) {
+        Ok(ring) => Ok(ring),
+        Err(KeysFault::Unread) => Err(refused(Answer::new(
+            alloc,
+            Status::KeysRefused,
+            b"key file not read\n",
+        ))),
+        Err(KeysFault::Refused { line }) => Err(refused(file_refusal(alloc, line))),
+        Err(KeysFault::Memory) => Err(Halt::Memory),
+    }
+}
+
+/// The answer where a line of the key file is refused.
+fn file_refusal(alloc: Global, line: u32) -> Result<Answer, Memory>
+    ensures status { IfOk result (λ answer. answer.status ≡ Status.KeysRefused) }
+    ensures text { IfOk result (λ answer. answer.text ≡ refused_at line) }
+{
+    Ok(Answer {
+        status: Status::KeysRefused,
+        text: refused_line(alloc, line)?,
+    })
+}
+
+/// A client under the key, which was given the calls of a script. The number of its session is drawn.
+///
+/// # Errors
+///
+/// `Refused`: the ring hasn't the key, or has it as a temporary one, and then nothing was drawn; or a call isn't taken.
+/// `Memory`.
+fn client_of<D: Draw>(
+    alloc: Global,
+    options: &PairOptions<'_>,
+    script: &Script,
+    ring: &Ring,
+    draw: &mut D,
+) -> Result<OpeningClient, Halt>
+    ensures given { IfOk result (IsGiven options.now script.now ring.now D.step draw.old draw.new) }
+    ensures halts { IfErr result (HaltsAtCalls options.now script.now ring.now D.step draw.old draw.new) }
+{
+    let Some(keys) = keys_in_ring(ring, options.key, None) else {
+        return Err(refused(Answer::new(alloc, Status::KeysRefused, b"no such key\n")));
+    };
+    match opening(alloc, keys, draw) {
+        Ok(client) => {
+            let mut client = client;
+            match submit_all(&mut client, alloc, script) {
+                Ok(()) => Ok(client),
+                Err(untaken) => Err(refused(refused_call(alloc, &untaken))),
+            }
+        }
+        Err(Memory) => Err(Halt::Memory),
+    }
+}
+
+/// A client that was given the calls of the input, and the ring of its key.
+///
+/// # Errors
+///
+/// Why there is none.
+pub(crate) fn take<S: Source, F: KeyFiles, D: Draw>(
+    alloc: Global,
+    options: &PairOptions<'_>,
+    input: &mut S,
+    files: &mut F,
+    draw: &mut D,
+) -> Result<(OpeningClient, Ring), Halt>
+    ensures taken { IfOk result (λ taken. IsTaken options.now
+        (record { told = S.left; faults = S.faults; before = input.old; after = input.new })
+        (files_of F.told F.faults files.old files.new) D.step draw.old draw.new taken.1 taken.0) }
+    ensures halts { IfErr result (HaltsBefore options.now
+        (record { told = S.left; faults = S.faults; before = input.old; after = input.new })
+        (files_of F.told F.faults files.old files.new) D.step draw.old draw.new) }
+    ensures asked { AskedFor options.now.keys (files_of F.told F.faults files.old files.new) ⊎ (files.new ≡ files.old) }
+{
+    let script = match script_of(alloc, input) {
+        Ok(script) => script,
+        Err(halt) => return Err(halt),
+    };
+    let ring = match ring_of(alloc, options, files) {
+        Ok(ring) => ring,
+        Err(halt) => return Err(halt),
+    };
+    match client_of(alloc, options, &script, &ring, draw) {
+        Ok(client) => Ok((client, ring)),
+        Err(halt) => Err(halt),
+    }
+}

@@ -1,0 +1,5 @@
+pub mod Words
+pub mod Readings
+pub mod Taking
+pub mod Ends
+pub mod Passing

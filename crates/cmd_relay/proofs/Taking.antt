@@ -1,0 +1,89 @@
+-- What goes out for pieces, one after the other.
+use Rattle.std.proofs.Common.{◌≡◌, ◌≢◌, ◌∙◌, ℕ, ◌+◌, ◌<◌, ◌≤◌, List, [], ◌∷◌, ◌++◌, length, take, inl, inr, refl, sym, ap, subst, arith, append_assoc, append-nil, length-append}
+use Rattle.transport.specs.declared.form.Form.{Form}
+use Rattle.transport.specs.declared.form.Form.TheVariants.{Full}
+use Rattle.secret_relay.specs.Stories.{Story, GoesOn, Relayed, UpEnds, DownEnds, nothing, other_text, with_up, with_down}
+use Rattle.secret_relay.specs.declared.fault.RelayFault.{RelayFault}
+use Rattle.secret_relay.specs.declared.fault.RelayFault.TheVariants as faults
+use Rattle.cmd_relay.specs.Captures.{line_of}
+use Rattle.cmd_relay.specs.Relays.{AreTaken, IsTaken, IsRefusedFor, after, text_of, then}
+use Rattle.cmd_relay.specs.declared.capture.Piece.{Piece}
+use Rattle.cmd_relay.specs.declared.capture.Way.{Way}
+use Rattle.cmd_relay.specs.declared.capture.Way.TheVariants.{Up, Down}
+
+-- ---- one more
+
+pub taken-snoc : (form : Form) (secret : List ℕ) (pieces : List Piece) (outs : List (List ℕ)) (piece : Piece) (out : List ℕ) (story : Story)
+    → AreTaken form secret pieces outs story → IsTaken form secret piece.way piece.bytes out (after pieces outs story)
+    → AreTaken form secret (pieces ++ piece ∷ []) (outs ++ out ∷ []) story
+taken-snoc form secret [] [] piece out story all one = (one, tt)
+taken-snoc form secret [] (o ∷ outs) piece out story all one = absurd all
+taken-snoc form secret (p ∷ pieces) [] piece out story all one = absurd all
+taken-snoc form secret (p ∷ pieces) (o ∷ outs) piece out story all one =
+    (all.0, taken-snoc form secret pieces outs piece out (then p.way p.bytes o story) all.1 one)
+
+pub after-snoc : (form : Form) (secret : List ℕ) (pieces : List Piece) (outs : List (List ℕ)) (piece : Piece) (out : List ℕ) (story : Story)
+    → AreTaken form secret pieces outs story
+    → after (pieces ++ piece ∷ []) (outs ++ out ∷ []) story ≡ then piece.way piece.bytes out (after pieces outs story)
+after-snoc form secret [] [] piece out story all = refl
+after-snoc form secret [] (o ∷ outs) piece out story all = absurd all
+after-snoc form secret (p ∷ pieces) [] piece out story all = absurd all
+after-snoc form secret (p ∷ pieces) (o ∷ outs) piece out story all =
+    after-snoc form secret pieces outs piece out (then p.way p.bytes o story) all.1
+
+pub text-snoc : (form : Form) (secret : List ℕ) (pieces : List Piece) (outs : List (List ℕ)) (piece : Piece) (out : List ℕ) (story : Story)
+    → AreTaken form secret pieces outs story
+    → text_of (pieces ++ piece ∷ []) (outs ++ out ∷ []) ≡ text_of pieces outs ++ line_of piece.way out
+text-snoc form secret [] [] piece out story all = append-nil (line_of piece.way out)
+text-snoc form secret [] (o ∷ outs) piece out story all = absurd all
+text-snoc form secret (p ∷ pieces) [] piece out story all = absurd all
+text-snoc form secret (p ∷ pieces) (o ∷ outs) piece out story all =
+    ap (λ (l : List ℕ). line_of p.way o ++ l) (text-snoc form secret pieces outs piece out (then p.way p.bytes o story) all.1)
+    ∙ sym (append_assoc (line_of p.way o) (text_of pieces outs) (line_of piece.way out))
+
+-- ---- one reading of pieces
+
+-- what the crate below promises
+pub record Outcomes : Type 0 where
+  pub text : (form : Form) (secret upwards downwards : List ℕ) (story : Story) → form ≢ Full → Relayed form secret story
+      → Relayed form secret (other_text upwards downwards story) → (story.upwards ≡ upwards) × (story.downwards ≡ downwards)
+  pub up_apart : (form : Form) (secret upwards downwards : List ℕ) (story : Story) (fault : RelayFault) → form ≢ Full
+      → Relayed form secret story → UpEnds form secret fault (other_text upwards downwards story) → ⊥
+  pub down_apart : (form : Form) (secret upwards downwards : List ℕ) (story : Story) (fault : RelayFault) → form ≢ Full
+      → GoesOn form secret story → DownEnds form secret fault (other_text upwards downwards story) → ⊥
+
+same_back : (x r s : List ℕ) → x ++ r ≡ x ++ s → r ≡ s
+same_back [] r s e = e
+same_back (a ∷ x) r s e = same_back x r s (cc)
+
+module _ (laws : Outcomes) (form : Form) (plain : form ≢ Full) (secret : List ℕ) where
+  one_out : (way : Way) (bytes out other : List ℕ) (story : Story) → IsTaken form secret way bytes out story → IsTaken form secret way bytes other story
+      → out ≡ other
+  one_out Up bytes out other story f g =
+      same_back story.upwards out other
+      (laws.text form secret (story.upwards ++ other) story.downwards (with_up bytes out story) plain f g).0
+  one_out Down bytes out other story f g =
+      same_back story.downwards out other
+      (laws.text form secret story.upwards (story.downwards ++ other) (with_down bytes out story) plain (inr f) (inr g)).1
+
+  not_refused : (way : Way) (bytes out : List ℕ) (fault : RelayFault) (story : Story) → IsTaken form secret way bytes out story
+      → IsRefusedFor form secret way bytes fault story → ⊥
+  not_refused Up bytes out fault story f g =
+      laws.up_apart form secret (story.upwards ++ g.0) story.downwards (with_up bytes out story) fault plain f g.1
+  not_refused Down bytes out fault story f (inl g) =
+      omega (arith, f.opens.size, g.1, ap length f.opens.whole, length-append f.opens.wire f.opens.rest)
+  not_refused Down bytes out fault story f (inr g) =
+      laws.down_apart form secret story.upwards (story.downwards ++ g.0) (with_down bytes out story) fault plain f g.1
+
+  pub taken_or_refused : (front : List Piece) (piece : Piece) (back : List Piece) (outs others : List (List ℕ)) (fault : RelayFault) (story : Story)
+      → AreTaken form secret (front ++ piece ∷ back) outs story → AreTaken form secret front others story
+      → IsRefusedFor form secret piece.way piece.bytes fault (after front others story) → ⊥
+  taken_or_refused [] piece back [] others fault story t f r = t
+  taken_or_refused [] piece back (out ∷ outs) [] fault story t f r = not_refused piece.way piece.bytes out fault story t.0 r
+  taken_or_refused [] piece back (out ∷ outs) (other ∷ others) fault story t f r = f
+  taken_or_refused (p ∷ front) piece back [] others fault story t f r = t
+  taken_or_refused (p ∷ front) piece back (out ∷ outs) [] fault story t f r = f
+  taken_or_refused (p ∷ front) piece back (out ∷ outs) (other ∷ others) fault story t f r =
+      let same : out ≡ other = one_out p.way p.bytes out other story t.0 f.0 in
+      taken_or_refused front piece back outs others fault (then p.way p.bytes other story)
+      (subst (λ (o : List ℕ). AreTaken form secret (front ++ piece ∷ back) outs (then p.way p.bytes o story)) same t.1) f.1 r

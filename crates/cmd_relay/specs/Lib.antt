@@ -1,0 +1,4 @@
+pub mod Captures
+pub mod Relays
+pub mod Runs
+pub mod Inner

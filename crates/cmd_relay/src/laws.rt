@@ -1,0 +1,25 @@
+//! Laws of captures, each the contract of a function that does nothing.
+
+ghost use Rattle.std.specs.Prelude.{◌≡◌, ◌≢◌, ℕ, List};
+ghost use Rattle.transport.specs.declared.form.Form.{Form as Forms};
+ghost use Rattle.transport.specs.declared.form.Form.TheVariants.{Full};
+ghost use Rattle.cmd_relay.specs.Captures.{HasBadLine, Spells};
+ghost use Rattle.cmd_relay.specs.Relays.{IsRefused, IsRelayed};
+ghost use Rattle.cmd_relay.specs.declared.capture.Piece.{Piece as Pieces};
+
+use secret_relay::laws::one_outcome;
+
+/// A text spells at most one list of pieces, and none where a line is outside the grammar.
+pub fn one_reading()
+    ensures pieces { (text : List ℕ) (pieces others : List Pieces) → Spells text pieces → Spells text others → pieces ≡ others }
+    ensures not_both { (text : List ℕ) (pieces : List Pieces) (bad : ℕ) → Spells text pieces → HasBadLine text bad → ⊥ }
+    ensures bad_line { (text : List ℕ) (bad other : ℕ) → HasBadLine text bad → HasBadLine text other → bad ≡ other }
+{}
+
+/// A capture whose lines are all taken has none that is refused.
+pub fn relayed_or_refused()
+    ensures { (form : Forms) (secret text due other : List ℕ) → form ≢ Full → IsRelayed form secret text due → IsRefused form secret text other → ⊥ }
+{
+    one_reading();
+    one_outcome();
+}

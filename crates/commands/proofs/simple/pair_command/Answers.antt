@@ -1,0 +1,12 @@
+use Rattle.std.proofs.Common.{◌∙◌, ap₂}
+use Rattle.clap.specs.Words.{with_rule}
+use Rattle.commands.specs.Simple.{pair}
+use Rattle.commands.proofs.simple.pair_command.Goals as goal
+
+pub returns : goal.returns
+unfolding pair
+returns c =
+    let one = c.in_ok-arg.ensures.shape c.needed.ensures.own ∙ ap₂ with_rule c.new.ensures.app c.needed.ensures.rule in
+    let two = c.in_ok-arg-2.ensures.shape c.needed-2.ensures.own ∙ ap₂ with_rule one c.needed-2.ensures.rule in
+    let three = c.in_ok-arg-3.ensures.shape c.needed-3.ensures.own ∙ ap₂ with_rule two c.needed-3.ensures.rule in
+    c.in_ok-command.ensures.shape c.needed-4.ensures.own ∙ ap₂ with_rule three c.needed-4.ensures.rule
