@@ -18,7 +18,7 @@ use octets::Memory;
 use std::alloc::Global;
 
 /// By what lines are looked up.
-#[derive(Clone, Copy, Debug)]
+#[derive(Clone, Copy)]
 pub(crate) enum By {
     /// A `body`, by its call.
     Body,
@@ -96,7 +96,7 @@ fn index(alloc: Global, facts: &[Fact], by: By) -> Result<Table, Memory>
 }
 
 /// The facts of a text, one a line, with a table for each kind of line.
-#[derive(Debug, Drop)]
+#[derive(Drop)]
 pub(crate) struct Book {
     pub(crate) facts: Vec<Fact>,
     bodies: Table,

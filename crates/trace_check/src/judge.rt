@@ -224,7 +224,7 @@ fn executed(alloc: Global, book: &Book) -> Result<Table, Memory>
 // ---- the six sentences
 
 /// A trace with no bad line, its entries by their calls, and for each place whether the registers served it.
-#[derive(Debug, Drop)]
+#[derive(Drop)]
 pub(crate) struct Judge {
     book: Book,
     executed: Table,

@@ -1,0 +1,45 @@
+-- What is owed to the bytes of a trace, by what is found of them.
+use Rattle.std.proofs.Common.{◌≡◌, ◌∙◌, ℕ, ◌≤◌, ◌<◌, codes, length, List, Option, Some, None, Result, Ok, Err, IfOk, IfSome, inl, inr, refl, sym, subst}
+use Rattle.statuses.specs.Lines.{input_bytes_max, refusal_line, too_long}
+use Rattle.statuses.specs.declared.answer.Answer.{Answer}
+use Rattle.statuses.specs.declared.status.Status.TheVariants as status
+use Rattle.trace_check.specs.Answers.{AllHoldIn, HasBadLine, IsBrokenIn}
+use Rattle.cmd_check.specs.Check.{IsOfCheck, Owes, broken_line, yes_line}
+
+pub yes-owes : {E : Type 0} (text : List ℕ) (r : Result Answer E) → length text ≤ input_bytes_max → AllHoldIn text → IfOk r (λ a. a.status ≡ status.Done) → IfOk r (λ a. a.text ≡ yes_line)
+    → IfOk r (λ a. Owes text a.status a.text)
+yes-owes text (Ok a) short h said told = inl (said, record { short = short; all_hold = h }, told)
+yes-owes text (Err e) short h said told = tt
+
+pub broken-owes : {E : Type 0} (text : List ℕ) (clause line : ℕ) (r : Result Answer E) → length text ≤ input_bytes_max → IsBrokenIn text clause line → IfOk r (λ a. a.status ≡ status.Broken)
+    → IfOk r (λ a. a.text ≡ broken_line clause line) → IfOk r (λ a. Owes text a.status a.text)
+broken-owes text clause line (Ok a) short h said told = inr (inl (said, (clause, line, record { short = short; broken = h }, told)))
+broken-owes text clause line (Err e) short h said told = tt
+
+pub bad-owes : {E : Type 0} (text : List ℕ) (line : ℕ) (r : Result Answer E) → length text ≤ input_bytes_max → HasBadLine text line → IfOk r (λ a. a.status ≡ status.InputRefused)
+    → IfOk r (λ a. a.text ≡ refusal_line line (codes "bad line")) → IfOk r (λ a. Owes text a.status a.text)
+bad-owes text line (Ok a) short h said told = inr (inr (said, inr (line, record { short = short; bad = h; told = told })))
+bad-owes text line (Err e) short h said told = tt
+
+pub yes-of : {E : Type 0} (r : Result Answer E) → IfOk r (λ a. a.status ≡ status.Done) → IfOk r (λ a. IsOfCheck a.status)
+yes-of (Ok a) said = inl said
+yes-of (Err e) said = tt
+
+pub broken-of : {E : Type 0} (r : Result Answer E) → IfOk r (λ a. a.status ≡ status.Broken) → IfOk r (λ a. IsOfCheck a.status)
+broken-of (Ok a) said = inr (inl said)
+broken-of (Err e) said = tt
+
+pub bad-of : {E : Type 0} (r : Result Answer E) → IfOk r (λ a. a.status ≡ status.InputRefused) → IfOk r (λ a. IsOfCheck a.status)
+bad-of (Ok a) said = inr (inr said)
+bad-of (Err e) said = tt
+
+-- ---- where the text is what was left
+
+pub owes-left : (input : Option (List ℕ)) (text : List ℕ) (a : Answer) → IfSome input (λ left. text ≡ left) → Owes text a.status a.text → IfSome input (λ left. Owes left a.status a.text)
+owes-left None text a same h = tt
+owes-left (Some left) text a same h = subst (λ (t : List ℕ). Owes t a.status a.text) same h
+
+pub long-owes : (input : Option (List ℕ)) (a : Answer) → IfSome input (λ left. input_bytes_max < length left) → a.status ≡ status.InputRefused → a.text ≡ too_long
+    → IfSome input (λ left. Owes left a.status a.text)
+long-owes None a long said told = tt
+long-owes (Some left) a long said told = inr (inr (said, inl (record { long = long; told = told })))
