@@ -78,7 +78,9 @@ fn a_long_trace(rt: HostRuntime) -> Result<(), Fail> {
     let alloc = rt.alloc();
     let mut text = Octets::new(alloc);
     for number in 1..=200u32 {
-        let call = format!(in alloc; "body 7 {number} 00\nname 7 {number} 9 {number}\nentry 1 9 {number} 00 01 answer\nstate 7 {number} done 01\n")?;
+        let call = format!(in alloc;
+            "body 7 {number} 00\nname 7 {number} 9 {number}\nentry 1 9 {number} 00 01 answer\nstate 7 {number} done 01\n"
+        )?;
         text.push_all(alloc, call.as_bytes())?;
     }
     let (status, written) = ran(alloc, text.as_slice())?;
@@ -114,7 +116,12 @@ fn in_pieces(
     status: u8,
     written: &str,
 ) -> Result<(), Fail> {
-    let mut input = MemSource::new(alloc, b"made 9\nmade 9\nentry 1 9 4 - - answer\n", 7, failing_reads)?;
+    let mut input = MemSource::new(
+        alloc,
+        b"made 9\nmade 9\nentry 1 9 4 - - answer\n",
+        7,
+        failing_reads,
+    )?;
     let mut out = MemSink::new(alloc, ROOM_BYTES, 7, failing_writes)?;
     let ended = run_check(alloc, &mut input, &mut out);
     assert_eq!(rt; ended.number(), status);
