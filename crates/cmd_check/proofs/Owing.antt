@@ -1,6 +1,6 @@
 -- What is owed to the bytes of a trace, by what is found of them.
-use Rattle.std.proofs.Common.{◌≡◌, ◌∙◌, ℕ, ◌≤◌, ◌<◌, codes, length, List, Option, Some, None, Result, Ok, Err, IfOk, IfSome, inl, inr, refl, sym, subst}
-use Rattle.statuses.specs.Lines.{input_bytes_max, refusal_line, too_long}
+use Rattle.std.proofs.Common.{◌≡◌, ◌∙◌, ℕ, ◌≤◌, codes, length, List, Option, Some, None, Result, Ok, Err, IfOk, IfSome, inl, inr, subst}
+use Rattle.statuses.specs.Lines.{input_bytes_max, refusal_line}
 use Rattle.statuses.specs.declared.answer.Answer.{Answer}
 use Rattle.statuses.specs.declared.status.Status.TheVariants as status
 use Rattle.trace_check.specs.declared.checking.Checked.{Checked}
@@ -41,11 +41,6 @@ bad-of (Err e) said = tt
 
 -- ---- where the text is what was left
 
-pub owes-left : (input : Option (List ℕ)) (text : List ℕ) (a : Answer) → IfSome input (λ left. text ≡ left) → Owes text a.status a.text → IfSome input (λ left. Owes left a.status a.text)
-owes-left None text a same h = tt
-owes-left (Some left) text a same h = subst (λ (t : List ℕ). Owes t a.status a.text) same h
-
-pub long-owes : (input : Option (List ℕ)) (a : Answer) → IfSome input (λ left. input_bytes_max < length left) → a.status ≡ status.InputRefused → a.text ≡ too_long
-    → IfSome input (λ left. Owes left a.status a.text)
-long-owes None a long said told = tt
-long-owes (Some left) a long said told = inr (inr (said, inl (record { long = long; told = told })))
+pub owes-left : (input : Option (List ℕ)) (text bytes : List ℕ) (a : Answer) → bytes ≡ text → IfSome input (λ left. text ≡ left) → Owes bytes a.status a.text → IfSome input (λ left. Owes left a.status a.text)
+owes-left None text bytes a are same h = tt
+owes-left (Some left) text bytes a are same h = subst (λ (t : List ℕ). Owes t a.status a.text) (are ∙ same) h
