@@ -9,7 +9,7 @@ use test_asserts::same_at;
 use trace_check::{CheckFault, Checked, check};
 
 /// The lines that stand with `; ` between them, each with its newline.
-fn lines(alloc: Global, text: &str) -> Result<Octets, Fail> {
+pub(crate) fn lines(alloc: Global, text: &str) -> Result<Octets, Fail> {
     let mut all = Octets::new(alloc);
     if text != "-" {
         for line in text.split("; ") {

@@ -13,7 +13,8 @@ use Rattle.trace_check.specs.declared.table.Row.{Row}
 use Rattle.trace_check.specs.declared.book.By.TheVariants as by
 use Rattle.trace_check.specs.declared.sentence.Sentence.TheVariants as sentence
 use Rattle.trace_check.specs.Indexes.{Stands, IsRow, row_before}
-use Rattle.trace_check.specs.Marks.{At, Marks, key_of}
+use Rattle.trace_check.specs.Facts.{At}
+use Rattle.trace_check.specs.Keys.{Marks, key_of}
 use Rattle.trace_check.specs.Lawful.{IsTrace}
 use Rattle.trace_check.specs.Sentences.{DoesWait, HasEntry, HasNotRun, IsEntryOf, IsNameOf, IsReplaced, Keeps, RanOnce, WasAsked}
 use Rattle.trace_check.specs.Books.{AreCallers, AreEntries, AreEntriesAt, HasBody, HasLater, HasReplied, IsCallerAt, IsWaiting}

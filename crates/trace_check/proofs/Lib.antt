@@ -1,6 +1,8 @@
 pub mod Steps
 pub mod Pieces
 pub mod Numbers
+pub mod Hexes
+pub mod Meanings
 pub mod Places
 pub mod Marking
 pub mod Judging
@@ -9,4 +11,5 @@ pub mod Tests
 pub mod Serving
 pub mod Lines
 pub mod Finding
+pub mod Answering
 pub mod Stepping

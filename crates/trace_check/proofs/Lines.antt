@@ -4,8 +4,8 @@ use Rattle.std.specs.List.{slice_get}
 use Rattle.std.proofs.lemmas.List.{length-map}
 use Rattle.std.proofs.lemmas.Bool.{cases_lt}
 use Rattle.sched_text.specs.Lines.{Line, is_left_out, numbered, lines_in, lines_of, words_of}
-use Rattle.trace_check.specs.Marks.{facts_of, numbers_of}
-use Rattle.trace_check.specs.Reading.{said_by}
+use Rattle.trace_check.specs.Reading.{facts_of, said_by}
+use Rattle.trace_check.specs.Facts.{numbers_of}
 use Rattle.trace_check.specs.Books.{Rise}
 
 abbrev Within : ℕ → List Line → Type 0

@@ -16,7 +16,8 @@ use Rattle.trace_check.specs.declared.book.Book.{Book}
 use Rattle.trace_check.specs.declared.book.By.{By}
 use Rattle.trace_check.specs.declared.book.By.TheVariants as by
 use Rattle.trace_check.specs.Indexes.{Indexes, IsRow, Stands}
-use Rattle.trace_check.specs.Marks.{At, IsMarked, Marks, key_of}
+use Rattle.trace_check.specs.Facts.{At}
+use Rattle.trace_check.specs.Keys.{IsMarked, Marks, key_of}
 use Rattle.trace_check.specs.Lawful.{IsTrace}
 use Rattle.trace_check.specs.Sentences.{IsEntryOf, IsNameOf}
 use Rattle.trace_check.specs.Books.{AreCallers, AreExecuted, IsBook, IsCallerAt, IsLastMark}

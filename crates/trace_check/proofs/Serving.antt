@@ -10,7 +10,7 @@ use Rattle.trace_check.specs.declared.fact.Fact.{Fact}
 use Rattle.trace_check.specs.declared.fact.Fact.TheVariants.{Body, Name, State, Entry, Made, Left, Closed, Gone, Outside}
 use Rattle.trace_check.specs.declared.fact.Entry as entry
 use Rattle.trace_check.specs.declared.sentence.Sentence.TheVariants as sentence
-use Rattle.trace_check.specs.Marks.{At}
+use Rattle.trace_check.specs.Facts.{At}
 use Rattle.trace_check.specs.Sentences.{Holds, Keeps, ran_of, ran_in, state_in}
 use Rattle.trace_check.specs.States.{state_with}
 

@@ -13,7 +13,7 @@ use Rattle.trace_check.specs.declared.fact.Fact.{Fact}
 use Rattle.trace_check.specs.declared.fact.Fact.TheVariants.{Body, Name, State, Entry, Made, Left, Closed, Gone, Outside}
 use Rattle.trace_check.specs.declared.fact.Entry as entry
 use Rattle.trace_check.specs.declared.sentence.Sentence.TheVariants as sentence
-use Rattle.trace_check.specs.Marks.{At}
+use Rattle.trace_check.specs.Facts.{At}
 use Rattle.trace_check.specs.Sentences.{Keeps, state_in}
 use Rattle.trace_check.specs.Books.{AreServed}
 use Rattle.trace_check.specs.States.{IsRight, state_of, state_with, with_state}

@@ -18,8 +18,9 @@ use Rattle.trace_check.specs.declared.book.By.TheVariants as by
 use Rattle.trace_check.specs.declared.sentence.Sentence.{Sentence}
 use Rattle.trace_check.specs.declared.sentence.Sentence.TheVariants as sentence
 use Rattle.trace_check.specs.Indexes.{IsRow, row_before, row_later}
-use Rattle.trace_check.specs.Marks.{At, IsMarked, IsMarkedBefore, Marks, key_of}
-use Rattle.trace_check.specs.Lawful.{Fits, IsLawful, IsLawfulBody, IsLawfulName, IsLawfulState, IsNext, IsTrace}
+use Rattle.trace_check.specs.Facts.{At}
+use Rattle.trace_check.specs.Keys.{IsMarked, IsMarkedBefore, Marks, key_of}
+use Rattle.trace_check.specs.Lawful.{Fits, HasBodyBefore, IsLawful, IsLawfulBody, IsLawfulName, IsLawfulState, IsNext, IsTrace}
 use Rattle.trace_check.specs.Sentences.{DoesWait, HasCause, HasEntry, HasNotRun, Holds, IsCause, IsEntryOf, IsNameOf, IsReplaced, Keeps, RanOnce, WasAsked, number_of}
 use Rattle.trace_check.specs.Books.{AreEntries, AreServed, HasBody, HasLater, HasNoneBefore, HasReplied, IsBreak, IsCallerAt, IsCurrent, IsFirstFrom, IsFirstPlace, IsIdle, IsLastMark, IsPlace, IsWaiting, Keep}
 use Rattle.trace_check.proofs.Steps.{not_equal}
@@ -33,16 +34,16 @@ fits_at facts place f at h =
     (λ a g is. subst (λ (x : Fact). IsLawful facts place x) (same_fact facts place place f g refl at is) (h.0 a), λ fits. h.1 (fits f at))
 
 pub next_is : (facts : List Fact) (place : ℕ) (call before : Numbered) (b : Bool) → (before.owner ≡ call.owner) × (call.number ≡ before.number + 1) × (1 ≤ before.number)
-    → (IsTrue b ↔ IsMarkedBefore by.Body facts before place) → (IsTrue b ↔ IsNext facts call place)
+    → (IsTrue b ↔ HasBodyBefore facts before place) → (IsTrue b ↔ IsNext facts call place)
 next_is facts place call before b is h =
     let own : before ≡ record { owner = call.owner; number = before.number } = λ i. record { owner = is.0 i; number = before.number } in (
-      λ e. inr (before.number, is.2, is.1, subst (λ (k : Numbered). IsMarkedBefore by.Body facts k place) own (h.0 e)),
+      λ e. inr (before.number, is.2, is.1, subst (λ (k : Numbered). HasBodyBefore facts k place) own (h.0 e)),
       λ n. elim n [
         | inl first ↦ absurd (omega (arith, first, is.1, is.2))
         | inr later ↦
             let same : later.0 ≡ before.number = omega (arith, later.2, is.1) in
             let k : record { owner = call.owner; number = later.0 } ≡ before = λ i. record { owner = sym is.0 i; number = same i } in
-            h.1 (subst (λ (x : Numbered). IsMarkedBefore by.Body facts x place) k later.3)
+            h.1 (subst (λ (x : Numbered). HasBodyBefore facts x place) k later.3)
       ],
     )
 
@@ -134,13 +135,17 @@ later_rows facts trace call name (Some own) (Some all) named h g =
     let is = is_name first.0 name first.2 in
     let there : At facts own.first (fact.Name is.0 name) = first.1 ∙ ap (λ (x : Fact). Some x) is.1 in
     let here : At facts own.first (fact.Name call name) =
-    subst (λ (c : Numbered). At facts own.first (fact.Name c name)) (one_name facts trace own.first named.0 is.0 call name there named.1).1 there in (
-      λ e. (own.first, all.last, ltb-true own.first all.last e, here, g.1.stands),
+    subst (λ (c : Numbered). At facts own.first (fact.Name c name)) (one_name facts trace own.first named.0 is.0 call name there named.1).1 there in
+    let mark_last = marks_fact by.Call facts call all.last g.1.stands in
+    let last = is_call mark_last.0 call mark_last.2 in
+    let beyond_it : At facts all.last (fact.Name call last.0) = mark_last.1 ∙ ap (λ (x : Fact). Some x) last.1 in (
+      λ e. (own.first, all.last, last.0, ltb-true own.first all.last e, here, beyond_it),
       λ has.
-          let mark = fact_marks by.Name facts name has.0 (fact.Name call name) has.3 refl in
+          let mark = fact_marks by.Name facts name has.0 (fact.Name call name) has.4 refl in
+          let later = fact_marks by.Call facts call has.1 (fact.Name call has.2) has.5 refl in
           lt-ltb own.first all.last (elim (cases_lt has.0 own.first) [
             | inl less ↦ absurd (h.0.least has.0 mark less)
-            | inr more ↦ elim (cases_lt all.last has.1) [ inl beyond ↦ absurd (g.1.greatest has.1 has.4 beyond) | inr within ↦ omega (arith, more, within, has.2) ]
+            | inr more ↦ elim (cases_lt all.last has.1) [ inl beyond ↦ absurd (g.1.greatest has.1 later beyond) | inr within ↦ omega (arith, more, within, has.3) ]
           ]),
     )
 
@@ -200,13 +205,16 @@ lost_last facts call f cause mark =
           let same : w.1 ≡ is.0 = cc in
           record {
             name = is.0;
-            last = record { place = mark.place; at = here; last = mark.last };
+            last = record {
+              place = mark.place;
+              at = here;
+              last = λ later other less at. mark.last later less (fact_marks by.Call facts call later (fact.Name call other) at refl);
+            };
             holds = subst (λ (n : Numbered). IsCause facts n cause) same w.3;
           },
       λ has.
           let there = fact_marks by.Call facts call has.last.place (fact.Name call has.name) has.last.at refl in
-          let mine = fact_marks by.Call facts call mark.place f mark.at mark.marks in
-          let e = one_place mark.place has.last.place (λ less. mark.last has.last.place less there) (λ less. has.last.last mark.place less mine) in
+          let e = one_place mark.place has.last.place (λ less. mark.last has.last.place less there) (λ less. has.last.last mark.place is.0 less here) in
           (call, has.name, same_fact facts mark.place has.last.place f (fact.Name call has.name) e mark.at has.last.at, has.holds),
     )
 
@@ -233,7 +241,7 @@ at_number sentence.Replaced = refl
 at_number sentence.Unknown = refl
 at_number sentence.Served = refl
 
-same_sentence : (s t : Sentence) → number_of s ≡ number_of t → s ≡ t
+pub same_sentence : (s t : Sentence) → number_of s ≡ number_of t → s ≡ t
 same_sentence s t e = sym (at_number s) ∙ (ap sentence_at e ∙ at_number t)
 
 -- behind the last sentence there is none

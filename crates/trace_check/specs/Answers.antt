@@ -1,15 +1,16 @@
 -- What a check answers.
 use Rattle.std.specs.Prelude.{◌≡◌, ◌<◌, ◌≤◌, ℕ, List, slice_get, Some}
-use Rattle.sched_text.specs.Lines.{lines_in}
 use Rattle.trace_check.specs.declared.fact.Fact.{Fact}
 use Rattle.trace_check.specs.declared.sentence.Sentence.{Sentence}
 use Rattle.trace_check.specs.declared.checking.Checked.{Checked}
 use Rattle.trace_check.specs.declared.checking.Checked.TheVariants.{Yes, Broken}
 use Rattle.trace_check.specs.declared.checking.CheckFault.{CheckFault}
 use Rattle.trace_check.specs.declared.checking.CheckFault.TheVariants.{BadLine, Memory}
-use Rattle.trace_check.specs.Marks.{facts_of, numbers_of}
+use Rattle.trace_check.specs.Facts.{Spells, line_numbers}
 use Rattle.trace_check.specs.Lawful.{IsFirstBadLine, IsTrace}
 use Rattle.trace_check.specs.Sentences.{Holds, Keeps, number_of}
+
+-- ---- of facts, and of the numbers of their lines
 
 -- all six sentences hold
 abbrev pub AllHold : List Fact → Type 0
@@ -28,24 +29,34 @@ pub record IsBroken (facts : List Fact) (numbers : List ℕ) (clause line : ℕ)
   pub shown : Shows sentence facts numbers line
   pub least : (other : ℕ) → Shows sentence facts numbers other → line ≤ other
 
--- what is found of facts in which there is no bad line, and of the numbers of their lines
-abbrev pub IsFound : List Fact → List ℕ → Checked → Type 0
-IsFound facts numbers Yes = AllHold facts
-IsFound facts numbers (Broken clause line) = IsBroken facts numbers clause line
+-- ---- of a text
 
--- the fault of facts, want of memory aside
-abbrev pub IsFault : List Fact → List ℕ → CheckFault → Type 0
-IsFault facts numbers (BadLine line) = IsFirstBadLine facts numbers line
-IsFault facts numbers Memory = Unit {0}
+-- it is a trace, and all six sentences hold
+pub record AllHoldIn (text : List ℕ) : Type 0 where
+  pub facts : List Fact
+  pub spelled : Spells text facts
+  pub lawful : IsTrace facts
+  pub all_hold : AllHold facts
 
--- the text has no bad line
-abbrev pub SpellsTrace : List ℕ → Type 0
-SpellsTrace text = IsTrace (facts_of (lines_in text))
+-- it is a trace, and the least sentence that doesn't hold and the least line that shows it are these
+pub record IsBrokenIn (text : List ℕ) (clause line : ℕ) : Type 0 where
+  pub facts : List Fact
+  pub spelled : Spells text facts
+  pub lawful : IsTrace facts
+  pub broken : IsBroken facts (line_numbers text) clause line
 
--- what is found of a text
+-- it is no trace, and this is its first bad line
+pub record HasBadLine (text : List ℕ) (line : ℕ) : Type 0 where
+  pub facts : List Fact
+  pub spelled : Spells text facts
+  pub bad : IsFirstBadLine facts (line_numbers text) line
+
+-- what is found of it
 abbrev pub IsFoundIn : List ℕ → Checked → Type 0
-IsFoundIn text checked = IsFound (facts_of (lines_in text)) (numbers_of (lines_in text)) checked
+IsFoundIn text Yes = AllHoldIn text
+IsFoundIn text (Broken clause line) = IsBrokenIn text clause line
 
--- the fault of a text
+-- its fault, want of memory aside
 abbrev pub IsFaultOf : List ℕ → CheckFault → Type 0
-IsFaultOf text fault = IsFault (facts_of (lines_in text)) (numbers_of (lines_in text)) fault
+IsFaultOf text (BadLine line) = HasBadLine text line
+IsFaultOf text Memory = Unit {0}

@@ -14,8 +14,14 @@ use Rattle.trace_check.specs.declared.book.Book.{Book}
 use Rattle.trace_check.specs.declared.book.By.{By}
 use Rattle.trace_check.specs.declared.book.By.TheVariants as by
 use Rattle.trace_check.specs.Indexes.{Indexes, Stands}
-use Rattle.trace_check.specs.Marks.{At, Marks, key_of}
-use Rattle.trace_check.specs.Lawful.{Fits, IsTrace}
+use Rattle.trace_check.specs.Facts.{At}
+use Rattle.trace_check.specs.Keys.{Marks, key_of}
+use Rattle.trace_check.specs.Lawful.{Fits, IsFirstBadLine, IsTrace}
+use Rattle.trace_check.specs.Answers.{AllHold, IsBroken}
+use Rattle.trace_check.specs.declared.checking.Checked.{Checked}
+use Rattle.trace_check.specs.declared.checking.Checked.TheVariants.{Yes, Broken}
+use Rattle.trace_check.specs.declared.checking.CheckFault.{CheckFault}
+use Rattle.trace_check.specs.declared.checking.CheckFault.TheVariants.{BadLine, Memory}
 use Rattle.trace_check.specs.Sentences.{DoesWait, HasEntry, HasNotRun, IsEntryOf, IsReplaced, Keeps, number_of}
 
 abbrev pub table_of : By → Book → Table
@@ -95,7 +101,7 @@ abbrev pub HasReplied : List Fact → ℕ → List ℕ → Type 0
 HasReplied facts place reply = (entry : Entry) × At facts place (fact.Entry entry) × (entry.reply ≡ reply)
 
 abbrev pub HasLater : List Fact → Numbered → Numbered → Type 0
-HasLater facts call name = (place later : ℕ) × (place < later) × At facts place (fact.Name call name) × Marks by.Call facts call later
+HasLater facts call name = (place later : ℕ) × (other : Numbered) × (place < later) × At facts place (fact.Name call name) × At facts later (fact.Name call other)
 
 abbrev pub IsWaiting : List Fact → Numbered → Type 0
 IsWaiting facts call = (place : ℕ) × (told : Told) × At facts place (fact.State call told) × DoesWait told
@@ -142,3 +148,15 @@ IsFirstUnfit facts place = MatchOption place (IsTrace facts) (IsUnfit facts)
 -- the numbers of lines rise
 abbrev pub Rise : List ℕ → Type 0
 Rise numbers = (p q a b : ℕ) → slice_get numbers p ≡ Some a → slice_get numbers q ≡ Some b → p < q → a < b
+
+-- ---- answers to facts, and to the numbers of their lines
+
+-- what is found where no line is a bad one
+abbrev pub IsFound : List Fact → List ℕ → Checked → Type 0
+IsFound facts numbers Yes = AllHold facts
+IsFound facts numbers (Broken clause line) = IsBroken facts numbers clause line
+
+-- the fault, want of memory aside
+abbrev pub IsFault : List Fact → List ℕ → CheckFault → Type 0
+IsFault facts numbers (BadLine line) = IsFirstBadLine facts numbers line
+IsFault facts numbers Memory = Unit {0}

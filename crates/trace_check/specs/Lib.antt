@@ -1,8 +1,9 @@
-pub mod Marks
+pub mod Facts
 pub mod Lawful
 pub mod Sentences
 pub mod Answers
 pub mod Reading
+pub mod Keys
 pub mod Indexes
 pub mod Books
 pub mod States

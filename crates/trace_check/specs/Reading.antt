@@ -1,6 +1,7 @@
 -- Scaffolding, and no promise: what words say, as functions that the contracts of private functions cite.
-use Rattle.std.specs.Prelude.{ℕ, Bool, true, false, List, [], ◌∷◌, codes, Option, Some, None, unwrap_or}
+use Rattle.std.specs.Prelude.{ℕ, Bool, true, false, List, [], ◌∷◌, map, codes, Option, Some, None, unwrap_or}
 use Rattle.std.specs.Option.{option_map}
+use Rattle.sched_text.specs.Lines.{Line, words_of}
 use Rattle.sched_text.specs.Reading.{find, hex_at, number_at, ◌>>=◌}
 use Rattle.trace_check.specs.declared.numbered.Numbered.{Numbered}
 use Rattle.trace_check.specs.declared.fact.Cause.{Cause}
@@ -115,3 +116,7 @@ fact_at (word ∷ words) = find word kinds >>= λ kind. fact_with kind words
 -- what a line says, or that it says nothing
 abbrev pub said_by : List (List ℕ) → Fact
 said_by words = unwrap_or (fact_at words) fact.Outside
+
+-- what the lines say, in order
+abbrev pub facts_of : List Line → List Fact
+facts_of lines = map (λ line. said_by (words_of line.text)) lines

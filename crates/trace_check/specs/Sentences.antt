@@ -11,10 +11,9 @@ use Rattle.trace_check.specs.declared.fact.Told.{Told}
 use Rattle.trace_check.specs.declared.fact.Told.TheVariants.{Queued, Sent, Held, Done, Refused, Unknown}
 use Rattle.trace_check.specs.declared.fact.Cause.{Cause}
 use Rattle.trace_check.specs.declared.fact.Cause.TheVariants as cause
-use Rattle.trace_check.specs.declared.book.By.TheVariants as by
 use Rattle.trace_check.specs.declared.sentence.Sentence.{Sentence}
 use Rattle.trace_check.specs.declared.sentence.Sentence.TheVariants as sentence
-use Rattle.trace_check.specs.Marks.{At, IsMarked, IsMarkedTwice, Marks, whole}
+use Rattle.trace_check.specs.Facts.{At, IsSaid, IsSaidTwice}
 
 -- ---- calls, their names, and entries
 
@@ -47,14 +46,14 @@ HasNotRun _ = ⊥
 -- a replaced name: one with a later name of the same call, and each name of a call that waits
 abbrev pub IsReplaced : List Fact → Numbered → Numbered → Type 0
 IsReplaced facts call name =
-    ((place later : ℕ) × (place < later) × At facts place (fact.Name call name) × Marks by.Call facts call later)
+    ((place later : ℕ) × (other : Numbered) × (place < later) × At facts place (fact.Name call name) × At facts later (fact.Name call other))
     ⊎ ((place : ℕ) × (told : Told) × At facts place (fact.State call told) × DoesWait told)
 
 -- the last name of a call
 pub record IsLastName (facts : List Fact) (call name : Numbered) : Type 0 where
   pub place : ℕ
   pub at : At facts place (fact.Name call name)
-  pub last : (later : ℕ) → place < later → Marks by.Call facts call later → ⊥
+  pub last : (later : ℕ) (other : Numbered) → place < later → At facts later (fact.Name call other) → ⊥
 
 -- ---- what the sentences say of a call and of an entry
 
@@ -76,10 +75,13 @@ pub record RanOnce (facts : List Fact) (call : Numbered) (reply : List ℕ) : Ty
 -- the cause by which it isn't known what became of a call with this last name
 abbrev pub IsCause : List Fact → Numbered → Cause → Type 0
 -- two sessions were made for the name's session number, so that the first was lost
-IsCause facts name cause.Session = IsMarkedTwice by.Made facts (whole name.owner)
-IsCause facts name cause.Renewed = IsMarked by.Left facts (whole name.owner)
-IsCause facts name cause.Ended = IsMarked by.Closed facts (whole name.owner)
-IsCause facts name cause.Forgotten = IsMarked by.Gone facts name
+IsCause facts name cause.Session = IsSaidTwice facts (fact.Made name.owner)
+-- its client renewed in that session
+IsCause facts name cause.Renewed = IsSaid facts (fact.Left name.owner)
+-- its client ended in it
+IsCause facts name cause.Ended = IsSaid facts (fact.Closed name.owner)
+-- the server had forgotten the name's number, or had dropped its reply
+IsCause facts name cause.Forgotten = IsSaid facts (fact.Gone name)
 
 pub record HasCause (facts : List Fact) (call : Numbered) (cause : Cause) : Type 0 where
   pub name : Numbered

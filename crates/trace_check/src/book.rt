@@ -3,8 +3,9 @@
 ghost use Rattle.std.specs.Prelude.{◌≡◌, ◌<◌, ◌↔◌, ℕ, Some, IsTrue, IfOk, IfSome, MatchOption, length, map, slice_get};
 ghost use Rattle.std.specs.Option.{option_copied};
 ghost use Rattle.trace_check.specs.Indexes.{IsRow, Indexes, row_before, row_later, row_twice};
-ghost use Rattle.trace_check.specs.Marks.{At, IsMarked, IsMarkedBefore, IsMarkedTwice, Marks};
-ghost use Rattle.trace_check.specs.Marks as marks;
+ghost use Rattle.trace_check.specs.Facts.{At};
+ghost use Rattle.trace_check.specs.Keys.{IsMarked, IsMarkedBefore, IsMarkedTwice, Marks};
+ghost use Rattle.trace_check.specs.Keys as keys;
 ghost use Rattle.trace_check.specs.Sentences.{IsNameOf};
 ghost use Rattle.trace_check.specs.Books.{IsBook, IsLastMark, table_of};
 ghost use Rattle.trace_check.specs.declared.numbered.Numbered.{Numbered};
@@ -17,7 +18,7 @@ use octets::Memory;
 use std::alloc::Global;
 
 /// By what lines are looked up.
-#[derive(Clone, Copy, Debug)]
+#[derive(Clone, Copy)]
 pub(crate) enum By {
     /// A `body`, by its call.
     Body,
@@ -39,7 +40,7 @@ pub(crate) enum By {
 
 /// A session as a whole.
 pub(crate) fn whole(session: u64) -> Numbered
-    ensures { result ≡ marks.whole session }
+    ensures { result ≡ keys.whole session }
 {
     Numbered {
         owner: session,
@@ -59,7 +60,7 @@ fn caller_in(fact: &Fact) -> Option<Numbered>
 
 // What a line of this kind speaks of.
 fn key_of(by: By, fact: &Fact) -> Option<Numbered>
-    ensures { result ≡ marks.key_of by fact.now }
+    ensures { result ≡ keys.key_of by fact.now }
 {
     match (by, fact) {
         (By::Body, Fact::Body(call, _)) => Some(*call),
@@ -77,14 +78,14 @@ fn key_of(by: By, fact: &Fact) -> Option<Numbered>
 // What the line at a place speaks of.
 fn key_at(by: By, facts: &[Fact], place: usize) -> Option<Numbered>
     requires { place < length facts.now }
-    ensures { IfSome (slice_get facts.now place) (λ fact. result ≡ marks.key_of by fact) }
+    ensures { IfSome (slice_get facts.now place) (λ fact. result ≡ keys.key_of by fact) }
 {
     key_of(by, &facts[place])
 }
 
 // The table of the lines of this kind.
 fn index(alloc: Global, facts: &[Fact], by: By) -> Result<Table, Memory>
-    ensures { IfOk result (λ table. Indexes table.rows (map (marks.key_of by) facts.now)) }
+    ensures { IfOk result (λ table. Indexes table.rows (map (keys.key_of by) facts.now)) }
 {
     let mut table = Table::new(alloc);
     for place in 0..facts.len() {
@@ -95,7 +96,7 @@ fn index(alloc: Global, facts: &[Fact], by: By) -> Result<Table, Memory>
 }
 
 /// The facts of a text, one a line, with a table for each kind of line.
-#[derive(Debug, Drop)]
+#[derive(Drop)]
 pub(crate) struct Book {
     pub(crate) facts: Vec<Fact>,
     bodies: Table,
@@ -160,7 +161,7 @@ impl Book {
 
     /// The places of the lines of this kind that speak of the key.
     pub(crate) fn row(&self, by: By, key: Numbered) -> Option<Row>
-        ensures { IsBook self.now → IsRow (map (marks.key_of by) self.now.facts.items) key result }
+        ensures { IsBook self.now → IsRow (map (keys.key_of by) self.now.facts.items) key result }
     {
         self.table(by).find(key)
     }
@@ -192,7 +193,7 @@ impl Book {
     /// What the first line of this kind that speaks of the key says.
     pub(crate) fn first(&self, by: By, key: Numbered) -> Option<&Fact>
         requires { IsBook self.now }
-        ensures { MatchOption result (IsMarked by self.now.facts.items key → ⊥) (λ fact. (place : ℕ) × At self.now.facts.items place fact.now × (marks.key_of by fact.now ≡ Some key)) }
+        ensures { MatchOption result (IsMarked by self.now.facts.items key → ⊥) (λ fact. (place : ℕ) × At self.now.facts.items place fact.now × (keys.key_of by fact.now ≡ Some key)) }
     {
         match self.row(by, key) {
             Some(row) => self.fact(row.first),

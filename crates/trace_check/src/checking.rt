@@ -2,10 +2,11 @@
 
 ghost use Rattle.std.specs.Prelude.{◌≡◌, ◌<◌, ◌^◌, ◌∷◌, ◌++◌, [], ℕ, length, IfOk, IfErr, OnOk};
 ghost use Rattle.sched_text.specs.Lines.{lines_in};
-ghost use Rattle.trace_check.specs.Marks.{facts_of, numbers_of};
+ghost use Rattle.trace_check.specs.Reading.{facts_of};
+ghost use Rattle.trace_check.specs.Facts.{numbers_of};
 ghost use Rattle.trace_check.specs.Lawful.{IsTrace};
-ghost use Rattle.trace_check.specs.Books.{IsBook, IsFirstUnfit, Rise};
-ghost use Rattle.trace_check.specs.Answers.{IsFault, IsFaultOf, IsFound, IsFoundIn, SpellsTrace};
+ghost use Rattle.trace_check.specs.Books.{IsBook, IsFault, IsFirstUnfit, IsFound, Rise};
+ghost use Rattle.trace_check.specs.Answers.{IsFaultOf, IsFoundIn};
 
 use crate::book::Book;
 use crate::fact::{Fact, fact_of};
@@ -47,7 +48,7 @@ impl From<Memory> for CheckFault {
 }
 
 // What the lines of a text say, and their numbers.
-#[derive(Debug, Drop)]
+#[derive(Drop)]
 struct Log {
     facts: Vec<Fact>,
     lines: Vec<u32>,
@@ -65,7 +66,6 @@ struct Log {
 /// which no `state` is told. `Memory`.
 pub fn check(alloc: Global, text: &[u8]) -> Result<Checked, CheckFault>
     requires { length text.now < 2 ^ 32 }
-    ensures trace { OnOk result (SpellsTrace text.now) }
     ensures found { IfOk result (IsFoundIn text.now) }
     ensures fault { IfErr result (IsFaultOf text.now) }
 {

@@ -11,8 +11,8 @@ use octets::{Memory, Octets};
 use std::alloc::Global;
 
 /// Why it isn't known what became of a call.
-#[derive(Clone, Copy, Debug, PartialEq, Eq)]
-pub enum Cause {
+#[derive(Clone, Copy)]
+pub(crate) enum Cause {
     /// The server lost the session.
     Session,
     /// The client renewed.
@@ -24,8 +24,8 @@ pub enum Cause {
 }
 
 /// What a client tells of a call.
-#[derive(Debug, Drop)]
-pub enum Told {
+#[derive(Drop)]
+pub(crate) enum Told {
     /// It wasn't sent, or has to be sent again.
     Queued,
     /// It was sent, and nothing is known of it yet.
@@ -41,23 +41,23 @@ pub enum Told {
 }
 
 /// A request that a server executed or answered in place.
-#[derive(Debug, Drop)]
-pub struct Entry {
+#[derive(Drop)]
+pub(crate) struct Entry {
     /// The start of the server, with which its service is fresh.
-    pub start: u64,
+    pub(crate) start: u64,
     /// The session and the number of the message.
-    pub name: Numbered,
+    pub(crate) name: Numbered,
     /// The bytes of the request.
-    pub request: Octets,
+    pub(crate) request: Octets,
     /// The bytes of the reply.
-    pub reply: Octets,
+    pub(crate) reply: Octets,
     /// Whether the service ran.
-    pub ran: bool,
+    pub(crate) ran: bool,
 }
 
 /// What a line says.
-#[derive(Debug, Drop)]
-pub enum Fact {
+#[derive(Drop)]
+pub(crate) enum Fact {
     /// The body of a client's next call.
     Body(Numbered, Octets),
     /// The next name of a call, a session and a number.
@@ -79,7 +79,7 @@ pub enum Fact {
 }
 
 /// The first word of a line.
-#[derive(Clone, Copy, Debug)]
+#[derive(Clone, Copy)]
 pub(crate) enum Kind {
     Body,
     Name,
@@ -92,7 +92,7 @@ pub(crate) enum Kind {
 }
 
 /// The first word of a state.
-#[derive(Clone, Copy, Debug)]
+#[derive(Clone, Copy)]
 pub(crate) enum Standing {
     Queued,
     Sent,

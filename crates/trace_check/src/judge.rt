@@ -1,7 +1,7 @@
 //! Which lines show a break of a sentence.
 
 ghost use Rattle.std.specs.Prelude.{◌≡◌, ◌+◌, ◌<◌, ◌≤◌, ◌↔◌, ℕ, List, IsTrue, IfOk, MatchOption, slice_get};
-ghost use Rattle.trace_check.specs.Marks.{At};
+ghost use Rattle.trace_check.specs.Facts.{At};
 ghost use Rattle.trace_check.specs.Lawful.{Fits, IsLawful, IsLawfulBody, IsLawfulName, IsLawfulState, IsNext, IsTrace};
 ghost use Rattle.trace_check.specs.Sentences.{DoesWait, HasCause, HasEntry, HasNotRun, IsCause, IsNameOf, IsReplaced, Keeps, RanOnce, WasAsked, number_of};
 ghost use Rattle.trace_check.specs.Books.{AreEntries, HasBody, HasLater, HasNoneBefore, HasReplied, IsBook, IsCallerAt, IsCurrent, IsExecuted, IsFirstFrom, IsFirstPlace, IsIdle, IsJudge, IsWaiting};
@@ -224,7 +224,7 @@ fn executed(alloc: Global, book: &Book) -> Result<Table, Memory>
 // ---- the six sentences
 
 /// A trace with no bad line, its entries by their calls, and for each place whether the registers served it.
-#[derive(Debug, Drop)]
+#[derive(Drop)]
 pub(crate) struct Judge {
     book: Book,
     executed: Table,

@@ -4,8 +4,8 @@ ghost use Rattle.std.specs.Prelude.{◌≡◌};
 ghost use Rattle.trace_check.specs.Sentences.{number_of};
 
 /// What has to hold of a trace.
-#[derive(Clone, Copy, Debug, PartialEq, Eq)]
-pub enum Sentence {
+#[derive(Clone, Copy)]
+pub(crate) enum Sentence {
     /// A call has at most one entry.
     AtMostOnce,
     /// An entry was asked for, with this request.
@@ -22,7 +22,7 @@ pub enum Sentence {
 
 impl Sentence {
     /// Its number, from 1.
-    pub fn number(self) -> u8
+    pub(crate) fn number(self) -> u8
         ensures { result ≡ number_of self }
     {
         match self {

@@ -11,14 +11,14 @@ use std::alloc::Global;
 use std::collections::BTreeMap;
 
 /// The first and the last place of a key.
-#[derive(Clone, Copy, Debug)]
+#[derive(Clone, Copy)]
 pub(crate) struct Row {
     pub(crate) first: usize,
     pub(crate) last: usize,
 }
 
 /// The places of keys in a list of which some members have one.
-#[derive(Debug, Drop)]
+#[derive(Drop)]
 pub(crate) struct Table {
     rows: BTreeMap<Numbered, Row>,
 }

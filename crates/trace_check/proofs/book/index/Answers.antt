@@ -3,7 +3,7 @@ use Rattle.std.proofs.Math.Seq.{take-length}
 use Rattle.std.proofs.lemmas.List.{length-map}
 use Rattle.trace_check.specs.declared.numbered.Numbered.{Numbered}
 use Rattle.trace_check.specs.Indexes.{Indexes}
-use Rattle.trace_check.specs.Marks.{key_of}
+use Rattle.trace_check.specs.Keys.{key_of}
 use Rattle.trace_check.proofs.Lookups.{index_more}
 use Rattle.trace_check.proofs.book.index.Goals as goal
 

@@ -1,6 +1,6 @@
 use Rattle.std.proofs.Common.{map, take}
 use Rattle.trace_check.specs.Indexes.{Indexes}
-use Rattle.trace_check.specs.Marks.{key_of}
+use Rattle.trace_check.specs.Keys.{key_of}
 use Rattle.trace_check.proofs.book.index.Given as goal
 
 -- the table is that of the lines so far

@@ -1,10 +1,10 @@
 use Rattle.std.proofs.Common.{◌∙◌, ℕ, List, length, subst, sym, ap, OnOk, IfOk, IfErr}
 use Rattle.sched_text.specs.Lines.{lines_in}
 use Rattle.trace_check.specs.declared.fact.Fact.{Fact}
-use Rattle.trace_check.specs.Marks.{facts_of, numbers_of}
 use Rattle.trace_check.specs.Lawful.{IsTrace}
-use Rattle.trace_check.specs.Books.{Rise}
-use Rattle.trace_check.specs.Answers.{IsFault, IsFound}
+use Rattle.trace_check.specs.Reading.{facts_of}
+use Rattle.trace_check.specs.Books.{IsFault, IsFound, Rise}
+use Rattle.trace_check.proofs.Answering.{fault_of, found_of}
 use Rattle.trace_check.proofs.Lines.{as_many, lines_rise}
 use Rattle.trace_check.proofs.checking.check.Goals as goal
 
@@ -16,17 +16,16 @@ judged-requires-clause-count c =
 pub judged-requires-clause-rise : goal.judged-requires-clause-rise
 judged-requires-clause-rise c = subst Rise (sym (c.as_slice.ensures.value ∙ c.in_ok-log.ensures.lines)) (lines_rise c.args.text.now)
 
-pub returns-clause-trace : goal.returns-clause-trace
-returns-clause-trace c = subst (λ (l : List Fact). OnOk c.judged.result (IsTrace l)) c.in_ok-log.ensures.facts c.judged.ensures.trace
-
 pub returns-clause-found : goal.returns-clause-found
 returns-clause-found c =
     let numbers = c.as_slice.ensures.value ∙ c.in_ok-log.ensures.lines in
-    subst (λ (n : List ℕ). IfOk c.judged.result (IsFound (facts_of (lines_in c.args.text.now)) n)) numbers
-    (subst (λ (l : List Fact). IfOk c.judged.result (IsFound l c.as_slice.result.now)) c.in_ok-log.ensures.facts c.judged.ensures.found)
+    found_of c.args.text.now c.judged.result (subst (λ (l : List Fact). OnOk c.judged.result (IsTrace l)) c.in_ok-log.ensures.facts c.judged.ensures.trace)
+    (subst (λ (n : List ℕ). IfOk c.judged.result (IsFound (facts_of (lines_in c.args.text.now)) n)) numbers
+    (subst (λ (l : List Fact). IfOk c.judged.result (IsFound l c.as_slice.result.now)) c.in_ok-log.ensures.facts c.judged.ensures.found))
 
 pub returns-clause-fault : goal.returns-clause-fault
 returns-clause-fault c =
     let numbers = c.as_slice.ensures.value ∙ c.in_ok-log.ensures.lines in
-    subst (λ (n : List ℕ). IfErr c.judged.result (IsFault (facts_of (lines_in c.args.text.now)) n)) numbers
-    (subst (λ (l : List Fact). IfErr c.judged.result (IsFault l c.as_slice.result.now)) c.in_ok-log.ensures.facts c.judged.ensures.fault)
+    fault_of c.args.text.now c.judged.result
+    (subst (λ (n : List ℕ). IfErr c.judged.result (IsFault (facts_of (lines_in c.args.text.now)) n)) numbers
+    (subst (λ (l : List Fact). IfErr c.judged.result (IsFault l c.as_slice.result.now)) c.in_ok-log.ensures.facts c.judged.ensures.fault))

@@ -1,7 +1,7 @@
 use Rattle.std.proofs.Common.{◌≡◌, ◌∙◌, [], ◌∷◌, ◌++◌, ap, sym, append-nil}
 use Rattle.sched_text.specs.Lines.{Line, lines_in, words_of}
-use Rattle.trace_check.specs.Marks.{facts_of, numbers_of}
-use Rattle.trace_check.specs.Reading.{said_by}
+use Rattle.trace_check.specs.Reading.{facts_of, said_by}
+use Rattle.trace_check.specs.Facts.{numbers_of}
 use Rattle.trace_check.proofs.Finding.{read_more}
 use Rattle.trace_check.proofs.checking.read.Goals as goal
 

@@ -1,6 +1,7 @@
 use Rattle.std.proofs.Common.{◌≡◌, ◌++◌, length}
 use Rattle.sched_text.specs.Lines.{lines_in}
-use Rattle.trace_check.specs.Marks.{facts_of, numbers_of}
+use Rattle.trace_check.specs.Reading.{facts_of}
+use Rattle.trace_check.specs.Facts.{numbers_of}
 use Rattle.trace_check.proofs.checking.read.Given as goal
 
 -- what was read, and what the lines that are left say, is what all lines say

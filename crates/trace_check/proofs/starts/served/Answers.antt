@@ -1,7 +1,7 @@
 use Rattle.std.proofs.Common.{◌≡◌, ◌∙◌, Bool, Some, length, refl, sym, ap, arith}
 use Rattle.std.specs.List.{slice_get}
 use Rattle.std.proofs.lemmas.Option.{slice_get_read}
-use Rattle.trace_check.specs.Marks.{At}
+use Rattle.trace_check.specs.Facts.{At}
 use Rattle.trace_check.proofs.Judging.{iff_by}
 use Rattle.trace_check.proofs.Stepping.{each_more, longer_by_one, right_keeps, states_more}
 use Rattle.trace_check.proofs.starts.served.Goals as goal

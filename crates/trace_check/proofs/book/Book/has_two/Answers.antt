@@ -1,5 +1,5 @@
 use Rattle.std.proofs.Common.{map}
-use Rattle.trace_check.specs.Marks.{key_of}
+use Rattle.trace_check.specs.Keys.{key_of}
 use Rattle.trace_check.proofs.Lookups.{tells}
 use Rattle.trace_check.proofs.Places.{row_is_twice}
 use Rattle.trace_check.proofs.book.Book.has_two.Goals as goal

@@ -1,5 +1,5 @@
 use Rattle.std.proofs.Common.{map}
-use Rattle.trace_check.specs.Marks.{key_of}
+use Rattle.trace_check.specs.Keys.{key_of}
 use Rattle.trace_check.proofs.Lookups.{last_fact, no_row}
 use Rattle.trace_check.proofs.book.Book.last.Goals as goal
 

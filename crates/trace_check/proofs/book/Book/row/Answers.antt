@@ -1,7 +1,7 @@
 use Rattle.std.proofs.Common.{map, sym, subst}
 use Rattle.trace_check.specs.declared.table.Table.{Table}
 use Rattle.trace_check.specs.Indexes.{Indexes}
-use Rattle.trace_check.specs.Marks.{key_of}
+use Rattle.trace_check.specs.Keys.{key_of}
 use Rattle.trace_check.proofs.book.Book.row.Goals as goal
 
 pub returns : goal.returns
