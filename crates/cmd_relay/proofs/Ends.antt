@@ -12,7 +12,7 @@ use Rattle.cmd_relay.specs.Captures.{HasBadLine, Spells}
 use Rattle.cmd_relay.specs.Relays.{AreTaken, IsOfRelay, IsRefused, IsRelayed, Owes}
 use Rattle.cmd_relay.specs.Runs.{RelayRun}
 use Rattle.cmd_relay.specs.declared.capture.Piece.{Piece}
-use Rattle.cmd_relay.proofs.Taking.{Outcomes, taken_or_refused}
+use Rattle.cmd_relay.proofs.Taking.{Outcomes, all_relayed, none_came, taken_or_refused}
 
 pub relayed_not_refused : Outcomes
     → ((text : List ℕ) (pieces others : List Piece) → Spells text pieces → Spells text others → pieces ≡ others)
@@ -48,7 +48,8 @@ module _ (form : Form) (secret : List ℕ) where
     done-run owed read written = record {
       ends = inl (inl refl);
       read = λ e. read;
-      relayed = λ e. if-both (input.told input.before) _ _ (λ text h. (due, h, written)) owed;
+      relayed = λ e. if-both (input.told input.before) _ _
+          (λ text h. (due, h, written, all_relayed form secret h.pieces h.outs nothing none_came h.taken)) owed;
       completeness = if-told (input.told input.before) _ (λ text other h. inl refl);
       refused = λ e. absurd cc;
       refusals = if-both (input.told input.before) _ _ (λ text h why refused. absurd (apart text due why h refused)) owed;

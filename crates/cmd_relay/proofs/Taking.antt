@@ -11,6 +11,25 @@ use Rattle.cmd_relay.specs.declared.capture.Piece.{Piece}
 use Rattle.cmd_relay.specs.declared.capture.Way.{Way}
 use Rattle.cmd_relay.specs.declared.capture.Way.TheVariants.{Up, Down}
 
+-- ---- the whole
+
+-- nothing has come yet
+pub none_came : {form : Form} {secret : List ℕ} → Relayed form secret nothing
+none_came = inl (record { few = omega arith; server = refl; upwards = refl; downwards = refl })
+
+one_relayed : (form : Form) (secret : List ℕ) (way : Way) (bytes out : List ℕ) (story : Story) → IsTaken form secret way bytes out story
+    → Relayed form secret (then way bytes out story)
+one_relayed form secret Up bytes out story taken = taken
+one_relayed form secret Down bytes out story taken = inr taken
+
+-- what holds of each piece in turn holds of all of them
+pub all_relayed : (form : Form) (secret : List ℕ) (pieces : List Piece) (outs : List (List ℕ)) (story : Story) → Relayed form secret story
+    → AreTaken form secret pieces outs story → Relayed form secret (after pieces outs story)
+all_relayed form secret [] outs story so_far all = so_far
+all_relayed form secret (p ∷ pieces) [] story so_far all = so_far
+all_relayed form secret (p ∷ pieces) (o ∷ outs) story so_far all =
+    all_relayed form secret pieces outs (then p.way p.bytes o story) (one_relayed form secret p.way p.bytes o story all.0) all.1
+
 -- ---- one more
 
 pub taken-snoc : (form : Form) (secret : List ℕ) (pieces : List Piece) (outs : List (List ℕ)) (piece : Piece) (out : List ℕ) (story : Story)

@@ -5,7 +5,8 @@ use Rattle.statuses.specs.Statuses.{UnlessFault}
 use Rattle.statuses.specs.declared.status.Status.{Status}
 use Rattle.statuses.specs.declared.status.Status.TheVariants as status
 use Rattle.transport.specs.declared.form.Form.{Form}
-use Rattle.cmd_relay.specs.Relays.{IsOfRelay, IsRefused, IsRelayed, Owes}
+use Rattle.secret_relay.specs.Stories.{Relayed, nothing}
+use Rattle.cmd_relay.specs.Relays.{IsOfRelay, IsRefused, IsRelayed, Owes, after}
 
 pub record RelayRun {S O : Type 0} (form : Form) (secret : List ℕ) (input : Outside S) (out : Outside O) (one : Status) : Type 0 where
   -- it ends by one of these
