@@ -20,9 +20,12 @@ pub fn one_reading()
     ensures bad_line { (text : List ℕ) (bad other : ℕ) → HasBadLine text bad → HasBadLine text other → bad ≡ other }
 {}
 
-/// A capture whose lines are all taken has none that is refused.
-pub fn relayed_or_refused()
-    ensures { (form : Forms) (secret text due other : List ℕ) → form ≢ Full → IsRelayed form secret text due → IsRefused form secret text other → ⊥ }
+/// One text is due to the bytes of a capture: the lines for it where all of its lines are taken, else the refusal of one line
+/// for one cause.
+pub fn one_answer()
+    ensures relayed { (form : Forms) (secret text due other : List ℕ) → form ≢ Full → IsRelayed form secret text due → IsRelayed form secret text other → due ≡ other }
+    ensures refused { (form : Forms) (secret text due other : List ℕ) → form ≢ Full → IsRefused form secret text due → IsRefused form secret text other → due ≡ other }
+    ensures not_both { (form : Forms) (secret text due other : List ℕ) → form ≢ Full → IsRelayed form secret text due → IsRefused form secret text other → ⊥ }
 {
     one_reading();
     one_outcome();

@@ -1,5 +1,5 @@
 -- From what a form tells of the front of a text to one look, and from looks to what goes on of a text.
-use Rattle.std.proofs.Common.{◌≡◌, ◌≢◌, ℕ, ◌+◌, ◌-◌, ◌*◌, ◌<◌, ◌≤◌, List, [], ◌∷◌, ◌++◌, length, min, take, drop, refl, sym, ap, ap₂, subst, ◌∙◌, arith, inl, inr, append_assoc, append-nil, Option}
+use Rattle.std.proofs.Common.{◌≡◌, ◌≢◌, ℕ, ◌+◌, ◌-◌, ◌*◌, ◌<◌, ◌≤◌, List, [], ◌∷◌, ◌++◌, length, min, take, drop, refl, sym, ap, ap₂, subst, ◌∙◌, arith, inl, inr, append_assoc, append-nil, length-append, Option}
 use Rattle.std.specs.Prelude.{slice_range}
 use Rattle.std.specs.List.{All}
 use Rattle.std.proofs.lemmas.List.{drop-take, drop-drop, take-take, take-append-drop, take_all, length-take, length-take-le, length-drop}
@@ -144,11 +144,13 @@ ended from to fault text taken rest old new is so_far left = record {
 -- ---- room
 
 -- the frame that the first bytes begin isn't whole yet, whatever follows them
-pub begun_on : (form : Form) (size : ℕ) (front tail text : List ℕ) → (framing_of form).sized size front → length (front ++ tail) ≡ length text
-    → length text < size → IsBegun (framing_of form) (front ++ tail)
-begun_on form size front tail text sized same short =
-    let less : length (front ++ tail) < size = omega arith in
-    inr (record { size = size; sized = (lawful form).sized_on size front tail sized; short = less })
+pub begun_on : (form : Form) (text tail : List ℕ) (known size : ℕ) → (framing_of form).sized size (take known text) → known ≤ length text
+    → known + length tail ≡ length text → length text < size → IsBegun (framing_of form) (take known text ++ tail)
+begun_on form text tail known size sized within same short =
+    let front : length (take known text) ≡ known = length-take-le text known within in
+    let whole : length (take known text ++ tail) ≡ length (take known text) + length tail = length-append (take known text) tail in
+    let less : length (take known text ++ tail) < size = omega arith in
+    inr (record { size = size; sized = (lawful form).sized_on size (take known text) tail sized; short = less })
 
 -- a text that begins with a packet has room for it
 pub room_there : (from to : Form) (rest : List ℕ) (start end size room : ℕ) → BeginsPacket from to rest start end size → HasRoom from rest room
