@@ -3,3 +3,4 @@ pub mod Readings
 pub mod Taking
 pub mod Ends
 pub mod Passing
+pub mod Owing

@@ -75,9 +75,10 @@ pub(crate) fn read_capture(alloc: Global, text: &[u8]) -> Result<Vec<Piece>, Cap
     let mut lines = Lines::new(text);
     let mut pieces = Vec::new(alloc);
     while let Some((line, words)) = lines.next() {
-        let Some((way, bytes)) = piece_of(alloc, words)? else {
+        let Some(said) = piece_of(alloc, words)? else {
             return Err(CaptureFault::BadLine { line });
         };
+        let (way, bytes) = said;
         append(&mut pieces, Piece { way, bytes, line })?;
     }
     Ok(pieces)

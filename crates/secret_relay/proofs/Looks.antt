@@ -147,7 +147,7 @@ ended from to fault text taken rest old new is so_far left = record {
 pub begun_on : (form : Form) (text tail : List ℕ) (known size : ℕ) → (framing_of form).sized size (take known text) → known ≤ length text
     → known + length tail ≡ length text → length text < size → IsBegun (framing_of form) (take known text ++ tail)
 begun_on form text tail known size sized within same short =
-    let front : length (take known text) ≡ known = length-take-le text known within in
+    let front : length (take known text) ≡ known = length-take-le known text within in
     let whole : length (take known text ++ tail) ≡ length (take known text) + length tail = length-append (take known text) tail in
     let less : length (take known text ++ tail) < size = omega arith in
     inr (record { size = size; sized = (lawful form).sized_on size (take known text) tail sized; short = less })
