@@ -55,13 +55,13 @@ one_refused_line laws one form plain secret text due other h g =
 pub one_refused : Outcomes → OneList → NotBoth → OneBad → (form : Form) → form ≢ Full → (secret text due other : List ℕ)
     → IsRefused form secret text due → IsRefused form secret text other → due ≡ other
 one_refused laws one good bad form plain secret text due other (inl h) (inl g) = h.told ∙ sym g.told
-one_refused laws one good bad form plain secret text due other (inl h) (inr (inl g)) = omega (arith, h.long, g.short)
-one_refused laws one good bad form plain secret text due other (inl h) (inr (inr g)) = omega (arith, h.long, g.short)
-one_refused laws one good bad form plain secret text due other (inr (inl h)) (inl g) = omega (arith, g.long, h.short)
+one_refused laws one good bad form plain secret text due other (inl h) (inr (inl g)) = absurd (omega (arith, h.long, g.short))
+one_refused laws one good bad form plain secret text due other (inl h) (inr (inr g)) = absurd (omega (arith, h.long, g.short))
+one_refused laws one good bad form plain secret text due other (inr (inl h)) (inl g) = absurd (omega (arith, g.long, h.short))
 one_refused laws one good bad form plain secret text due other (inr (inl h)) (inr (inl g)) =
     h.told ∙ ap (λ (n : ℕ). refusal_line n (codes "bad line")) (bad text h.line g.line h.bad g.bad) ∙ sym g.told
 one_refused laws one good bad form plain secret text due other (inr (inl h)) (inr (inr g)) = absurd (good text g.pieces h.line g.spelled h.bad)
-one_refused laws one good bad form plain secret text due other (inr (inr h)) (inl g) = omega (arith, g.long, h.short)
+one_refused laws one good bad form plain secret text due other (inr (inr h)) (inl g) = absurd (omega (arith, g.long, h.short))
 one_refused laws one good bad form plain secret text due other (inr (inr h)) (inr (inl g)) = absurd (good text h.pieces g.line h.spelled g.bad)
 one_refused laws one good bad form plain secret text due other (inr (inr h)) (inr (inr g)) = one_refused_line laws one form plain secret text due other h g
 

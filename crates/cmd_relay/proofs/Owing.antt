@@ -17,7 +17,7 @@ use Rattle.cmd_relay.specs.Relays.{IsOfRelay, IsRefusedFor, Owes, cause_of}
 use Rattle.cmd_relay.specs.declared.capture.CaptureFault.{CaptureFault}
 use Rattle.cmd_relay.specs.declared.capture.CaptureFault.TheVariants.{BadLine}
 use Rattle.cmd_relay.specs.declared.capture.Piece.{Piece}
-use Rattle.cmd_relay.proofs.Passing.{SoFar, all_passed, one_refused, pieces_at}
+use Rattle.cmd_relay.proofs.Pieces.{SoFar, all_passed, one_refused, pieces_at}
 
 -- ---- pieces
 
