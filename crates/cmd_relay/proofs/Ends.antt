@@ -1,22 +1,31 @@
 -- What the command promises, by its answer and by what was written.
-use Rattle.std.proofs.Common.{◌≡◌, ◌≢◌, ◌∙◌, ℕ, List, Option, Some, None, [], ◌∷◌, ◌++◌, length, inl, inr, IfSome, ap, sym, subst, refl, arith}
+use Rattle.std.proofs.Common.{◌≡◌, ◌≢◌, ◌∙◌, ℕ, List, Option, Some, None, [], ◌∷◌, ◌++◌, length, inl, inr, IfSome, ap, ap₂, sym, subst, refl, arith}
 use Rattle.sched_text.specs.Lines.{lines_in}
-use Rattle.statuses.specs.Lines.{input_bytes_max}
+use Rattle.std.specs.Prelude.{codes}
+use Rattle.statuses.specs.Lines.{input_bytes_max, refusal_line}
 use Rattle.statuses.specs.Outside.{HadFault, IfTold, IsReadToTheEnd, IsUntouched, Outside, Tells, Writes, WritesFront}
 use Rattle.statuses.specs.declared.status.Status.{Status}
 use Rattle.statuses.specs.declared.status.Status.TheVariants as status
 use Rattle.transport.specs.declared.form.Form.{Form}
 use Rattle.transport.specs.declared.form.Form.TheVariants.{Full}
 use Rattle.secret_relay.specs.Stories.{nothing}
+use Rattle.secret_relay.specs.declared.fault.RelayFault.{RelayFault}
 use Rattle.cmd_relay.specs.Captures.{HasBadLine, Spells}
-use Rattle.cmd_relay.specs.Relays.{AreTaken, IsOfRelay, IsRefused, IsRelayed, Owes}
+use Rattle.cmd_relay.specs.Relays.{AreTaken, HasRefusedLine, IsOfRelay, IsRefused, IsRelayed, Owes, cause_of, text_of}
 use Rattle.cmd_relay.specs.Runs.{RelayRun}
 use Rattle.cmd_relay.specs.declared.capture.Piece.{Piece}
-use Rattle.cmd_relay.proofs.Taking.{Outcomes, taken_or_refused}
+use Rattle.cmd_relay.proofs.Taking.{Outcomes, all_relayed, none_came, one_outs, one_refusal, taken_or_refused}
 
-pub relayed_not_refused : Outcomes
-    → ((text : List ℕ) (pieces others : List Piece) → Spells text pieces → Spells text others → pieces ≡ others)
-    → ((text : List ℕ) (pieces : List Piece) (bad : ℕ) → Spells text pieces → HasBadLine text bad → ⊥)
+abbrev pub OneList : Type 0
+OneList = (text : List ℕ) (pieces others : List Piece) → Spells text pieces → Spells text others → pieces ≡ others
+
+abbrev pub NotBoth : Type 0
+NotBoth = (text : List ℕ) (pieces : List Piece) (bad : ℕ) → Spells text pieces → HasBadLine text bad → ⊥
+
+abbrev pub OneBad : Type 0
+OneBad = (text : List ℕ) (bad other : ℕ) → HasBadLine text bad → HasBadLine text other → bad ≡ other
+
+pub relayed_not_refused : Outcomes → OneList → NotBoth
     → (form : Form) → form ≢ Full → (secret text due other : List ℕ) → IsRelayed form secret text due → IsRefused form secret text other → ⊥
 relayed_not_refused laws one good form plain secret text due other h (inl r) = omega (arith, h.short, r.long)
 relayed_not_refused laws one good form plain secret text due other h (inr (inl r)) = good text h.pieces r.line h.spelled r.bad
@@ -24,6 +33,37 @@ relayed_not_refused laws one good form plain secret text due other h (inr (inr r
     let same : h.pieces ≡ r.refused.front ++ r.refused.piece ∷ r.refused.back = one text h.pieces r.pieces h.spelled r.spelled ∙ r.refused.parts in
     taken_or_refused laws form plain secret r.refused.front r.refused.piece r.refused.back h.outs r.refused.outs r.fault nothing
     (subst (λ (ps : List Piece). AreTaken form secret ps h.outs nothing) same h.taken) r.refused.taken r.refused.refused
+
+pub one_relayed : Outcomes → OneList → (form : Form) → form ≢ Full → (secret text due other : List ℕ)
+    → IsRelayed form secret text due → IsRelayed form secret text other → due ≡ other
+one_relayed laws one form plain secret text due other h g =
+    let pieces : h.pieces ≡ g.pieces = one text h.pieces g.pieces h.spelled g.spelled in
+    let taken : AreTaken form secret g.pieces h.outs nothing = subst (λ (ps : List Piece). AreTaken form secret ps h.outs nothing) pieces h.taken in
+    let outs : h.outs ≡ g.outs = one_outs laws form plain secret g.pieces h.outs g.outs nothing taken g.taken in
+    h.told ∙ ap₂ text_of pieces outs ∙ sym g.told
+
+one_refused_line : Outcomes → OneList → (form : Form) → form ≢ Full → (secret text due other : List ℕ)
+    → HasRefusedLine form secret text due → HasRefusedLine form secret text other → due ≡ other
+one_refused_line laws one form plain secret text due other h g =
+    let parts : h.refused.front ++ h.refused.piece ∷ h.refused.back ≡ g.refused.front ++ g.refused.piece ∷ g.refused.back =
+    sym h.refused.parts ∙ one text h.pieces g.pieces h.spelled g.spelled ∙ g.refused.parts in
+    let same = one_refusal laws form plain secret h.refused.front h.refused.piece h.refused.back g.refused.front g.refused.piece g.refused.back
+    h.refused.outs g.refused.outs h.fault g.fault nothing parts h.refused.taken g.refused.taken h.refused.refused g.refused.refused in
+    let line : h.line ≡ g.line = h.refused.number ∙ ap (λ (p : Piece). p.line) same.same_piece ∙ sym g.refused.number in
+    h.told ∙ ap₂ (λ (n : ℕ) (f : RelayFault). refusal_line n (cause_of f)) line same.same_fault ∙ sym g.told
+
+pub one_refused : Outcomes → OneList → NotBoth → OneBad → (form : Form) → form ≢ Full → (secret text due other : List ℕ)
+    → IsRefused form secret text due → IsRefused form secret text other → due ≡ other
+one_refused laws one good bad form plain secret text due other (inl h) (inl g) = h.told ∙ sym g.told
+one_refused laws one good bad form plain secret text due other (inl h) (inr (inl g)) = absurd (omega (arith, h.long, g.short))
+one_refused laws one good bad form plain secret text due other (inl h) (inr (inr g)) = absurd (omega (arith, h.long, g.short))
+one_refused laws one good bad form plain secret text due other (inr (inl h)) (inl g) = absurd (omega (arith, g.long, h.short))
+one_refused laws one good bad form plain secret text due other (inr (inl h)) (inr (inl g)) =
+    h.told ∙ ap (λ (n : ℕ). refusal_line n (codes "bad line")) (bad text h.line g.line h.bad g.bad) ∙ sym g.told
+one_refused laws one good bad form plain secret text due other (inr (inl h)) (inr (inr g)) = absurd (good text g.pieces h.line g.spelled h.bad)
+one_refused laws one good bad form plain secret text due other (inr (inr h)) (inl g) = absurd (omega (arith, g.long, h.short))
+one_refused laws one good bad form plain secret text due other (inr (inr h)) (inr (inl g)) = absurd (good text h.pieces g.line h.spelled g.bad)
+one_refused laws one good bad form plain secret text due other (inr (inr h)) (inr (inr g)) = one_refused_line laws one form plain secret text due other h g
 
 pub if-told : (o : Option (List ℕ)) (P : List ℕ → Type 0) → ((x : List ℕ) → P x) → IfSome o P
 if-told None P h = tt
@@ -48,7 +88,8 @@ module _ (form : Form) (secret : List ℕ) where
     done-run owed read written = record {
       ends = inl (inl refl);
       read = λ e. read;
-      relayed = λ e. if-both (input.told input.before) _ _ (λ text h. (due, h, written)) owed;
+      relayed = λ e. if-both (input.told input.before) _ _
+          (λ text h. (due, h, written, all_relayed form secret h.pieces h.outs nothing none_came h.taken)) owed;
       completeness = if-told (input.told input.before) _ (λ text other h. inl refl);
       refused = λ e. absurd cc;
       refusals = if-both (input.told input.before) _ _ (λ text h why refused. absurd (apart text due why h refused)) owed;

@@ -2,4 +2,5 @@ pub mod Words
 pub mod Readings
 pub mod Taking
 pub mod Ends
-pub mod Passing
+pub mod Pieces
+pub mod Owing

@@ -27,12 +27,18 @@ one_way Down Down first e f = refl
 one_way Up Down first e f = let no : codes "up" ≡ codes "down" = sym e ∙ f in cc
 one_way Down Up first e f = let no : codes "down" ≡ codes "up" = sym e ∙ f in cc
 
-
 same_words : (a b c d : List ℕ) → a ∷ b ∷ [] ≡ c ∷ d ∷ [] → (a ≡ c) × (b ≡ d)
 same_words a b c d e =
     let one : a ≡ c = cc in
     let two : b ≡ d = cc in
     (one, two)
+
+-- words whose second is no digits say no piece
+pub no_bytes : (first word : List ℕ) (way : Way) (bytes : List ℕ) (words : List (List ℕ)) → words ≡ first ∷ word ∷ []
+    → ((one : List ℕ) → IsHex one word → ⊥) → SaysBytes way bytes words → ⊥
+no_bytes first word way bytes words two none says =
+    let same = same_words (way_word way) says.word first word (sym says.two ∙ two) in
+    none bytes (subst (λ (w : List ℕ). IsHex bytes w) same.1 says.hex)
 
 pub one_says : (way another : Way) (bytes other : List ℕ) (words : List (List ℕ)) → SaysBytes way bytes words → SaysBytes another other words
     → (way ≡ another) × (bytes ≡ other)
@@ -43,7 +49,7 @@ one_says way another bytes other words f g =
     )
 
 same_piece : (p q : Piece) → p.way ≡ q.way → p.bytes ≡ q.bytes → p.line ≡ q.line → p ≡ q
-same_piece p q w b l = cc
+same_piece p q w b l i = record { way = w i; bytes = b i; line = l i }
 
 pub one_list : (lines : List Line) (pieces others : List Piece) → Say SaysPiece lines pieces → Say SaysPiece lines others → pieces ≡ others
 one_list [] [] [] h g = refl

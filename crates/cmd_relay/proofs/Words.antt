@@ -3,7 +3,10 @@ use Rattle.std.proofs.Common.{◌≡◌, ◌∙◌, ℕ, suc, ◌+◌, ◌-◌, 
 use Rattle.std.proofs.lemmas.List.{take-append-drop, take_all, get_or-take, get_or_default, length-take-le, length-drop}
 use Rattle.std.proofs.lemmas.List.Elements.{All-head, All-tail}
 use Rattle.std.proofs.lemmas.Bool.{cond-false, cond-true}
+use Rattle.std.specs.Borrow.{Bor}
+use Rattle.std.specs.Prelude.{Bool, if◌then◌else◌, Option, Some}
 use Rattle.sched_text.specs.Lines.{words_of, onto_first, is_blank}
+use Rattle.cmd_relay.specs.Inner.{words_in}
 
 parted : (xs : List ℕ) (place byte : ℕ) → place < length xs → get_or xs place 0 ≡ byte → xs ≡ take place xs ++ byte ∷ drop (place + 1) xs
 parted xs place byte within e =
@@ -44,3 +47,28 @@ words_of-cut line place within at before =
 -- a line with no blank is one word
 pub words_of-whole : (line : List ℕ) → ((k : ℕ) → k < length line → NotBlank (get_or line k 0)) → words_of line ≡ line ∷ []
 words_of-whole line none = words_of-last line (none_at_all NotBlank line none)
+
+-- ---- a line has a word at least
+
+some_first : (byte : ℕ) (pieces : List (List ℕ)) → onto_first byte pieces ≡ [] → ⊥
+some_first byte [] e = cc
+some_first byte (piece ∷ pieces) e = cc
+
+some_part : (blank : Bool) (byte : ℕ) (bytes : List ℕ) → (if blank then [] ∷ words_of bytes else onto_first byte (words_of bytes)) ≡ [] → ⊥
+some_part true byte bytes e = cc
+some_part false byte bytes e = some_first byte (words_of bytes) e
+
+some_word : (text : List ℕ) → words_of text ≡ [] → ⊥
+some_word [] e = cc
+some_word (byte ∷ bytes) e = some_part (is_blank byte) byte bytes e
+
+-- a line with a second blank has more than two words
+pub three_words : (line one two : List ℕ) (rest more : Option (Bor (List ℕ))) (behind_one behind_two : Bor (List ℕ))
+    → words_of line ≡ one ∷ words_in rest → rest ≡ Some behind_one → words_of behind_one.now ≡ two ∷ words_in more → more ≡ Some behind_two
+    → (first word : List ℕ) → words_of line ≡ first ∷ word ∷ [] → ⊥
+three_words line one two rest more behind_one behind_two a b d e first word h =
+    let whole : words_of line ≡ one ∷ words_of behind_one.now = a ∙ ap (λ (o : Option (Bor (List ℕ))). one ∷ words_in o) b in
+    let back : words_of behind_one.now ≡ two ∷ words_of behind_two.now = d ∙ ap (λ (o : Option (Bor (List ℕ))). two ∷ words_in o) e in
+    let tail : words_of behind_one.now ≡ word ∷ [] = cc in
+    let none : words_of behind_two.now ≡ [] = cc in
+    some_word behind_two.now none

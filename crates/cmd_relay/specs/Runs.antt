@@ -5,14 +5,18 @@ use Rattle.statuses.specs.Statuses.{UnlessFault}
 use Rattle.statuses.specs.declared.status.Status.{Status}
 use Rattle.statuses.specs.declared.status.Status.TheVariants as status
 use Rattle.transport.specs.declared.form.Form.{Form}
-use Rattle.cmd_relay.specs.Relays.{IsOfRelay, IsRefused, IsRelayed, Owes}
+use Rattle.secret_relay.specs.Stories.{Relayed, nothing}
+use Rattle.cmd_relay.specs.Relays.{IsOfRelay, IsRefused, IsRelayed, Owes, after}
 
 pub record RelayRun {S O : Type 0} (form : Form) (secret : List ℕ) (input : Outside S) (out : Outside O) (one : Status) : Type 0 where
   -- it ends by one of these
   pub ends : IsOfRelay one ⊎ (one ≡ status.ReadFault) ⊎ (one ≡ status.WriteFault) ⊎ (one ≡ status.Memory)
-  -- Done: the input was read to its end and spells a capture no line of which is refused, and a line for each is written.
+  -- Done: the input was read to its end and spells a capture no line of which is refused, and a line for each is written. Of all
+  -- bytes that came in and went out by these lines `Relayed` holds: nothing went out where the client's first 64 bytes aren't
+  -- there, else upwards the start of the form and the frames of the client's packets, and downwards the frames of the server's.
   pub read : one ≡ status.Done → IsReadToTheEnd input
-  pub relayed : one ≡ status.Done → IfTold input (λ text. (due : List ℕ) × IsRelayed form secret text due × Writes out due)
+  pub relayed : one ≡ status.Done → IfTold input (λ text. (due : List ℕ) × (made : IsRelayed form secret text due) × Writes out due
+      × Relayed form secret (after made.pieces made.outs nothing))
   -- nothing but a fault, or want of memory, keeps such a capture from that
   pub completeness : IfTold input (λ text. (due : List ℕ) → IsRelayed form secret text due → UnlessFault one status.Done)
   -- The input is refused exactly where it is too long, or has a line outside the grammar, or one that is refused, and what is

@@ -8,6 +8,7 @@ use crate::line::piece_of;
 use octets::{Memory, Octets};
 use sched_text::Lines;
 use std::alloc::Global;
+use std::fmt;
 use std::marker::Model;
 
 /// The way that a piece of a connection goes.
@@ -20,7 +21,7 @@ pub enum Way {
 }
 
 /// A piece of a connection, as one side has sent it, and the number of its line, from 1.
-#[derive(Debug, Drop)]
+#[derive(Drop)]
 pub struct Piece {
     /// The way that it goes.
     pub way: Way,
@@ -28,6 +29,17 @@ pub struct Piece {
     pub bytes: Octets,
     /// The number of its line.
     pub line: u32,
+}
+
+impl fmt::Debug for Piece {
+    /// The way, the line and how many bytes it has: they are what one side has sent.
+    fn fmt<W: fmt::Write>(&self, f: &mut fmt::Formatter<W>) -> fmt::Result {
+        f.debug_struct("Piece")
+            .field("way", &self.way)
+            .field("line", &self.line)
+            .field("count", &self.bytes.as_slice().len())
+            .finish_non_exhaustive()
+    }
 }
 
 /// Why a text is no capture.
@@ -63,9 +75,10 @@ pub(crate) fn read_capture(alloc: Global, text: &[u8]) -> Result<Vec<Piece>, Cap
     let mut lines = Lines::new(text);
     let mut pieces = Vec::new(alloc);
     while let Some((line, words)) = lines.next() {
-        let Some((way, bytes)) = piece_of(alloc, words)? else {
+        let Some(said) = piece_of(alloc, words)? else {
             return Err(CaptureFault::BadLine { line });
         };
+        let (way, bytes) = said;
         append(&mut pieces, Piece { way, bytes, line })?;
     }
     Ok(pieces)

@@ -4,7 +4,7 @@ ghost use Rattle.std.specs.Prelude.{◌≢◌};
 ghost use Rattle.transport.specs.declared.form.Form.TheVariants.{Full};
 ghost use Rattle.cmd_relay.specs.Runs.{RelayRun};
 
-use crate::laws::relayed_or_refused;
+use crate::laws::one_answer;
 use crate::passing::relay;
 use mt_edge::{Sink, Source};
 use secret_relay::Form;
@@ -28,7 +28,7 @@ pub fn run_relay<S: Source, O: Sink>(
         (record { told = S.left; faults = S.faults; before = input.old; after = input.new })
         (record { told = O.written; faults = O.faults; before = out.old; after = out.new }) result }
 {
-    relayed_or_refused();
+    one_answer();
     match relay(alloc, form, secret, input) {
         Ok(answer) => tell(out, &answer),
         Err(Stop::ReadFault) => Status::ReadFault,

@@ -1,5 +1,5 @@
 -- From what a form tells of the front of a text to one look, and from looks to what goes on of a text.
-use Rattle.std.proofs.Common.{◌≡◌, ◌≢◌, ℕ, ◌+◌, ◌-◌, ◌*◌, ◌≤◌, List, [], ◌∷◌, ◌++◌, length, min, take, drop, refl, sym, ap, ap₂, subst, ◌∙◌, arith, inr, append_assoc, append-nil, Option}
+use Rattle.std.proofs.Common.{◌≡◌, ◌≢◌, ℕ, ◌+◌, ◌-◌, ◌*◌, ◌<◌, ◌≤◌, List, [], ◌∷◌, ◌++◌, length, min, take, drop, refl, sym, ap, ap₂, subst, ◌∙◌, arith, inl, inr, append_assoc, append-nil, length-append, Option}
 use Rattle.std.specs.Prelude.{slice_range}
 use Rattle.std.specs.List.{All}
 use Rattle.std.proofs.lemmas.List.{drop-take, drop-drop, take-take, take-append-drop, take_all, length-take, length-take-le, length-drop}
@@ -8,16 +8,17 @@ use Rattle.tl_codec.specs.declared.fault.FrameFault.{FrameFault}
 use Rattle.framing.specs.declared.form.Span.{Span}
 use Rattle.framing.specs.Looks.{IsFrameAt}
 use Rattle.framing.specs.Payload.{IsPayload}
-use Rattle.framing.specs.Streams.{Frame, IsOutline, Shows}
+use Rattle.framing.specs.Streams.{Frame, IsBegun, IsOutline, Shows}
 use Rattle.transport.specs.Forms.{framing_of, frame_of}
 use Rattle.transport.specs.Lawful.{lawful}
 use Rattle.transport.specs.declared.form.Form.{Form}
 use Rattle.transport.specs.declared.form.Form.TheVariants.{Full}
 use Rattle.secret_relay.specs.declared.fault.RelayFault.{RelayFault}
 use Rattle.secret_relay.specs.Written.{frames_of, CanGoOut}
-use Rattle.secret_relay.specs.Going.{BeginsMisfit, BeginsPacket, IsLeft, PassesOn, Takes}
+use Rattle.secret_relay.specs.Going.{BeginsMisfit, BeginsPacket, HasRoom, IsLeft, PassesOn, Takes}
 use Rattle.secret_relay.proofs.Plain.{payload_in, frames-append, frames_of-append, frames_of-one, one_frame_of}
 use Rattle.secret_relay.proofs.Every.{all_none, all_one}
+use Rattle.secret_relay.proofs.Readings.{not_begun}
 
 same_part : (text : List ℕ) (start end size : ℕ) → start ≤ end → end ≤ size → slice_range (take size text) start end ≡ slice_range text start end
 same_part text start end size h k =
@@ -140,12 +141,44 @@ ended from to fault text taken rest old new is so_far left = record {
   written = so_far.written;
 }
 
+-- ---- room
+
+-- the frame that the first bytes begin isn't whole yet, whatever follows them
+pub begun_on : (form : Form) (text tail : List ℕ) (known size : ℕ) → (framing_of form).sized size (take known text) → known ≤ length text
+    → known + length tail ≡ length text → length text < size → IsBegun (framing_of form) (take known text ++ tail)
+begun_on form text tail known size sized within same short =
+    let front : length (take known text) ≡ known = length-take-le known text within in
+    let whole : length (take known text ++ tail) ≡ length (take known text) + length tail = length-append (take known text) tail in
+    let less : length (take known text ++ tail) < size = omega arith in
+    inr (record { size = size; sized = (lawful form).sized_on size (take known text) tail sized; short = less })
+
+-- a text that begins with a packet has room for it
+pub room_there : (from to : Form) (rest : List ℕ) (start end size room : ℕ) → BeginsPacket from to rest start end size → HasRoom from rest room
+    → 2 * length rest ≤ room
+room_there from to rest start end size room begins (inl begun) =
+    absurd (not_begun (framing_of from) (lawful from) 0 (slice_range rest start end) (take size rest) (drop size rest) rest begins.frame
+    (take-append-drop size rest) begun)
+room_there from to rest start end size room begins (inr enough) = enough
+
 -- a frame has twice the room that its packet takes in another form
+pub room_now : (from to : Form) (rest packet : List ℕ) (start end size room : ℕ) → packet ≡ slice_range rest start end
+    → BeginsPacket from to rest start end size → HasRoom from rest room → 4 + length packet ≤ room
+room_now from to rest packet start end size room packet_is begins has =
+    let enough : 2 * length rest ≤ room = room_there from to rest start end size room begins has in
+    let slice : List ℕ = slice_range rest start end in
+    let least : 4 ≤ length slice = begins.payload.some in
+    let most : length slice ≡ min (end - start) (length (drop start rest)) = length-take (end - start) (drop start rest) in
+    let same : length packet ≡ length slice = ap length packet_is in
+    let there : size ≤ length rest = begins.there in
+    let inner : end ≤ size = begins.packet_end in
+    omega (arith, least, most, same, there, inner, enough)
+
 pub room_left : (from to : Form) (text : List ℕ) (taken start end size room after : ℕ) (rest packet : List ℕ)
     → rest ≡ drop taken text → packet ≡ slice_range rest start end → taken ≤ length text → BeginsPacket from to rest start end size
-    → 2 * (length text - taken) ≤ room → room ≤ after + (4 + length packet)
-    → (taken + size ≤ length text) × (2 * (length text - (taken + size)) ≤ after)
-room_left from to text taken start end size room after rest packet is packet_is within begins enough used =
+    → HasRoom from rest room → room ≤ after + (4 + length packet)
+    → (taken + size ≤ length text) × HasRoom from (drop (taken + size) text) after
+room_left from to text taken start end size room after rest packet is packet_is within begins has used =
+    let enough : 2 * length rest ≤ room = room_there from to rest start end size room begins has in
     let long : length rest ≡ length text - taken = ap length is ∙ length-drop taken text in
     let slice : List ℕ = slice_range rest start end in
     let least : 4 ≤ length slice = begins.payload.some in
@@ -153,4 +186,5 @@ room_left from to text taken start end size room after rest packet is packet_is 
     let same : length packet ≡ length slice = ap length packet_is in
     let there : size ≤ length rest = begins.there in
     let inner : end ≤ size = begins.packet_end in
-    (omega (arith, long, there, within), omega (arith, long, least, most, same, there, inner, within, enough, used))
+    let left : length (drop (taken + size) text) ≡ length text - (taken + size) = length-drop (taken + size) text in
+    (omega (arith, long, there, within), inr (omega (arith, long, least, most, same, there, inner, within, enough, used, left)))

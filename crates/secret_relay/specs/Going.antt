@@ -1,5 +1,5 @@
 -- Scaffolding of proofs, and no promise: what goes on of a text that stands behind whole frames.
-use Rattle.std.specs.Prelude.{◌≡◌, ◌≤◌, ℕ, List, ◌++◌, length, take, slice_range, Option, None, Some}
+use Rattle.std.specs.Prelude.{◌≡◌, ◌≤◌, ◌*◌, ◌⊎◌, ℕ, List, ◌++◌, length, take, slice_range, Option, None, Some}
 use Rattle.std.specs.List.{All}
 use Rattle.framing.specs.Payload.{IsPayload}
 use Rattle.framing.specs.Streams.{Frame, Frames, IsBegun, Shows}
@@ -48,6 +48,10 @@ Sees from to text (looks.Fault fault) = Shown from to fault text
 abbrev pub IsLeft : Form → Form → Option RelayFault → List ℕ → Type 0
 IsLeft from to None left = IsBegun (framing_of from) left
 IsLeft from to (Some fault) left = Shown from to fault left
+
+-- nothing of the text goes out, or there is room for all of it, twice
+abbrev pub HasRoom : Form → List ℕ → ℕ → Type 0
+HasRoom from text room = IsBegun (framing_of from) text ⊎ (2 * length text ≤ room)
 
 -- the text is one frame for each packet, each of which can go out, and what is left
 pub record Takes (from to : Form) (packets : List (List ℕ)) (text left : List ℕ) : Type 0 where

@@ -3,24 +3,35 @@
 ghost use Rattle.std.specs.Prelude.{◌≡◌, ◌≤◌, drop, length};
 
 use crate::fault::RelayFault;
-use crate::passing::pass_on;
+use crate::passing::{pass_on, room_for};
 use crate::start::form_of_tag;
 use cipher_modes::Ctr;
 use obfus::Pair;
 use octets::{Buffer, Memory, Octets};
 use std::alloc::Global;
-use std::mem;
+use std::{fmt, mem};
 use transport::Form;
 
 /// A connection behind its start: the form inside, where both key streams stand, and what is left of either side's stream
 /// behind its whole packets.
-#[derive(Debug, Drop)]
+#[derive(Drop)]
 pub(crate) struct Link {
     pub(crate) form: Form,
     pub(crate) up: Ctr,
     pub(crate) down: Ctr,
     pub(crate) client: Octets,
     pub(crate) server: Octets,
+}
+
+impl fmt::Debug for Link {
+    /// The form and how many bytes are left: the bytes are those of packets.
+    fn fmt<W: fmt::Write>(&self, f: &mut fmt::Formatter<W>) -> fmt::Result {
+        f.debug_struct("Link")
+            .field("form", &self.form)
+            .field("client_bytes", &self.client.as_slice().len())
+            .field("server_bytes", &self.server.as_slice().len())
+            .finish_non_exhaustive()
+    }
 }
 
 impl Link {
@@ -67,7 +78,8 @@ impl Link {
     {
         let start = self.client.as_slice().len();
         self.client.push_all(alloc, piece)?;
-        let Ok(mut text) = Buffer::after(alloc, out, 2 * self.client.as_slice().len()) else {
+        let room = room_for(self.form, self.client.as_slice(), start);
+        let Ok(mut text) = Buffer::after(alloc, out, room) else {
             self.client.truncate(start);
             return Err(Memory);
         };
@@ -101,7 +113,8 @@ impl Link {
         let start = self.server.as_slice().len();
         let end = out.as_slice().len();
         self.server.push_all(alloc, piece)?;
-        let Ok(mut text) = Buffer::after(alloc, out, 2 * self.server.as_slice().len()) else {
+        let room = room_for(form, self.server.as_slice(), start);
+        let Ok(mut text) = Buffer::after(alloc, out, room) else {
             self.server.truncate(start);
             return Err(Memory);
         };
@@ -121,6 +134,9 @@ fn take_front(bytes: &mut Vec<u8>, count: usize)
     requires { count ≤ length bytes.old.items }
     ensures { bytes.new.items ≡ drop count bytes.old.items }
 {
+    if count == 0 {
+        return;
+    }
     let left = bytes.len() - count;
     bytes.copy_within(count.., 0);
     bytes.truncate(left);

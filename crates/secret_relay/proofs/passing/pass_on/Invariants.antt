@@ -1,4 +1,5 @@
-use Rattle.std.proofs.Common.{◌≤◌, ◌*◌, drop, length, ℕ, ◌-◌}
+use Rattle.std.proofs.Common.{◌≤◌, drop, length, ℕ, ◌-◌}
+use Rattle.secret_relay.specs.Going.{HasRoom}
 use Rattle.secret_relay.proofs.Looks.{SoFar}
 use Rattle.secret_relay.proofs.passing.pass_on.Given as goal
 
@@ -6,7 +7,7 @@ use Rattle.secret_relay.proofs.passing.pass_on.Given as goal
 abbrev pub invariant-frames : goal.invariant-frames
 invariant-frames l = record {
   within : l.taken ≤ length l.text;
-  room : 2 * (length l.text - l.taken) ≤ l.into.room;
+  room : HasRoom l.from (drop l.taken l.text) l.into.room;
   so_far : SoFar l.from l.to l.text (drop l.taken l.text) l.fn.into.bytes l.into.bytes;
 }
 

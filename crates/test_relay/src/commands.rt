@@ -1,0 +1,162 @@
+//! What the command `relay` makes of lines.
+
+use crate::captures::{SECRET, packet, put, start, through};
+use cmd_relay::run_relay;
+use mt_edge::{MemSink, MemSource};
+use obfus::{Init, Tag};
+use octets::Octets;
+use secret_relay::Form;
+use statuses::Status;
+use std::alloc::Global;
+use std::test::*;
+
+/// Room for what a test writes, in bytes.
+const ROOM_BYTES: usize = 8_192;
+
+/// The most bytes of a read and of a write.
+const PIECE_BYTES: usize = 700;
+
+// A run towards a form: how it ends, and what is written.
+fn ran(alloc: Global, form: Form, lines: &[u8]) -> Result<(Status, Octets), Fail> {
+    if form == Form::Full {
+        return Err(Fail::new("no form of a relay"));
+    }
+    let mut input = MemSource::new(alloc, lines, PIECE_BYTES, &[])?;
+    let mut out = MemSink::new(alloc, ROOM_BYTES, PIECE_BYTES, &[])?;
+    let status = run_relay(alloc, form, &SECRET, &mut input, &mut out);
+    Ok((status, Octets::copy(alloc, out.written())?))
+}
+
+// A line for bytes.
+fn put_line(alloc: Global, way: &str, bytes: &[u8], lines: &mut Octets) -> Result<(), Fail> {
+    let digits = hex::encode(alloc, bytes)?;
+    let line = format!(in alloc; "{way} {digits}\n")?;
+    lines.push_all(alloc, line.as_bytes())?;
+    Ok(())
+}
+
+// The frame of a packet of so many bytes.
+fn frame(alloc: Global, form: Form, size: usize) -> Result<Octets, Fail> {
+    let packet = packet(alloc, size)?;
+    let mut text = Octets::new(alloc);
+    put(alloc, form, packet.as_slice(), &mut text)?;
+    Ok(text)
+}
+
+// The lines of a start of the abridged form and of one frame of the client's.
+fn begun(alloc: Global, frame: Octets) -> Result<Octets, Fail> {
+    let mut init = start(Tag::Abridged);
+    let mut lines = Octets::new(alloc);
+    put_line(alloc, "up", &init.wire, &mut lines)?;
+    put_line(alloc, "up", through(&mut init.up, frame).as_slice(), &mut lines)?;
+    Ok(lines)
+}
+
+// Whether a run towards the padded form writes this and nothing else, and is refused.
+fn is_refused(alloc: Global, lines: &[u8], told: &str) -> Result<bool, Fail> {
+    let (status, written) = ran(alloc, Form::Padded, lines)?;
+    Ok(status == Status::InputRefused && written.as_slice() == told.as_bytes())
+}
+
+#[test]
+fn a_line_for_each(rt: HostRuntime) -> Result<(), Fail> {
+    let alloc = rt.alloc();
+    let Init {
+        wire,
+        mut up,
+        mut down,
+    } = start(Tag::Abridged);
+    let one = through(&mut up, frame(alloc, Form::Abridged, 504)?);
+    let mut lines = Octets::copy(alloc, b"# the start, in two pieces\nup -\n")?;
+    put_line(alloc, "up", &wire[..63], &mut lines)?;
+    lines.push_all(alloc, b"\n")?;
+    put_line(alloc, "up", &wire[63..], &mut lines)?;
+    let (front, back) = one.as_slice().split_at(one.as_slice().len().min(100));
+    put_line(alloc, "up", front, &mut lines)?;
+    put_line(alloc, "up", back, &mut lines)?;
+    let other = frame(alloc, Form::Intermediate, 508)?;
+    put_line(alloc, "down", other.as_slice(), &mut lines)?;
+    lines.push_all(alloc, b"down -")?;
+    let mut due = Octets::copy(alloc, b"up -\nup -\nup eeeeeeee\nup -\n")?;
+    let one = frame(alloc, Form::Intermediate, 504)?;
+    put_line(alloc, "up", one.as_slice(), &mut due)?;
+    let other = through(&mut down, frame(alloc, Form::Abridged, 508)?);
+    put_line(alloc, "down", other.as_slice(), &mut due)?;
+    due.push_all(alloc, b"down -\n")?;
+    let (status, written) = ran(alloc, Form::Intermediate, lines.as_slice())?;
+    assert_eq!(rt; status, Status::Done);
+    assert_eq!(rt; written.as_slice(), due.as_slice());
+    Ok(())
+}
+
+#[test]
+fn nothing_of_no_line(rt: HostRuntime) -> Result<(), Fail> {
+    let (status, written) = ran(rt.alloc(), Form::Intermediate, b"")?;
+    assert_eq!(rt; status, Status::Done);
+    assert_eq!(rt; written.as_slice().len(), 0);
+    Ok(())
+}
+
+// Lines outside the grammar come first, and then the first line that is refused.
+#[test]
+fn lines_that_are_refused(rt: HostRuntime) -> Result<(), Fail> {
+    let bad = "refused at line 1: bad line\n";
+    let rows = [
+        ("down 00", "refused at line 1: early\n"),
+        ("# no byte either\n\ndown -\n", "refused at line 3: early\n"),
+        ("down 00\nup 0", "refused at line 2: bad line\n"),
+        ("up", bad),
+        ("up ", bad),
+        ("up 0g", bad),
+        ("up --", bad),
+        ("up 00 ", bad),
+        ("up  00", bad),
+        (" up 00", bad),
+        ("up 00\r\n", bad),
+        ("UP 00", bad),
+        ("left 00", bad),
+        (" ", bad),
+    ];
+    for (lines, told) in rows {
+        assert!(rt; is_refused(rt.alloc(), lines.as_bytes(), told)?, "{lines}");
+    }
+    Ok(())
+}
+
+#[test]
+fn captures_that_are_refused(rt: HostRuntime) -> Result<(), Fail> {
+    let alloc = rt.alloc();
+    let misfit = begun(alloc, frame(alloc, Form::Abridged, 508)?)?;
+    assert!(rt; is_refused(alloc, misfit.as_slice(), "refused at line 2: length\n")?);
+    let none = begun(alloc, Octets::copy(alloc, &[0x80])?)?;
+    assert!(rt; is_refused(alloc, none.as_slice(), "refused at line 2: frame fault\n")?);
+    let mut wire = start(Tag::Abridged).wire;
+    wire[56] ^= 1;
+    let mut lines = Octets::new(alloc);
+    put_line(alloc, "up", &wire, &mut lines)?;
+    assert!(rt; is_refused(alloc, lines.as_slice(), "refused at line 1: start\n")?);
+    Ok(())
+}
+
+// The start's line is written in pieces of 4 bytes.
+#[test]
+fn faults_of_the_outside(rt: HostRuntime) -> Result<(), Fail> {
+    let alloc = rt.alloc();
+    let mut lines = Octets::new(alloc);
+    put_line(alloc, "up", &start(Tag::Abridged).wire, &mut lines)?;
+    let rows = [
+        ([9], [9], Status::Done, "up eeeeeeee\n"),
+        ([1], [9], Status::ReadFault, ""),
+        ([2], [9], Status::ReadFault, ""),
+        ([9], [1], Status::WriteFault, ""),
+        ([9], [3], Status::WriteFault, "up eeeee"),
+    ];
+    for (reads, writes, status, told) in rows {
+        let mut input = MemSource::new(alloc, lines.as_slice(), PIECE_BYTES, &reads)?;
+        let mut out = MemSink::new(alloc, ROOM_BYTES, 4, &writes)?;
+        let ended = run_relay(alloc, Form::Intermediate, &SECRET, &mut input, &mut out);
+        assert_eq!(rt; ended, status);
+        assert_eq!(rt; out.written(), told.as_bytes());
+    }
+    Ok(())
+}
