@@ -3,6 +3,7 @@
 #![tactic(auto)]
 
 mod answering;
+pub mod laws;
 mod running;
 
 pub use running::run_check;
