@@ -3,7 +3,7 @@
 //! up to 240 bytes, as it holds no more than 512; texts of many lines are compared by `same_text`, which shows where they part.
 #![tactic(auto)]
 
-ghost use Rattle.std.specs.Prelude.{¬◌, IsTrue, OnErr, OnOk};
+ghost use Rattle.std.specs.Prelude.{IsFalse, IsTrue, OnErr, OnOk};
 
 use std::alloc::{AllocError, Global};
 use std::fmt::{Debug, Display, InlineText};
@@ -57,7 +57,7 @@ pub fn same_at<P: Debug + Drop, T: PartialEq + Debug + Drop>(
 /// Where it doesn't.
 pub fn holds(fact: bool) -> Result<(), Fail>
     ensures holds { OnOk result (IsTrue fact) }
-    ensures fails { OnErr result (¬ IsTrue fact) }
+    ensures fails { OnErr result (IsFalse fact) }
 {
     if fact {
         return Ok(());
@@ -72,7 +72,7 @@ pub fn holds(fact: bool) -> Result<(), Fail>
 /// Where it doesn't hold; the failure shows the row.
 pub fn holds_at<P: Debug + Drop>(row: P, fact: bool) -> Result<(), Fail>
     ensures holds { OnOk result (IsTrue fact) }
-    ensures fails { OnErr result (¬ IsTrue fact) }
+    ensures fails { OnErr result (IsFalse fact) }
 {
     if fact {
         return Ok(());
