@@ -1,8 +1,7 @@
 -- What the command promises, by its answer and by what was written.
-use Rattle.std.proofs.Common.{◌≡◌, ◌≢◌, ◌∙◌, ℕ, List, Option, Some, None, [], ◌∷◌, ◌++◌, length, inl, inr, IfSome, ap, ap₂, sym, subst, refl, arith}
-use Rattle.sched_text.specs.Lines.{lines_in}
+use Rattle.std.proofs.Common.{◌≡◌, ◌≢◌, ◌∙◌, ℕ, List, Option, Some, None, ◌∷◌, ◌++◌, inl, inr, IfSome, ap, ap₂, sym, subst, refl, arith}
 use Rattle.std.specs.Prelude.{codes}
-use Rattle.statuses.specs.Lines.{input_bytes_max, refusal_line}
+use Rattle.statuses.specs.Lines.{refusal_line}
 use Rattle.statuses.specs.Outside.{HadFault, IfTold, IsReadToTheEnd, IsUntouched, Outside, Tells, Writes, WritesFront}
 use Rattle.statuses.specs.declared.status.Status.{Status}
 use Rattle.statuses.specs.declared.status.Status.TheVariants as status

@@ -1,6 +1,5 @@
 -- From what becomes of pieces to what is owed to a text.
 use Rattle.std.proofs.Common.{◌≡◌, ◌≢◌, ℕ, ◌+◌, ◌<◌, ◌≤◌, List, length, get_or, take, drop, inl, inr, subst, Option, Some, None, IfSome, Result, Ok, Err, IfOk, codes}
-use Rattle.sched_text.specs.Lines.{lines_in}
 use Rattle.statuses.specs.Lines.{input_bytes_max, refusal_line, too_long}
 use Rattle.statuses.specs.declared.answer.Answer.{Answer}
 use Rattle.statuses.specs.declared.status.Status.{Status}
@@ -17,7 +16,7 @@ use Rattle.cmd_relay.specs.Relays.{IsOfRelay, IsRefusedFor, Owes, cause_of}
 use Rattle.cmd_relay.specs.declared.capture.CaptureFault.{CaptureFault}
 use Rattle.cmd_relay.specs.declared.capture.CaptureFault.TheVariants.{BadLine}
 use Rattle.cmd_relay.specs.declared.capture.Piece.{Piece}
-use Rattle.cmd_relay.proofs.Pieces.{SoFar, all_passed, one_refused, pieces_at}
+use Rattle.cmd_relay.proofs.Pieces.{SoFar, one_refused, pieces_at}
 
 -- ---- pieces
 

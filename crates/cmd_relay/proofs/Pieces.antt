@@ -1,7 +1,7 @@
 -- From what a relay answers to what it makes of pieces.
-use Rattle.std.proofs.Common.{◌≡◌, ◌≢◌, ◌∙◌, ℕ, ◌+◌, ◌<◌, ◌≤◌, List, [], ◌∷◌, ◌++◌, length, take, drop, get_or, inl, inr, refl, sym, ap, subst, arith, add-one, drop-cons, suc}
+use Rattle.std.proofs.Common.{◌≡◌, ◌≢◌, ◌∙◌, ℕ, ◌+◌, ◌<◌, List, [], ◌∷◌, ◌++◌, length, take, drop, get_or, inl, inr, refl, sym, ap, subst, add-one, drop-cons, suc}
 use Rattle.std.proofs.lemmas.List.{take-append-drop, take_more}
-use Rattle.std.specs.Prelude.{◌↔◌, ◌⊎◌, Ok, Err, IfErr, OnOk}
+use Rattle.std.specs.Prelude.{◌↔◌, Ok, Err, IfErr, OnOk}
 use Rattle.std.specs.declared.result.Result.{Result}
 use Rattle.statuses.specs.Lines.{refusal_line}
 use Rattle.statuses.specs.declared.status.Status.{Status}
@@ -14,9 +14,8 @@ use Rattle.secret_relay.specs.declared.fault.RelayFault.{RelayFault}
 use Rattle.secret_relay.specs.declared.fault.RelayFault.TheVariants as faults
 use Rattle.cmd_relay.specs.Captures.{line_of}
 use Rattle.cmd_relay.specs.Inner.{Passes, TakesOne}
-use Rattle.cmd_relay.specs.Relays.{AreTaken, IsTaken, IsRefusedFor, after, cause_of, text_of, then}
+use Rattle.cmd_relay.specs.Relays.{AreTaken, IsTaken, IsRefusedFor, after, cause_of, text_of}
 use Rattle.cmd_relay.specs.declared.capture.Piece.{Piece}
-use Rattle.cmd_relay.specs.declared.capture.Way.{Way}
 use Rattle.cmd_relay.specs.declared.capture.Way.TheVariants.{Up, Down}
 use Rattle.cmd_relay.proofs.Taking.{taken-snoc, after-snoc, text-snoc}
 

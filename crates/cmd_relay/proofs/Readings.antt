@@ -1,5 +1,5 @@
 -- A text has one reading: one list of pieces, or one bad line.
-use Rattle.std.proofs.Common.{◌≡◌, ◌∙◌, ℕ, ◌<◌, List, [], ◌∷◌, length, inl, inr, refl, sym, ap, subst, arith, Ok}
+use Rattle.std.proofs.Common.{◌≡◌, ◌∙◌, ℕ, List, [], ◌∷◌, inl, inr, refl, sym, subst, Ok}
 use Rattle.std.specs.Prelude.{codes}
 use Rattle.hex.specs.Hex.{decode_of}
 use Rattle.hex.proofs.HexLemmas.{decode_of-same}

@@ -48,12 +48,7 @@ pub(crate) fn relay<S: Source>(
 }
 
 /// The answer to the bytes of a capture.
-fn answer_to(
-    alloc: Global,
-    form: Form,
-    secret: &[u8; 16],
-    text: &[u8],
-) -> Result<Answer, Memory>
+fn answer_to(alloc: Global, form: Form, secret: &[u8; 16], text: &[u8]) -> Result<Answer, Memory>
     requires not_full { form ≢ Full }
     requires short { length text.now ≤ input_bytes_max }
     ensures status { IfOk result (λ answer. IsOfRelay answer.status) }
@@ -69,12 +64,7 @@ fn answer_to(
 }
 
 /// Passes the pieces through one relay: a line for each, or the refusal of the first that is refused.
-fn pass(
-    alloc: Global,
-    form: Form,
-    secret: &[u8; 16],
-    pieces: &[Piece],
-) -> Result<Answer, Memory>
+fn pass(alloc: Global, form: Form, secret: &[u8; 16], pieces: &[Piece]) -> Result<Answer, Memory>
     requires { form ≢ Full }
     ensures { IfOk result (λ answer. Passes form secret.now pieces.now answer.status answer.text) }
 {
@@ -94,12 +84,7 @@ fn pass(
 }
 
 /// Takes a piece, and puts what goes out for it at the end.
-fn take(
-    alloc: Global,
-    relay: &mut Relay,
-    piece: &Piece,
-    out: &mut Octets,
-) -> Result<(), RelayFault>
+fn take(alloc: Global, relay: &mut Relay, piece: &Piece, out: &mut Octets) -> Result<(), RelayFault>
     ensures goes_on { OnOk result ((story : Story) → Stands relay.old story → Adds out.old out.new (λ more.
         TakesOne relay.old relay.new piece.now.way piece.now.bytes more story)) }
     ensures refused { IfErr result (λ fault. fault ≢ RelayFault.Memory → (story : Story) → Stands relay.old story

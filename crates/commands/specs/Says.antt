@@ -66,7 +66,7 @@ pub record SaysPair (rows : List Row) (options : PairOptions) : Type 0 where
   pub port : HasNumber (codes "port") 1 65534 rows options.port
   pub stop_after : HasNumber (codes "stop-after") 1 1000000000 rows options.stop_after
 
--- what `relay` was told: what goes out is never in full frames
+-- what `relay` was told: the server's side is never in full frames
 pub record SaysRelay (rows : List Row) (options : RelayOptions) : Type 0 where
   pub secret : HasSecret (codes "secret") rows options.secret
   pub form : HasForm (codes "form") rows options.form
@@ -103,7 +103,7 @@ pub record Says (words : List (List ℕ)) (said : Command) : Type 0 where
 -- ---- what any words say
 
 -- This holds of each command that words say: `serve` is never told to stop after 0 packets, full frames are never obfuscated,
--- behind the port of `pair` there is another one, and what `relay` writes is never in full frames.
+-- behind the port of `pair` there is another one, and the server's side of `relay` is never in full frames.
 abbrev pub IsLawful : Command → Type 0
 IsLawful (command.Sim wire) = ⊤
 IsLawful (command.Load calls) = ⊤

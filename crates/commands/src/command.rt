@@ -60,7 +60,7 @@ pub enum Command<'a> {
     Pair(PairOptions<'a>),
     /// `check`: tell whether calls of a trace execute at most once.
     Check,
-    /// `relay`: turn a captured obfuscated connection into plain framing.
+    /// `relay`: pass a captured connection on as a proxy with a secret does.
     Relay(RelayOptions),
     /// `--help` among the words: print a page of help.
     Help(Page),
@@ -153,9 +153,9 @@ impl fmt::Debug for Secret {
 /// What `relay` is told.
 #[derive(Debug, Drop)]
 pub struct RelayOptions {
-    /// `--secret`: the secret of the proxy that the captured connection went to.
+    /// `--secret`: the secret of the proxy.
     pub secret: Secret,
-    /// `--form`: how the packets that go out are framed, never in full frames.
+    /// `--form`: how the server's side is framed, never in full frames.
     pub form: Form,
 }
 

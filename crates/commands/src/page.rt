@@ -35,7 +35,7 @@ mtp serve OPTIONS      serves connections
 mtp call OPTIONS       runs a script of calls as one batch
 mtp pair OPTIONS       runs one over a server that stops and a new one
 mtp check              tells whether calls of a trace execute at most once
-mtp relay OPTIONS      turns a captured connection into plain framing
+mtp relay OPTIONS      passes a capture on as a proxy with a secret does
 mtp COMMAND --help     tells what the options of a command mean
 mtp --help             writes this page
 mtp --version          writes the version
@@ -135,14 +135,16 @@ gone S M           the server had forgotten the number, or dropped its reply
 const RELAY: &str = "\
 mtp relay --secret HEX --form FORM
 
-Reads a captured connection between a client and a proxy from standard input
-and writes what it carried in plain framing, a line for each line.
+Reads a capture from standard input and passes it on as a proxy with a secret
+does, a line for each line: the client's side is obfuscated, the server's is in
+plain framing.
 
 --secret HEX    the secret of the proxy: 32 hexadecimal digits
---form FORM     how packets are framed: abridged, intermediate or padded
+--form FORM     how the server's side is framed: abridged, intermediate or
+                padded
 
 up HEX      bytes that the client sent, `-` for none
-down HEX    bytes that the proxy sent
+down HEX    bytes that the server sent, `-` for none
 ";
 
 impl Page {

@@ -51,8 +51,8 @@ const WORDS_REFUSED: &str = "words refused\n";
 ///   one batch over that server and, where that loses its connection, over a second one.
 /// - `check` reads the facts of a trace to their end and writes whether its calls execute at most once, or else which sentence
 ///   doesn't hold and the line that shows it.
-/// - `relay --secret HEX --form FORM` reads a captured connection that is obfuscated with a secret, and writes what it carried in
-///   plain framing, a line for each of its lines.
+/// - `relay --secret HEX --form FORM` reads a captured connection and passes it on as a proxy with a secret does, a line for each
+///   of its lines.
 /// - `--help`, alone or behind the name of a command, and `--version` write a text.
 ///
 /// Status 0: what was to be written is written, by `call` and `pair` each call is done, and by `check` each sentence holds. 1: the

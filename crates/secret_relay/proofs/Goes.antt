@@ -1,11 +1,10 @@
 -- From what a piece changes of a link to the connection that the relay stands for.
-use Rattle.std.proofs.Common.{◌≡◌, ◌≢◌, ℕ, suc, ◌+◌, ◌<◌, ◌%◌, ◌^◌, List, [], ◌∷◌, ◌++◌, length, refl, sym, ap, ap₂, subst, ◌∙◌, arith, inl, inr, append_assoc, append-nil, length-append, Option, None, Some}
-use Rattle.std.specs.List.{All, concat}
+use Rattle.std.proofs.Common.{◌≡◌, ◌≢◌, ℕ, suc, ◌+◌, ◌%◌, ◌^◌, List, [], ◌∷◌, ◌++◌, length, refl, sym, ap, ap₂, subst, ◌∙◌, arith, inl, append_assoc, append-nil, length-append, Option, None, Some}
+use Rattle.std.specs.List.{concat}
 use Rattle.std.proofs.lemmas.List.Elements.{All-append}
 use Rattle.std.proofs.Math.Nat.{mod-add-mod}
 use Rattle.cipher_modes.specs.CounterMode.{CtrState, applied, advanced, applied_in_turn, xor_stream}
-use Rattle.tl_codec.specs.declared.fault.FrameFault.{FrameFault}
-use Rattle.framing.specs.Streams.{Frames, Stream, Faulty, Begins, IsBegun, number_after}
+use Rattle.framing.specs.Streams.{IsBegun, number_after}
 use Rattle.obfus.specs.Reads.{Reads}
 use Rattle.obfus.specs.Streams.{up_stream, down_stream}
 use Rattle.obfus.specs.declared.init.Pair.{Pair}
@@ -17,9 +16,9 @@ use Rattle.transport.specs.declared.form.Form.TheVariants.{Full}
 use Rattle.secret_relay.specs.declared.fault.RelayFault.{RelayFault}
 use Rattle.secret_relay.specs.declared.fault.RelayFault.TheVariants as faults
 use Rattle.secret_relay.specs.declared.link.Link.{Link}
-use Rattle.secret_relay.specs.Written.{frames_of, written, CanGoOut}
+use Rattle.secret_relay.specs.Written.{frames_of, CanGoOut}
 use Rattle.secret_relay.specs.Passing.{Passes, Halts}
-use Rattle.secret_relay.specs.Going.{BeginsMisfit, Shown, IsLeft, Takes, PassesOn}
+use Rattle.secret_relay.specs.Going.{BeginsMisfit, Shown, Takes}
 use Rattle.secret_relay.specs.Stories.{Story, Opens, form_in, WentOut, GoesOn, ClientHalts, ServerHalts, UpEnds, DownEnds, with_up, with_down}
 use Rattle.secret_relay.specs.Links.{PassesUp, PassesDown}
 use Rattle.secret_relay.specs.Standing.{KeepsLink, Adds}

@@ -1,13 +1,11 @@
 -- From what a form tells of the front of a text to one look, and from looks to what goes on of a text.
 use Rattle.std.proofs.Common.{◌≡◌, ◌≢◌, ℕ, ◌+◌, ◌-◌, ◌*◌, ◌<◌, ◌≤◌, List, [], ◌∷◌, ◌++◌, length, min, take, drop, refl, sym, ap, ap₂, subst, ◌∙◌, arith, inl, inr, append_assoc, append-nil, length-append, Option}
 use Rattle.std.specs.Prelude.{slice_range}
-use Rattle.std.specs.List.{All}
 use Rattle.std.proofs.lemmas.List.{drop-take, drop-drop, take-take, take-append-drop, take_all, length-take, length-take-le, length-drop}
 use Rattle.std.proofs.lemmas.List.Elements.{All-append}
 use Rattle.tl_codec.specs.declared.fault.FrameFault.{FrameFault}
 use Rattle.framing.specs.declared.form.Span.{Span}
 use Rattle.framing.specs.Looks.{IsFrameAt}
-use Rattle.framing.specs.Payload.{IsPayload}
 use Rattle.framing.specs.Streams.{Frame, IsBegun, IsOutline, Shows}
 use Rattle.transport.specs.Forms.{framing_of, frame_of}
 use Rattle.transport.specs.Lawful.{lawful}

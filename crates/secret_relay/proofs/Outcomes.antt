@@ -1,8 +1,6 @@
 -- A connection has one outcome.
-use Rattle.std.proofs.Common.{◌≡◌, ◌≢◌, ℕ, ◌+◌, ◌<◌, ◌≤◌, List, [], ◌∷◌, ◌++◌, length, take, drop, refl, sym, ap, ap₂, subst, ◌∙◌, arith, inl, inr, length-append, Option, Some}
-use Rattle.std.specs.Prelude.{◌⊎◌}
+use Rattle.std.proofs.Common.{◌≡◌, ◌≢◌, ℕ, ◌<◌, List, ◌++◌, length, take, drop, sym, ap, subst, ◌∙◌, arith, inl, inr, length-append, Option, Some}
 use Rattle.std.proofs.lemmas.List.{take_at, drop_at}
-use Rattle.std.specs.List.{All}
 use Rattle.cipher_modes.specs.CounterMode.{applied}
 use Rattle.tl_codec.specs.declared.fault.FrameFault.{FrameFault}
 use Rattle.framing.specs.Streams.{Stream, Faulty, IsBegun, Shows, number_after}
@@ -21,7 +19,7 @@ use Rattle.secret_relay.specs.declared.fault.RelayFault.{RelayFault}
 use Rattle.secret_relay.specs.declared.fault.RelayFault.TheVariants as faults
 use Rattle.secret_relay.specs.Written.{frames_of, written, CanGoOut}
 use Rattle.secret_relay.specs.Passing.{Passes, HasFault, HasMisfit, Halts}
-use Rattle.secret_relay.specs.Stories.{Story, IsEarly, Opens, form_in, WentOut, GoesOn, Relayed, HasNoTag, ClientHalts, ServerHalts, UpEnds, DownEnds}
+use Rattle.secret_relay.specs.Stories.{Story, Opens, form_in, GoesOn, Relayed, HasNoTag, ClientHalts, ServerHalts, UpEnds, DownEnds}
 use Rattle.secret_relay.proofs.Plain.{plain_shows}
 use Rattle.secret_relay.proofs.Readings.{not_begun, not_shown, all_read, one_first}
 

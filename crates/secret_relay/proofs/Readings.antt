@@ -4,7 +4,7 @@ use Rattle.std.proofs.lemmas.List.{take_at, drop_at}
 use Rattle.std.specs.List.{All}
 use Rattle.tl_codec.specs.declared.fault.FrameFault.{FrameFault}
 use Rattle.framing.specs.Laws.{IsForm}
-use Rattle.framing.specs.Streams.{Form, Frame, Frames, IsBegun, Shows, IsOutline, number_after}
+use Rattle.framing.specs.Streams.{Form, Frame, Frames, IsBegun, Shows, number_after}
 use Rattle.secret_relay.proofs.Every.{all_first, all_rest}
 
 -- frames at the front of one text

@@ -1,5 +1,5 @@
 -- Scaffolding of proofs, and no promise: what a piece changes of a connection behind its start.
-use Rattle.std.specs.Prelude.{◌≡◌, ◌≢◌, ℕ, List, ◌++◌, length, Option}
+use Rattle.std.specs.Prelude.{◌≡◌, ℕ, List, ◌++◌, length, Option}
 use Rattle.cipher_modes.specs.CounterMode.{applied, advanced}
 use Rattle.transport.specs.declared.form.Form.{Form}
 use Rattle.secret_relay.specs.declared.fault.RelayFault.{RelayFault}

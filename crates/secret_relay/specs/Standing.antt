@@ -1,5 +1,5 @@
 -- Which connection a relay stands for.
-use Rattle.std.specs.Prelude.{◌≡◌, ⊤, ℕ, List, [], ◌++◌, length}
+use Rattle.std.specs.Prelude.{◌≡◌, ⊤, ℕ, List, ◌++◌, length}
 use Rattle.cipher_modes.specs.CounterMode.{advanced}
 use Rattle.transport.specs.declared.form.Form.{Form}
 use Rattle.secret_relay.specs.declared.fault.RelayFault.{RelayFault}

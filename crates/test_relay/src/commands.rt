@@ -48,7 +48,12 @@ fn begun(alloc: Global, frame: Octets) -> Result<Octets, Fail> {
     let mut init = start(Tag::Abridged);
     let mut lines = Octets::new(alloc);
     put_line(alloc, "up", &init.wire, &mut lines)?;
-    put_line(alloc, "up", through(&mut init.up, frame).as_slice(), &mut lines)?;
+    put_line(
+        alloc,
+        "up",
+        through(&mut init.up, frame).as_slice(),
+        &mut lines,
+    )?;
     Ok(lines)
 }
 

@@ -1,5 +1,4 @@
 use Rattle.cmd_relay.proofs.Ends.{one_refused, one_relayed, relayed_not_refused}
-use Rattle.cmd_relay.proofs.Taking.{Outcomes}
 use Rattle.cmd_relay.proofs.laws.one_answer.Goals as goal
 
 pub returns-clause-relayed : goal.returns-clause-relayed

@@ -1,4 +1,4 @@
-use Rattle.secret_relay.proofs.Outcomes.{Below, told, up_goes_or_ends, one_up_end, down_goes_or_ends, one_down_end}
+use Rattle.secret_relay.proofs.Outcomes.{told, up_goes_or_ends, one_up_end, down_goes_or_ends, one_down_end}
 use Rattle.secret_relay.proofs.laws.one_outcome.Goals as goal
 
 pub returns-clause-text : goal.returns-clause-text

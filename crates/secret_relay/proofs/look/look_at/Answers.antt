@@ -1,4 +1,4 @@
-use Rattle.std.proofs.Common.{◌≡◌, ◌∙◌, refl, sym}
+use Rattle.std.proofs.Common.{refl}
 use Rattle.secret_relay.proofs.Looks.{packet_here, misfit_here, outline_of, spoilt_front}
 use Rattle.secret_relay.proofs.look.look_at.Goals as goal
 

@@ -1,4 +1,4 @@
-use Rattle.std.proofs.Common.{◌≤◌, drop, length, ℕ, ◌-◌}
+use Rattle.std.proofs.Common.{◌≤◌, drop, length, ◌-◌}
 use Rattle.secret_relay.specs.Going.{HasRoom}
 use Rattle.secret_relay.proofs.Looks.{SoFar}
 use Rattle.secret_relay.proofs.passing.pass_on.Given as goal

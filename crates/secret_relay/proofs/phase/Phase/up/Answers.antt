@@ -1,5 +1,4 @@
-use Rattle.std.proofs.Common.{◌≡◌, ◌++◌, ◌-◌, ◌∙◌, List, ℕ, length, take, drop, ap, ap₂, sym, append_assoc}
-use Rattle.std.proofs.lemmas.List.{take-append-drop, take_rest}
+use Rattle.std.proofs.Common.{List, ℕ}
 use Rattle.secret_relay.specs.Stories.{Story, UpEnds, with_up}
 use Rattle.secret_relay.specs.Standing.{Adds, KeepsLink, StandsIn}
 use Rattle.secret_relay.proofs.Phases.{link_up_goes, link_up_ends, on_end, opened, whole_is}
