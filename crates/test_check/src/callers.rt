@@ -9,8 +9,8 @@ use mt_edge::{MemSink, MemSource};
 use octets::{Memory, Octets};
 use statuses::Status;
 use std::alloc::Global;
-use std::process::Abort;
 use std::test::Fail;
+use test_asserts::{holds, same};
 use trace_check::laws::one_answer;
 use trace_check::{CheckFault, Checked, check};
 
@@ -19,9 +19,9 @@ const TRACE: &[u8] = b"body 1 1 00\nname 1 1 9 4\nentry 1 9 4 00 01 answer\nstat
 body 1 2 02\nname 1 2 9 8\nstate 1 2 refused 400\n";
 
 /// Whether all six sentences hold of a trace.
-fn holds(alloc: Global, text: &[u8]) -> Result<bool, CheckFault>
+fn is_whole(alloc: Global, text: &[u8]) -> Result<bool, CheckFault>
     requires { length text.now < 2 ^ 32 }
-    ensures { IfOk result (λ holds. IsTrue holds → AllHoldIn text.now) }
+    ensures { IfOk result (λ whole. IsTrue whole → AllHoldIn text.now) }
 {
     match check(alloc, text)? {
         Checked::Yes => Ok(true),
@@ -53,18 +53,18 @@ fn says_yes(alloc: Global, text: &[u8]) -> Result<bool, Memory>
 #[test]
 fn one_after_the_other(rt: HostRuntime) -> Result<(), Fail> {
     let alloc = rt.alloc();
-    assert!(rt; holds(alloc, TRACE)?);
-    assert!(rt; again(alloc, TRACE)?);
+    holds(is_whole(alloc, TRACE)?)?;
+    holds(again(alloc, TRACE)?)?;
     let bad = Octets::copy(alloc, b"made 9\nmad 9\n")?;
     if bad.as_slice().len() > 100 {
         return Err(Fail::new("too long"));
     }
-    match holds(alloc, bad.as_slice()) {
-        Err(CheckFault::BadLine { line }) => assert_eq!(rt; line, 2),
+    match is_whole(alloc, bad.as_slice()) {
+        Err(CheckFault::BadLine { line }) => same(line, 2)?,
         _ => return Err(Fail::new("no bad line")),
     }
-    assert!(rt; !says_yes(alloc, bad.as_slice())?);
-    assert!(rt; says_yes(alloc, TRACE)?);
-    assert!(rt; says_yes(alloc, b"")?);
+    holds(!says_yes(alloc, bad.as_slice())?)?;
+    holds(says_yes(alloc, TRACE)?)?;
+    holds(says_yes(alloc, b"")?)?;
     Ok(())
 }

@@ -5,8 +5,8 @@ use cmd_check::run_check;
 use mt_edge::{MemSink, MemSource};
 use octets::Octets;
 use std::alloc::Global;
-use std::process::Abort;
 use std::test::Fail;
+use test_asserts::{same, same_at};
 
 /// Room for what is written, in bytes.
 const ROOM_BYTES: usize = 1_000;
@@ -39,12 +39,12 @@ fn row_of(line: &str) -> Option<Row<'_>> {
     })
 }
 
-fn as_told(rt: &impl Abort, alloc: Global, row: &Row) -> Result<(), Fail> {
+fn as_told(alloc: Global, row: &Row) -> Result<(), Fail> {
     let text = lines(alloc, row.text)?;
     let (status, written) = ran(alloc, text.as_slice())?;
     let due = lines(alloc, row.written)?;
-    assert_eq!(rt; status, row.status, "{}", row.shows);
-    assert_eq!(rt; written.as_slice(), due.as_slice(), "{}", row.shows);
+    same_at(row.shows, status, row.status)?;
+    same_at(row.shows, written.as_slice(), due.as_slice())?;
     Ok(())
 }
 
@@ -67,7 +67,7 @@ fn rows(rt: HostRuntime) -> Result<(), Fail> {
         let Some(row) = row_of(line) else {
             return Err(Fail::new("no row"));
         };
-        as_told(&rt, rt.alloc(), &row)?;
+        as_told(rt.alloc(), &row)?;
     }
     Ok(())
 }
@@ -84,12 +84,12 @@ fn a_long_trace(rt: HostRuntime) -> Result<(), Fail> {
         text.push_all(alloc, call.as_bytes())?;
     }
     let (status, written) = ran(alloc, text.as_slice())?;
-    assert_eq!(rt; status, 0);
-    assert_eq!(rt; written.as_slice(), b"yes\n".as_slice());
+    same(status, 0)?;
+    same(written.as_slice(), b"yes\n".as_slice())?;
     text.push_all(alloc, b"entry 2 9 1 00 01 answer")?;
     let (status, written) = ran(alloc, text.as_slice())?;
-    assert_eq!(rt; status, 13);
-    assert_eq!(rt; written.as_slice(), b"broken 1 at line 801\n".as_slice());
+    same(status, 13)?;
+    same(written.as_slice(), b"broken 1 at line 801\n".as_slice())?;
     Ok(())
 }
 
@@ -103,13 +103,12 @@ fn too_long(rt: HostRuntime) -> Result<(), Fail> {
     }
     text.push_all(alloc, b"\n")?;
     let (status, written) = ran(alloc, text.as_slice())?;
-    assert_eq!(rt; status, 2);
-    assert_eq!(rt; written.as_slice(), b"input too long\n".as_slice());
+    same(status, 2)?;
+    same(written.as_slice(), b"input too long\n".as_slice())?;
     Ok(())
 }
 
 fn in_pieces(
-    rt: &impl Abort,
     alloc: Global,
     failing_reads: &[u64],
     failing_writes: &[u64],
@@ -124,8 +123,8 @@ fn in_pieces(
     )?;
     let mut out = MemSink::new(alloc, ROOM_BYTES, 7, failing_writes)?;
     let ended = run_check(alloc, &mut input, &mut out);
-    assert_eq!(rt; ended.number(), status);
-    assert_eq!(rt; out.written(), written.as_bytes());
+    same(ended.number(), status)?;
+    same(out.written(), written.as_bytes())?;
     Ok(())
 }
 
@@ -133,10 +132,10 @@ fn in_pieces(
 #[test]
 fn faults_of_the_outside(rt: HostRuntime) -> Result<(), Fail> {
     let alloc = rt.alloc();
-    in_pieces(&rt, alloc, &[], &[], 13, "broken 2 at line 3\n")?;
-    in_pieces(&rt, alloc, &[1], &[], 3, "")?;
-    in_pieces(&rt, alloc, &[7], &[], 3, "")?;
-    in_pieces(&rt, alloc, &[8], &[], 13, "broken 2 at line 3\n")?;
-    in_pieces(&rt, alloc, &[], &[1], 4, "")?;
-    in_pieces(&rt, alloc, &[], &[3], 4, "broken 2 at li")
+    in_pieces(alloc, &[], &[], 13, "broken 2 at line 3\n")?;
+    in_pieces(alloc, &[1], &[], 3, "")?;
+    in_pieces(alloc, &[7], &[], 3, "")?;
+    in_pieces(alloc, &[8], &[], 13, "broken 2 at line 3\n")?;
+    in_pieces(alloc, &[], &[1], 4, "")?;
+    in_pieces(alloc, &[], &[3], 4, "broken 2 at li")
 }

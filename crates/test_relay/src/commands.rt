@@ -9,6 +9,7 @@ use secret_relay::Form;
 use statuses::Status;
 use std::alloc::Global;
 use std::test::*;
+use test_asserts::{holds, holds_at, same};
 
 /// Room for what a test writes, in bytes.
 const ROOM_BYTES: usize = 8_192;
@@ -63,42 +64,51 @@ fn is_refused(alloc: Global, lines: &[u8], told: &str) -> Result<bool, Fail> {
     Ok(status == Status::InputRefused && written.as_slice() == told.as_bytes())
 }
 
-#[test]
-fn a_line_for_each(rt: HostRuntime) -> Result<(), Fail> {
-    let alloc = rt.alloc();
-    let Init {
-        wire,
-        mut up,
-        mut down,
-    } = start(Tag::Abridged);
-    let one = through(&mut up, frame(alloc, Form::Abridged, 504)?);
+// The lines of a capture both ways: the start in two pieces, a packet of the client's in two, one of the server's, and none.
+fn lines_of(alloc: Global, up: &[u8], down: &[u8]) -> Result<Octets, Fail> {
+    let wire = start(Tag::Abridged).wire;
     let mut lines = Octets::copy(alloc, b"# the start, in two pieces\nup -\n")?;
     put_line(alloc, "up", &wire[..63], &mut lines)?;
     lines.push_all(alloc, b"\n")?;
     put_line(alloc, "up", &wire[63..], &mut lines)?;
-    let (front, back) = one.as_slice().split_at(one.as_slice().len().min(100));
+    let (front, back) = up.split_at(up.len().min(100));
     put_line(alloc, "up", front, &mut lines)?;
     put_line(alloc, "up", back, &mut lines)?;
-    let other = frame(alloc, Form::Intermediate, 508)?;
-    put_line(alloc, "down", other.as_slice(), &mut lines)?;
+    put_line(alloc, "down", down, &mut lines)?;
     lines.push_all(alloc, b"down -")?;
+    Ok(lines)
+}
+
+// The lines that are due to it.
+fn due_lines(alloc: Global, up: &[u8], down: &[u8]) -> Result<Octets, Fail> {
     let mut due = Octets::copy(alloc, b"up -\nup -\nup eeeeeeee\nup -\n")?;
-    let one = frame(alloc, Form::Intermediate, 504)?;
-    put_line(alloc, "up", one.as_slice(), &mut due)?;
-    let other = through(&mut down, frame(alloc, Form::Abridged, 508)?);
-    put_line(alloc, "down", other.as_slice(), &mut due)?;
+    put_line(alloc, "up", up, &mut due)?;
+    put_line(alloc, "down", down, &mut due)?;
     due.push_all(alloc, b"down -\n")?;
+    Ok(due)
+}
+
+#[test]
+fn a_line_for_each(rt: HostRuntime) -> Result<(), Fail> {
+    let alloc = rt.alloc();
+    let mut init = start(Tag::Abridged);
+    let up = through(&mut init.up, frame(alloc, Form::Abridged, 504)?);
+    let down = frame(alloc, Form::Intermediate, 508)?;
+    let lines = lines_of(alloc, up.as_slice(), down.as_slice())?;
+    let up = frame(alloc, Form::Intermediate, 504)?;
+    let down = through(&mut init.down, frame(alloc, Form::Abridged, 508)?);
+    let due = due_lines(alloc, up.as_slice(), down.as_slice())?;
     let (status, written) = ran(alloc, Form::Intermediate, lines.as_slice())?;
-    assert_eq!(rt; status, Status::Done);
-    assert_eq!(rt; written.as_slice(), due.as_slice());
+    same(status, Status::Done)?;
+    same(written.as_slice(), due.as_slice())?;
     Ok(())
 }
 
 #[test]
 fn nothing_of_no_line(rt: HostRuntime) -> Result<(), Fail> {
     let (status, written) = ran(rt.alloc(), Form::Intermediate, b"")?;
-    assert_eq!(rt; status, Status::Done);
-    assert_eq!(rt; written.as_slice().len(), 0);
+    same(status, Status::Done)?;
+    same(written.as_slice().len(), 0)?;
     Ok(())
 }
 
@@ -123,7 +133,7 @@ fn lines_that_are_refused(rt: HostRuntime) -> Result<(), Fail> {
         (" ", bad),
     ];
     for (lines, told) in rows {
-        assert!(rt; is_refused(rt.alloc(), lines.as_bytes(), told)?, "{lines}");
+        holds_at(lines, is_refused(rt.alloc(), lines.as_bytes(), told)?)?;
     }
     Ok(())
 }
@@ -132,14 +142,14 @@ fn lines_that_are_refused(rt: HostRuntime) -> Result<(), Fail> {
 fn captures_that_are_refused(rt: HostRuntime) -> Result<(), Fail> {
     let alloc = rt.alloc();
     let misfit = begun(alloc, frame(alloc, Form::Abridged, 508)?)?;
-    assert!(rt; is_refused(alloc, misfit.as_slice(), "refused at line 2: length\n")?);
+    holds(is_refused(alloc, misfit.as_slice(), "refused at line 2: length\n")?)?;
     let none = begun(alloc, Octets::copy(alloc, &[0x80])?)?;
-    assert!(rt; is_refused(alloc, none.as_slice(), "refused at line 2: frame fault\n")?);
+    holds(is_refused(alloc, none.as_slice(), "refused at line 2: frame fault\n")?)?;
     let mut wire = start(Tag::Abridged).wire;
     wire[56] ^= 1;
     let mut lines = Octets::new(alloc);
     put_line(alloc, "up", &wire, &mut lines)?;
-    assert!(rt; is_refused(alloc, lines.as_slice(), "refused at line 1: start\n")?);
+    holds(is_refused(alloc, lines.as_slice(), "refused at line 1: start\n")?)?;
     Ok(())
 }
 
@@ -160,8 +170,8 @@ fn faults_of_the_outside(rt: HostRuntime) -> Result<(), Fail> {
         let mut input = MemSource::new(alloc, lines.as_slice(), PIECE_BYTES, &reads)?;
         let mut out = MemSink::new(alloc, ROOM_BYTES, 4, &writes)?;
         let ended = run_relay(alloc, Form::Intermediate, &SECRET, &mut input, &mut out);
-        assert_eq!(rt; ended, status);
-        assert_eq!(rt; out.written(), told.as_bytes());
+        same(ended, status)?;
+        same(out.written(), told.as_bytes())?;
     }
     Ok(())
 }

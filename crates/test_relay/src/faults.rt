@@ -159,10 +159,10 @@ fn a_relay_shows_no_packet(rt: HostRuntime) -> Result<(), Fail> {
     let capture = capture(alloc)?;
     relay.up(alloc, &capture.as_slice()[..64 + 3], &mut out)?;
     relay.down(alloc, &[4, 0, 0, 0, 9], &mut out)?;
-    let told = format!(in alloc; "{relay:?}")?;
-    assert_eq!(rt;
-        told.as_str(),
-        "Relay { form: Padded, phase: Links(Link { form: Abridged, client_bytes: 3, server_bytes: 5, .. }), .. }"
-    );
+    shows(
+        alloc,
+        &relay,
+        "Relay { form: Padded, phase: Links(Link { form: Abridged, client_bytes: 3, server_bytes: 5, .. }), .. }",
+    )?;
     Ok(())
 }

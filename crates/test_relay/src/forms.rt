@@ -23,13 +23,17 @@ fn start_of(form: Form) -> &'static [u8] {
     }
 }
 
-// Whether a capture towards a form, in pieces of so many bytes, one of each side in turn once the start is there, goes out
-// as the same packets in the other form.
-fn is_relayed(alloc: Global, tag: Tag, form: Form, step: usize) -> Result<bool, Fail> {
-    if form == Form::Full || step == 0 {
-        return Err(Fail::new("no form of a relay, or no pieces"));
-    }
-    let mut init = start(tag);
+// Packets of one connection, as each end has them in its stream.
+#[derive(Drop)]
+struct Capture {
+    up: Octets,
+    down: Octets,
+    upwards: Octets,
+    downwards: Octets,
+}
+
+// The same packets in the client's form and in the server's, none of them ciphered.
+fn capture(alloc: Global, tag: Tag, form: Form) -> Result<Capture, Fail> {
     let mut up = Octets::new(alloc);
     let mut down = Octets::new(alloc);
     let mut upwards = Octets::copy(alloc, start_of(form))?;
@@ -41,20 +45,29 @@ fn is_relayed(alloc: Global, tag: Tag, form: Form, step: usize) -> Result<bool, 
         put(alloc, form, packet.as_slice(), &mut down)?;
         put(alloc, form_of(tag), packet.as_slice(), &mut downwards)?;
     }
-    let up = through(&mut init.up, up);
-    let downwards = through(&mut init.down, downwards);
-    let mut relay = Relay::new(form, &SECRET);
+    Ok(Capture {
+        up,
+        down,
+        upwards,
+        downwards,
+    })
+}
+
+// What goes out where both sides come in pieces of so many bytes, one of each side in turn.
+fn sent(
+    alloc: Global,
+    relay: &mut Relay,
+    up: &[u8],
+    down: &[u8],
+    step: usize,
+) -> Result<(Octets, Octets), Fail> {
+    if step == 0 {
+        return Err(Fail::new("no pieces"));
+    }
     let mut sent_up = Octets::new(alloc);
     let mut sent_down = Octets::new(alloc);
-    for piece in init.wire.chunks(step) {
-        relay.up(alloc, piece, &mut sent_up)?;
-    }
-    if sent_up.as_slice() != start_of(form) {
-        return Ok(false);
-    }
-    let down = down.as_slice();
     let mut from = 0_usize;
-    for piece in up.as_slice().chunks(step) {
+    for piece in up.chunks(step) {
         relay.up(alloc, piece, &mut sent_up)?;
         let to = down.len().min(from.saturating_add(step));
         if let Some(other) = down.get(from..to) {
@@ -66,7 +79,44 @@ fn is_relayed(alloc: Global, tag: Tag, form: Form, step: usize) -> Result<bool, 
     for other in left.chunks(step) {
         relay.down(alloc, other, &mut sent_down)?;
     }
-    Ok(sent_up.as_slice() == upwards.as_slice() && sent_down.as_slice() == downwards.as_slice())
+    Ok((sent_up, sent_down))
+}
+
+// A relay towards a form, which has had the client's first bytes, and what went out by them.
+fn begun(alloc: Global, form: Form, wire: &[u8], step: usize) -> Result<(Relay, Octets), Fail> {
+    if form == Form::Full || step == 0 {
+        return Err(Fail::new("no form of a relay, or no pieces"));
+    }
+    let mut relay = Relay::new(form, &SECRET);
+    let mut out = Octets::new(alloc);
+    for piece in wire.chunks(step) {
+        relay.up(alloc, piece, &mut out)?;
+    }
+    Ok((relay, out))
+}
+
+// Whether a capture towards a form, in pieces of so many bytes, goes out as the same packets in the other form.
+fn is_relayed(alloc: Global, tag: Tag, form: Form, step: usize) -> Result<bool, Fail> {
+    let mut init = start(tag);
+    let capture = capture(alloc, tag, form)?;
+    let up = through(&mut init.up, capture.up);
+    let downwards = through(&mut init.down, capture.downwards);
+    let (mut relay, mut first) = begun(alloc, form, &init.wire, step)?;
+    if first.as_slice() != start_of(form) {
+        return Ok(false);
+    }
+    let (sent_up, sent_down) = sent(
+        alloc,
+        &mut relay,
+        up.as_slice(),
+        capture.down.as_slice(),
+        step,
+    )?;
+    first.push_all(alloc, sent_up.as_slice())?;
+    Ok(
+        first.as_slice() == capture.upwards.as_slice()
+            && sent_down.as_slice() == downwards.as_slice(),
+    )
 }
 
 #[test]
