@@ -25,7 +25,7 @@ fn start_of(form: Form) -> &'static [u8] {
 
 // Packets of one connection, as each end has them in its stream.
 #[derive(Drop)]
-struct Capture {
+struct Streams {
     up: Octets,
     down: Octets,
     upwards: Octets,
@@ -33,7 +33,7 @@ struct Capture {
 }
 
 // The same packets in the client's form and in the server's, none of them ciphered.
-fn capture(alloc: Global, tag: Tag, form: Form) -> Result<Capture, Fail> {
+fn streams_of(alloc: Global, tag: Tag, form: Form) -> Result<Streams, Fail> {
     let mut up = Octets::new(alloc);
     let mut down = Octets::new(alloc);
     let mut upwards = Octets::copy(alloc, start_of(form))?;
@@ -45,7 +45,7 @@ fn capture(alloc: Global, tag: Tag, form: Form) -> Result<Capture, Fail> {
         put(alloc, form, packet.as_slice(), &mut down)?;
         put(alloc, form_of(tag), packet.as_slice(), &mut downwards)?;
     }
-    Ok(Capture {
+    Ok(Streams {
         up,
         down,
         upwards,
@@ -98,9 +98,9 @@ fn begun(alloc: Global, form: Form, wire: &[u8], step: usize) -> Result<(Relay, 
 // Whether a capture towards a form, in pieces of so many bytes, goes out as the same packets in the other form.
 fn is_relayed(alloc: Global, tag: Tag, form: Form, step: usize) -> Result<bool, Fail> {
     let mut init = start(tag);
-    let capture = capture(alloc, tag, form)?;
-    let up = through(&mut init.up, capture.up);
-    let downwards = through(&mut init.down, capture.downwards);
+    let streams = streams_of(alloc, tag, form)?;
+    let up = through(&mut init.up, streams.up);
+    let downwards = through(&mut init.down, streams.downwards);
     let (mut relay, mut first) = begun(alloc, form, &init.wire, step)?;
     if first.as_slice() != start_of(form) {
         return Ok(false);
@@ -109,12 +109,12 @@ fn is_relayed(alloc: Global, tag: Tag, form: Form, step: usize) -> Result<bool, 
         alloc,
         &mut relay,
         up.as_slice(),
-        capture.down.as_slice(),
+        streams.down.as_slice(),
         step,
     )?;
     first.push_all(alloc, sent_up.as_slice())?;
     Ok(
-        first.as_slice() == capture.upwards.as_slice()
+        first.as_slice() == streams.upwards.as_slice()
             && sent_down.as_slice() == downwards.as_slice(),
     )
 }
