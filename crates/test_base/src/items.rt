@@ -65,164 +65,80 @@ fn agrees(alloc: Global, body: &[u8], want: &str) -> Result<bool, Memory> {
     Ok(written.as_slice() == body)
 }
 
+// A body's hexadecimal digits, and the item that it is, as `{:?}` shows it.
+const ONE_OF_EACH: &str = "\
+016d5cf3040000000000000001020304 RpcResult { req_msg_id: 4, result: Octets { bytes: [1, 2, 3, 4] } }\n\
+016d5cf30400000000000000 RpcResult { req_msg_id: 4, result: Octets { bytes: [] } }\n\
+19ca44219001000003414243 RpcError { error_code: 400, error_message: Octets { bytes: [65, 66, 67] } }\n\
+40a7e4580400000000000000 RpcDropAnswer { req_msg_id: 4 }\n\
+6ed32a5e RpcAnswerUnknown\n\
+86e578cd RpcAnswerDroppedRunning\n\
+b7d83aa408000000000000000100000010000000 RpcAnswerDropped { msg_id: 8, seq_no: 1, bytes: 16 }\n\
+04bd21b902000000 GetFutureSalts { num: 2 }\n\
+950850ae0400000000000000e80300000200000000000000100e0000070000000000000008070000181500000800000000000000 FutureSalts { req_msg_id: 4, now: 1000, salts: FutureSaltList { rows: [FutureSalt { valid_since: 0, valid_until: 3600, salt: 7 }, FutureSalt { valid_since: 1800, valid_until: 5400, salt: 8 }] } }\n\
+ec77be7a0700000000000000 Ping { ping_id: 7 }\n\
+8c7b42f307000000000000004b000000 PingDelayDisconnect { ping_id: 7, disconnect_delay: 75 }\n\
+c573773408000000000000000700000000000000 Pong { msg_id: 8, ping_id: 7 }\n\
+262151e70807060504030201 DestroySession { session_id: 72623859790382856 }\n\
+fc4520e20807060504030201 DestroySessionOk { session_id: 72623859790382856 }\n\
+c950d3620807060504030201 DestroySessionNone { session_id: 72623859790382856 }\n\
+0809c29e0c0000000000000088776655443322110700000000000000 NewSessionCreated { first_msg_id: 12, unique_id: 1234605616436508552, server_salt: 7 }\n\
+dcf8f17301000000080000000000000001000000040000000a0b0c0d MsgContainer { messages: Messages { messages: [Message { number: 8, seq: 1, body: Octets { bytes: [10, 11, 12, 13] } }] } }\n\
+59b4d66215c4b51c010000000400000000000000 MsgsAck { msg_ids: IdList { numbers: [4] } }\n\
+52fb69da15c4b51c010000000400000000000000 MsgsStateReq { msg_ids: IdList { numbers: [4] } }\n\
+7db5de04040000000000000002010400 MsgsStateInfo { req_msg_id: 4, info: Octets { bytes: [1, 4] } }\n\
+31d1c08c15c4b51c01000000040000000000000002010400 MsgsAllInfo { msg_ids: IdList { numbers: [4] }, info: Octets { bytes: [1, 4] } }\n\
+081a867d15c4b51c010000000400000000000000 MsgResendReq { msg_ids: IdList { numbers: [4] } }\n\
+c63e6d27080000000000000014000000000000001000000000000000 MsgDetailedInfo { msg_id: 8, answer_msg_id: 20, bytes: 16, status: 0 }\n\
+dfb69d8014000000000000001000000000000000 MsgNewDetailedInfo { answer_msg_id: 20, bytes: 16, status: 0 }\n\
+11f8efa704000000000000000100000030000000 BadMsgNotification { bad_msg_id: 4, bad_msg_seqno: 1, error_code: 48 }\n\
+7b44abed040000000000000001000000300000000700000000000000 BadServerSalt { bad_msg_id: 4, bad_msg_seqno: 1, error_code: 48, new_server_salt: 7 }\n\
+2d379fcb080000000000000001020304 InvokeAfterMsg { msg_id: 8, query: Octets { bytes: [1, 2, 3, 4] } }\n\
+f0b4c43d15c4b51c01000000040000000000000001020304 InvokeAfterMsgs { msg_ids: IdList { numbers: [4] }, query: Octets { bytes: [1, 2, 3, 4] } }\n\
+052ad4cd01020304050607080900000000000000100e0000067365616c656400 AuthBindTempAuthKey { perm_auth_key_id: 578437695752307201, nonce: 9, expires_at: 3600, encrypted_message: Octets { bytes: [115, 101, 97, 108, 101, 100] } }\n";
+
+// A body of a row is read as the item that is shown in it, and that item is written as the body.
+fn is_read_and_written(alloc: Global, row: &str) -> Result<(), Fail> {
+    let (digits, want) = row.split_once(' ').ok_or("digits and an item")?;
+    let body = hex::decode(alloc, digits).ok().ok_or("hexadecimal digits")?;
+    holds_at(want, agrees(alloc, &body, want)?)
+}
+
 #[test]
 fn one_body_of_each_constructor(rt: HostRuntime) -> Result<(), Fail> {
-    let alloc = rt.alloc();
-    let rows = [
-        (
-            "016d5cf3040000000000000001020304",
-            "RpcResult { req_msg_id: 4, result: Octets { bytes: [1, 2, 3, 4] } }",
-        ),
-        (
-            "016d5cf30400000000000000",
-            "RpcResult { req_msg_id: 4, result: Octets { bytes: [] } }",
-        ),
-        (
-            "19ca44219001000003414243",
-            "RpcError { error_code: 400, error_message: Octets { bytes: [65, 66, 67] } }",
-        ),
-        (
-            "40a7e4580400000000000000",
-            "RpcDropAnswer { req_msg_id: 4 }",
-        ),
-        ("6ed32a5e", "RpcAnswerUnknown"),
-        ("86e578cd", "RpcAnswerDroppedRunning"),
-        (
-            "b7d83aa408000000000000000100000010000000",
-            "RpcAnswerDropped { msg_id: 8, seq_no: 1, bytes: 16 }",
-        ),
-        ("04bd21b902000000", "GetFutureSalts { num: 2 }"),
-        (
-            "950850ae0400000000000000e80300000200000000000000100e0000070000000000000008070000181500000800000000000000",
-            "FutureSalts { req_msg_id: 4, now: 1000, salts: FutureSaltList { rows: [FutureSalt { valid_since: 0, valid_until: 3600, salt: 7 }, FutureSalt { valid_since: 1800, valid_until: 5400, salt: 8 }] } }",
-        ),
-        ("ec77be7a0700000000000000", "Ping { ping_id: 7 }"),
-        (
-            "8c7b42f307000000000000004b000000",
-            "PingDelayDisconnect { ping_id: 7, disconnect_delay: 75 }",
-        ),
-        (
-            "c573773408000000000000000700000000000000",
-            "Pong { msg_id: 8, ping_id: 7 }",
-        ),
-        (
-            "262151e70807060504030201",
-            "DestroySession { session_id: 72623859790382856 }",
-        ),
-        (
-            "fc4520e20807060504030201",
-            "DestroySessionOk { session_id: 72623859790382856 }",
-        ),
-        (
-            "c950d3620807060504030201",
-            "DestroySessionNone { session_id: 72623859790382856 }",
-        ),
-        (
-            "0809c29e0c0000000000000088776655443322110700000000000000",
-            "NewSessionCreated { first_msg_id: 12, unique_id: 1234605616436508552, server_salt: 7 }",
-        ),
-        (
-            "dcf8f17301000000080000000000000001000000040000000a0b0c0d",
-            "MsgContainer { messages: Messages { messages: [Message { number: 8, seq: 1, body: Octets { bytes: [10, 11, 12, 13] } }] } }",
-        ),
-        (
-            "59b4d66215c4b51c010000000400000000000000",
-            "MsgsAck { msg_ids: IdList { numbers: [4] } }",
-        ),
-        (
-            "52fb69da15c4b51c010000000400000000000000",
-            "MsgsStateReq { msg_ids: IdList { numbers: [4] } }",
-        ),
-        (
-            "7db5de04040000000000000002010400",
-            "MsgsStateInfo { req_msg_id: 4, info: Octets { bytes: [1, 4] } }",
-        ),
-        (
-            "31d1c08c15c4b51c01000000040000000000000002010400",
-            "MsgsAllInfo { msg_ids: IdList { numbers: [4] }, info: Octets { bytes: [1, 4] } }",
-        ),
-        (
-            "081a867d15c4b51c010000000400000000000000",
-            "MsgResendReq { msg_ids: IdList { numbers: [4] } }",
-        ),
-        (
-            "c63e6d27080000000000000014000000000000001000000000000000",
-            "MsgDetailedInfo { msg_id: 8, answer_msg_id: 20, bytes: 16, status: 0 }",
-        ),
-        (
-            "dfb69d8014000000000000001000000000000000",
-            "MsgNewDetailedInfo { answer_msg_id: 20, bytes: 16, status: 0 }",
-        ),
-        (
-            "11f8efa704000000000000000100000030000000",
-            "BadMsgNotification { bad_msg_id: 4, bad_msg_seqno: 1, error_code: 48 }",
-        ),
-        (
-            "7b44abed040000000000000001000000300000000700000000000000",
-            "BadServerSalt { bad_msg_id: 4, bad_msg_seqno: 1, error_code: 48, new_server_salt: 7 }",
-        ),
-        (
-            "2d379fcb080000000000000001020304",
-            "InvokeAfterMsg { msg_id: 8, query: Octets { bytes: [1, 2, 3, 4] } }",
-        ),
-        (
-            "f0b4c43d15c4b51c01000000040000000000000001020304",
-            "InvokeAfterMsgs { msg_ids: IdList { numbers: [4] }, query: Octets { bytes: [1, 2, 3, 4] } }",
-        ),
-        (
-            "052ad4cd01020304050607080900000000000000100e0000067365616c656400",
-            "AuthBindTempAuthKey { perm_auth_key_id: 578437695752307201, nonce: 9, expires_at: 3600, encrypted_message: Octets { bytes: [115, 101, 97, 108, 101, 100] } }",
-        ),
-    ];
-    for (text, want) in rows {
-        let body = hex::decode(alloc, text).ok().ok_or("hexadecimal digits")?;
-        holds_at(want, agrees(alloc, &body, want)?)?;
+    for row in ONE_OF_EACH.lines() {
+        is_read_and_written(rt.alloc(), row)?;
     }
     Ok(())
 }
 
+// Three calls; what is packed, and not read; a ping with 4 bytes after it; a list of numbers that is cut, one that claims
+// 8,193 of them, and one without its constructor; a container of one message that is cut, and one that claims two; salts of
+// which the second is cut; a string in the long form.
+const READ_OTHERWISE: &str = " Call\n\
+0102 Call\n\
+01020304 Call\n\
+a1cf7230 Packed\n\
+ec77be7a070000000000000000000000 Broken(2059302892)\n\
+59b4d66215c4b51c0100000004000000000000 Broken(1658238041)\n\
+59b4d66215c4b51c01200000 Broken(1658238041)\n\
+59b4d662010000000400000000000000 Broken(1658238041)\n\
+dcf8f17301000000080000000000000001000000080000000a0b0c0d Broken(1945237724)\n\
+dcf8f17302000000080000000000000001000000040000000a0b0c0d Broken(1945237724)\n\
+950850ae0400000000000000e80300000200000000000000100e00000700000000000000080700001815000008000000 Broken(2924480661)\n\
+19ca442190010000fe03000041424300 RpcError { error_code: 400, error_message: Octets { bytes: [65, 66, 67] } }\n";
+
+// A body of a row is read as is shown in it.
+fn is_read(alloc: Global, row: &str) -> Result<(), Fail> {
+    let (digits, want) = row.split_once(' ').ok_or("digits and an item")?;
+    let body = hex::decode(alloc, digits).ok().ok_or("hexadecimal digits")?;
+    shows(alloc, &parse(alloc, &body)?, want)
+}
+
 #[test]
 fn bodies_that_are_read_otherwise(rt: HostRuntime) -> Result<(), Fail> {
-    let alloc = rt.alloc();
-    let rows = [
-        // a call
-        ("", "Call"),
-        ("0102", "Call"),
-        ("01020304", "Call"),
-        // packed, and not read
-        ("a1cf7230", "Packed"),
-        // a ping with 4 bytes after it
-        ("ec77be7a070000000000000000000000", "Broken(2059302892)"),
-        // a list of numbers that is cut, that claims 8,193 of them, and without its constructor
-        (
-            "59b4d66215c4b51c0100000004000000000000",
-            "Broken(1658238041)",
-        ),
-        ("59b4d66215c4b51c01200000", "Broken(1658238041)"),
-        ("59b4d662010000000400000000000000", "Broken(1658238041)"),
-        // a container of one message that is cut, and one that claims two
-        (
-            "dcf8f17301000000080000000000000001000000080000000a0b0c0d",
-            "Broken(1945237724)",
-        ),
-        (
-            "dcf8f17302000000080000000000000001000000040000000a0b0c0d",
-            "Broken(1945237724)",
-        ),
-        // salts of which the second is cut
-        (
-            "950850ae0400000000000000e80300000200000000000000100e00000700000000000000080700001815000008000000",
-            "Broken(2924480661)",
-        ),
-        // a string in the long form
-        (
-            "19ca442190010000fe03000041424300",
-            "RpcError { error_code: 400, error_message: Octets { bytes: [65, 66, 67] } }",
-        ),
-    ];
-    for (text, want) in rows {
-        let bytes = hex::decode(alloc, text).ok().ok_or("hexadecimal digits")?;
-        shows(alloc, &parse(alloc, &bytes)?, want)?;
+    for row in READ_OTHERWISE.lines() {
+        is_read(rt.alloc(), row)?;
     }
     Ok(())
 }
