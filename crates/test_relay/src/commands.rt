@@ -73,9 +73,11 @@ fn a_line_for_each(rt: HostRuntime) -> Result<(), Fail> {
     } = start(Tag::Abridged);
     let one = through(&mut up, frame(alloc, Form::Abridged, 504)?);
     let mut lines = Octets::copy(alloc, b"# the start, in two pieces\nup -\n")?;
-    put_line(alloc, "up", &wire[..63], &mut lines)?;
+    let front = wire.get(..63).ok_or("63 bytes of a start")?;
+    put_line(alloc, "up", front, &mut lines)?;
     lines.push_all(alloc, b"\n")?;
-    put_line(alloc, "up", &wire[63..], &mut lines)?;
+    let last = wire.get(63..).ok_or("a start of 64 bytes")?;
+    put_line(alloc, "up", last, &mut lines)?;
     let (front, back) = one.as_slice().split_at(one.as_slice().len().min(100));
     put_line(alloc, "up", front, &mut lines)?;
     put_line(alloc, "up", back, &mut lines)?;
