@@ -68,9 +68,11 @@ fn is_refused(alloc: Global, lines: &[u8], told: &str) -> Result<bool, Fail> {
 fn lines_of(alloc: Global, up: &[u8], down: &[u8]) -> Result<Octets, Fail> {
     let wire = start(Tag::Abridged).wire;
     let mut lines = Octets::copy(alloc, b"# the start, in two pieces\nup -\n")?;
-    put_line(alloc, "up", &wire[..63], &mut lines)?;
+    let front = wire.get(..63).ok_or("63 bytes of a start")?;
+    put_line(alloc, "up", front, &mut lines)?;
     lines.push_all(alloc, b"\n")?;
-    put_line(alloc, "up", &wire[63..], &mut lines)?;
+    let last = wire.get(63..).ok_or("a start of 64 bytes")?;
+    put_line(alloc, "up", last, &mut lines)?;
     let (front, back) = up.split_at(up.len().min(100));
     put_line(alloc, "up", front, &mut lines)?;
     put_line(alloc, "up", back, &mut lines)?;

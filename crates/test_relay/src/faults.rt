@@ -157,7 +157,8 @@ fn a_relay_shows_no_packet(rt: HostRuntime) -> Result<(), Fail> {
     let mut relay = Relay::new(Form::Padded, &SECRET);
     let mut out = Octets::new(alloc);
     let capture = capture(alloc)?;
-    relay.up(alloc, &capture.as_slice()[..64 + 3], &mut out)?;
+    let front = capture.as_slice().get(..67).ok_or("a start and 3 bytes")?;
+    relay.up(alloc, front, &mut out)?;
     relay.down(alloc, &[4, 0, 0, 0, 9], &mut out)?;
     shows(
         alloc,
