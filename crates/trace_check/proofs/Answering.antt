@@ -1,5 +1,5 @@
 -- A text has one answer, and it is the one that is given.
-use Rattle.std.proofs.Common.{◌≡◌, ◌∙◌, ℕ, ◌<◌, ◌≤◌, List, Result, Ok, Err, IfOk, IfErr, OnOk, ◌⊎◌, inl, inr, refl, sym, ap, subst, arith}
+use Rattle.std.proofs.Common.{◌≡◌, ◌∙◌, ℕ, ◌<◌, List, Result, Ok, Err, IfOk, IfErr, OnOk, inl, inr, refl, sym, subst, arith}
 use Rattle.std.proofs.lemmas.Bool.{cases_lt}
 use Rattle.sched_text.specs.Lines.{lines_in}
 use Rattle.trace_check.specs.declared.fact.Fact.{Fact}
@@ -10,8 +10,7 @@ use Rattle.trace_check.specs.declared.checking.CheckFault.{CheckFault}
 use Rattle.trace_check.specs.declared.checking.CheckFault.TheVariants.{BadLine, Memory}
 use Rattle.trace_check.specs.Facts.{Spells, line_numbers}
 use Rattle.trace_check.specs.Lawful.{IsFirstBadLine, IsTrace}
-use Rattle.trace_check.specs.Sentences.{number_of}
-use Rattle.trace_check.specs.Answers.{AllHold, HasBadLine, IsBroken, IsFaultOf, IsFoundIn, Shows}
+use Rattle.trace_check.specs.Answers.{HasBadLine, IsBroken, IsFaultOf, IsFoundIn, Shows}
 use Rattle.trace_check.specs.Books.{IsFault, IsFound}
 use Rattle.trace_check.specs.Reading.{facts_of}
 use Rattle.trace_check.proofs.Meanings.{lines_say, one_spelling}

@@ -1,17 +1,15 @@
 -- What is found of facts.
-use Rattle.std.proofs.Common.{◌≡◌, ◌∙◌, ℕ, ◌+◌, ◌<◌, ◌≤◌, List, [], ◌∷◌, ◌++◌, length, get_or, Option, Some, None, ◌⊎◌, inl, inr, refl, sym, ap, subst, arith, append_assoc}
+use Rattle.std.proofs.Common.{◌≡◌, ◌∙◌, ℕ, ◌<◌, ◌≤◌, List, [], ◌∷◌, ◌++◌, length, get_or, Some, inl, inr, sym, ap, arith, append_assoc}
 use Rattle.std.specs.List.{slice_get}
 use Rattle.std.proofs.lemmas.Option.{slice_get-get_or}
 use Rattle.std.proofs.lemmas.Bool.{cases_lt}
-use Rattle.trace_check.specs.declared.numbered.Numbered.{Numbered}
 use Rattle.trace_check.specs.declared.fact.Fact.{Fact}
-use Rattle.trace_check.specs.declared.fact.Entry.{Entry}
 use Rattle.trace_check.specs.declared.sentence.Sentence.{Sentence}
 use Rattle.trace_check.specs.declared.sentence.Sentence.TheVariants as sentence
-use Rattle.trace_check.specs.Lawful.{Fits, IsFirstBadLine, IsTrace}
-use Rattle.trace_check.specs.Sentences.{Holds, Keeps, IsEntryOf, number_of}
-use Rattle.trace_check.specs.Books.{IsBreak, IsFirstFrom, IsUnfit, Rise}
-use Rattle.trace_check.specs.Answers.{AllHold, IsBroken, Shows}
+use Rattle.trace_check.specs.Lawful.{IsFirstBadLine}
+use Rattle.trace_check.specs.Sentences.{Holds, Keeps, number_of}
+use Rattle.trace_check.specs.Books.{IsBreak, IsUnfit, Rise}
+use Rattle.trace_check.specs.Answers.{AllHold, IsBroken}
 use Rattle.trace_check.proofs.Lines.{least_line}
 use Rattle.trace_check.proofs.Marking.{one_place}
 use Rattle.trace_check.proofs.Serving.{holds_served, keeps_served}

@@ -1,6 +1,5 @@
 -- What lines of a trace say of calls and entries.
-use Rattle.std.proofs.Common.{◌≡◌, ◌≢◌, ◌∙◌, ℕ, suc, ◌+◌, ◌<◌, ◌≤◌, nat_lt, Bool, true, false, IsTrue, ◌↔◌, List, length, map, Option, Some, None, ◌⊎◌, inl, inr, refl, sym, ap, subst, arith}
-use Rattle.std.specs.List.{slice_get}
+use Rattle.std.proofs.Common.{◌≡◌, ◌∙◌, ℕ, ◌<◌, ◌≤◌, nat_lt, true, false, ◌↔◌, List, length, Option, Some, None, inl, inr, refl, sym, subst, arith}
 use Rattle.std.proofs.lemmas.Option.{slice_get_within}
 use Rattle.std.proofs.lemmas.Bool.{cases_lt, ltb-true, lt-ltb}
 use Rattle.trace_check.specs.declared.numbered.Numbered.{Numbered}
@@ -8,18 +7,15 @@ use Rattle.trace_check.specs.declared.fact.Fact.{Fact}
 use Rattle.trace_check.specs.declared.fact.Fact.TheVariants as fact
 use Rattle.trace_check.specs.declared.fact.Entry.{Entry}
 use Rattle.trace_check.specs.declared.fact.Told.{Told}
-use Rattle.trace_check.specs.declared.fact.Told.TheVariants.{Queued, Sent, Held, Done, Refused, Unknown}
 use Rattle.trace_check.specs.declared.table.Row.{Row}
-use Rattle.trace_check.specs.declared.book.By.TheVariants as by
 use Rattle.trace_check.specs.declared.sentence.Sentence.TheVariants as sentence
 use Rattle.trace_check.specs.Indexes.{Stands, IsRow, row_before}
 use Rattle.trace_check.specs.Facts.{At}
-use Rattle.trace_check.specs.Keys.{Marks, key_of}
 use Rattle.trace_check.specs.Lawful.{IsTrace}
-use Rattle.trace_check.specs.Sentences.{DoesWait, HasEntry, HasNotRun, IsEntryOf, IsNameOf, IsReplaced, Keeps, RanOnce, WasAsked}
-use Rattle.trace_check.specs.Books.{AreCallers, AreEntries, AreEntriesAt, HasBody, HasLater, HasReplied, IsCallerAt, IsWaiting}
+use Rattle.trace_check.specs.Sentences.{DoesWait, IsEntryOf, IsNameOf, Keeps, RanOnce, WasAsked}
+use Rattle.trace_check.specs.Books.{AreCallers, AreEntries, AreEntriesAt, HasBody, HasReplied, IsCallerAt, IsWaiting}
 use Rattle.trace_check.proofs.Steps.{not_equal}
-use Rattle.trace_check.proofs.Marking.{fact_marks, is_body, is_call, is_name, is_state, marks_fact, one_body, one_name, one_state, same_fact}
+use Rattle.trace_check.proofs.Marking.{one_body, one_name, one_state, same_fact}
 
 -- ---- equivalences
 

@@ -1,9 +1,9 @@
 -- What the tables of a book say.
-use Rattle.std.proofs.Common.{◌≡◌, ◌∙◌, ℕ, zero, suc, ◌+◌, ◌<◌, ◌≤◌, Bool, true, IsTrue, ◌↔◌, List, [], ◌∷◌, ◌++◌, length, map, take, Bor, Option, Some, None, IfSome, MatchOption, ◌⊎◌, inl, inr, refl, sym, ap, subst, arith}
+use Rattle.std.proofs.Common.{◌≡◌, ◌∙◌, ℕ, zero, suc, ◌+◌, ◌<◌, Bool, IsTrue, ◌↔◌, List, [], ◌∷◌, ◌++◌, length, map, take, Bor, Option, Some, None, IfSome, MatchOption, inl, inr, refl, sym, ap, subst, arith}
 use Rattle.std.specs.List.{slice_get}
 use Rattle.std.specs.Option.{option_map, option_copied}
 use Rattle.std.specs.BTreeMap.{BTreeMap}
-use Rattle.std.proofs.lemmas.Option.{slice_get-map, slice_get_within}
+use Rattle.std.proofs.lemmas.Option.{slice_get-map}
 use Rattle.std.proofs.lemmas.List.{length-map, length-take-le}
 use Rattle.std.proofs.lemmas.Bool.{cases_lt}
 use Rattle.trace_check.specs.declared.numbered.Numbered.{Numbered}
@@ -17,12 +17,12 @@ use Rattle.trace_check.specs.declared.book.By.{By}
 use Rattle.trace_check.specs.declared.book.By.TheVariants as by
 use Rattle.trace_check.specs.Indexes.{Indexes, IsRow, Stands}
 use Rattle.trace_check.specs.Facts.{At}
-use Rattle.trace_check.specs.Keys.{IsMarked, Marks, key_of}
+use Rattle.trace_check.specs.Keys.{IsMarked, key_of}
 use Rattle.trace_check.specs.Lawful.{IsTrace}
 use Rattle.trace_check.specs.Sentences.{IsEntryOf, IsNameOf}
 use Rattle.trace_check.specs.Books.{AreCallers, AreExecuted, IsBook, IsCallerAt, IsLastMark}
 use Rattle.trace_check.proofs.Marking.{fact_marks, is_name, marks_fact}
-use Rattle.trace_check.proofs.Places.{stands_kept, stands_last, stands_more, stands_within}
+use Rattle.trace_check.proofs.Places.{stands_kept, stands_last, stands_more}
 use Rattle.trace_check.proofs.Judging.{same_call, same_entry}
 
 -- a test that is another

@@ -1,5 +1,5 @@
 -- What words say, as a function, is what the definition of a fact's words says.
-use Rattle.std.proofs.Common.{◌≡◌, ◌∙◌, ℕ, Bool, true, false, List, [], ◌∷◌, codes, map, unwrap_or, Option, Some, None, ◌⊎◌, inl, inr, subst, refl, sym, ap}
+use Rattle.std.proofs.Common.{◌≡◌, ◌∙◌, ℕ, Bool, true, false, List, [], ◌∷◌, codes, unwrap_or, Option, Some, None, ◌⊎◌, inl, inr, subst, refl, sym, ap}
 use Rattle.std.specs.Fmt.{decimal}
 use Rattle.std.specs.Str.{bytes_eq}
 use Rattle.std.specs.Option.{option_map}

@@ -1,9 +1,8 @@
 -- A line cut into words.
-use Rattle.std.proofs.Common.{◌≡◌, ◌≢◌, ◌∙◌, ℕ, suc, ◌+◌, ◌-◌, ◌<◌, ◌≤◌, List, [], ◌∷◌, ◌++◌, length, get_or, take, drop, All, true, false, ap, sym, subst, refl, arith, add-one, drop-cons}
+use Rattle.std.proofs.Common.{◌≡◌, ◌∙◌, ℕ, suc, ◌+◌, ◌-◌, ◌<◌, ◌≤◌, List, [], ◌∷◌, ◌++◌, length, get_or, take, drop, All, true, false, ap, sym, subst, refl, arith, add-one, drop-cons}
 use Rattle.std.proofs.lemmas.List.{take-append-drop, take_all, get_or-take, get_or_default, length-take-le, length-drop}
-use Rattle.std.proofs.Math.Seq.{drop-length}
 use Rattle.std.proofs.lemmas.List.Elements.{All-head, All-tail}
-use Rattle.std.proofs.lemmas.Bool.{ne_eqb, cond-false, cond-true}
+use Rattle.std.proofs.lemmas.Bool.{cond-false, cond-true}
 use Rattle.sched_text.specs.Lines.{words_of, onto_first, is_blank}
 
 -- a list round its member at a place

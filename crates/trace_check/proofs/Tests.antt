@@ -1,6 +1,5 @@
 -- What the tests of a judge say.
-use Rattle.std.proofs.Common.{◌≡◌, ◌∙◌, ℕ, suc, ◌+◌, ◌<◌, ◌≤◌, nat_eq, nat_lt, Bool, true, false, IsTrue, ◌↔◌, if◌then◌else◌, List, length, map, Bor, Option, Some, None, MatchOption, ◌⊎◌, inl, inr, refl, sym, ap, subst, arith}
-use Rattle.std.specs.List.{slice_get}
+use Rattle.std.proofs.Common.{◌≡◌, ◌∙◌, ℕ, ◌+◌, ◌<◌, ◌≤◌, nat_eq, nat_lt, Bool, true, false, IsTrue, ◌↔◌, if◌then◌else◌, List, length, map, Option, Some, None, inl, inr, refl, sym, ap, subst, arith}
 use Rattle.std.specs.Str.{bytes_eq}
 use Rattle.std.specs.Option.{is_none}
 use Rattle.std.proofs.lemmas.Slice.Eq.{bytes_eq-Decides}
@@ -12,20 +11,19 @@ use Rattle.trace_check.specs.declared.fact.Fact.TheVariants as fact
 use Rattle.trace_check.specs.declared.fact.Entry.{Entry}
 use Rattle.trace_check.specs.declared.fact.Cause.{Cause}
 use Rattle.trace_check.specs.declared.fact.Told.{Told}
-use Rattle.trace_check.specs.declared.fact.Told.TheVariants.{Queued, Sent, Held, Done, Refused, Unknown}
+use Rattle.trace_check.specs.declared.fact.Told.TheVariants.{Done, Unknown}
 use Rattle.trace_check.specs.declared.table.Row.{Row}
 use Rattle.trace_check.specs.declared.book.By.TheVariants as by
 use Rattle.trace_check.specs.declared.sentence.Sentence.{Sentence}
 use Rattle.trace_check.specs.declared.sentence.Sentence.TheVariants as sentence
 use Rattle.trace_check.specs.Indexes.{IsRow, row_before, row_later}
 use Rattle.trace_check.specs.Facts.{At}
-use Rattle.trace_check.specs.Keys.{IsMarked, IsMarkedBefore, Marks, key_of}
-use Rattle.trace_check.specs.Lawful.{Fits, HasBodyBefore, IsLawful, IsLawfulBody, IsLawfulName, IsLawfulState, IsNext, IsTrace}
-use Rattle.trace_check.specs.Sentences.{DoesWait, HasCause, HasEntry, HasNotRun, Holds, IsCause, IsEntryOf, IsNameOf, IsReplaced, Keeps, RanOnce, WasAsked, number_of}
-use Rattle.trace_check.specs.Books.{AreEntries, AreServed, HasBody, HasLater, HasNoneBefore, HasReplied, IsBreak, IsCallerAt, IsCurrent, IsFirstFrom, IsFirstPlace, IsIdle, IsLastMark, IsPlace, IsWaiting, Keep}
-use Rattle.trace_check.proofs.Steps.{not_equal}
+use Rattle.trace_check.specs.Keys.{key_of}
+use Rattle.trace_check.specs.Lawful.{Fits, HasBodyBefore, IsLawful, IsNext, IsTrace}
+use Rattle.trace_check.specs.Sentences.{DoesWait, HasCause, HasEntry, HasNotRun, IsCause, IsEntryOf, IsNameOf, IsReplaced, Keeps, RanOnce, number_of}
+use Rattle.trace_check.specs.Books.{AreEntries, HasBody, HasLater, HasNoneBefore, IsCurrent, IsFirstFrom, IsIdle, IsLastMark, IsPlace, IsWaiting}
 use Rattle.trace_check.proofs.Marking.{fact_marks, is_body, is_call, is_name, is_state, marks_fact, one_body, one_name, one_place, one_state, same_fact}
-use Rattle.trace_check.proofs.Judging.{iff_by, no, same_call, same_entry, yes}
+use Rattle.trace_check.proofs.Judging.{same_call, same_entry}
 
 -- ---- where a line may stand
 

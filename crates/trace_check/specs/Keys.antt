@@ -2,7 +2,7 @@
 use Rattle.std.specs.Prelude.{◌≡◌, ◌<◌, ℕ, List, map, Option, Some, None, slice_get}
 use Rattle.trace_check.specs.declared.numbered.Numbered.{Numbered}
 use Rattle.trace_check.specs.declared.fact.Fact.{Fact}
-use Rattle.trace_check.specs.declared.fact.Fact.TheVariants.{Body, Name, State, Entry, Made, Left, Closed, Gone, Outside}
+use Rattle.trace_check.specs.declared.fact.Fact.TheVariants.{Body, Name, State, Made, Left, Closed, Gone}
 use Rattle.trace_check.specs.declared.book.By.{By}
 use Rattle.trace_check.specs.declared.book.By.TheVariants as by
 

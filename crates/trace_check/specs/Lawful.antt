@@ -2,7 +2,7 @@
 use Rattle.std.specs.Prelude.{◌≡◌, ◌+◌, ◌<◌, ◌≤◌, ◌⊎◌, ℕ, List, slice_get, Some}
 use Rattle.trace_check.specs.declared.numbered.Numbered.{Numbered}
 use Rattle.trace_check.specs.declared.fact.Fact.{Fact}
-use Rattle.trace_check.specs.declared.fact.Fact.TheVariants.{Body, Name, State, Entry, Made, Left, Closed, Gone, Outside}
+use Rattle.trace_check.specs.declared.fact.Fact.TheVariants.{Body, Name, State, Outside}
 use Rattle.trace_check.specs.declared.fact.Told.{Told}
 use Rattle.trace_check.specs.Facts.{At}
 

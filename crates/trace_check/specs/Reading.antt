@@ -8,7 +8,6 @@ use Rattle.trace_check.specs.declared.fact.Cause.{Cause}
 use Rattle.trace_check.specs.declared.fact.Cause.TheVariants as cause
 use Rattle.trace_check.specs.declared.fact.Told.{Told}
 use Rattle.trace_check.specs.declared.fact.Told.TheVariants as told
-use Rattle.trace_check.specs.declared.fact.Entry.{Entry}
 use Rattle.trace_check.specs.declared.fact.Fact.{Fact}
 use Rattle.trace_check.specs.declared.fact.Fact.TheVariants as fact
 use Rattle.trace_check.specs.declared.fact.Kind.{Kind}

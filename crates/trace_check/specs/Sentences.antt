@@ -8,7 +8,7 @@ use Rattle.trace_check.specs.declared.fact.Fact.{Fact}
 use Rattle.trace_check.specs.declared.fact.Fact.TheVariants as fact
 use Rattle.trace_check.specs.declared.fact.Entry.{Entry}
 use Rattle.trace_check.specs.declared.fact.Told.{Told}
-use Rattle.trace_check.specs.declared.fact.Told.TheVariants.{Queued, Sent, Held, Done, Refused, Unknown}
+use Rattle.trace_check.specs.declared.fact.Told.TheVariants.{Queued, Held, Done, Refused, Unknown}
 use Rattle.trace_check.specs.declared.fact.Cause.{Cause}
 use Rattle.trace_check.specs.declared.fact.Cause.TheVariants as cause
 use Rattle.trace_check.specs.declared.sentence.Sentence.{Sentence}

@@ -1,4 +1,4 @@
-use Rattle.std.proofs.Common.{ℕ, ◌<◌, inl, inr, subst, arith}
+use Rattle.std.proofs.Common.{ℕ, inl, inr, subst, arith}
 use Rattle.std.proofs.lemmas.Bool.{both_ways, cases_lt}
 use Rattle.trace_check.specs.Lawful.{Fits}
 use Rattle.trace_check.proofs.Tests.{past}

@@ -1,4 +1,4 @@
-use Rattle.std.proofs.Common.{◌∙◌, ◌<◌, List, length, refl, subst, sym, ap, arith}
+use Rattle.std.proofs.Common.{◌∙◌, List, length, refl, subst, sym, ap, arith}
 use Rattle.trace_check.specs.declared.fact.Fact.{Fact}
 use Rattle.trace_check.specs.Books.{IsUnfit}
 use Rattle.trace_check.proofs.Finding.{bad_line}

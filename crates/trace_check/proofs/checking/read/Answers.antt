@@ -1,5 +1,5 @@
-use Rattle.std.proofs.Common.{◌≡◌, ◌∙◌, [], ◌∷◌, ◌++◌, ap, sym, append-nil}
-use Rattle.sched_text.specs.Lines.{Line, lines_in, words_of}
+use Rattle.std.proofs.Common.{◌∙◌, ◌++◌, ap, sym, append-nil}
+use Rattle.sched_text.specs.Lines.{lines_in, words_of}
 use Rattle.trace_check.specs.Reading.{facts_of, said_by}
 use Rattle.trace_check.specs.Facts.{numbers_of}
 use Rattle.trace_check.proofs.Finding.{read_more}

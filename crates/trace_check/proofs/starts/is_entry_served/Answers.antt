@@ -1,5 +1,5 @@
-use Rattle.std.proofs.Common.{ℕ, Bool, IsTrue, ◌↔◌, ◌≡◌, ◌∙◌, Result, Ok, Err, IfOk, OnOk, sym}
-use Rattle.trace_check.specs.States.{IsRight, state_of, state_with}
+use Rattle.std.proofs.Common.{sym}
+use Rattle.trace_check.specs.States.{state_of}
 use Rattle.trace_check.proofs.Judging.{yes}
 use Rattle.trace_check.proofs.Stepping.{not_run, ok_after, ok_right, right_still}
 use Rattle.trace_check.proofs.starts.is_entry_served.Goals as goal

@@ -1,5 +1,4 @@
 use Rattle.std.proofs.Common.{sym}
-use Rattle.trace_check.proofs.Judging.{yes}
 use Rattle.trace_check.proofs.judge.Judge.was_served.Goals as goal
 
 pub returns-in-Some : goal.returns-in-Some

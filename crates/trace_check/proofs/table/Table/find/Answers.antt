@@ -1,5 +1,4 @@
-use Rattle.std.proofs.Common.{◌∙◌, List, Option, subst, sym}
-use Rattle.trace_check.specs.declared.numbered.Numbered.{Numbered}
+use Rattle.std.proofs.Common.{◌∙◌, Option, subst, sym}
 use Rattle.trace_check.specs.declared.table.Row.{Row}
 use Rattle.trace_check.specs.Indexes.{IsRow}
 use Rattle.trace_check.proofs.table.Table.find.Goals as goal
