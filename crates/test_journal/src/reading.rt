@@ -30,13 +30,13 @@ pub(crate) fn outcome_of<K: Disk + Drop>(alloc: Global, disk: K) -> Outcome {
         Ok(opening) => opening,
         Err((_disk, fault)) => return fault_of(fault),
     };
-    let mut count = 0;
+    let mut count = 0u64;
     for _ in 0..1_000u64 {
         if !opening.has_next() {
             break;
         }
         match opening.next(alloc) {
-            Ok(_record) => count += 1,
+            Ok(_record) => count = count.saturating_add(1),
             Err(fault) => return fault_of(fault),
         }
     }
