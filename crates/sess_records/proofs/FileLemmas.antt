@@ -9,7 +9,7 @@ use Rattle.disks.specs.Told.{DiskTold}
 use Rattle.sess_records.specs.declared.heads.Head.{Head}
 use Rattle.sess_records.specs.declared.records.Record.{Record}
 use Rattle.sess_records.specs.Format.{HasRecord, IsRecord, Reached, Spells, body_of, kind_of, magic, open_gate, closed_gate, rest_of, spelt, written}
-use Rattle.sess_records.specs.Calls.{HasGate, IsNoEvent, StartsWith, head_bytes}
+use Rattle.sess_records.specs.Steps.{HasGate, HasNoEvent, StartsWith, head_bytes}
 use Rattle.sess_records.specs.Standing.{IsSure, Settled, SpellsOneOf}
 use Rattle.sess_records.proofs.FormLemmas.{IsHead, SameHead, append_split, head_for, is_head, length-body_of, length-head_bytes, length-written, same_head, spelt_head, written-append}
 
@@ -94,10 +94,12 @@ spelt_pieces head entry size kind moment place =
     (λ i. record { size = s i; kind = kind i; moment = moment i; place = place i }) in
     spelt_head entry ∙ ap (λ (h : Head). head_bytes h ++ rest_of entry.event) same
 
--- the front of a record that stands at the front of a text
-pub record TheHead (bytes : List ℕ) (entry : Record) : Type 0 where
-  pub split : (gate : ℕ) × (rest : List ℕ) × (bytes ≡ head_bytes (head_for entry) ++ (rest_of entry.event ++ gate ∷ rest))
+pub spelt_by : (head : Head) (entry : Record) (rest : List ℕ) → rest_of entry.event ≡ rest → head.size ≡ length rest + 17 → kind_of entry.event ≡ head.kind
+    → entry.moment ≡ head.moment → entry.place ≡ head.place → spelt entry ≡ head_bytes head ++ rest
+spelt_by head entry rest is size kind moment place =
+    spelt_pieces head entry (omega (arith, size, ap length is)) kind moment place ∙ ap (λ (l : List ℕ). head_bytes head ++ l) is
 
+-- the front of a record that stands at the front of a text
 pub has_head : (bytes : List ℕ) → (r : HasRecord bytes) → bytes ≡ head_bytes (head_for r.entry) ++ (rest_of r.entry.event ++ r.gate ∷ r.rest)
 has_head bytes r = r.split ∙ ap (λ (l : List ℕ). l ++ r.gate ∷ r.rest) (spelt_head r.entry) ∙ append_assoc (head_bytes (head_for r.entry)) (rest_of r.entry.event) (r.gate ∷ r.rest)
 
@@ -133,18 +135,12 @@ unfit file at len head whole inside h e (inr high) r =
     let same = the_head (drop at file) head r h e in
     omega (arith, same.size, length-body_of r.entry, high, has_length (drop at file) r, length-drop at file, whole, inside)
 
--- nor is one whose rest is no event of its kind
-pub no_event : (bytes rest more : List ℕ) (head : Head) (gate : ℕ) → IsHead head → head.size ≡ 17 + length rest → bytes ≡ head_bytes head ++ (rest ++ gate ∷ more)
-    → IsNoEvent head.kind rest → HasRecord bytes → ⊥
-no_event bytes rest more head gate h size e none r =
-    let front : take 21 bytes ≡ head_bytes head = ap (take 21) e ∙ take_at (head_bytes head) (rest ++ gate ∷ more) 21 (length-head_bytes head) in
-    let same = the_head bytes head r h front in
-    let other = rest_of r.entry.event in
-    let long : length (head_bytes head) ≡ length (head_bytes (head_for r.entry)) = length-head_bytes head ∙ sym (length-head_bytes (head_for r.entry)) in
-    let back = append_split (head_bytes head) (head_bytes (head_for r.entry)) (rest ++ gate ∷ more) (other ++ r.gate ∷ r.rest) long (sym e ∙ has_head bytes r) in
-    let same_long : length rest ≡ length other = omega (arith, size, same.size, length-body_of r.entry) in
-    let rests = append_split rest other (gate ∷ more) (r.gate ∷ r.rest) same_long back.1 in
-    none r.entry.event r.lawful.event same.kind rests.0
+-- nor is one whose kind has no event of so many bytes
+pub unfit_kind : (bytes : List ℕ) (head : Head) (count : ℕ) → IsHead head → head.size ≡ 17 + count → take 21 bytes ≡ head_bytes head → HasNoEvent head.kind count
+    → HasRecord bytes → ⊥
+unfit_kind bytes head count h size e none r =
+    let same = the_head bytes head r h e in
+    none (rest_of r.entry.event) (omega (arith, size, same.size, length-body_of r.entry)) r.entry.event r.lawful.event same.kind refl
 
 -- ---- crashes
 

@@ -9,8 +9,9 @@ use Rattle.sess_records.specs.declared.heads.Head.{Head}
 use Rattle.sess_records.specs.declared.records.Record.{Record}
 use Rattle.sess_records.specs.declared.records.Event.{Event}
 use Rattle.sess_records.specs.declared.records.Event.TheVariants.{Packet, Tick, Attach, Begin, Ran, Interrupted}
-use Rattle.sess_records.specs.Format.{HasRecord, IsEvent, IsRecord, body_of, kind_of, open_gate, rest_of, spelt, written}
-use Rattle.sess_records.specs.Calls.{head_bytes}
+use Rattle.sess_records.specs.Format.{HasRecord, IsEvent, IsRecord, body_of, kind_of, open_gate, rest_of, size_of, spelt, written}
+use Rattle.sess_records.specs.Steps.{head_bytes}
+use Rattle.sess_records.proofs.KindLemmas.{size_rest}
 
 -- ---- lists
 
@@ -40,6 +41,18 @@ spelt_head entry = refl
 
 pub length-spelt : (entry : Record) → length (spelt entry) ≡ 21 + length (rest_of entry.event)
 length-spelt entry = ap length (spelt_head entry) ∙ length-append (head_bytes (head_for entry)) (rest_of entry.event) ∙ ap (λ (n : ℕ). n + length (rest_of entry.event)) (length-head_bytes (head_for entry))
+
+pub spelt_size : (entry : Record) → length (spelt entry) + 1 ≡ size_of entry.event
+spelt_size entry = omega (arith, length-spelt entry, size_rest entry.event)
+
+-- what makes a record lawful, beside its event
+pub lawful_by : (entry : Record) → entry.moment < 2 ^ 64 → entry.place < 2 ^ 64 → IsEvent entry.event → size_of entry.event < 2 ^ 32 → IsRecord entry
+lawful_by entry moment place event short = record {
+  moment = moment;
+  place = place;
+  event = event;
+  short = omega (arith, short, length-body_of entry, size_rest entry.event);
+}
 
 -- the numbers of a front
 pub record IsHead (head : Head) : Type 0 where
@@ -73,7 +86,7 @@ is_head entry r = record { size = r.short; moment = r.moment; place = r.place }
 
 -- ---- events
 
-same_event : (a b : Event) → IsEvent a → IsEvent b → kind_of a ≡ kind_of b → rest_of a ≡ rest_of b → a ≡ b
+same_event : (a b : Event (List ℕ)) → IsEvent a → IsEvent b → kind_of a ≡ kind_of b → rest_of a ≡ rest_of b → a ≡ b
 same_event (Packet a) (Packet b) h k kinds e = ap Packet e
 same_event Tick Tick h k kinds e = refl
 same_event (Attach a s) (Attach b t) h k kinds e =

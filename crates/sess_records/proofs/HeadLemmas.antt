@@ -3,7 +3,7 @@ use Rattle.std.proofs.Common.{◌≡◌, ◌∙◌, ℕ, List, ◌∷◌, ◌++�
 use Rattle.std.proofs.lemmas.List.{drop_more, drop-drop, length-drop, take_all, take-append-drop}
 use Rattle.std.specs.Int.{w32, w64, to_le_bytes}
 use Rattle.sess_records.specs.declared.heads.Head.{Head}
-use Rattle.sess_records.specs.Calls.{head_bytes}
+use Rattle.sess_records.specs.Steps.{head_bytes}
 
 -- the four parts of a front
 head_joined : (bytes : List ℕ) → length bytes ≡ 21 → take 4 (drop 0 bytes) ++ (get_or bytes 4 0 ∷ (take 8 (drop 5 bytes) ++ take 8 (drop 13 bytes))) ≡ bytes

@@ -17,12 +17,14 @@ use Rattle.sess_records.specs.declared.header.Front.{Front}
 use Rattle.sess_records.specs.declared.records.Record.{Record}
 use Rattle.sess_records.specs.Format.{HasHeader, HasRecord, IsEvent, IsFault, IsRecord, Reached, Spells, magic, open_gate, closed_gate, kind_of, rest_of, size_of, spelt, written}
 use Rattle.sess_records.specs.Crashes.{Leaves, LeavesOnly}
-use Rattle.sess_records.specs.Standing.{Behind, IsSure, Settled, SpellsOneOf}
-use Rattle.sess_records.specs.Calls.{Adds, Finds, HasGate, IfNotJournal, IsNoEvent, Settles, StartsWith, Trims, head_bytes, header_of}
+use Rattle.sess_records.specs.Seen.{File, Reading}
+use Rattle.sess_records.specs.Standing.{Behind, HasNext, HasTaken, Holds, IsJournal, IsOpening, IsSure, LeavesOneOf, LeavesTaken, Settled, SpellsOneOf}
+use Rattle.sess_records.specs.Calls.{IfNotJournal}
+use Rattle.sess_records.specs.Steps.{Adds, Finds, HasGate, HasNoEvent, IsAt, Settles, StartsWith, Trims, head_bytes, header_of}
 use Rattle.sess_records.proofs.StepLemmas.{AtOnce, goes_on, only, weaker}
 use Rattle.sess_records.proofs.WriteLemmas.{AfterSync, Staging, Sured, end_inside, Tells, Trimmed, Turned}
-use Rattle.sess_records.proofs.FormLemmas.{IsHead, length-body_of, length-head_bytes, length-spelt, length-written}
-use Rattle.sess_records.proofs.FileLemmas.{front, front_more, length-front, length-magic, no_event, pieces, reached_more, reached_parts, reached_rest, settled_by, settled_parts, settled_sure, spelt_pieces, spells_front, spells_gate, spells_by, too_short, unfit}
+use Rattle.sess_records.proofs.FormLemmas.{IsHead, length-body_of, length-head_bytes, length-written, spelt_size}
+use Rattle.sess_records.proofs.FileLemmas.{front, front_more, length-front, length-magic, pieces, reached_more, reached_parts, reached_rest, settled_by, settled_parts, settled_sure, spelt_pieces, spells_front, spells_gate, spells_by, too_short, unfit, unfit_kind}
 
 -- ---- adding
 
@@ -56,12 +58,12 @@ staged_turned answer len gate spelling (Some before) (Some between) (Some after)
           (weaker between after (HasGate front back) P (λ left x. inr x) second.leaves);
     }
 
-pub sound_whole : (seed : List ℕ) (len : ℕ) (old : Option DiskTold) → IfSome old (λ file. (entries : List Record) × Settled seed entries len file) → IfSome old (λ file. len ≡ length file.contents)
-sound_whole seed len None s = tt
-sound_whole seed len (Some file) s = s.1.whole
+pub journal_whole : (seed : List ℕ) (len : ℕ) (old : Option DiskTold) → IsJournal seed len old → IfSome old (λ file. len ≡ length file.contents)
+journal_whole seed len None j = tt
+journal_whole seed len (Some file) j = j.sound.1.whole
 
 record_added : (answer : Act) (seed spelling : List ℕ) (entries : List Record) (entry : Record) (len next : ℕ) (before after : DiskTold) → answer ≡ Ready → IsRecord entry
-    → spelt entry ≡ spelling → next ≡ len + size_of entry
+    → spelt entry ≡ spelling → next ≡ len + size_of entry.event
     → ((front : List ℕ) (shut : ℕ) → len ≡ length front + 1 → IsSure (front ++ shut ∷ []) before → Adds answer front shut spelling before after)
     → Settled seed entries len before → Settled seed (entries ++ entry ∷ []) next after
 record_added answer seed spelling entries entry len next before after r lawful same more p s =
@@ -70,10 +72,10 @@ record_added answer seed spelling entries entry len next before after r lawful s
     let is : front seed entries ++ open_gate ∷ (spelling ++ closed_gate ∷ []) ≡ front seed (entries ++ entry ∷ []) ++ closed_gate ∷ [] =
     ap (λ (l : List ℕ). front seed entries ++ open_gate ∷ (l ++ closed_gate ∷ [])) (sym same) ∙ front_more seed entries entry closed_gate [] in
     settled_by seed (entries ++ entry ∷ []) closed_gate next after h (All-push IsRecord entries entry s.reached.lawful lawful) (λ e. omega (arith, e))
-    (omega (arith, more, s.reached.place, length-written entries entry)) (subst (λ (l : List ℕ). IsSure l after) is (adds.done r))
+    (omega (arith, more, s.reached.place, length-written entries entry, spelt_size entry)) (subst (λ (l : List ℕ). IsSure l after) is (adds.done r))
 
 pub added_told : (answer : Act) (seed spelling : List ℕ) (entry : Record) (len next : ℕ) (old new : Option DiskTold) → Tells old new → IsRecord entry
-    → spelt entry ≡ spelling → next ≡ len + size_of entry → Adding answer len spelling old new → answer ≡ Ready
+    → spelt entry ≡ spelling → next ≡ len + size_of entry.event → Adding answer len spelling old new → answer ≡ Ready
     → (entries : List Record) → IfSome old (λ file. Settled seed entries len file) → IfSome new (λ file. Settled seed (entries ++ entry ∷ []) next file)
 added_told answer seed spelling entry len next None None t lawful same more p r entries s = tt
 added_told answer seed spelling entry len next None (Some after) t lawful same more p r entries s = absurd (cc t)
@@ -88,11 +90,11 @@ settled_left after_sync seed entries len told s left may =
     spells_by seed entries s.gate [] left s.reached.seeded s.reached.lawful s.closed (same ∙ settled_parts seed entries len told s)
 
 pub any_moment_told : AtOnce → AfterSync → (answer : Act) (seed spelling : List ℕ) (entry : Record) (len : ℕ) (old new : Option DiskTold) → IsRecord entry
-    → spelt entry ≡ spelling → Adding answer len spelling old new
-    → IfSome old (λ before. IsSomeAnd new (λ after. (entries : List Record) → Settled seed entries len before → LeavesOnly before after (SpellsOneOf seed entries entry)))
-any_moment_told at_once after_sync answer seed spelling entry len None new lawful same p = tt
-any_moment_told at_once after_sync answer seed spelling entry len (Some before) None lawful same p = absurd p
-any_moment_told at_once after_sync answer seed spelling entry len (Some before) (Some after) lawful same p = λ entries s.
+    → spelt entry ≡ spelling → Adding answer len spelling old new → (entries : List Record) → IfSome old (λ file. Settled seed entries len file)
+    → IfSome old (λ before. IsSomeAnd new (λ after. LeavesOnly before after (SpellsOneOf seed entries entry)))
+any_moment_told at_once after_sync answer seed spelling entry len None new lawful same p entries s = tt
+any_moment_told at_once after_sync answer seed spelling entry len (Some before) None lawful same p entries s = absurd p
+any_moment_told at_once after_sync answer seed spelling entry len (Some before) (Some after) lawful same p entries s =
     let h = s.reached.seeded in
     let adds = p (front seed entries) s.gate (omega (arith, s.reached.place, length-front seed entries h)) (settled_sure seed entries len before s) in
     let P = λ (left : List ℕ). StartsWith (front seed entries ++ s.gate ∷ []) left ⊎ HasGate (front seed entries) (spelling ++ closed_gate ∷ []) left in
@@ -101,6 +103,19 @@ any_moment_told at_once after_sync answer seed spelling entry len (Some before) 
       | inr gate ↦ spells_gate seed entries entry left h s.reached.lawful lawful (gate.0, gate.1 ∙ ap (λ (l : List ℕ). front seed entries ++ gate.0 ∷ (l ++ closed_gate ∷ [])) (sym same))
     ] in
     only at_once before after (SpellsOneOf seed entries entry) (λ left may. inl (settled_left after_sync seed entries len before s left may)) (weaker before after P (SpellsOneOf seed entries entry) reads adds.leaves)
+
+-- a journal with one more record has records
+pub added_journal : (answer : Act) (seed spelling : List ℕ) (entry : Record) (len next : ℕ) (old new : Option DiskTold) → Tells old new → IsRecord entry
+    → spelt entry ≡ spelling → next ≡ len + size_of entry.event → Adding answer len spelling old new → answer ≡ Ready → IsJournal seed len old → IsJournal seed next new
+added_journal answer seed spelling entry len next old new t lawful same more p r j = record { headed = omega (arith, more, j.headed); sound = sound old new t p j }
+  where
+    sound : (old new : Option DiskTold) → Tells old new → Adding answer len spelling old new → IsJournal seed len old
+        → IfSome new (λ file. (entries : List Record) × Settled seed entries next file)
+    sound None None t p j = tt
+    sound None (Some after) t p j = absurd (cc t)
+    sound (Some before) None t p j = absurd (cc t)
+    sound (Some before) (Some after) t p j =
+        (j.sound.0 ++ entry ∷ [], record_added answer seed spelling j.sound.0 entry len next before after r lawful same more p j.sound.1)
 
 -- ---- a new journal
 
@@ -114,6 +129,14 @@ created_told seed header (Some before) (Some after) made h t p =
     let is : magic ++ (seed ++ closed_gate ∷ []) ≡ front seed [] ++ closed_gate ∷ [] =
     ap (λ (l : List ℕ). magic ++ (l ++ closed_gate ∷ [])) (sym (append-nil seed)) ∙ sym (append_assoc magic (seed ++ []) (closed_gate ∷ [])) in
     settled_by seed [] closed_gate 41 after h (All-nil IsRecord) (λ e. omega (arith, e)) refl (subst (λ (l : List ℕ). IsSure l after) (made ∙ is) p)
+
+-- a file with some records is that of a journal
+pub journal_by : (seed : List ℕ) (entries : List Record) (len : ℕ) (new : Option DiskTold) → 41 ≤ len → IfSome new (λ file. Settled seed entries len file) → IsJournal seed len new
+journal_by seed entries len new low s = record { headed = low; sound = sound new s }
+  where
+    sound : (new : Option DiskTold) → IfSome new (λ file. Settled seed entries len file) → IfSome new (λ file. (entries : List Record) × Settled seed entries len file)
+    sound None s = tt
+    sound (Some file) s = (entries, s)
 
 -- one more fault is a count that rose
 pub rose : (before after : ℕ) → after ≡ one_more before → Rose before after
@@ -140,11 +163,26 @@ finished_told answer seed gate at len (Some before) (Some after) shut t p r entr
     let trims = trimmed_by answer seed entries gate at len before after b p in
     settled_by seed entries gate at after h b.reached.lawful shut b.reached.place (trims.done r)
 
+pub finished_journal : (answer : Act) (seed : List ℕ) (gate at len : ℕ) (old new : Option DiskTold) → gate ≢ open_gate → Tells old new → Trimmed answer at old new → answer ≡ Ready
+    → IsOpening seed gate at len old → IsJournal seed at new
+finished_journal answer seed gate at len old new shut t p r o = record { headed = o.headed; sound = sound old new t p o }
+  where
+    sound : (old new : Option DiskTold) → Tells old new → Trimmed answer at old new → IsOpening seed gate at len old
+        → IfSome new (λ file. (entries : List Record) × Settled seed entries at file)
+    sound None None t p o = tt
+    sound None (Some after) t p o = absurd (cc t)
+    sound (Some before) None t p o = absurd (cc t)
+    sound (Some before) (Some after) t p o = (o.taken.0, finished_told answer seed gate at len (Some before) (Some after) shut t p r o.taken.0 o.taken.1)
+
+pub opening_whole : (seed : List ℕ) (gate at len : ℕ) (old : Option DiskTold) → IsOpening seed gate at len old → IfSome old (λ file. len ≡ length file.contents)
+opening_whole seed gate at len None o = tt
+opening_whole seed gate at len (Some file) o = o.taken.1.whole
+
 pub finish_leaves : AtOnce → AfterSync → (answer : Act) (seed : List ℕ) (gate at len : ℕ) (old new : Option DiskTold) → gate ≢ open_gate → Trimmed answer at old new
-    → IfSome old (λ before. IsSomeAnd new (λ after. (entries : List Record) → Behind seed entries gate at len before → LeavesOnly before after (λ left. Spells seed entries left)))
-finish_leaves at_once after_sync answer seed gate at len None new shut p = tt
-finish_leaves at_once after_sync answer seed gate at len (Some before) None shut p = absurd p
-finish_leaves at_once after_sync answer seed gate at len (Some before) (Some after) shut p = λ entries b.
+    → (entries : List Record) → IfSome old (λ file. Behind seed entries gate at len file) → IfSome old (λ before. IsSomeAnd new (λ after. LeavesOnly before after (Spells seed entries)))
+finish_leaves at_once after_sync answer seed gate at len None new shut p entries b = tt
+finish_leaves at_once after_sync answer seed gate at len (Some before) None shut p entries b = absurd p
+finish_leaves at_once after_sync answer seed gate at len (Some before) (Some after) shut p entries b =
     let h = b.reached.seeded in
     let trims = trimmed_by answer seed entries gate at len before after b p in
     let here : (left : List ℕ) → MayLeave (now before) left → Spells seed entries left = λ left may.
@@ -165,6 +203,15 @@ found_taken front (Some before) (Some after) t p = record {
   whole = p.whole ∙ ap length (sym p.sure.contents);
   sure = p.sure.sure ∙ ap synced_at (sym p.sure.contents);
 }
+
+pub found_opening : (front : Front) (old new : Option DiskTold) → Tells old new → 41 ≤ front.len → IfSome old (λ before. IsSomeAnd new (λ after. Finds front before after))
+    → IsOpening front.seed front.gate 41 front.len new
+found_opening front old new t low p = record { headed = omega arith; inside = low; taken = taken new (found_taken front old new t p) }
+  where
+    taken : (new : Option DiskTold) → IfSome new (λ file. Behind front.seed [] front.gate 41 front.len file)
+        → IfSome new (λ file. (entries : List Record) × Behind front.seed entries front.gate 41 front.len file)
+    taken None b = tt
+    taken (Some file) b = ([], b)
 
 pub found_same : (front : Front) (old new : Option DiskTold) → IfSome old (λ before. IsSomeAnd new (λ after. Finds front before after))
     → IfSome old (λ before. IsSomeAnd new (λ after. after.contents ≡ before.contents))
@@ -196,20 +243,24 @@ no_record seed entries gate at len file is b none =
       none = λ has. none (subst HasRecord (sym (reached_rest seed entries gate at file.contents r)) has);
     })
 
-pub no_record_told : (seed : List ℕ) (gate at len : ℕ) (old : Option DiskTold) → gate ≡ open_gate → IfSome old (λ file. HasRecord (drop at file.contents) → ⊥)
-    → IfSome old (λ file. (entries : List Record) → IfSome old (λ told. Behind seed entries gate at len told) → IsFault at file.contents)
-no_record_told seed gate at len None is none = tt
-no_record_told seed gate at len (Some file) is none = λ entries b. no_record seed entries gate at len file is b none
+-- what a refused record says of an opening
+abbrev pub RefusedAt : {K : Type 0} → (K → Option DiskTold) → JournalFault → Reading K → Type 0
+RefusedAt told fault opening = IfNotJournal fault (λ at. (at ≡ opening.at) × IfSome (told opening.disk) (λ file. (entries : List Record)
+    → HasTaken told entries opening → IsFault at file.contents))
 
-pub no_event_told : (head : Head) (rest : List ℕ) (count at gate : ℕ) (old mid : Option DiskTold) → mid ≡ old → IsHead head → head.size ≡ 17 + count → length rest ≡ count
-    → IfSome old (λ file. take 21 (drop at file.contents) ≡ head_bytes head) → IfSome mid (λ file. take (count + 1) (drop (at + 21) file.contents) ≡ rest ++ gate ∷ [])
-    → IsNoEvent head.kind rest → IfSome old (λ file. HasRecord (drop at file.contents) → ⊥)
-no_event_told head rest count at gate None mid same h size long p q none = tt
-no_event_told head rest count at gate (Some file) mid same h size long p q none =
-    let behind : take (count + 1) (drop (at + 21) file.contents) ≡ rest ++ gate ∷ [] =
-    subst (λ (x : Option DiskTold). IfSome x (λ told. take (count + 1) (drop (at + 21) told.contents) ≡ rest ++ gate ∷ [])) same q in
-    no_event (drop at file.contents) rest (drop (at + 21 + (count + 1)) file.contents) head gate h (omega (arith, size, long))
-    (pieces file.contents (head_bytes head) rest at count gate (length-head_bytes head) long p behind) none
+pub refused_next : {K : Type 0} → (told : K → Option DiskTold) (fault : JournalFault) (one other : Reading K) → one ≡ other → one.gate ≡ open_gate
+    → IfNotJournal fault (λ at. (at ≡ one.at) × IfSome (told one.disk) (λ file. HasRecord (drop one.at file.contents) → ⊥)) → RefusedAt told fault other
+refused_next {K} told fault one other same is p = subst (λ (opening : Reading K). RefusedAt told fault opening) same (here fault p)
+  where
+    behind : (at : ℕ) (old : Option DiskTold) → at ≡ one.at → IfSome old (λ file. HasRecord (drop one.at file.contents) → ⊥)
+        → IfSome old (λ file. (entries : List Record) → IfSome old (λ known. Behind one.seed entries one.gate one.at one.len known) → IsFault at file.contents)
+    behind at None e none = tt
+    behind at (Some file) e none = λ entries b. subst (λ (x : ℕ). IsFault x file.contents) (sym e) (no_record one.seed entries one.gate one.at one.len file is b none)
+
+    here : (fault : JournalFault) → IfNotJournal fault (λ at. (at ≡ one.at) × IfSome (told one.disk) (λ file. HasRecord (drop one.at file.contents) → ⊥)) → RefusedAt told fault one
+    here cause.Disk p = tt
+    here (cause.NotJournal at) p = (p.0, behind at (told one.disk) p.0 p.1)
+    here cause.Memory p = tt
 
 -- a record that was read
 pub record Read (head : Head) (rest : List ℕ) (entry : Record) : Type 0 where
@@ -227,39 +278,65 @@ read_lawful head rest entry count h size long r = record {
   short = omega (arith, length-body_of entry, ap length r.rest_is, size, long, h.size);
 }
 
-taken_one : (seed : List ℕ) (entries : List Record) (gate at len : ℕ) (file : DiskTold) (head : Head) (rest : List ℕ) (entry : Record) (count next at_next : ℕ) → gate ≡ open_gate → IsHead head
-    → head.size ≡ 17 + count → length rest ≡ count → Read head rest entry → at_next ≡ at + (count + 22)
-    → take 21 (drop at file.contents) ≡ head_bytes head → take (count + 1) (drop (at + 21) file.contents) ≡ rest ++ next ∷ []
-    → Behind seed entries gate at len file → Behind seed (entries ++ entry ∷ []) next at_next len file
-taken_one seed entries gate at len file head rest entry count next at_next is h size long r place p q b =
-    let more = drop (at + 21 + (count + 1)) file.contents in
+read_at : (file : List ℕ) (head : Head) (rest : List ℕ) (entry : Record) (at count gate : ℕ) → head.size ≡ 17 + count → length rest ≡ count → Read head rest entry
+    → take 21 (drop at file) ≡ head_bytes head → take (count + 1) (drop (at + 21) file) ≡ rest ++ gate ∷ [] → IsAt entry gate at file
+read_at file head rest entry at count gate size long r p q =
+    let more = drop (at + 21 + (count + 1)) file in
     let spelling : spelt entry ≡ head_bytes head ++ rest =
-    spelt_pieces head entry (omega (arith, size, long, ap length r.rest_is)) r.kind r.moment r.place ∙ ap (λ (l : List ℕ). head_bytes head ++ l) r.rest_is in
-    let split : drop at file.contents ≡ spelt entry ++ next ∷ more =
-    pieces file.contents (head_bytes head) rest at count next (length-head_bytes head) long p q
-    ∙ sym (append_assoc (head_bytes head) rest (next ∷ more)) ∙ ap (λ (l : List ℕ). l ++ next ∷ more) (sym spelling) in
-    let reached : Reached seed entries open_gate at file.contents = subst (λ (x : ℕ). Reached seed entries x at file.contents) is b.reached in
-    record {
-      reached = reached_more seed entries at file.contents entry next more at_next (read_lawful head rest entry count h size long r) reached split
-          (omega (arith, place, length-spelt entry, ap length r.rest_is, long));
-      whole = b.whole;
-      sure = b.sure;
-    }
+    spelt_pieces head entry (omega (arith, size, long, ap length r.rest_is)) r.kind r.moment r.place ∙ ap (λ (l : List ℕ). head_bytes head ++ l) r.rest_is in (
+      more,
+      pieces file (head_bytes head) rest at count gate (length-head_bytes head) long p q
+          ∙ sym (append_assoc (head_bytes head) rest (gate ∷ more)) ∙ ap (λ (l : List ℕ). l ++ gate ∷ more) (sym spelling),
+    )
 
-pub taken_told : (seed : List ℕ) (gate at len : ℕ) (old mid new : Option DiskTold) (head : Head) (rest : List ℕ) (entry : Record) (count next at_next : ℕ) → mid ≡ old → new ≡ old → gate ≡ open_gate → IsHead head
-    → head.size ≡ 17 + count → length rest ≡ count → Read head rest entry → at_next ≡ at + (count + 22)
-    → IfSome old (λ file. take 21 (drop at file.contents) ≡ head_bytes head) → IfSome mid (λ file. take (count + 1) (drop (at + 21) file.contents) ≡ rest ++ next ∷ [])
-    → (entries : List Record) → IfSome old (λ file. Behind seed entries gate at len file) → IfSome new (λ file. Behind seed (entries ++ entry ∷ []) next at_next len file)
-taken_told seed gate at len old mid new head rest entry count next at_next m n is h size long r place p q entries b =
-    subst (λ (x : Option DiskTold). IfSome x (λ file. Behind seed (entries ++ entry ∷ []) next at_next len file)) (sym n) (by_old old p behind b)
+pub read_told : (head : Head) (rest : List ℕ) (entry : Record) (at count gate : ℕ) (old mid : Option DiskTold) → mid ≡ old → head.size ≡ 17 + count → length rest ≡ count
+    → Read head rest entry → IfSome old (λ file. take 21 (drop at file.contents) ≡ head_bytes head)
+    → IfSome mid (λ file. take (count + 1) (drop (at + 21) file.contents) ≡ rest ++ gate ∷ []) → IfSome old (λ file. IsAt entry gate at file.contents)
+read_told head rest entry at count gate old mid same size long r p q =
+    by_old old p (subst (λ (x : Option DiskTold). IfSome x (λ known. take (count + 1) (drop (at + 21) known.contents) ≡ rest ++ gate ∷ [])) same q)
   where
-    behind : IfSome old (λ file. take (count + 1) (drop (at + 21) file.contents) ≡ rest ++ next ∷ [])
-    behind = subst (λ (x : Option DiskTold). IfSome x (λ told. take (count + 1) (drop (at + 21) told.contents) ≡ rest ++ next ∷ [])) m q
+    by_old : (old : Option DiskTold) → IfSome old (λ file. take 21 (drop at file.contents) ≡ head_bytes head)
+        → IfSome old (λ file. take (count + 1) (drop (at + 21) file.contents) ≡ rest ++ gate ∷ []) → IfSome old (λ file. IsAt entry gate at file.contents)
+    by_old None p q = tt
+    by_old (Some file) p q = read_at file.contents head rest entry at count gate size long r p q
 
-    by_old : (old : Option DiskTold) → IfSome old (λ file. take 21 (drop at file.contents) ≡ head_bytes head) → IfSome old (λ file. take (count + 1) (drop (at + 21) file.contents) ≡ rest ++ next ∷ [])
-        → IfSome old (λ file. Behind seed entries gate at len file) → IfSome old (λ file. Behind seed (entries ++ entry ∷ []) next at_next len file)
-    by_old None p q b = tt
-    by_old (Some file) p q b = taken_one seed entries gate at len file head rest entry count next at_next is h size long r place p q b
+-- one more record was taken
+taken_one : (seed : List ℕ) (entries : List Record) (gate at len : ℕ) (file : DiskTold) (entry : Record) (next at_next : ℕ) → gate ≡ open_gate → IsRecord entry
+    → at_next ≡ at + size_of entry.event → IsAt entry next at file.contents → Behind seed entries gate at len file → Behind seed (entries ++ entry ∷ []) next at_next len file
+taken_one seed entries gate at len file entry next at_next is lawful place p b = record {
+  reached = reached_more seed entries at file.contents entry next p.0 at_next lawful (subst (λ (x : ℕ). Reached seed entries x at file.contents) is b.reached) p.1
+      (omega (arith, place, spelt_size entry));
+  whole = b.whole;
+  sure = b.sure;
+}
+
+pub taken_told : (seed : List ℕ) (gate at len : ℕ) (old new : Option DiskTold) (entry : Record) (next at_next : ℕ) → new ≡ old → gate ≡ open_gate → IsRecord entry
+    → at_next ≡ at + size_of entry.event → IfSome old (λ file. IsAt entry next at file.contents)
+    → (entries : List Record) → IfSome old (λ file. Behind seed entries gate at len file) → IfSome new (λ file. Behind seed (entries ++ entry ∷ []) next at_next len file)
+taken_told seed gate at len old new entry next at_next same is lawful place p entries b =
+    subst (λ (x : Option DiskTold). IfSome x (λ file. Behind seed (entries ++ entry ∷ []) next at_next len file)) (sym same) (by_old old p b)
+  where
+    by_old : (old : Option DiskTold) → IfSome old (λ file. IsAt entry next at file.contents) → IfSome old (λ file. Behind seed entries gate at len file)
+        → IfSome old (λ file. Behind seed (entries ++ entry ∷ []) next at_next len file)
+    by_old None p b = tt
+    by_old (Some file) p b = taken_one seed entries gate at len file entry next at_next is lawful place p b
+
+pub taken_opening : (seed : List ℕ) (gate at len : ℕ) (old new : Option DiskTold) (entry : Record) (next at_next : ℕ) → new ≡ old → gate ≡ open_gate → IsRecord entry
+    → at_next ≡ at + size_of entry.event → at_next ≤ len → IfSome old (λ file. IsAt entry next at file.contents) → IsOpening seed gate at len old → IsOpening seed next at_next len new
+taken_opening seed gate at len old new entry next at_next same is lawful place inside p o = record {
+  headed = omega (arith, place, o.headed);
+  inside = inside;
+  taken = subst (λ (x : Option DiskTold). IfSome x (λ file. (entries : List Record) × Behind seed entries next at_next len file)) (sym same) (by_old old p o.taken);
+}
+  where
+    by_old : (old : Option DiskTold) → IfSome old (λ file. IsAt entry next at file.contents) → IfSome old (λ file. (entries : List Record) × Behind seed entries gate at len file)
+        → IfSome old (λ file. (entries : List Record) × Behind seed entries next at_next len file)
+    by_old None p b = tt
+    by_old (Some file) p b = (b.0 ++ entry ∷ [], taken_one seed b.0 gate at len file entry next at_next is lawful place p b.1)
+
+-- nothing was taken
+pub same_opening : (seed : List ℕ) (gate at len : ℕ) (old new : Option DiskTold) → new ≡ old → IsOpening seed gate at len old → IsOpening seed gate at len new
+same_opening seed gate at len old new same o = subst (λ (x : Option DiskTold). IsOpening seed gate at len x) (sym same) o
 
 -- what was read of a front, and what no front is
 pub head_told : (at count : ℕ) (bytes : List ℕ) (head : Head) (old : Option DiskTold) → count ≡ 21 → head_bytes head ≡ bytes
@@ -275,6 +352,11 @@ pub unfit_told : (at len : ℕ) (head : Head) (old : Option DiskTold) → at ≤
     → IfSome old (λ file. take 21 (drop at file.contents) ≡ head_bytes head) → IfSome old (λ file. HasRecord (drop at file.contents) → ⊥)
 unfit_told at len head None inside h bad p q = tt
 unfit_told at len head (Some file) inside h bad p q = unfit file.contents at len head p inside h q bad
+
+pub unfit_kind_told : (at count : ℕ) (head : Head) (old : Option DiskTold) → IsHead head → head.size ≡ 17 + count → HasNoEvent head.kind count
+    → IfSome old (λ file. take 21 (drop at file.contents) ≡ head_bytes head) → IfSome old (λ file. HasRecord (drop at file.contents) → ⊥)
+unfit_kind_told at count head None h size none q = tt
+unfit_kind_told at count head (Some file) h size none q = unfit_kind (drop at file.contents) head count h size q none
 
 pub rose_failed : (answer : Act) (before after : ℕ) → Counts answer before after → answer ≡ Failed → Rose before after
 rose_failed Ready before after counts e = absurd (cc e)
@@ -363,9 +445,33 @@ other_told header (Some before) (Some after) one o s read other = λ h.
     let same : header ≡ take 41 before.contents = here ∙ ap (λ (l : List ℕ). take 41 (drop 0 l)) (s.done refl).contents in
     other (ap (take 8) same ∙ take-take 8 41 before.contents (omega arith) ∙ header_front before.contents h)
 
--- the same of an opening whose seed and length stayed
-pub taken_stays : (seed other : List ℕ) (entries : List Record) (gate at len length_is : ℕ) (new : Option DiskTold) → other ≡ seed → length_is ≡ len
-    → IfSome new (λ file. Behind seed entries gate at len file) → IfSome new (λ file. Behind other entries gate at length_is file)
-taken_stays seed other entries gate at len length_is new s l b =
-    subst (λ (x : List ℕ). IfSome new (λ file. Behind x entries gate at length_is file)) (sym s)
-    (subst (λ (x : ℕ). IfSome new (λ file. Behind seed entries gate at x file)) (sym l) b)
+-- ---- what contracts see of a value, and what it is
+
+pub held_seen : {K : Type 0} → (told : K → Option DiskTold) (entries : List Record) (one other : File K) → one ≡ other → Holds told entries other → Holds told entries one
+held_seen {K} told entries one other same h = subst (λ (journal : File K). Holds told entries journal) (sym same) h
+
+pub left_seen : {K : Type 0} → (told : K → Option DiskTold) (entries : List Record) (entry : Record) (one other : File K) (after : K) → one ≡ other
+    → LeavesOneOf told entries entry one after → LeavesOneOf told entries entry other after
+left_seen {K} told entries entry one other after same p = subst (λ (journal : File K). LeavesOneOf told entries entry journal after) same p
+
+pub rose_seen : {K : Type 0} → (faults : K → ℕ) (one other : File K) (after : K) → one ≡ other → Rose (faults one.disk) (faults after) → Rose (faults other.disk) (faults after)
+rose_seen {K} faults one other after same h = subst (λ (journal : File K). Rose (faults journal.disk) (faults after)) same h
+
+pub len_seen : {K : Type 0} → (one other : File K) → one ≡ other → one.len ≡ other.len
+len_seen {K} one other same = ap (λ (journal : File K). journal.len) same
+
+pub next_seen : {K : Type 0} → (one other : Reading K) → one ≡ other → HasNext other → HasNext one
+next_seen {K} one other same h = subst (λ (opening : Reading K). HasNext opening) (sym same) h
+
+pub no_next_seen : {K : Type 0} → (one other : Reading K) → one ≡ other → (HasNext other → ⊥) → HasNext one → ⊥
+no_next_seen {K} one other same none h = none (subst (λ (opening : Reading K). HasNext opening) same h)
+
+pub taken_seen : {K : Type 0} → (told : K → Option DiskTold) (entries : List Record) (one other : Reading K) → one ≡ other → HasTaken told entries other → HasTaken told entries one
+taken_seen {K} told entries one other same h = subst (λ (opening : Reading K). HasTaken told entries opening) (sym same) h
+
+pub taken_left_seen : {K : Type 0} → (told : K → Option DiskTold) (entries : List Record) (one other : Reading K) (after : K) → one ≡ other
+    → LeavesTaken told entries one after → LeavesTaken told entries other after
+taken_left_seen {K} told entries one other after same p = subst (λ (opening : Reading K). LeavesTaken told entries opening after) same p
+
+pub rose_taken : {K : Type 0} → (faults : K → ℕ) (one other : Reading K) (after : K) → one ≡ other → Rose (faults one.disk) (faults after) → Rose (faults other.disk) (faults after)
+rose_taken {K} faults one other after same h = subst (λ (opening : Reading K). Rose (faults opening.disk) (faults after)) same h

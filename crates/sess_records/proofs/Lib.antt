@@ -1,7 +1,9 @@
+pub mod KindLemmas
 pub mod StepLemmas
 pub mod WriteLemmas
 pub mod FormLemmas
 pub mod HeadLemmas
 pub mod FileLemmas
 pub mod OneLemmas
+pub mod RowLemmas
 pub mod JournalLemmas

@@ -1,10 +1,9 @@
 -- A file spells one list, or is no journal from one place on.
-use Rattle.std.proofs.Common.{◌≡◌, ◌≢◌, ◌≤◌, ◌<◌, ◌+◌, ◌^◌, ◌∙◌, ℕ, List, ◌∷◌, ◌++◌, length, inl, inr, arith, sym, ap, refl}
+use Rattle.std.proofs.Common.{◌≡◌, ◌≢◌, ◌≤◌, ◌+◌, ◌∙◌, ℕ, List, ◌∷◌, ◌++◌, length, inl, inr, arith, sym, ap, refl}
 use Rattle.sess_records.specs.declared.records.Record.{Record}
-use Rattle.sess_records.specs.declared.records.Event.{Event}
 use Rattle.sess_records.specs.declared.records.Event.TheVariants.{Begin, Ran}
-use Rattle.sess_records.specs.Format.{HasHeader, IsEvent, IsFault, IsRecord, IsReply, Reached, Spells, magic, open_gate, rest_of, size_of, written}
-use Rattle.sess_records.proofs.FormLemmas.{SameFile, Stops, append_split, follows, length-body_of, length-spelt, same_file}
+use Rattle.sess_records.specs.Format.{HasHeader, IsFault, IsReply, Reached, Spells, magic, open_gate, size_of, written}
+use Rattle.sess_records.proofs.FormLemmas.{SameFile, Stops, append_split, follows, same_file}
 
 record SameReached (s t : List ℕ) (es bs : List Record) (g h a b : ℕ) : Type 0 where
   seed : s ≡ t
@@ -63,21 +62,5 @@ one_fault at other file (inr p) (inl q) = absurd (q.1 (reached_header p.seed p.e
 one_fault at other file (inr p) (inr q) =
     (same_reached p.seed q.seed p.entries q.entries open_gate open_gate at other file p.reached q.reached (λ _. p.none) (λ _. q.none)).place
 
-pub size_by_rest : (entry : Record) → size_of entry ≡ 22 + length (rest_of entry.event)
-size_by_rest entry = omega (arith, length-spelt entry)
-
-pub work_size : (moment place later behind job : ℕ) (reply : List ℕ) → IsReply reply
-    → size_of (record { moment = moment; place = place; event = Begin job }) + size_of (record { moment = later; place = behind; event = Ran reply }) ≤ 262196
-work_size moment place later behind job reply r =
-    let one : size_of (record { moment = moment; place = place; event = Begin job }) ≡ 30 = size_by_rest (record { moment = moment; place = place; event = Begin job }) in
-    let other : size_of (record { moment = later; place = behind; event = Ran reply }) ≡ 22 + length reply = size_by_rest (record { moment = later; place = behind; event = Ran reply }) in
-    omega (arith, one, other, r.short)
-
-pub lawful_by_rest : (moment place : ℕ) (event : Event) → moment < 2 ^ 64 → place < 2 ^ 64 → IsEvent event → length (rest_of event) < 2 ^ 31
-    → IsRecord (record { moment = moment; place = place; event = event })
-lawful_by_rest moment place event m p e short = record {
-  moment = m;
-  place = p;
-  event = e;
-  short = omega (arith, short, length-body_of (record { moment = moment; place = place; event = event }));
-}
+pub work_size : (job : ℕ) (reply : List ℕ) → IsReply reply → size_of (Begin job) + size_of (Ran reply) ≤ 262196
+work_size job reply r = omega (arith, r.short)

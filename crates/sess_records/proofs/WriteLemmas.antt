@@ -10,7 +10,7 @@ use Rattle.disks.specs.declared.disk_act.DiskAct.TheVariants.{Write, Cut, Sync}
 use Rattle.disks.specs.Crash.{IsApart, MayLeave, Range, Standing, after_act, overwritten, synced_at}
 use Rattle.disks.specs.Told.{Changes, DiskTold, Noted, Syncs, now}
 use Rattle.sess_records.specs.Standing.{IsSure}
-use Rattle.sess_records.specs.Calls.{Appends, HasGate, IsBase, Opens, Settles, Shortens, Staged, Stages, StartsWith, Trims, Turns}
+use Rattle.sess_records.specs.Steps.{Appends, HasGate, IsBase, Opens, Settles, Shortens, Staged, Stages, StartsWith, Trims, Turns}
 use Rattle.sess_records.proofs.StepLemmas.{NoMore, OneMore, goes_on, noted, stays, weaker}
 
 -- a crash leaves what is in front
@@ -62,7 +62,7 @@ appends one_more no_more Ready end bytes before after at_end ch base tail st =
         contents = ch.does.1 ∙ overwritten_end bytes before.contents end at_end ∙ ap (λ l. l ++ bytes) st.contents ∙ append_assoc base tail bytes;
         base_stays = b;
       };
-      leaves = noted one_more (Write end (length bytes)) before after (StartsWith base) ch.first n (λ left may. front_stays base left (now after) b may);
+      leaves = noted one_more (Write end (length bytes)) before after (StartsWith base) ch.first ch.possible n (λ left may. front_stays base left (now after) b may);
     }
 appends one_more no_more Failed end bytes before after at_end ch base tail st = record {
   done = λ e. absurd (cc e);
@@ -70,8 +70,8 @@ appends one_more no_more Failed end bytes before after at_end ch base tail st = 
     | inl n ↦
         let low : length base ≤ end = omega (arith, at_end, ap length st.contents, length-append base tail) in
         let b : IsBase base (now after) = base_after base (now before) (now after) end (length bytes) low st.base_stays n.stands in
-        noted one_more (Write end (length bytes)) before after (StartsWith base) ch.first n (λ left may. front_stays base left (now after) b may)
-    | inr same ↦ stays no_more before after (StartsWith base) ch.first same
+        noted one_more (Write end (length bytes)) before after (StartsWith base) ch.first ch.possible n (λ left may. front_stays base left (now after) b may)
+    | inr same ↦ stays no_more before after (StartsWith base) ch.first ch.possible same
   ];
 }
 
@@ -103,12 +103,12 @@ AfterSync = (bytes left : List ℕ) → MayLeave (synced_at bytes) left → left
 settles : OneMore → NoMore → AfterSync → (answer : Act) (before after : DiskTold) → Syncs answer before after → Settles answer before after
 settles one_more no_more after_sync Ready before after sy = record {
   done = λ _. record { contents = sy.settles.1; sure = sy.settles.0.stands };
-  leaves = noted one_more (Sync before.contents) before after (λ left. left ≡ before.contents) sy.first sy.settles.0
+  leaves = noted one_more (Sync before.contents) before after (λ left. left ≡ before.contents) sy.first sy.possible sy.settles.0
       (λ left may. after_sync before.contents left (subst (λ s. MayLeave s left) sy.settles.0.stands may));
 }
 settles one_more no_more after_sync Failed before after sy = record {
   done = λ e. absurd (cc e);
-  leaves = stays no_more before after (λ left. left ≡ before.contents) sy.first sy.settles;
+  leaves = stays no_more before after (λ left. left ≡ before.contents) sy.first sy.possible sy.settles;
 }
 
 pub settles_told : OneMore → NoMore → AfterSync → (answer : Act) (old new : Option DiskTold) → IfSome old (λ before. IsSomeAnd new (λ after. Syncs answer before after))
@@ -169,13 +169,13 @@ opens one_more no_more inside answer at before after ch front back shut e s =
     by_answer : (answer : Act) → Changes answer (Write at 1) (overwritten at (1 ∷ []) before.contents) before after → Opens answer front back before after
     by_answer Ready ch = record {
       done = λ _. ch.does.1 ∙ ap (overwritten at (1 ∷ [])) s.contents ∙ gate_written front back shut at e;
-      leaves = noted one_more (Write at 1) before after (HasGate front back) ch.first ch.does.0 (here ch.does.0);
+      leaves = noted one_more (Write at 1) before after (HasGate front back) ch.first ch.possible ch.does.0 (here ch.does.0);
     }
     by_answer Failed ch = record {
       done = λ r. absurd (cc r);
       leaves = elim ch.does [
-        | inl n ↦ noted one_more (Write at 1) before after (HasGate front back) ch.first n (here n)
-        | inr same ↦ stays no_more before after (HasGate front back) ch.first same
+        | inl n ↦ noted one_more (Write at 1) before after (HasGate front back) ch.first ch.possible n (here n)
+        | inr same ↦ stays no_more before after (HasGate front back) ch.first ch.possible same
       ];
     }
 
@@ -207,13 +207,13 @@ shortens one_more no_more answer end before after ch front back e s = by_answer 
     by_answer : (answer : Act) → Changes answer (Cut end) (take end before.contents) before after → Shortens answer front before after
     by_answer Ready ch = record {
       done = λ _. ch.does.1 ∙ ap (take end) s.contents ∙ take_at front back end (sym e);
-      leaves = noted one_more (Cut end) before after (StartsWith front) ch.first ch.does.0 (here ch.does.0);
+      leaves = noted one_more (Cut end) before after (StartsWith front) ch.first ch.possible ch.does.0 (here ch.does.0);
     }
     by_answer Failed ch = record {
       done = λ r. absurd (cc r);
       leaves = elim ch.does [
-        | inl n ↦ noted one_more (Cut end) before after (StartsWith front) ch.first n (here n)
-        | inr same ↦ stays no_more before after (StartsWith front) ch.first same
+        | inl n ↦ noted one_more (Cut end) before after (StartsWith front) ch.first ch.possible n (here n)
+        | inr same ↦ stays no_more before after (StartsWith front) ch.first ch.possible same
       ];
     }
 

@@ -9,7 +9,7 @@ use Rattle.sess_records.specs.declared.records.Event.TheVariants.{Packet, Tick, 
 -- ---- records
 
 -- the first byte of a record says what it records
-abbrev pub kind_of : Event → ℕ
+abbrev pub kind_of : Event (List ℕ) → ℕ
 kind_of (Packet packet) = 1
 kind_of Tick = 2
 kind_of (Attach key session) = 3
@@ -18,7 +18,7 @@ kind_of (Ran reply) = 5
 kind_of Interrupted = 6
 
 -- and what stands behind the moment and the place says the rest
-abbrev pub rest_of : Event → List ℕ
+abbrev pub rest_of : Event (List ℕ) → List ℕ
 rest_of (Packet packet) = packet
 rest_of Tick = []
 rest_of (Attach key session) = to_le_bytes w64 key ++ to_le_bytes w64 session
@@ -40,7 +40,7 @@ pub record IsReply (reply : List ℕ) : Type 0 where
   pub words : length reply % 4 ≡ 0
 
 -- its numbers have 64 bits, and a reply is one
-abbrev pub IsEvent : Event → Type 0
+abbrev pub IsEvent : Event (List ℕ) → Type 0
 IsEvent (Packet packet) = ⊤
 IsEvent Tick = ⊤
 IsEvent (Attach key session) = (key < 2 ^ 64) × (session < 2 ^ 64)
@@ -129,19 +129,15 @@ IsFault at file = ((at ≡ 0) × (HasHeader file → ⊥)) ⊎ NoRecord at file
 
 -- ---- sizes
 
--- how many bytes a record adds to a file, with the gate behind it
-abbrev pub size_of : Record → ℕ
-size_of entry = length (spelt entry) + 1
+-- how many bytes the record of an event adds to a file, with the gate behind it
+abbrev pub size_of : Event (List ℕ) → ℕ
+size_of (Packet packet) = 22 + length packet
+size_of Tick = 22
+size_of (Attach key session) = 38
+size_of (Begin job) = 30
+size_of (Ran reply) = 22 + length reply
+size_of Interrupted = 22
 
--- the most that one event adds: a packet of so many bytes, a tick, an attach, and a run with its begin
-abbrev pub packet_bytes : ℕ → ℕ
-packet_bytes count = 22 + count
-
-abbrev pub tick_bytes : ℕ
-tick_bytes = 22
-
-abbrev pub attach_bytes : ℕ
-attach_bytes = 38
-
+-- the most that a run adds with its begin
 abbrev pub work_bytes : ℕ
 work_bytes = 262196

@@ -3,7 +3,8 @@
 ghost use Rattle.std.specs.Prelude.{◌≡◌, ◌≢◌, ◌≤◌, ◌+◌, ◌++◌, ℕ, List, length, take, IfOk, IfErr, OnOk, IfSome, IsSomeAnd, IsTrue, ◌↔◌, MatchOption, is_some};
 ghost use Rattle.sess_records.specs.Crashes.{Leaves};
 ghost use Rattle.sess_records.specs.Format.{HasHeader, magic};
-ghost use Rattle.sess_records.specs.Calls.{Finds, HasCause, IfNotJournal, header_of};
+ghost use Rattle.sess_records.specs.Calls.{HasCause, IfNotJournal};
+ghost use Rattle.sess_records.specs.Steps.{Finds, header_of};
 
 use crate::fault::JournalFault;
 use crate::writes::{CLOSED, settle};
@@ -27,7 +28,7 @@ pub(crate) fn header_of(seed: &[u8; 32]) -> [u8; HEADER_BYTES]
 }
 
 /// What stands at the front of a file.
-#[derive(Clone, Copy, Debug)]
+#[derive(Clone, Copy)]
 pub(crate) struct Front {
     pub(crate) len: u64,
     pub(crate) seed: [u8; 32],
@@ -63,6 +64,7 @@ pub(crate) fn look<K: Disk>(disk: &mut K) -> Result<Front, JournalFault>
     ensures not_memory { IfErr result (λ fault. fault ≢ JournalFault.Memory) }
     ensures cause { IfErr result (λ fault. HasCause fault (K.faults disk.old) (K.faults disk.new)) }
     ensures counted { OnOk result (K.faults disk.new ≡ K.faults disk.old) }
+    ensures same_place { K.place disk.new ≡ K.place disk.old }
     ensures any_moment { IfSome (K.told disk.old) (λ before. IsSomeAnd (K.told disk.new) (λ after. Leaves before after (λ left. left ≡ before.contents))) }
 {
     let Act::Ready = settle(disk) else {

@@ -1,11 +1,12 @@
 //! The front of a record: its length field, its kind, its moment and its place; and the rest of it.
 
-ghost use Rattle.std.specs.Prelude.{◌≡◌, ◌<◌, ◌≤◌, ◌+◌, ◌^◌, ◌++◌, ◌∷◌, [], length, take, drop, vec_len, IfOk, MatchOption};
+ghost use Rattle.std.specs.Prelude.{◌≡◌, ◌≤◌, ◌+◌, ◌%◌, ◌++◌, true, false, length, take, drop, vec_len, IfOk, IsTrue, ◌↔◌};
 ghost use Rattle.std.specs.Int.{w32, w64, to_le_bytes};
-ghost use Rattle.sess_records.specs.Format.{IsEvent, kind_of, rest_of};
-ghost use Rattle.sess_records.specs.Calls.{AreNumbers, IsNoEvent, event_in, head_bytes};
+ghost use Rattle.sess_records.specs.Format.{kind_of, rest_of, size_of};
+ghost use Rattle.sess_records.specs.Calls.{event_in};
+ghost use Rattle.sess_records.specs.Steps.{AreNumbers, HasNoEvent, IsOf, MayHave, head_bytes};
 
-use crate::records::{Event, EventRef};
+use crate::records::Event;
 use octets::{Memory, Octets};
 use std::alloc::Global;
 
@@ -19,7 +20,7 @@ pub(crate) const COUNTED_BYTES: u32 = 17;
 const REPLY_BYTES_MAX: usize = 262_144;
 
 /// The front of a record.
-#[derive(Clone, Copy, Debug)]
+#[derive(Clone, Copy)]
 pub(crate) struct Head {
     /// How many bytes stand behind the length field.
     pub(crate) size: u32,
@@ -92,115 +93,102 @@ pub(crate) fn two_longs(first: u64, second: u64) -> [u8; 16]
 }
 
 /// The kind of an event.
-pub(crate) fn kind_byte(event: EventRef<'_>) -> u8
-    ensures { result ≡ kind_of (event_in event.entry) }
+pub(crate) fn kind_byte(event: &Event<&[u8]>) -> u8
+    ensures { result ≡ kind_of (event_in event.now) }
 {
     match event {
-        EventRef::Packet { .. } => 1,
-        EventRef::Tick => 2,
-        EventRef::Attach { .. } => 3,
-        EventRef::Begin { .. } => 4,
-        EventRef::Ran { .. } => 5,
-        EventRef::Interrupted => 6,
+        Event::Packet { .. } => 1,
+        Event::Tick => 2,
+        Event::Attach { .. } => 3,
+        Event::Begin { .. } => 4,
+        Event::Ran { .. } => 5,
+        Event::Interrupted => 6,
     }
 }
 
 /// The numbers of an event as bytes.
-pub(crate) fn numbers_of(event: EventRef<'_>) -> [u8; 16]
-    ensures { AreNumbers event.entry result }
+pub(crate) fn numbers_of(event: &Event<&[u8]>) -> [u8; 16]
+    ensures { AreNumbers (event_in event.now) result }
 {
     match event {
-        EventRef::Attach { key, session } => two_longs(key, session),
-        EventRef::Begin { job } => two_longs(job, 0),
+        Event::Attach { key, session } => two_longs(*key, *session),
+        Event::Begin { job } => two_longs(*job, 0),
         _ => [0; 16],
     }
 }
 
 /// What stands behind the moment and the place of an event, whose numbers are these.
-pub(crate) fn rest_in<'a>(event: EventRef<'a>, numbers: &'a [u8; 16]) -> &'a [u8]
-    requires { AreNumbers event numbers.now }
-    ensures { result.now ≡ rest_of (event_in event.entry) }
+pub(crate) fn rest_in<'a>(event: &'a Event<&'a [u8]>, numbers: &'a [u8; 16]) -> &'a [u8]
+    requires { AreNumbers (event_in event.now) numbers.now }
+    ensures rest { result.now ≡ rest_of (event_in event.now) }
+    ensures size { size_of (event_in event.now) ≡ 22 + length result.now }
 {
     match event {
-        EventRef::Packet { packet } => packet,
-        EventRef::Ran { reply } => reply,
-        EventRef::Attach { .. } => numbers.as_slice(),
-        EventRef::Begin { .. } => &numbers[..8],
-        EventRef::Tick | EventRef::Interrupted => &[],
+        Event::Packet { packet } => *packet,
+        Event::Ran { reply } => *reply,
+        Event::Attach { .. } => numbers.as_slice(),
+        Event::Begin { .. } => &numbers[..8],
+        Event::Tick | Event::Interrupted => &[],
     }
 }
 
-/// The session that two numbers name, where there are two.
-fn attach_of(rest: &[u8]) -> Option<Event>
-    ensures { MatchOption result (IsNoEvent 3 rest.now) (λ event. IsEvent event × (kind_of event ≡ 3) × (rest_of event ≡ rest.now)) }
+/// Whether a reply may have so many bytes.
+fn is_reply(count: usize) -> bool
+    ensures { IsTrue result ↔ (count ≤ 262144) × (count % 4 ≡ 0) }
 {
-    if rest.len() != 16 {
-        return None;
-    }
-    Some(Event::Attach {
-        key: long_at(rest, 0),
-        session: long_at(rest, 8),
-    })
+    count <= REPLY_BYTES_MAX && count % 4 == 0
 }
 
-/// The job that a number names, where there is one.
-fn begin_of(rest: &[u8]) -> Option<Event>
-    ensures { MatchOption result (IsNoEvent 4 rest.now) (λ event. IsEvent event × (kind_of event ≡ 4) × (rest_of event ≡ rest.now)) }
-{
-    if rest.len() != 8 {
-        return None;
-    }
-    Some(Event::Begin {
-        job: long_at(rest, 0),
-    })
-}
-
-/// A tick, where nothing is in its rest.
-fn tick_of(rest: &[u8]) -> Option<Event>
-    ensures { MatchOption result (IsNoEvent 2 rest.now) (λ event. IsEvent event × (kind_of event ≡ 2) × (rest_of event ≡ rest.now)) }
-{
-    if !rest.is_empty() {
-        return None;
-    }
-    Some(Event::Tick)
-}
-
-/// A run that was cut off, where nothing is in its rest.
-fn interrupted_of(rest: &[u8]) -> Option<Event>
-    ensures { MatchOption result (IsNoEvent 6 rest.now) (λ event. IsEvent event × (kind_of event ≡ 6) × (rest_of event ≡ rest.now)) }
-{
-    if !rest.is_empty() {
-        return None;
-    }
-    Some(Event::Interrupted)
-}
-
-/// The end of a run, where its rest is a reply.
-fn ran_of(rest: Octets) -> Option<Event>
-    ensures { MatchOption result (IsNoEvent 5 rest) (λ event. IsEvent event × (kind_of event ≡ 5) × (rest_of event ≡ rest)) }
-{
-    let count = rest.as_slice().len();
-    if count > REPLY_BYTES_MAX {
-        return None;
-    }
-    if count % 4 != 0 {
-        return None;
-    }
-    Some(Event::Ran { reply: rest })
-}
-
-/// The event of a kind with this rest, where there is one.
-pub(crate) fn event_of(kind: u8, rest: Octets) -> Option<Event>
-    ensures { MatchOption result (IsNoEvent kind rest) (λ event. IsEvent event × (kind_of event ≡ kind) × (rest_of event ≡ rest)) }
+/// Whether an event of this kind may have so many bytes behind its moment and its place.
+#[tactic(auto, using(crate::proofs::KindLemmas::no_event_of, crate::proofs::KindLemmas::may_by))]
+pub(crate) fn may_have(kind: u8, count: usize) -> bool
+    ensures yes { result ≡ true → MayHave kind count }
+    ensures no { result ≡ false → HasNoEvent kind count }
 {
     match kind {
-        1 => Some(Event::Packet { packet: rest }),
-        2 => tick_of(rest.as_slice()),
+        1 => true,
+        2 | 6 => count == 0,
+        3 => count == 16,
+        4 => count == 8,
+        5 => is_reply(count),
+        _ => false,
+    }
+}
+
+/// The session that two numbers name.
+fn attach_of(rest: &[u8]) -> Event<Octets>
+    requires { length rest.now ≡ 16 }
+    ensures { IsOf 3 rest.now result }
+{
+    Event::Attach {
+        key: long_at(rest, 0),
+        session: long_at(rest, 8),
+    }
+}
+
+/// The job that a number names.
+fn begin_of(rest: &[u8]) -> Event<Octets>
+    requires { length rest.now ≡ 8 }
+    ensures { IsOf 4 rest.now result }
+{
+    Event::Begin {
+        job: long_at(rest, 0),
+    }
+}
+
+/// The event of a kind with this rest, which may be one.
+#[tactic(auto, using(crate::proofs::KindLemmas::tick_bytes, crate::proofs::KindLemmas::last_kind, crate::proofs::KindLemmas::last_bytes, crate::proofs::KindLemmas::attach_count, crate::proofs::KindLemmas::begin_count, crate::proofs::KindLemmas::reply_of))]
+pub(crate) fn event_of(kind: u8, rest: Octets) -> Event<Octets>
+    requires { MayHave kind (length rest) }
+    ensures { IsOf kind rest result }
+{
+    match kind {
+        1 => Event::Packet { packet: rest },
+        2 => Event::Tick,
         3 => attach_of(rest.as_slice()),
         4 => begin_of(rest.as_slice()),
-        5 => ran_of(rest),
-        6 => interrupted_of(rest.as_slice()),
-        _ => None,
+        5 => Event::Ran { reply: rest },
+        _ => Event::Interrupted,
     }
 }
 

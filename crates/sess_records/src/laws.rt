@@ -1,10 +1,12 @@
 //! What follows from the format.
 
-ghost use Rattle.std.specs.Prelude.{◌≡◌, ◌≤◌, ◌<◌, ◌+◌, ◌^◌, ℕ, List, length};
+ghost use Rattle.std.specs.Prelude.{◌≡◌, ◌≢◌, ◌≤◌, ◌+◌, ◌++◌, ◌∷◌, [], ℕ, List, length};
+ghost use Rattle.disks.specs.Told.{DiskTold};
 ghost use Rattle.sess_records.specs.declared.records.Record.{Record};
-ghost use Rattle.sess_records.specs.declared.records.Event.{Event};
-ghost use Rattle.sess_records.specs.declared.records.Event.TheVariants.{Packet, Tick, Attach, Begin, Ran, Interrupted};
-ghost use Rattle.sess_records.specs.Format.{IsEvent, IsFault, IsRecord, IsReply, Spells, attach_bytes, packet_bytes, rest_of, size_of, tick_bytes, work_bytes};
+ghost use Rattle.sess_records.specs.declared.records.Event.TheVariants.{Begin, Ran};
+ghost use Rattle.sess_records.specs.Crashes.{LeavesOnly};
+ghost use Rattle.sess_records.specs.Format.{IsFault, IsReply, Spells, open_gate, size_of, spelt, work_bytes};
+ghost use Rattle.sess_records.specs.Standing.{Behind, Settled, SpellsOneOf, SpellsSome};
 
 /// A file spells one list or none, and is no journal from one place on.
 pub fn files_spell_one_list()
@@ -14,15 +16,22 @@ pub fn files_spell_one_list()
     ensures one_fault { (at other : ℕ) (file : List ℕ) → IsFault at file → IsFault other file → at ≡ other }
 {}
 
-/// How many bytes the records of one event add to a file.
+/// How many bytes records add to a file, and how many those of one run add at most.
 pub fn records_have_sizes()
-    ensures packet { (moment place : ℕ) (packet : List ℕ) → size_of (record { moment = moment; place = place; event = Packet packet }) ≡ packet_bytes (length packet) }
-    ensures tick { (moment place : ℕ) → size_of (record { moment = moment; place = place; event = Tick }) ≡ tick_bytes }
-    ensures interrupted { (moment place : ℕ) → size_of (record { moment = moment; place = place; event = Interrupted }) ≡ tick_bytes }
-    ensures attach { (moment place key session : ℕ) → size_of (record { moment = moment; place = place; event = Attach key session }) ≡ attach_bytes }
-    ensures work { (moment place later behind job : ℕ) (reply : List ℕ) → IsReply reply
-        → size_of (record { moment = moment; place = place; event = Begin job }) + size_of (record { moment = later; place = behind; event = Ran reply }) ≤ work_bytes }
-    // What makes a record lawful by itself, beside its event: that its packet is short enough for the length field.
-    ensures lawful { (moment place : ℕ) (event : Event) → moment < 2 ^ 64 → place < 2 ^ 64 → IsEvent event → length (rest_of event) < 2 ^ 31
-        → IsRecord (record { moment = moment; place = place; event = event }) }
+    ensures spelt { (entry : Record) → length (spelt entry) + 1 ≡ size_of entry.event }
+    ensures work { (job : ℕ) (reply : List ℕ) → IsReply reply → size_of (Begin job) + size_of (Ran reply) ≤ work_bytes }
+{}
+
+/// What the calls of a journal and of an opening leave one after the other.
+pub fn calls_in_a_row()
+    // A settled file spells its records, and one that was read up to a closed gate those that were read.
+    ensures spells { (seed : List ℕ) (entries : List Record) (len : ℕ) (told : DiskTold) → Settled seed entries len told → Spells seed entries told.contents }
+    ensures read { (seed : List ℕ) (entries : List Record) (gate at len : ℕ) (told : DiskTold) → Behind seed entries gate at len told → gate ≢ open_gate → Spells seed entries told.contents }
+    // A call that adds one record adds some.
+    ensures one { (seed : List ℕ) (entries : List Record) (entry : Record) (before after : DiskTold)
+        → LeavesOnly before after (SpellsOneOf seed entries entry) → LeavesOnly before after (SpellsSome seed entries (entry ∷ [])) }
+    // Calls that add some records, and others behind them, leave some of all of these.
+    ensures more { (seed : List ℕ) (entries some others : List Record) (before between after : DiskTold)
+        → LeavesOnly before between (SpellsSome seed entries some) → LeavesOnly between after (SpellsSome seed (entries ++ some) others)
+        → LeavesOnly before after (SpellsSome seed entries (some ++ others)) }
 {}

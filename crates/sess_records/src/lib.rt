@@ -12,10 +12,11 @@ mod heads;
 mod journal;
 pub mod laws;
 mod opening;
+mod reading;
 mod records;
 mod writes;
 
 pub use fault::JournalFault;
 pub use journal::Journal;
 pub use opening::Opening;
-pub use records::{Event, EventRef, Record};
+pub use records::{Event, Record};

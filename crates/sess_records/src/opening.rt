@@ -1,39 +1,57 @@
 //! A journal that is read, record by record.
 
-ghost use Rattle.std.specs.Prelude.{◌≤◌};
-
 use crate::fault::JournalFault;
 use crate::header::{HEADER_BYTES, look};
-use crate::heads::{COUNTED_BYTES, HEAD_BYTES, Head, event_of, head_of, zeros};
 use crate::journal::Journal;
+use crate::reading::record_at;
 use crate::records::Record;
 use crate::writes::{OPEN, trim};
 use disks::Disk;
 use disks::laws::{crashes_after_a_sync, crashes_by_acts};
 use mt_edge::Act;
-use octets::Octets;
 use std::alloc::Global;
+use std::fmt;
+use std::marker::Model;
 
 /// A journal that is read from its first record on. It has taken some records, and knows whether another has to follow.
-#[derive(Debug, Drop)]
-pub struct Opening<K> {
-    pub(crate) disk: K,
-    pub(crate) seed: [u8; 32],
-    pub(crate) len: u64,
-    pub(crate) at: u64,
-    pub(crate) gate: u8,
-    ghost headed: { 41 ≤ at },
-    ghost inside: { at ≤ len },
+/// Its text by `Debug` has its place alone.
+#[derive(Drop)]
+pub struct Opening<K: Disk> {
+    disk: K,
+    seed: [u8; 32],
+    at: u64,
+    gate: u8,
+    len: u64,
+}
+
+impl<K: Disk> Model for Opening<K> {
+    ghost use Rattle.sess_records.specs.Seen.{Reading};
+    ghost use Rattle.sess_records.specs.Standing.{IsOpening};
+
+    ghost Value = { Reading K };
+
+    ghost view = { λ o. record { disk = o.disk; seed = o.seed; at = o.at; gate = o.gate; len = o.len } };
+
+    ghost invariant = { λ o. IsOpening o.seed o.gate o.at o.len (K.told o.disk) };
+}
+
+impl<K: Disk> fmt::Debug for Opening<K> {
+    /// The place alone: who knows the seed knows what a server draws.
+    fn fmt<W: fmt::Write>(&self, f: &mut fmt::Formatter<W>) -> fmt::Result {
+        f.debug_struct("Opening")
+            .field("place", &self.at)
+            .finish_non_exhaustive()
+    }
 }
 
 impl<K: Disk> Opening<K> {
-    ghost use Rattle.std.specs.Prelude.{◌≡◌, ◌≢◌, ◌<◌, ◌≤◌, ◌+◌, ◌^◌, ◌++◌, ◌∷◌, [], ℕ, List, length, take, drop, IsTrue, ◌↔◌, vec_len, IfOk, IfErr, OnOk, OnErr, IfSome, IfNone, IsSomeAnd, is_some};
+    ghost use Rattle.std.specs.Prelude.{◌≡◌, ◌≢◌, ◌<◌, ◌≤◌, ◌+◌, ◌++◌, ◌∷◌, [], List, IsTrue, ◌↔◌, IfOk, IfErr, OnOk, OnErr, IfSome, IsSomeAnd, is_some};
     ghost use Rattle.mt_edge.specs.Faults.{Rose};
     ghost use Rattle.sess_records.specs.declared.records.Record.{Record};
-    ghost use Rattle.sess_records.specs.Crashes.{Leaves, LeavesOnly};
-    ghost use Rattle.sess_records.specs.Format.{HasRecord, IsFault, IsRecord, Spells};
-    ghost use Rattle.sess_records.specs.Standing.{HasNext, HasTaken, Holds, Behind};
-    ghost use Rattle.sess_records.specs.Calls.{HasCause, IfNotJournal, IsNotRefused, Stays, disk_after, disk_of, head_bytes};
+    ghost use Rattle.sess_records.specs.Crashes.{Leaves};
+    ghost use Rattle.sess_records.specs.Format.{IsFault, IsRecord, size_of};
+    ghost use Rattle.sess_records.specs.Standing.{HasNext, HasTaken, Holds, LeavesTaken};
+    ghost use Rattle.sess_records.specs.Calls.{HasCause, IfNotJournal, Stays, disk_after, disk_of};
 
     /// Whether the next gate is open, so that a record has to follow.
     pub fn has_next(&self) -> bool
@@ -72,12 +90,14 @@ impl<K: Disk> Opening<K> {
     pub fn new(disk: K) -> Result<Opening<K>, (K, JournalFault)>
         ensures empty { IfOk result (λ opening. HasTaken K.told [] opening) }
         ensures same { IfOk result (λ opening. IfSome (K.told disk) (λ before. IsSomeAnd (K.told opening.disk) (λ after. after.contents ≡ before.contents))) }
+        ensures place { IfOk result (λ opening. (opening.at ≡ 41) × (41 ≤ opening.len)) }
         ensures refused { IfErr result (λ back. IfNotJournal back.1 (λ at. (at ≡ 0) × IfSome (K.told disk) (λ before. IsFault at before.contents))) }
         ensures not_memory { IfErr result (λ back. back.1 ≢ JournalFault.Memory) }
         ensures cause { IfErr result (λ back. HasCause back.1 (K.faults disk) (K.faults back.0)) }
-        ensures tells { is_some (K.told (disk_of result)) ≡ is_some (K.told disk) }
         ensures counted { IfOk result (λ opening. K.faults opening.disk ≡ K.faults disk) }
-        // A crash since an earlier moment leaves what it might have left before, or what a read gave.
+        ensures tells { is_some (K.told (disk_of result)) ≡ is_some (K.told disk) }
+        ensures same_place { K.place (disk_of result) ≡ K.place disk }
+        // A crash since an earlier moment leaves what it might have left before, or what a read gave; and so does the call.
         ensures any_moment { IfSome (K.told disk) (λ before. IsSomeAnd (K.told (disk_of result)) (λ after. Leaves before after (λ left. left ≡ before.contents))) }
     {
         let mut disk = disk;
@@ -89,63 +109,13 @@ impl<K: Disk> Opening<K> {
         Ok(Opening {
             disk,
             seed,
-            len: front.len,
             at: HEADER_BYTES as u64,
             gate: front.gate,
+            len: front.len,
         })
     }
 
-    /// The front of the record at this place, where it may be one: no record has fewer bytes, or more than are left.
-    fn head(&mut self) -> Result<Option<Head>, JournalFault>
-        requires whole { IfSome (K.told self.old.disk) (λ file. self.old.len ≡ length file.contents) }
-        ensures head { IfOk result (λ found. IfSome found (λ head. IfSome (K.told self.old.disk) (λ file. take 21 (drop self.old.at file.contents) ≡ head_bytes head))) }
-        ensures fits { IfOk result (λ found. IfSome found (λ head. (17 ≤ head.size) × (self.old.at + (head.size + 4) < self.old.len))) }
-        ensures ranges { IfOk result (λ found. IfSome found (λ head. (head.size < 2 ^ 32) × (head.moment < 2 ^ 64) × (head.place < 2 ^ 64))) }
-        ensures none { IfOk result (λ found. IfNone found (IfSome (K.told self.old.disk) (λ file. HasRecord (drop self.old.at file.contents) → ⊥))) }
-        ensures cause { IfErr result (λ fault. (fault ≡ JournalFault.Disk) × HasCause fault (K.faults self.old.disk) (K.faults self.new.disk)) }
-        ensures counted { OnOk result (K.faults self.new.disk ≡ K.faults self.old.disk) }
-        ensures told { K.told self.new.disk ≡ K.told self.old.disk }
-        ensures stays { Stays self.old self.new }
-    {
-        let left = self.len - self.at;
-        if left <= HEAD_BYTES as u64 {
-            return Ok(None);
-        }
-        let mut bytes = [0; HEAD_BYTES];
-        let Act::Ready = self.disk.read(self.at, &mut bytes) else {
-            return Err(JournalFault::Disk);
-        };
-        let head = head_of(&bytes);
-        if head.size < COUNTED_BYTES {
-            return Ok(None);
-        }
-        if left <= head.size as u64 + 4 {
-            return Ok(None);
-        }
-        Ok(Some(head))
-    }
-
-    /// The rest of the record at this place, so many bytes behind its front, and the gate behind it.
-    fn rest(&mut self, alloc: Global, count: usize) -> Result<(Octets, u8), JournalFault>
-        requires inside { self.old.at + (count + 21) < self.old.len }
-        requires whole { IfSome (K.told self.old.disk) (λ file. self.old.len ≡ length file.contents) }
-        ensures rest { IfOk result (λ found. IfSome (K.told self.old.disk) (λ file. take (count + 1) (drop (self.old.at + 21) file.contents) ≡ found.0 ++ found.1 ∷ [])) }
-        ensures count { IfOk result (λ found. length found.0 ≡ count) }
-        ensures cause { IfErr result (λ fault. IsNotRefused fault × HasCause fault (K.faults self.old.disk) (K.faults self.new.disk)) }
-        ensures counted { OnOk result (K.faults self.new.disk ≡ K.faults self.old.disk) }
-        ensures told { K.told self.new.disk ≡ K.told self.old.disk }
-        ensures stays { Stays self.old self.new }
-    {
-        let mut bytes = zeros(alloc, count + 1)?;
-        let Act::Ready = self.disk.read(self.at + HEAD_BYTES as u64, &mut bytes) else {
-            return Err(JournalFault::Disk);
-        };
-        let gate = bytes[count];
-        bytes.truncate(count);
-        Ok((Octets::from(bytes), gate))
-    }
-
-    /// The next record, which is lawful by itself. It is read in two pieces, and takes memory for its own bytes alone.
+    /// The next record, which is lawful by itself. It takes memory for its own bytes alone.
     ///
     /// # Errors
     ///
@@ -153,62 +123,44 @@ impl<K: Disk> Opening<K> {
     /// stays at this place.
     pub fn next(&mut self, alloc: Global) -> Result<Record, JournalFault>
         requires next { HasNext self.old }
-        requires whole { IfSome (K.told self.old.disk) (λ file. self.old.len ≡ length file.contents) }
         ensures taken { IfOk result (λ entry. (entries : List Record) → HasTaken K.told entries self.old → HasTaken K.told (entries ++ entry ∷ []) self.new) }
         ensures lawful { IfOk result (λ entry. IsRecord entry) }
+        ensures goes_on { IfOk result (λ entry. self.new.at ≡ self.old.at + size_of entry.event) }
+        ensures nearer { OnOk result ((self.old.at < self.new.at) × (self.new.at ≤ self.new.len)) }
         ensures refused { IfErr result (λ fault. IfNotJournal fault (λ at. (at ≡ self.old.at) × IfSome (K.told self.old.disk) (λ file. (entries : List Record)
             → HasTaken K.told entries self.old → IsFault at file.contents))) }
+        ensures unchanged { OnErr result (Stays self.old self.new) }
         ensures cause { IfErr result (λ fault. HasCause fault (K.faults self.old.disk) (K.faults self.new.disk)) }
         ensures counted { OnOk result (K.faults self.new.disk ≡ K.faults self.old.disk) }
-        ensures unchanged { OnErr result (Stays self.old self.new) }
-        ensures goes_on { OnOk result (self.old.at < self.new.at) }
         ensures told { K.told self.new.disk ≡ K.told self.old.disk }
         ensures same { (self.new.seed ≡ self.old.seed) × (self.new.len ≡ self.old.len) }
+        ensures same_place { K.place self.new.disk ≡ K.place self.old.disk }
     {
-        let refused = JournalFault::NotJournal { at: self.at };
-        let Some(head) = self.head()? else {
-            return Err(refused);
-        };
-        let count = (head.size - COUNTED_BYTES) as usize;
-        let (rest, gate) = self.rest(alloc, count)?;
-        let Some(event) = event_of(head.kind, rest) else {
-            return Err(refused);
-        };
-        self.at += (count + HEAD_BYTES) as u64 + 1;
-        self.gate = gate;
-        Ok(Record {
-            moment: head.moment,
-            place: head.place,
-            event,
-        })
+        let found = record_at(alloc, &mut self.disk, self.at, self.len)?;
+        self.at = found.next;
+        self.gate = found.gate;
+        Ok(found.entry)
     }
 
     /// The journal of all records that were taken. What stands behind the closed gate is cut, and that is made sure of.
     ///
     /// # Errors
     ///
-    /// The disk, where a call of it failed; it may be opened again.
+    /// The disk, where a call of it failed; it is to be opened again, and has the same records.
     pub fn finish(self) -> Result<Journal<K>, K>
         requires no_next { HasNext self → ⊥ }
-        requires whole { IfSome (K.told self.disk) (λ file. self.len ≡ length file.contents) }
         ensures holds { IfOk result (λ journal. (entries : List Record) → HasTaken K.told entries self → Holds K.told entries journal) }
         ensures seed { IfOk result (λ journal. journal.seed ≡ self.seed) }
         ensures len { IfOk result (λ journal. journal.len ≡ self.at) }
         ensures cause { IfErr result (λ back. Rose (K.faults self.disk) (K.faults back)) }
-        ensures tells { is_some (K.told (disk_after result)) ≡ is_some (K.told self.disk) }
         ensures counted { IfOk result (λ journal. K.faults journal.disk ≡ K.faults self.disk) }
-        ensures any_moment { IfSome (K.told self.disk) (λ before. IsSomeAnd (K.told (disk_after result)) (λ after. (entries : List Record)
-            → Behind self.seed entries self.gate self.at self.len before → LeavesOnly before after (λ left. Spells self.seed entries left))) }
+        ensures tells { is_some (K.told (disk_after result)) ≡ is_some (K.told self.disk) }
+        ensures same_place { K.place (disk_after result) ≡ K.place self.disk }
+        ensures any_moment { (entries : List Record) → HasTaken K.told entries self → LeavesTaken K.told entries self (disk_after result) }
     {
         crashes_by_acts();
         crashes_after_a_sync();
-        let Opening {
-            disk,
-            seed,
-            len: _,
-            at,
-            gate: _,
-        } = self;
+        let Opening { disk, seed, at, .. } = self;
         let mut disk = disk;
         let Act::Ready = trim(&mut disk, at) else {
             return Err(disk);

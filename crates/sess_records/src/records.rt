@@ -2,13 +2,13 @@
 
 use octets::Octets;
 
-/// What happened to a server.
+/// What happened to a server. Its bytes are owned in a record that was read, and lent to one that is added.
 #[derive(Debug, Drop)]
-pub enum Event {
+pub enum Event<B> {
     /// A packet came and was judged.
     Packet {
         /// Its bytes, sealed.
-        packet: Octets,
+        packet: B,
     },
     /// Time went on.
     Tick,
@@ -27,38 +27,7 @@ pub enum Event {
     /// The run before ended with this reply.
     Ran {
         /// The reply, at most 262,144 bytes and a multiple of 4.
-        reply: Octets,
-    },
-    /// The run before was cut off.
-    Interrupted,
-}
-
-/// What happened to a server, with bytes that stand elsewhere.
-#[derive(Clone, Copy, Debug)]
-pub enum EventRef<'a> {
-    /// A packet came and was judged.
-    Packet {
-        /// Its bytes, sealed.
-        packet: &'a [u8],
-    },
-    /// Time went on.
-    Tick,
-    /// A session was attached to a connection.
-    Attach {
-        /// The identifier of its authorisation key.
-        key: u64,
-        /// Its session identifier.
-        session: u64,
-    },
-    /// A run of a job began.
-    Begin {
-        /// Which of the ready jobs, from 0.
-        job: u64,
-    },
-    /// The run before ended with this reply.
-    Ran {
-        /// The reply, at most 262,144 bytes and a multiple of 4.
-        reply: &'a [u8],
+        reply: B,
     },
     /// The run before was cut off.
     Interrupted,
@@ -72,5 +41,5 @@ pub struct Record {
     /// The place of the draw before the event, in words.
     pub place: u64,
     /// What happened.
-    pub event: Event,
+    pub event: Event<Octets>,
 }

@@ -3,7 +3,7 @@
 ghost use Rattle.std.specs.Prelude.{◌≡◌, ◌<◌, ◌≤◌, ◌+◌, ◌^◌, ◌++◌, ◌∷◌, [], ℕ, List, length, IfSome, IsSomeAnd, is_some};
 ghost use Rattle.mt_edge.specs.Acts.{Counts as CountsAct};
 ghost use Rattle.mt_edge.specs.declared.act.Act.{Act};
-ghost use Rattle.sess_records.specs.Calls.{Appends, Opens, Settles, Shortens, Staged, Stages, Trims, Turns};
+ghost use Rattle.sess_records.specs.Steps.{Appends, Opens, Settles, Shortens, Staged, Stages, Trims, Turns};
 ghost use Rattle.sess_records.specs.Standing.{IsSure};
 
 use disks::Disk;
@@ -20,6 +20,7 @@ pub(crate) const CLOSED: u8 = 0;
 fn append<K: Disk>(disk: &mut K, end: u64, bytes: &[u8]) -> Act
     requires { IfSome (K.told disk.old) (λ before. end ≡ length before.contents) }
     ensures longer { result ≡ Act.Ready → IfSome (K.told disk.old) (λ before. IsSomeAnd (K.told disk.new) (λ after. length after.contents ≡ end + length bytes.now)) }
+    ensures enough { result ≡ Act.Ready → (place : ℕ) → place ≤ end → IfSome (K.told disk.new) (λ after. place ≤ length after.contents) }
     ensures appended { IfSome (K.told disk.old) (λ before. IsSomeAnd (K.told disk.new) (λ after. (base tail : List ℕ) → Staged base tail before → Appends result base (tail ++ bytes.now) before after)) }
     ensures tells { is_some (K.told disk.new) ≡ is_some (K.told disk.old) }
     ensures counted { CountsAct result (K.faults disk.old) (K.faults disk.new) }

@@ -1,6 +1,6 @@
 use Rattle.std.proofs.Common.{refl}
 use Rattle.sess_records.specs.Format.{magic}
-use Rattle.sess_records.specs.Calls.{header_of}
+use Rattle.sess_records.specs.Steps.{header_of}
 use Rattle.sess_records.proofs.header.header_of.Goals as goal
 
 pub returns : goal.returns

@@ -1,5 +1,5 @@
 use Rattle.std.proofs.Common.{refl}
-use Rattle.sess_records.specs.Calls.{head_bytes}
+use Rattle.sess_records.specs.Steps.{head_bytes}
 use Rattle.sess_records.proofs.heads.bytes_of.Goals as goal
 
 pub returns : goal.returns

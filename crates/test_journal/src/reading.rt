@@ -1,0 +1,177 @@
+//! What a file is read as.
+
+use disks::{Disk, MemDisk};
+use octets::Octets;
+use sess_records::{Event, Journal, JournalFault, Opening, Record};
+use std::alloc::Global;
+use std::test::Fail;
+
+/// What a file comes to: how many records it has, and how long it is then, or where it is no journal.
+#[derive(Clone, Copy, Debug, PartialEq, Eq)]
+pub(crate) enum Outcome {
+    Records(u64, u64),
+    NotJournal(u64),
+    Failed,
+    Memory,
+}
+
+/// What a fault is.
+fn fault_of(fault: JournalFault) -> Outcome {
+    match fault {
+        JournalFault::Disk => Outcome::Failed,
+        JournalFault::NotJournal { at } => Outcome::NotJournal(at),
+        JournalFault::Memory => Outcome::Memory,
+    }
+}
+
+/// Reads a disk to its end, as one does who plays the records, and cuts what is behind them.
+pub(crate) fn outcome_of<K: Disk + Drop>(alloc: Global, disk: K) -> Outcome {
+    let mut opening = match Opening::new(disk) {
+        Ok(opening) => opening,
+        Err((_disk, fault)) => return fault_of(fault),
+    };
+    let mut count = 0u64;
+    for _ in 0..1_000u64 {
+        if !opening.has_next() {
+            break;
+        }
+        match opening.next(alloc) {
+            Ok(_record) => count = count.saturating_add(1),
+            Err(fault) => return fault_of(fault),
+        }
+    }
+    if opening.has_next() {
+        return Outcome::Memory;
+    }
+    match opening.finish() {
+        Ok(journal) => Outcome::Records(count, journal.len()),
+        Err(_disk) => Outcome::Failed,
+    }
+}
+
+/// What these bytes are read as.
+pub(crate) fn outcome_in(alloc: Global, bytes: &[u8]) -> Result<Outcome, Fail> {
+    Ok(outcome_of(alloc, MemDisk::new(alloc, bytes, &[], 0, 16)?))
+}
+
+/// The header of a zero seed, without its gate.
+pub(crate) const HEADER: [u8; 40] =
+    *b"mtpsess1\0\0\0\0\0\0\0\0\0\0\0\0\0\0\0\0\0\0\0\0\0\0\0\0\0\0\0\0\0\0\0\0";
+
+/// An open gate, a tick at moment 5 and place 2, and a closed gate.
+pub(crate) const TICK: [u8; 23] = [
+    1, 0x11, 0, 0, 0, 2, 5, 0, 0, 0, 0, 0, 0, 0, 2, 0, 0, 0, 0, 0, 0, 0, 0,
+];
+
+/// The file of one tick.
+pub(crate) fn one_tick(alloc: Global) -> Result<Octets, Fail> {
+    let mut file = Octets::copy(alloc, &HEADER)?;
+    file.push_all(alloc, &TICK)?;
+    Ok(file)
+}
+
+#[test]
+fn a_new_journal_has_41_bytes(rt: HostRuntime) -> Result<(), Fail> {
+    let disk = MemDisk::new(rt.alloc(), b"", &[], 64, 8)?;
+    let Ok(journal) = Journal::create(disk, &[0; 32]) else {
+        return Err("not made".into());
+    };
+    assert_eq!(rt; (journal.len(), journal.seed()), (41, [0; 32]));
+    let disk = journal.into_disk();
+    assert!(rt; disk.contents().starts_with(&HEADER) && disk.contents().len() == 41);
+    assert_eq!(rt; (disk.contents()[40], disk.faults()), (0, 0));
+    Ok(())
+}
+
+/// The one record of a file, where it has one.
+fn only(alloc: Global, bytes: &[u8]) -> Result<Option<Record>, Fail> {
+    let disk = MemDisk::new(alloc, bytes, &[], 0, 16)?;
+    let Ok(mut opening) = Opening::new(disk) else {
+        return Ok(None);
+    };
+    if !opening.has_next() {
+        return Ok(None);
+    }
+    let Ok(record) = opening.next(alloc) else {
+        return Ok(None);
+    };
+    if opening.has_next() {
+        return Ok(None);
+    }
+    Ok(Some(record))
+}
+
+#[test]
+fn a_file_of_63_bytes_has_one_tick(rt: HostRuntime) -> Result<(), Fail> {
+    let file = one_tick(rt.alloc())?;
+    assert_eq!(rt; file.as_slice().len(), 63);
+    let Some(record) = only(rt.alloc(), file.as_slice())? else {
+        return Err("no record".into());
+    };
+    assert_eq!(rt; (record.moment, record.place), (5, 2));
+    assert!(rt; matches!(&record.event, Event::Tick));
+    assert_eq!(rt;
+        outcome_in(rt.alloc(), file.as_slice())?,
+        Outcome::Records(1, 63)
+    );
+    Ok(())
+}
+
+#[test]
+fn a_file_that_is_cut(rt: HostRuntime) -> Result<(), Fail> {
+    let file = one_tick(rt.alloc())?;
+    let bytes = file.as_slice();
+    for len in 0..bytes.len() {
+        let want = if len < 41 {
+            Outcome::NotJournal(0)
+        } else {
+            Outcome::NotJournal(41)
+        };
+        assert_eq!(rt; outcome_in(rt.alloc(), &bytes[..len])?, want);
+    }
+    assert_eq!(rt; outcome_in(rt.alloc(), bytes)?, Outcome::Records(1, 63));
+    Ok(())
+}
+
+#[test]
+fn gates_that_are_changed(rt: HostRuntime) -> Result<(), Fail> {
+    let file = one_tick(rt.alloc())?;
+    let mut bytes = file.into_vec();
+    for gate in 0..=255u8 {
+        let want = if gate == 1 {
+            Outcome::Records(1, 63)
+        } else {
+            Outcome::Records(0, 41)
+        };
+        bytes[40] = gate;
+        assert_eq!(rt; outcome_in(rt.alloc(), &bytes)?, want);
+    }
+    bytes[40] = 1;
+    for gate in 0..=255u8 {
+        let want = if gate == 1 {
+            Outcome::NotJournal(63)
+        } else {
+            Outcome::Records(1, 63)
+        };
+        bytes[62] = gate;
+        assert_eq!(rt; outcome_in(rt.alloc(), &bytes)?, want);
+    }
+    Ok(())
+}
+
+#[test]
+fn headers_that_are_changed(rt: HostRuntime) -> Result<(), Fail> {
+    let file = one_tick(rt.alloc())?;
+    let mut bytes = file.into_vec();
+    for at in 0..40usize {
+        bytes[at] ^= 0x20;
+        let want = if at < 8 {
+            Outcome::NotJournal(0)
+        } else {
+            Outcome::Records(1, 63)
+        };
+        assert_eq!(rt; outcome_in(rt.alloc(), &bytes)?, want);
+        bytes[at] ^= 0x20;
+    }
+    Ok(())
+}
