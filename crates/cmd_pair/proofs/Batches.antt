@@ -1,6 +1,5 @@
 -- What came of the batches, and what is told of it.
 use Rattle.std.proofs.Common.{◌≡◌, ◌≢◌, ◌∙◌, inl, inr, ℕ, ◌+◌, Bool, true, false, List, Option, Result, Ok, Err, IfOk, codes, ap, sym, subst, refl}
-use Rattle.std.specs.Prelude.{MatchResult}
 use Rattle.auth_keys.specs.declared.ring.RingKey.{RingKey}
 use Rattle.call_table.specs.Table.{Call}
 use Rattle.cmd_call.specs.Owed.{Around, HasCause}
@@ -22,34 +21,29 @@ use Rattle.statuses.specs.declared.answer.Answer.{Answer}
 use Rattle.statuses.specs.declared.status.Status.{Status}
 use Rattle.statuses.specs.declared.status.Status.TheVariants as status
 use Rattle.cmd_pair.specs.Batches.{IsBatch, LastBatch, LostFirst, OwesPair, plan_at, rules_for}
-use Rattle.cmd_pair.specs.Inner.{AnswersBy, HaltsSpawning, PairBy, ServesBy}
+use Rattle.cmd_pair.specs.Inner.{PairBy, ServesBy, StopsBy}
 use Rattle.cmd_pair.specs.Servers.{AreBoth, FailsNever, FailsOnce, IsFrontOf, IsSecondFront, Kids, Made, WasServed, asks, first_words, kids_of, second_words}
-use Rattle.cmd_pair.specs.declared.halt.Halt.{Halt}
-use Rattle.cmd_pair.specs.declared.halt.Halt.TheVariants as halts
+use Rattle.cmd_pair.specs.declared.halt.KidFault.{KidFault}
+use Rattle.cmd_pair.specs.declared.halt.KidFault.TheVariants as faults
 use Rattle.cmd_pair.proofs.Spawning.{made-both}
 
 -- ---- one server and the other
 
-pub spawns-by : {X P : Type 0} (words other : List (List ℕ)) (result : Result X Halt) (kids : Kids P) → words ≡ other → ServesBy words result kids → ServesBy other result kids
-spawns-by words other result kids same serves = subst (λ (some : List (List ℕ)). ServesBy some result kids) same serves
-
-module _ {N C D P : Type 0} (options : PairOptions) (ring : List RingKey) (course : Course D) (around : Around N C D) (calls : P → Option (List KidCall)) (faults : P → ℕ) (first last : P) where
+module _ {N C D P : Type 0} (options : PairOptions) (ring : List RingKey) (course : Course D) (around : Around N C D) (calls : P → Option (List KidCall)) (counts : P → ℕ) (first last : P) where
   -- the first server couldn't be served
-  pub halts-first : (halt : Halt) → HaltsSpawning (first_words options) (kids_of calls faults first last) halt → PairBy options ring course around (kids_of calls faults first last) (Err halt)
-  halts-first halts.ChildFault h = (inl h.0, h.1)
-  halts-first halts.Memory h = tt
-  halts-first halts.ReadFault h = absurd h
-  halts-first (halts.Refused answer) h = absurd h
+  pub stops-first : (fault : KidFault) → StopsBy (first_words options) (kids_of calls counts first last) fault → PairBy options ring course around (kids_of calls counts first last) (Err fault)
+  stops-first faults.Failed h = (inl h.0, h.1)
+  stops-first faults.Memory h = tt
 
   -- the first batch is the last one
-  pub ends-first : (kept : Holder) (end : Batch) → IsBatch ring options.port course around end kept → (end ≡ batch.LinkLost → ⊥) → ServesBy {X = Holder × Batch} (first_words options) (Ok (kept, end)) (kids_of calls faults first last)
-      → PairBy options ring course around (kids_of calls faults first last) (Ok (kept, end))
+  pub ends-first : (kept : Holder) (end : Batch) → IsBatch ring options.port course around end kept → (end ≡ batch.LinkLost → ⊥) → ServesBy {X = Holder × Batch} (first_words options) (Ok (kept, end)) (kids_of calls counts first last)
+      → PairBy options ring course around (kids_of calls counts first last) (Ok (kept, end))
   ends-first kept end trace other serves = inl (trace, other, serves.0)
 
-  module _ (between : P) (lost : LostFirst options ring course around) (before : Made (kids_of calls faults first between) (WasServed (first_words options))) (never : FailsNever (kids_of calls faults first between)) where
+  module _ (between : P) (lost : LostFirst options ring course around) (before : Made (kids_of calls counts first between) (WasServed (first_words options))) (never : FailsNever (kids_of calls counts first between)) where
     -- the second server couldn't be served
-    pub halts-second : (halt : Halt) → HaltsSpawning (second_words options) (kids_of calls faults between last) halt → PairBy options ring course around (kids_of calls faults first last) (Err halt)
-    halts-second halts.ChildFault h = (
+    pub stops-second : (fault : KidFault) → StopsBy (second_words options) (kids_of calls counts between last) fault → PairBy options ring course around (kids_of calls counts first last) (Err fault)
+    stops-second faults.Failed h = (
       inr (
         lost,
         made-both (WasServed (first_words options)) (IsFrontOf (asks (second_words options))) (IsSecondFront options) (calls first) (calls between) (calls last)
@@ -57,15 +51,13 @@ module _ {N C D P : Type 0} (options : PairOptions) (ring : List RingKey) (cours
       ),
       h.1 ∙ ap one_more never,
     )
-    halts-second halts.Memory h = tt
-    halts-second halts.ReadFault h = absurd h
-    halts-second (halts.Refused answer) h = absurd h
+    stops-second faults.Memory h = tt
 
     -- it was
     pub ends-second : (kept : Holder) (end : Batch)
         → IsBatch ring (options.port + 1) (after_all (rules_for around.step ring) (plan_at options.port) course lost.trace.attempts) (record around { net = lost.net; clock = lost.clock; draw = lost.draw }) end kept
-        → ServesBy {X = Holder × Batch} (second_words options) (Ok (kept, end)) (kids_of calls faults between last)
-        → PairBy options ring course around (kids_of calls faults first last) (Ok (kept, end))
+        → ServesBy {X = Holder × Batch} (second_words options) (Ok (kept, end)) (kids_of calls counts between last)
+        → PairBy options ring course around (kids_of calls counts first last) (Ok (kept, end))
     ends-second kept end trace serves = inr (
       lost,
       trace,
@@ -74,17 +66,6 @@ module _ {N C D P : Type 0} (options : PairOptions) (ring : List RingKey) (cours
     )
 
 -- ---- what is told
-
-decided-not-lost : (all : Bool) → decided_status all ≡ status.LinkLost → ⊥
-decided-not-lost true is = cc
-decided-not-lost false is = cc
-
-not-lost : (end : Batch) (calls : List Call) (one : Status) (due : List ℕ) → end ≢ batch.LinkLost → TellsBatch end calls one due → one ≢ status.LinkLost
-not-lost batch.Decided calls one due other told is = decided-not-lost (are_done calls) (sym told.0 ∙ is)
-not-lost batch.LinkLost calls one due other told is = other refl
-not-lost batch.TurnsSpent calls one due other told is = let e = told.0 in cc
-not-lost batch.Spent calls one due other told is = let e = told.0 in cc
-not-lost batch.Memory calls one due other told is = told
 
 module _ {D : Type 0} (law : (rules : Rules D) (plan : Plan) (course : Course D) (end : Batch) (attempts : List Attempt) → EndsBy rules plan course end attempts → (left : Client) (one : Status) (due : List ℕ)
     → UndecidedIn end left → (end ≡ batch.Decided → is_decided left ≡ true) → TellsBatch end (calls_of left) one due → HasCause rules plan course attempts left one) where
@@ -108,24 +89,22 @@ module _ {D : Type 0} (law : (rules : Rules D) (plan : Plan) (course : Course D)
         → OwesPair options ring course around kids one due
     owes one due (inl h) told =
         let so = told (after_all (rules_for around.step ring) (plan_at options.port) course h.0.attempts).client h.0.stands.client in
-        inl (inl (record { last = last-batch ring options.port course around end kept h.0 one due decided so; not_lost = not-lost end _ one due h.1 so; children = h.2 }))
+        inl (inl (record { last = last-batch ring options.port course around end kept h.0 one due decided so; not_lost = h.1; children = h.2 }))
     owes one due (inr h) told =
         let behind = after_all (rules_for around.step ring) (plan_at options.port) course h.0.trace.attempts in
         let so = told (after_all (rules_for around.step ring) (plan_at (options.port + 1)) behind h.1.attempts).client h.1.stands.client in
         inl (inr (record { first = h.0; last = last-batch ring (options.port + 1) behind (record around { net = h.0.net; clock = h.0.clock; draw = h.0.draw }) end kept h.1 one due decided so; children = h.2 }))
 
-    pub answers : (answer : Result Answer Memory) (result : Result Answer Halt) → PairBy options ring course around kids (Ok (kept, end))
+    pub answers : (answer : Result Answer Memory) → PairBy options ring course around kids (Ok (kept, end))
         → ((whole : Client) → StandsFor kept whole → IfOk answer (λ one. TellsBatch end (calls_of whole) one.status one.text))
-        → MatchResult answer (λ one. result ≡ Ok one) (λ memory. result ≡ Err halts.Memory) → AnswersBy options ring course around kids result
-    answers (Ok one) result pair told is = subst (λ (some : Result Answer Halt). AnswersBy options ring course around kids some) (sym is) (owes one.status one.text pair told)
-    answers (Err memory) result pair told is = subst (λ (some : Result Answer Halt). AnswersBy options ring course around kids some) (sym is) refl
+        → IfOk answer (λ one. OwesPair options ring course around kids one.status one.text)
+    answers (Ok one) pair told = owes one.status one.text pair told
+    answers (Err memory) pair told = tt
 
 -- ---- a child fault
 
-pub child-fault : {N C D P : Type 0} (options : PairOptions) (ring : List RingKey) (course : Course D) (around : Around N C D) (kids : Kids P) (answer : Result Answer Memory) (result : Result Answer Halt)
-    → PairBy options ring course around kids (Err halts.ChildFault) → IfOk answer (λ one. one.status ≡ status.NotListening) → IfOk answer (λ one. one.text ≡ codes "child fault\n")
-    → MatchResult answer (λ one. result ≡ Ok one) (λ memory. result ≡ Err halts.Memory) → AnswersBy options ring course around kids result
-child-fault options ring course around kids (Ok one) result h said text is =
-    subst (λ (some : Result Answer Halt). AnswersBy options ring course around kids some) (sym is) (inr (record { said = said; told = text; counted = h.1; halts = h.0 }))
-child-fault options ring course around kids (Err memory) result h said text is =
-    subst (λ (some : Result Answer Halt). AnswersBy options ring course around kids some) (sym is) refl
+pub child-fault : {N C D P : Type 0} (options : PairOptions) (ring : List RingKey) (course : Course D) (around : Around N C D) (kids : Kids P) (answer : Result Answer Memory)
+    → PairBy options ring course around kids (Err faults.Failed) → IfOk answer (λ one. one.status ≡ status.NotListening) → IfOk answer (λ one. one.text ≡ codes "child fault\n")
+    → IfOk answer (λ one. OwesPair options ring course around kids one.status one.text)
+child-fault options ring course around kids (Ok one) h said text = inr (record { said = said; told = text; counted = h.1; halts = h.0 })
+child-fault options ring course around kids (Err memory) h said text = tt

@@ -1,4 +1,5 @@
 pub mod Spawning
 pub mod Batches
+pub mod Checking
 pub mod Reads
 pub mod Ends

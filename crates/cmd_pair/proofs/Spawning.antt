@@ -1,5 +1,5 @@
 -- The calls of a spawner, one part and then another.
-use Rattle.std.proofs.Common.{◌≡◌, ◌∙◌, ◌⊎◌, inl, inr, ℕ, ◌-◌, ◌^◌, ◌<◌, ◌≤◌, List, [], ◌∷◌, ◌++◌, map, Option, Some, None, ap, sym, refl, append_assoc, append-nil, arith}
+use Rattle.std.proofs.Common.{◌≡◌, ◌∙◌, ◌⊎◌, inl, inr, ℕ, ◌-◌, ◌^◌, ◌<◌, ◌≤◌, List, [], ◌∷◌, ◌++◌, map, Option, Some, None, Result, Ok, ap, sym, subst, refl, append_assoc, append-nil, arith}
 use Rattle.std.specs.Prelude.{IfSome, IsSomeAnd}
 use Rattle.std.proofs.lemmas.Bool.{cases_lt}
 use Rattle.mt_edge.specs.Faults.{Rose, one_more}
@@ -9,8 +9,10 @@ use Rattle.mt_edge.specs.declared.act.Act.TheVariants.{Ready}
 use Rattle.mt_edge.specs.declared.kid_call.KidCall.{KidCall}
 use Rattle.mt_edge.specs.declared.kid_call.KidCall.TheVariants as call
 use Rattle.mt_edge.specs.declared.spawner.Line.{Line}
-use Rattle.cmd_pair.specs.Inner.{WasBegun}
-use Rattle.cmd_pair.specs.Servers.{Ask, GoesOn, IsFrontOf, MadeIn, ReadsLine, Starts, Waits, WasServed, ask_of, asks}
+use Rattle.cmd_pair.specs.Inner.{BeginsBy, ServesBy, StopsBy, WasBegun}
+use Rattle.cmd_pair.specs.Servers.{Ask, GoesOn, IsFrontOf, Kids, Made, MadeIn, ReadsLine, Starts, Waits, WasServed, ask_of, asks, kids_of}
+use Rattle.cmd_pair.specs.declared.halt.KidFault.{KidFault}
+use Rattle.cmd_pair.specs.declared.halt.KidFault.TheVariants as faults
 
 -- ---- what is told, in parts
 
@@ -89,6 +91,65 @@ module _ (words : List (List ℕ)) where
     goes_on = was.goes_on;
     are = ap (λ (calls : List KidCall). calls ++ other) was.are ∙ ap (λ (calls : List KidCall). call.Start words Ready ∷ call.Line was.line ∷ calls) waited;
   }
+
+-- ---- a server
+
+module _ {P : Type 0} (calls : P → Option (List KidCall)) (counts : P → ℕ) where
+  -- a call was noted between these, or may have been
+  abbrev Notes : P → P → KidCall → Type 0
+  Notes first last one = IfSome (calls first) (λ before. IsSomeAnd (calls last) (λ after. after ≡ before ++ one ∷ []))
+
+  abbrev NotesMaybe : P → P → KidCall → Type 0
+  NotesMaybe first last one = IfSome (calls first) (λ before. IsSomeAnd (calls last) (λ after. MayNote one before after))
+
+  module _ (words : List (List ℕ)) where
+    -- the start failed
+    pub unstarted : (first last : P) (answer : Act) → NotesMaybe first last (call.Start words answer) → counts last ≡ one_more (counts first) → StopsBy words (kids_of calls counts first last) faults.Failed
+    unstarted first last answer noted counted = (
+      made-as (MayBe (call.Start words answer)) (IsFrontOf (asks words)) (calls first) (calls last) (front-start words answer) (made-may (call.Start words answer) (calls first) (calls last) noted),
+      counted,
+    )
+
+    module _ (first middle last : P) (start : Notes first middle (call.Start words Ready)) (same : counts middle ≡ counts first) (line : Line) where
+      -- it was started, and its line was read
+      pub begins : GoesOn line → Notes middle last (call.Line line) → counts last ≡ counts middle → BeginsBy words (Ok tt) (kids_of calls counts first last)
+      begins goes read still = (
+        made-both (λ made. made ≡ call.Start words Ready ∷ []) (λ made. made ≡ call.Line line ∷ []) (WasBegun words) (calls first) (calls middle) (calls last)
+            (λ one other was is. begun words line one other goes was is) (made-one (call.Start words Ready) (calls first) (calls middle) start) (made-one (call.Line line) (calls middle) (calls last) read),
+        still ∙ same,
+      )
+
+      -- it was started, and its line wasn't
+      pub unread : NotesMaybe middle last (call.Line line) → counts last ≡ one_more (counts middle) → StopsBy words (kids_of calls counts first last) faults.Failed
+      unread noted counted = (
+        made-both (λ made. made ≡ call.Start words Ready ∷ []) (MayBe (call.Line line)) (IsFrontOf (asks words)) (calls first) (calls middle) (calls last)
+            (λ one other was may. front-line words line one other was may) (made-one (call.Start words Ready) (calls first) (calls middle) start) (made-may (call.Line line) (calls middle) (calls last) noted),
+        counted ∙ ap one_more same,
+      )
+
+    module _ (first middle last : P) (begun : Made (kids_of calls counts first middle) (WasBegun words)) (same : counts middle ≡ counts first) (answer : Act) where
+      -- it ended as it should
+      pub ends : {X : Type 0} (done : X) → Notes middle last (call.Wait Ready) → counts last ≡ counts middle → ServesBy words (Ok done) (kids_of calls counts first last)
+      ends done noted still = (
+        made-both (WasBegun words) (λ made. made ≡ call.Wait Ready ∷ []) (WasServed words) (calls first) (calls middle) (calls last)
+            (λ one other was is. served words one other was is) begun (made-one (call.Wait Ready) (calls middle) (calls last) noted),
+        still ∙ same,
+      )
+
+      -- it didn't
+      pub unended : NotesMaybe middle last (call.Wait answer) → counts last ≡ one_more (counts middle) → StopsBy words (kids_of calls counts first last) faults.Failed
+      unended noted counted = (
+        made-both (WasBegun words) (MayBe (call.Wait answer)) (IsFrontOf (asks words)) (calls first) (calls middle) (calls last)
+            (λ one other was may. front-wait words answer one other was may) begun (made-may (call.Wait answer) (calls middle) (calls last) noted),
+        counted ∙ ap one_more same,
+      )
+
+-- its words are these
+pub begins-as : {P : Type 0} (words other : List (List ℕ)) (result : Result Unit KidFault) (kids : Kids P) → words ≡ other → BeginsBy words result kids → BeginsBy other result kids
+begins-as words other result kids same begins = subst (λ (some : List (List ℕ)). BeginsBy some result kids) same begins
+
+pub serves-as : {X P : Type 0} (words other : List (List ℕ)) (result : Result X KidFault) (kids : Kids P) → words ≡ other → ServesBy words result kids → ServesBy other result kids
+serves-as words other result kids same serves = subst (λ (some : List (List ℕ)). ServesBy some result kids) same serves
 
 -- ---- faults
 

@@ -4,11 +4,11 @@ ghost use Rattle.std.specs.Prelude.{◌≡◌, ◌<◌, ◌↔◌, IsTrue, IfOk}
 ghost use Rattle.cmd_call.specs.Owed.{around_of};
 ghost use Rattle.client_node.specs.Course.{Course};
 ghost use Rattle.client_node.specs.Standing.{AllDecided, HasKeys, StandsAs};
-ghost use Rattle.cmd_pair.specs.Batches.{IsBatch};
-ghost use Rattle.cmd_pair.specs.Inner.{AnswersBy, PairBy, ServesBy};
+ghost use Rattle.cmd_pair.specs.Batches.{IsBatch, OwesPair};
+ghost use Rattle.cmd_pair.specs.Inner.{PairBy, ServesBy};
 ghost use Rattle.cmd_pair.specs.Servers.{kids_of, server_words};
 
-use crate::halt::{Halt, told};
+use crate::halt::KidFault;
 use crate::servers::{Server, begin, words_of};
 use auth_keys::Ring;
 use client_core::{Holder, OpeningClient};
@@ -28,7 +28,7 @@ use transport::Form;
 ///
 /// # Errors
 ///
-/// `ChildFault`: a call of the spawner failed. `Memory`.
+/// `Failed`: a call of the spawner failed. `Memory`.
 fn over_server<P: Spawner, N: Net, C: Clock, D: Draw>(
     alloc: Global,
     server: &Server<'_>,
@@ -38,7 +38,7 @@ fn over_server<P: Spawner, N: Net, C: Clock, D: Draw>(
     net: &mut N,
     clock: &mut C,
     draw: &mut D,
-) -> Result<(Holder, Batch), Halt>
+) -> Result<(Holder, Batch), KidFault>
     requires { HasKeys seal.now client }
     ensures spawns { ServesBy (server_words server.now.keys.now server.now.port server.now.stop_after) result (kids_of P.calls P.faults kids.old kids.new) }
     ensures ran { (course : Course D) (drawn : D) → StandsAs client draw.old course → IfOk result (λ done. IsBatch seal.now server.now.port course
@@ -47,13 +47,8 @@ fn over_server<P: Spawner, N: Net, C: Clock, D: Draw>(
     ensures keys { IfOk result (λ done. HasKeys seal.now done.0) }
 {
     rings_read_packets();
-    let words = match words_of(alloc, server) {
-        Ok(words) => words,
-        Err(Memory) => return Err(Halt::Memory),
-    };
-    if let Err(halt) = begin(alloc, words.as_slice(), kids) {
-        return Err(halt);
-    }
+    let words = words_of(alloc, server)?;
+    begin(alloc, words.as_slice(), kids)?;
     let plan = Plan {
         port: server.port,
         form: Form::Intermediate,
@@ -61,13 +56,13 @@ fn over_server<P: Spawner, N: Net, C: Clock, D: Draw>(
         retries: 0,
     };
     let (client, end) = run_batch(alloc, client, &plan, net, seal, clock, draw);
-    // (a server that nothing was connected to never ends)
+    // (then nothing may have been connected to, and a server that waits for its connection never ends)
     if ran_out(end) {
-        return Err(Halt::Memory);
+        return Err(KidFault::Memory);
     }
     match kids.wait() {
         Act::Ready => Ok((client, end)),
-        Act::Failed => Err(Halt::ChildFault),
+        Act::Failed => Err(KidFault::Failed),
     }
 }
 
@@ -83,7 +78,7 @@ fn ran_out(end: Batch) -> bool
 ///
 /// # Errors
 ///
-/// `ChildFault`: a call of the spawner failed. `Memory`.
+/// `Failed`: a call of the spawner failed. `Memory`.
 fn over_both<P: Spawner, N: Net, C: Clock, D: Draw>(
     alloc: Global,
     options: &PairOptions<'_>,
@@ -93,7 +88,7 @@ fn over_both<P: Spawner, N: Net, C: Clock, D: Draw>(
     net: &mut N,
     clock: &mut C,
     draw: &mut D,
-) -> Result<(Holder, Batch), Halt>
+) -> Result<(Holder, Batch), KidFault>
     requires port { options.now.port < 65535 }
     requires keys { HasKeys seal.now client }
     ensures ran { (course : Course D) (drawn : D) → StandsAs client draw.old course → PairBy options.now seal.now course
@@ -106,10 +101,7 @@ fn over_both<P: Spawner, N: Net, C: Clock, D: Draw>(
         port: options.port,
         stop_after: Some(options.stop_after),
     };
-    let (client, end) = match over_server(alloc, &first, client, seal, kids, net, clock, draw) {
-        Ok(done) => done,
-        Err(halt) => return Err(halt),
-    };
+    let (client, end) = over_server(alloc, &first, client, seal, kids, net, clock, draw)?;
     if !is_lost(end) {
         return Ok((client, end));
     }
@@ -142,19 +134,19 @@ pub(crate) fn run<P: Spawner, N: Net, C: Clock, D: Draw>(
     net: &mut N,
     clock: &mut C,
     draw: &mut D,
-) -> Result<Answer, Halt>
+) -> Result<Answer, Memory>
     requires port { options.now.port < 65535 }
     requires keys { HasKeys ring (Holder.Opening client) }
-    ensures { (course : Course D) (drawn : D) → StandsAs (Holder.Opening client) draw.old course → AnswersBy options.now ring course
+    ensures { (course : Course D) (drawn : D) → StandsAs (Holder.Opening client) draw.old course → IfOk result (λ answer. OwesPair options.now ring course
         (around_of N.calls N.faults C.given D.step net.old net.new clock.old clock.new drawn draw.new)
-        (kids_of P.calls P.faults kids.old kids.new) result }
+        (kids_of P.calls P.faults kids.old kids.new) answer.status answer.text) }
 {
     statuses_have_causes::<D>();
     let seal = MtSeal::new(ring);
     let client = Holder::Opening(client);
     match over_both(alloc, options, client, &seal, kids, net, clock, draw) {
-        Ok((client, end)) => told(batch_answer(alloc, &client, end)),
-        Err(Halt::ChildFault) => told(Answer::new(alloc, Status::NotListening, b"child fault\n")),
-        Err(_) => Err(Halt::Memory),
+        Ok((client, end)) => batch_answer(alloc, &client, end),
+        Err(KidFault::Failed) => Answer::new(alloc, Status::NotListening, b"child fault\n"),
+        Err(KidFault::Memory) => Err(Memory),
     }
 }

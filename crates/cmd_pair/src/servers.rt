@@ -4,7 +4,7 @@ ghost use Rattle.std.specs.Prelude.{◌≡◌, ◌++◌, ◌∷◌, [], map, str
 ghost use Rattle.cmd_pair.specs.Inner.{BeginsBy};
 ghost use Rattle.cmd_pair.specs.Servers.{kids_of, server_words};
 
-use crate::halt::Halt;
+use crate::halt::KidFault;
 use itoa::Buffer;
 use mt_edge::{Act, Line, Spawner};
 use octets::Memory;
@@ -58,17 +58,21 @@ fn push_word(alloc: Global, words: &mut Vec<String>, text: &str) -> Result<(), M
 ///
 /// # Errors
 ///
-/// `ChildFault`: a call of the spawner failed. `Memory`.
-pub(crate) fn begin<P: Spawner>(alloc: Global, words: &[String], kids: &mut P) -> Result<(), Halt>
+/// `Failed`: a call of the spawner failed. `Memory`.
+pub(crate) fn begin<P: Spawner>(
+    alloc: Global,
+    words: &[String],
+    kids: &mut P,
+) -> Result<(), KidFault>
     ensures { BeginsBy (map string_bytes words.now) result (kids_of P.calls P.faults kids.old kids.new) }
 {
     match kids.start(words) {
         Act::Ready => match kids.line(alloc) {
             Line::Text(_) => Ok(()),
             Line::End => Ok(()),
-            Line::Failed => Err(Halt::ChildFault),
-            Line::Memory => Err(Halt::Memory),
+            Line::Failed => Err(KidFault::Failed),
+            Line::Memory => Err(KidFault::Memory),
         },
-        Act::Failed => Err(Halt::ChildFault),
+        Act::Failed => Err(KidFault::Failed),
     }
 }
