@@ -1,5 +1,5 @@
 -- What words say: by their first word, and once.
-use Rattle.std.proofs.Common.{◌≡◌, ◌≢◌, ◌∙◌, ℕ, ◌<◌, ◌^◌, List, [], ◌∷◌, Bool, true, false, Option, Some, None, ap, sym, refl, arith, codes, cond, map, option_map}
+use Rattle.std.proofs.Common.{◌≡◌, ◌≢◌, ◌∙◌, ℕ, ◌<◌, ◌^◌, List, [], ◌∷◌, Bool, true, false, Option, Some, None, Ok, Unit, tt, ap, sym, refl, arith, codes, cond, map, option_map}
 use Rattle.std.specs.Prelude.{slice_get}
 use Rattle.std.specs.List.{list_any}
 use Rattle.std.specs.Fmt.{decimal}
@@ -10,18 +10,20 @@ use Rattle.std.proofs.lemmas.Nat.{from_le_bytes-to_le_bytes_8}
 use Rattle.std.proofs.lemmas.Option.{slice_get-map}
 use Rattle.std.proofs.lemmas.Slice.Eq.{bytes_eq-Decides}
 use Rattle.clap.specs.Words.{Row}
+use Rattle.hex.specs.declared.error.FromHexError.{FromHexError}
 use Rattle.clap.proofs.WalkLemmas.{list_any-map}
 use Rattle.transport.specs.declared.form.Form.{Form}
 use Rattle.transport.specs.declared.form.Form.TheVariants.{Abridged, Intermediate, Padded, Full}
-use Rattle.commands.specs.Simple.{sim, load, serve, call, pair, rows}
-use Rattle.commands.specs.Values.{HasText, HasFlag, HasNumber, MayHaveNumber, HasId, MayHaveId, HasForm, form_text, id_text}
-use Rattle.commands.specs.Says.{Says, SaysServe, SaysCall, SaysPair, asks_help, page_word}
-use Rattle.commands.specs.Inner.{IsTold}
+use Rattle.commands.specs.Simple.{sim, load, serve, call, pair, check, relay, rows}
+use Rattle.commands.specs.Values.{HasText, HasFlag, HasNumber, MayHaveNumber, HasId, MayHaveId, HasForm, HasSecret, form_text, id_text}
+use Rattle.commands.specs.Says.{Says, SaysServe, SaysCall, SaysPair, SaysRelay, asks_help, page_word}
+use Rattle.commands.specs.Inner.{IsTold, SaysNothing}
 use Rattle.commands.specs.declared.command.Command.{Command}
-use Rattle.commands.specs.declared.command.Command.TheVariants.{Sim, Load, Serve, Call, Pair, Help, Version}
+use Rattle.commands.specs.declared.command.Command.TheVariants.{Sim, Load, Serve, Call, Pair, Check, Relay, Help, Version}
 use Rattle.commands.specs.declared.command.ServeOptions.{ServeOptions}
 use Rattle.commands.specs.declared.command.CallOptions.{CallOptions}
 use Rattle.commands.specs.declared.command.PairOptions.{PairOptions}
+use Rattle.commands.specs.declared.command.RelayOptions.{RelayOptions}
 use Rattle.commands.specs.declared.page.Page.{Page}
 use Rattle.commands.specs.declared.page.Page.TheVariants as page
 use Rattle.commands.proofs.Ids.{decoded}
@@ -48,6 +50,8 @@ refused-sim words first plain none (Load told) s = apart words _ _ first s.first
 refused-sim words first plain none (Serve told) s = apart words _ _ first s.first refl
 refused-sim words first plain none (Call told) s = apart words _ _ first s.first refl
 refused-sim words first plain none (Pair told) s = apart words _ _ first s.first refl
+refused-sim words first plain none Check s = apart words _ _ first s.first refl
+refused-sim words first plain none (Relay told) s = apart words _ _ first s.first refl
 refused-sim words first plain none (Help page) s = not_both words s.means plain
 refused-sim words first plain none Version s = apart words _ _ first s.first refl
 
@@ -59,6 +63,8 @@ refused-load words first plain none (Load told) s = none told (record { taken = 
 refused-load words first plain none (Serve told) s = apart words _ _ first s.first refl
 refused-load words first plain none (Call told) s = apart words _ _ first s.first refl
 refused-load words first plain none (Pair told) s = apart words _ _ first s.first refl
+refused-load words first plain none Check s = apart words _ _ first s.first refl
+refused-load words first plain none (Relay told) s = apart words _ _ first s.first refl
 refused-load words first plain none (Help page) s = not_both words s.means plain
 refused-load words first plain none Version s = apart words _ _ first s.first refl
 
@@ -70,6 +76,8 @@ refused-serve words first plain none (Load told) s = apart words _ _ first s.fir
 refused-serve words first plain none (Serve told) s = none told (record { taken = s.means.0.taken; tells = s.means.1 })
 refused-serve words first plain none (Call told) s = apart words _ _ first s.first refl
 refused-serve words first plain none (Pair told) s = apart words _ _ first s.first refl
+refused-serve words first plain none Check s = apart words _ _ first s.first refl
+refused-serve words first plain none (Relay told) s = apart words _ _ first s.first refl
 refused-serve words first plain none (Help page) s = not_both words s.means plain
 refused-serve words first plain none Version s = apart words _ _ first s.first refl
 
@@ -81,6 +89,8 @@ refused-call words first plain none (Load told) s = apart words _ _ first s.firs
 refused-call words first plain none (Serve told) s = apart words _ _ first s.first refl
 refused-call words first plain none (Call told) s = none told (record { taken = s.means.0.taken; tells = s.means.1 })
 refused-call words first plain none (Pair told) s = apart words _ _ first s.first refl
+refused-call words first plain none Check s = apart words _ _ first s.first refl
+refused-call words first plain none (Relay told) s = apart words _ _ first s.first refl
 refused-call words first plain none (Help page) s = not_both words s.means plain
 refused-call words first plain none Version s = apart words _ _ first s.first refl
 
@@ -92,20 +102,49 @@ refused-pair words first plain none (Load told) s = apart words _ _ first s.firs
 refused-pair words first plain none (Serve told) s = apart words _ _ first s.first refl
 refused-pair words first plain none (Call told) s = apart words _ _ first s.first refl
 refused-pair words first plain none (Pair told) s = none told (record { taken = s.means.0.taken; tells = s.means.1 })
+refused-pair words first plain none Check s = apart words _ _ first s.first refl
+refused-pair words first plain none (Relay told) s = apart words _ _ first s.first refl
 refused-pair words first plain none (Help page) s = not_both words s.means plain
 refused-pair words first plain none Version s = apart words _ _ first s.first refl
 
+-- a command that isn't told anything isn't said
+pub refused-check : (words : List (List ℕ)) → slice_get words 0 ≡ Some (codes "check") → asks_help words ≡ false
+    → ((told : Unit) → IsTold check SaysNothing words told → ⊥) → (said : Command) → Says words said → ⊥
+refused-check words first plain none (Sim told) s = apart words _ _ first s.first refl
+refused-check words first plain none (Load told) s = apart words _ _ first s.first refl
+refused-check words first plain none (Serve told) s = apart words _ _ first s.first refl
+refused-check words first plain none (Call told) s = apart words _ _ first s.first refl
+refused-check words first plain none (Pair told) s = apart words _ _ first s.first refl
+refused-check words first plain none Check s = none tt (record { taken = s.means.taken; tells = tt })
+refused-check words first plain none (Relay told) s = apart words _ _ first s.first refl
+refused-check words first plain none (Help page) s = not_both words s.means plain
+refused-check words first plain none Version s = apart words _ _ first s.first refl
+
+-- a command that isn't told anything isn't said
+pub refused-relay : (words : List (List ℕ)) → slice_get words 0 ≡ Some (codes "relay") → asks_help words ≡ false
+    → ((told : RelayOptions) → IsTold relay SaysRelay words told → ⊥) → (said : Command) → Says words said → ⊥
+refused-relay words first plain none (Sim told) s = apart words _ _ first s.first refl
+refused-relay words first plain none (Load told) s = apart words _ _ first s.first refl
+refused-relay words first plain none (Serve told) s = apart words _ _ first s.first refl
+refused-relay words first plain none (Call told) s = apart words _ _ first s.first refl
+refused-relay words first plain none (Pair told) s = apart words _ _ first s.first refl
+refused-relay words first plain none Check s = apart words _ _ first s.first refl
+refused-relay words first plain none (Relay told) s = none told (record { taken = s.means.0.taken; tells = s.means.1 })
+refused-relay words first plain none (Help page) s = not_both words s.means plain
+refused-relay words first plain none Version s = apart words _ _ first s.first refl
 -- words that begin with no command's name
 pub refused-other : (words : List (List ℕ)) (word : List ℕ) → slice_get words 0 ≡ Some word → asks_help words ≡ false
-    → word ≢ codes "sim" → word ≢ codes "load" → word ≢ codes "serve" → word ≢ codes "call" → word ≢ codes "pair" → words ≢ codes "--version" ∷ []
+    → word ≢ codes "sim" → word ≢ codes "load" → word ≢ codes "serve" → word ≢ codes "call" → word ≢ codes "pair" → word ≢ codes "check" → word ≢ codes "relay" → words ≢ codes "--version" ∷ []
     → (said : Command) → Says words said → ⊥
-refused-other words word first plain a b c d e f (Sim told) s = let first_is = s.first in a cc
-refused-other words word first plain a b c d e f (Load told) s = let first_is = s.first in b cc
-refused-other words word first plain a b c d e f (Serve told) s = let first_is = s.first in c cc
-refused-other words word first plain a b c d e f (Call told) s = let first_is = s.first in d cc
-refused-other words word first plain a b c d e f (Pair told) s = let first_is = s.first in e cc
-refused-other words word first plain a b c d e f (Help page) s = not_both words s.means plain
-refused-other words word first plain a b c d e f Version s = f s.means
+refused-other words word first plain a b c d e f g h (Sim told) s = let first_is = s.first in a cc
+refused-other words word first plain a b c d e f g h (Load told) s = let first_is = s.first in b cc
+refused-other words word first plain a b c d e f g h (Serve told) s = let first_is = s.first in c cc
+refused-other words word first plain a b c d e f g h (Call told) s = let first_is = s.first in d cc
+refused-other words word first plain a b c d e f g h (Pair told) s = let first_is = s.first in e cc
+refused-other words word first plain a b c d e f g h Check s = let first_is = s.first in f cc
+refused-other words word first plain a b c d e f g h (Relay told) s = let first_is = s.first in g cc
+refused-other words word first plain a b c d e f g h (Help page) s = not_both words s.means plain
+refused-other words word first plain a b c d e f g h Version s = h s.means
 
 -- help is asked for, and behind no such word there is a page
 pub refused-help : (words : List (List ℕ)) (word : List ℕ) → slice_get words 0 ≡ Some word → asks_help words ≡ true
@@ -115,6 +154,8 @@ refused-help words word first asked none (Load told) s = not_both words asked s.
 refused-help words word first asked none (Serve told) s = not_both words asked s.means.0.plain
 refused-help words word first asked none (Call told) s = not_both words asked s.means.0.plain
 refused-help words word first asked none (Pair told) s = not_both words asked s.means.0.plain
+refused-help words word first asked none Check s = not_both words asked s.means.plain
+refused-help words word first asked none (Relay told) s = not_both words asked s.means.0.plain
 refused-help words word first asked none (Help page) s = let f = s.first in none page cc
 refused-help words word first asked none Version s = not_both words asked (no_help words s.means)
 
@@ -180,7 +221,8 @@ one_text name rows a b p q = cc
 abbrev page_named : List ℕ → Option Page
 page_named text = cond (bytes_eq text (codes "--help")) (Some page.Program) (cond (bytes_eq text (codes "sim")) (Some page.Sim)
     (cond (bytes_eq text (codes "load")) (Some page.Load) (cond (bytes_eq text (codes "serve")) (Some page.Serve)
-    (cond (bytes_eq text (codes "call")) (Some page.Call) (Some page.Pair)))))
+    (cond (bytes_eq text (codes "call")) (Some page.Call) (cond (bytes_eq text (codes "pair")) (Some page.Pair)
+    (cond (bytes_eq text (codes "check")) (Some page.Check) (Some page.Relay)))))))
 
 page_named-word : (p : Page) → page_named (page_word p) ≡ Some p
 page_named-word page.Program = refl
@@ -189,6 +231,8 @@ page_named-word page.Load = refl
 page_named-word page.Serve = refl
 page_named-word page.Call = refl
 page_named-word page.Pair = refl
+page_named-word page.Check = refl
+page_named-word page.Relay = refl
 
 one_page : (words : List (List ℕ)) (a b : Page) → slice_get words 0 ≡ Some (page_word a) → slice_get words 0 ≡ Some (page_word b) → a ≡ b
 one_page words a b p q =
@@ -248,6 +292,23 @@ one_pairing rows a b p q =
     ∙ (ap (λ n. pairing b.keys b.key n a.stop_after) port
     ∙ ap (λ n. pairing b.keys b.key b.port n) stop_after))
 
+abbrev relaying : List ℕ → Form → RelayOptions
+relaying secret form = record { secret = secret; form = form }
+
+one_secret : (name : List ℕ) (rows : List Row) (a b : List ℕ) → HasSecret name rows a → HasSecret name rows b → a ≡ b
+one_secret name rows a b p q =
+    let same = one_text name rows _ _ p.there q.there in
+    let one = p.spelled in
+    let other = q.spelled in
+    let both : Ok a ≡ Ok {E = FromHexError} b = cc in
+    cc
+
+one_relaying : (rows : List Row) (a b : RelayOptions) → SaysRelay rows a → SaysRelay rows b → a ≡ b
+one_relaying rows a b p q =
+    let secret = one_secret _ rows _ _ p.secret q.secret in
+    let form = one_form _ rows _ _ p.form q.form in
+    ap (λ s. relaying s a.form) secret ∙ ap (λ f. relaying b.secret f) form
+
 -- ---- commands
 
 pub one_command : (words : List (List ℕ)) (a b : Command) → Says words a → Says words b → a ≡ b
@@ -256,6 +317,8 @@ one_command words (Sim a) (Load b) p q = absurd (apart words _ _ p.first q.first
 one_command words (Sim a) (Serve b) p q = absurd (apart words _ _ p.first q.first refl)
 one_command words (Sim a) (Call b) p q = absurd (apart words _ _ p.first q.first refl)
 one_command words (Sim a) (Pair b) p q = absurd (apart words _ _ p.first q.first refl)
+one_command words (Sim a) Check p q = absurd (apart words _ _ p.first q.first refl)
+one_command words (Sim a) (Relay b) p q = absurd (apart words _ _ p.first q.first refl)
 one_command words (Sim a) (Help b) p q = absurd (not_both words q.means p.means.0.plain)
 one_command words (Sim a) Version p q = absurd (apart words _ _ p.first q.first refl)
 one_command words (Load a) (Sim b) p q = absurd (apart words _ _ p.first q.first refl)
@@ -263,6 +326,8 @@ one_command words (Load a) (Load b) p q = ap Load (one_number (codes "calls") 1 
 one_command words (Load a) (Serve b) p q = absurd (apart words _ _ p.first q.first refl)
 one_command words (Load a) (Call b) p q = absurd (apart words _ _ p.first q.first refl)
 one_command words (Load a) (Pair b) p q = absurd (apart words _ _ p.first q.first refl)
+one_command words (Load a) Check p q = absurd (apart words _ _ p.first q.first refl)
+one_command words (Load a) (Relay b) p q = absurd (apart words _ _ p.first q.first refl)
 one_command words (Load a) (Help b) p q = absurd (not_both words q.means p.means.0.plain)
 one_command words (Load a) Version p q = absurd (apart words _ _ p.first q.first refl)
 one_command words (Serve a) (Sim b) p q = absurd (apart words _ _ p.first q.first refl)
@@ -270,6 +335,8 @@ one_command words (Serve a) (Load b) p q = absurd (apart words _ _ p.first q.fir
 one_command words (Serve a) (Serve b) p q = ap Serve (one_serving (rows serve words) a b p.means.1 q.means.1)
 one_command words (Serve a) (Call b) p q = absurd (apart words _ _ p.first q.first refl)
 one_command words (Serve a) (Pair b) p q = absurd (apart words _ _ p.first q.first refl)
+one_command words (Serve a) Check p q = absurd (apart words _ _ p.first q.first refl)
+one_command words (Serve a) (Relay b) p q = absurd (apart words _ _ p.first q.first refl)
 one_command words (Serve a) (Help b) p q = absurd (not_both words q.means p.means.0.plain)
 one_command words (Serve a) Version p q = absurd (apart words _ _ p.first q.first refl)
 one_command words (Call a) (Sim b) p q = absurd (apart words _ _ p.first q.first refl)
@@ -277,6 +344,8 @@ one_command words (Call a) (Load b) p q = absurd (apart words _ _ p.first q.firs
 one_command words (Call a) (Serve b) p q = absurd (apart words _ _ p.first q.first refl)
 one_command words (Call a) (Call b) p q = ap Call (one_calling (rows call words) a b p.means.1 q.means.1)
 one_command words (Call a) (Pair b) p q = absurd (apart words _ _ p.first q.first refl)
+one_command words (Call a) Check p q = absurd (apart words _ _ p.first q.first refl)
+one_command words (Call a) (Relay b) p q = absurd (apart words _ _ p.first q.first refl)
 one_command words (Call a) (Help b) p q = absurd (not_both words q.means p.means.0.plain)
 one_command words (Call a) Version p q = absurd (apart words _ _ p.first q.first refl)
 one_command words (Pair a) (Sim b) p q = absurd (apart words _ _ p.first q.first refl)
@@ -284,13 +353,35 @@ one_command words (Pair a) (Load b) p q = absurd (apart words _ _ p.first q.firs
 one_command words (Pair a) (Serve b) p q = absurd (apart words _ _ p.first q.first refl)
 one_command words (Pair a) (Call b) p q = absurd (apart words _ _ p.first q.first refl)
 one_command words (Pair a) (Pair b) p q = ap Pair (one_pairing (rows pair words) a b p.means.1 q.means.1)
+one_command words (Pair a) Check p q = absurd (apart words _ _ p.first q.first refl)
+one_command words (Pair a) (Relay b) p q = absurd (apart words _ _ p.first q.first refl)
 one_command words (Pair a) (Help b) p q = absurd (not_both words q.means p.means.0.plain)
 one_command words (Pair a) Version p q = absurd (apart words _ _ p.first q.first refl)
+one_command words Check (Sim b) p q = absurd (apart words _ _ p.first q.first refl)
+one_command words Check (Load b) p q = absurd (apart words _ _ p.first q.first refl)
+one_command words Check (Serve b) p q = absurd (apart words _ _ p.first q.first refl)
+one_command words Check (Call b) p q = absurd (apart words _ _ p.first q.first refl)
+one_command words Check (Pair b) p q = absurd (apart words _ _ p.first q.first refl)
+one_command words Check Check p q = refl
+one_command words Check (Relay b) p q = absurd (apart words _ _ p.first q.first refl)
+one_command words Check (Help b) p q = absurd (not_both words q.means p.means.plain)
+one_command words Check Version p q = absurd (apart words _ _ p.first q.first refl)
+one_command words (Relay a) (Sim b) p q = absurd (apart words _ _ p.first q.first refl)
+one_command words (Relay a) (Load b) p q = absurd (apart words _ _ p.first q.first refl)
+one_command words (Relay a) (Serve b) p q = absurd (apart words _ _ p.first q.first refl)
+one_command words (Relay a) (Call b) p q = absurd (apart words _ _ p.first q.first refl)
+one_command words (Relay a) (Pair b) p q = absurd (apart words _ _ p.first q.first refl)
+one_command words (Relay a) Check p q = absurd (apart words _ _ p.first q.first refl)
+one_command words (Relay a) (Relay b) p q = ap Relay (one_relaying (rows relay words) a b p.means.1 q.means.1)
+one_command words (Relay a) (Help b) p q = absurd (not_both words q.means p.means.0.plain)
+one_command words (Relay a) Version p q = absurd (apart words _ _ p.first q.first refl)
 one_command words (Help a) (Sim b) p q = absurd (not_both words p.means q.means.0.plain)
 one_command words (Help a) (Load b) p q = absurd (not_both words p.means q.means.0.plain)
 one_command words (Help a) (Serve b) p q = absurd (not_both words p.means q.means.0.plain)
 one_command words (Help a) (Call b) p q = absurd (not_both words p.means q.means.0.plain)
 one_command words (Help a) (Pair b) p q = absurd (not_both words p.means q.means.0.plain)
+one_command words (Help a) Check p q = absurd (not_both words p.means q.means.plain)
+one_command words (Help a) (Relay b) p q = absurd (not_both words p.means q.means.0.plain)
 one_command words (Help a) (Help b) p q = ap Help (one_page words a b p.first q.first)
 one_command words (Help a) Version p q = absurd (not_both words p.means (no_help words q.means))
 one_command words Version (Sim b) p q = absurd (apart words _ _ p.first q.first refl)
@@ -298,6 +389,8 @@ one_command words Version (Load b) p q = absurd (apart words _ _ p.first q.first
 one_command words Version (Serve b) p q = absurd (apart words _ _ p.first q.first refl)
 one_command words Version (Call b) p q = absurd (apart words _ _ p.first q.first refl)
 one_command words Version (Pair b) p q = absurd (apart words _ _ p.first q.first refl)
+one_command words Version Check p q = absurd (apart words _ _ p.first q.first refl)
+one_command words Version (Relay b) p q = absurd (apart words _ _ p.first q.first refl)
 one_command words Version (Help b) p q = absurd (not_both words q.means (no_help words p.means))
 one_command words Version Version p q = refl
 

@@ -4,13 +4,14 @@ use Rattle.std.specs.Str.{bytes_eq}
 use Rattle.std.specs.List.{list_any}
 use Rattle.clap.specs.Words.{App, Row}
 use Rattle.transport.specs.declared.form.Form.TheVariants.{Full}
-use Rattle.commands.specs.Simple.{sim, load, serve, call, pair, faults, rows}
-use Rattle.commands.specs.Values.{HasText, HasFlag, HasNumber, MayHaveNumber, HasId, MayHaveId, HasForm}
+use Rattle.commands.specs.Simple.{sim, load, serve, call, pair, check, relay, faults, rows}
+use Rattle.commands.specs.Values.{HasText, HasFlag, HasNumber, MayHaveNumber, HasId, MayHaveId, HasForm, HasSecret}
 use Rattle.commands.specs.declared.command.Command.{Command}
 use Rattle.commands.specs.declared.command.Command.TheVariants as command
 use Rattle.commands.specs.declared.command.ServeOptions.{ServeOptions}
 use Rattle.commands.specs.declared.command.CallOptions.{CallOptions}
 use Rattle.commands.specs.declared.command.PairOptions.{PairOptions}
+use Rattle.commands.specs.declared.command.RelayOptions.{RelayOptions}
 use Rattle.commands.specs.declared.page.Page.{Page}
 use Rattle.commands.specs.declared.page.Page.TheVariants as page
 
@@ -24,6 +25,8 @@ page_word page.Load = codes "load"
 page_word page.Serve = codes "serve"
 page_word page.Call = codes "call"
 page_word page.Pair = codes "pair"
+page_word page.Check = codes "check"
+page_word page.Relay = codes "relay"
 
 abbrev pub first_word : Command → List ℕ
 first_word (command.Sim wire) = codes "sim"
@@ -31,6 +34,8 @@ first_word (command.Load calls) = codes "load"
 first_word (command.Serve options) = codes "serve"
 first_word (command.Call options) = codes "call"
 first_word (command.Pair options) = codes "pair"
+first_word command.Check = codes "check"
+first_word (command.Relay options) = codes "relay"
 first_word (command.Help page) = page_word page
 first_word command.Version = codes "--version"
 
@@ -61,6 +66,12 @@ pub record SaysPair (rows : List Row) (options : PairOptions) : Type 0 where
   pub port : HasNumber (codes "port") 1 65534 rows options.port
   pub stop_after : HasNumber (codes "stop-after") 1 1000000000 rows options.stop_after
 
+-- what `relay` was told: what goes out is never in full frames
+pub record SaysRelay (rows : List Row) (options : RelayOptions) : Type 0 where
+  pub secret : HasSecret (codes "secret") rows options.secret
+  pub form : HasForm (codes "form") rows options.form
+  pub lawful : options.form ≢ Full
+
 -- ---- the words
 
 -- a word is `--help`
@@ -79,6 +90,8 @@ Means words (command.Load calls) = Takes load words × HasNumber (codes "calls")
 Means words (command.Serve options) = Takes serve words × SaysServe (rows serve words) options
 Means words (command.Call options) = Takes call words × SaysCall (rows call words) options
 Means words (command.Pair options) = Takes pair words × SaysPair (rows pair words) options
+Means words command.Check = Takes check words
+Means words (command.Relay options) = Takes relay words × SaysRelay (rows relay words) options
 Means words (command.Help page) = asks_help words ≡ true
 Means words command.Version = words ≡ codes "--version" ∷ []
 
@@ -89,13 +102,15 @@ pub record Says (words : List (List ℕ)) (said : Command) : Type 0 where
 
 -- ---- what any words say
 
--- This holds of each command that words say: `serve` is never told to stop after 0 packets, full frames are never obfuscated, and
--- behind the port of `pair` there is another one.
+-- This holds of each command that words say: `serve` is never told to stop after 0 packets, full frames are never obfuscated,
+-- behind the port of `pair` there is another one, and what `relay` writes is never in full frames.
 abbrev pub IsLawful : Command → Type 0
 IsLawful (command.Sim wire) = ⊤
 IsLawful (command.Load calls) = ⊤
 IsLawful (command.Serve options) = options.stop_after ≢ Some 0
 IsLawful (command.Call options) = options.obfuscate ≡ true → options.form ≢ Full
 IsLawful (command.Pair options) = options.port < 65535
+IsLawful command.Check = ⊤
+IsLawful (command.Relay options) = options.form ≢ Full
 IsLawful (command.Help page) = ⊤
 IsLawful command.Version = ⊤

@@ -53,6 +53,12 @@ unfoldable pub pair : App
 pair = simple (codes "pair")
     (needed (codes "keys") ∷ needed (codes "key") ∷ needed (codes "port") ∷ needed (codes "stop-after") ∷ [])
 
+unfoldable pub check : App
+check = simple (codes "check") []
+
+unfoldable pub relay : App
+relay = simple (codes "relay") (needed (codes "secret") ∷ needed (codes "form") ∷ [])
+
 -- ---- words
 
 -- the kinds of error that a simple command may give at the words, the first of which is its name: none where it takes them

@@ -1,7 +1,7 @@
 -- What the values of options say.
-use Rattle.std.specs.Prelude.{◌≡◌, ◌≤◌, ◌<◌, ◌^◌, ◌↔◌, ℕ, Bool, List, Option, Some, None, IsTrue, codes, decimal}
+use Rattle.std.specs.Prelude.{◌≡◌, ◌≤◌, ◌<◌, ◌^◌, ◌↔◌, ℕ, Bool, List, Option, Some, None, Ok, IsTrue, codes, decimal}
 use Rattle.std.specs.Int.{w64, to_le_bytes}
-use Rattle.hex.specs.Hex.{encode_lower}
+use Rattle.hex.specs.Hex.{decode_sized, encode_lower}
 use Rattle.clap.specs.Words.{Row, first_of}
 use Rattle.transport.specs.declared.form.Form.{Form}
 use Rattle.transport.specs.declared.form.Form.TheVariants.{Abridged, Intermediate, Padded, Full}
@@ -53,3 +53,13 @@ form_text Full = codes "full"
 -- the value is a form of framing
 abbrev pub HasForm : List ℕ → List Row → Form → Type 0
 HasForm name rows form = text_of name rows ≡ Some (form_text form)
+
+-- the text is the 32 hexadecimal digits of a secret's 16 bytes, of either case
+abbrev pub IsSecret : List ℕ → List ℕ → Type 0
+IsSecret text secret = decode_sized text 16 ≡ Ok secret
+
+-- the value is a secret
+pub record HasSecret (name : List ℕ) (rows : List Row) (secret : List ℕ) : Type 0 where
+  pub text : List ℕ
+  pub there : HasText name rows text
+  pub spelled : IsSecret text secret

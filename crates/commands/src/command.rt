@@ -4,6 +4,7 @@ ghost use Rattle.std.specs.Prelude.{◌≡◌};
 
 use crate::page::Page;
 use octets::Memory;
+use std::fmt;
 use std::marker::Model;
 use thiserror::Error;
 use transport::Form;
@@ -57,6 +58,10 @@ pub enum Command<'a> {
     Call(CallOptions<'a>),
     /// `pair`: run a batch of calls over a server that stops and one that is started anew.
     Pair(PairOptions<'a>),
+    /// `check`: tell whether calls of a trace execute at most once.
+    Check,
+    /// `relay`: turn a captured obfuscated connection into plain framing.
+    Relay(RelayOptions),
     /// `--help` among the words: print a page of help.
     Help(Page),
     /// `--version`: print the version.
@@ -106,6 +111,52 @@ pub struct PairOptions<'a> {
     pub port: u16,
     /// `--stop-after`: after how many packets the first server stops, from 1 to 1,000,000,000.
     pub stop_after: u64,
+}
+
+/// The secret of a proxy: 16 bytes, which are never printed. Contracts see its bytes.
+#[derive(Clone, Copy, Drop)]
+pub struct Secret {
+    bytes: [u8; 16],
+}
+
+impl Model for Secret {
+    ghost use Rattle.std.specs.Prelude.{ℕ, List};
+
+    ghost Value = { List ℕ };
+
+    ghost view = { λ secret. secret.bytes };
+}
+
+impl Secret {
+    /// The secret of these bytes.
+    pub(crate) fn new(bytes: [u8; 16]) -> Secret
+        ensures { result ≡ bytes }
+    {
+        Secret { bytes }
+    }
+
+    /// Its bytes.
+    pub fn as_bytes(&self) -> &[u8; 16]
+        ensures { result.now ≡ self.now }
+    {
+        &self.bytes
+    }
+}
+
+impl fmt::Debug for Secret {
+    /// No byte of it.
+    fn fmt<W: fmt::Write>(&self, f: &mut fmt::Formatter<W>) -> fmt::Result {
+        f.write_str("Secret(..)")
+    }
+}
+
+/// What `relay` is told.
+#[derive(Debug, Drop)]
+pub struct RelayOptions {
+    /// `--secret`: the secret of the proxy that the captured connection went to.
+    pub secret: Secret,
+    /// `--form`: how the packets that go out are framed, never in full frames.
+    pub form: Form,
 }
 
 /// Why words say no command.

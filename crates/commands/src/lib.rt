@@ -10,7 +10,9 @@ mod reading;
 mod simple;
 mod values;
 
-pub use command::{CallOptions, Command, FileName, PairOptions, ServeOptions, WordsFault};
+pub use command::{
+    CallOptions, Command, FileName, PairOptions, RelayOptions, Secret, ServeOptions, WordsFault,
+};
 pub use page::{Page, version};
 pub use reading::read;
 pub use transport::Form;

@@ -18,6 +18,10 @@ pub enum Page {
     Call,
     /// That of `pair`.
     Pair,
+    /// That of `check`.
+    Check,
+    /// That of `relay`.
+    Relay,
 }
 
 const VERSION: &str = "mtp 0.1.0\n";
@@ -30,6 +34,8 @@ mtp load N             plays the schedule of N calls and writes a summary
 mtp serve OPTIONS      serves connections
 mtp call OPTIONS       runs a script of calls as one batch
 mtp pair OPTIONS       runs one over a server that stops and a new one
+mtp check              tells whether calls of a trace execute at most once
+mtp relay OPTIONS      turns a captured connection into plain framing
 mtp COMMAND --help     tells what the options of a command mean
 mtp --help             writes this page
 mtp --version          writes the version
@@ -97,6 +103,48 @@ Writes a line for each call.
 --stop-after K    stops the first server after K packets: 1 to 1000000000
 ";
 
+const CHECK: &str = "\
+mtp check
+
+Reads a trace from standard input, a fact a line, and writes `yes` where each
+call executed at most once and what is told of it is so. Else it writes
+`broken K at line N`: the first of the six sentences below that doesn't hold,
+and the first line that shows it.
+
+body C N HEX       the body of call N of client C; calls count from 1
+name C N S M       the call's next name: session S and message number M
+state C N STATE    what the client tells of the call: queued, sent, held,
+                   done HEX, refused CODE or unknown CAUSE, where CAUSE is
+                   session, renewed, ended or forgotten
+entry START S M HEX HEX ran
+                   a request and its reply, in this start of the server; answer
+                   in place of ran where the service didn't run
+made S             the server made a session of this number
+left S             the client renewed in it
+closed S           the client ended in it
+gone S M           the server had forgotten the number, or dropped its reply
+
+1  over all names of a call there is at most one entry
+2  each entry has the name of a call, and the call's body as its request
+3  a call that is done has exactly one entry, with the reply that it was told
+4  a replaced name has no entry, nor has a call that is queued, held or refused
+5  where a call is unknown, the cause that is told holds of its last name
+6  what ran in one start has the replies of the register service, in order
+";
+
+const RELAY: &str = "\
+mtp relay --secret HEX --form FORM
+
+Reads a captured connection between a client and a proxy from standard input
+and writes what it carried in plain framing, a line for each line.
+
+--secret HEX    the secret of the proxy: 32 hexadecimal digits
+--form FORM     how packets are framed: abridged, intermediate or padded
+
+up HEX      bytes that the client sent, `-` for none
+down HEX    bytes that the proxy sent
+";
+
 impl Page {
     /// The text of the page.
     #[tactic(auto, unfolding(crate::specs::Pages::page_text))]
@@ -110,6 +158,8 @@ impl Page {
             Page::Serve => SERVE,
             Page::Call => CALL,
             Page::Pair => PAIR,
+            Page::Check => CHECK,
+            Page::Relay => RELAY,
         }
     }
 }

@@ -3,20 +3,24 @@
 ghost use Rattle.std.specs.Prelude.{◌≡◌, ◌≢◌, ◌↔◌, [], ℕ, Bool, List, IsTrue, IfOk, IfErr, IfSome, IfNone, map, string_bytes, codes};
 ghost use Rattle.std.specs.List.{list_any};
 ghost use Rattle.std.specs.Str.{bytes_eq};
-ghost use Rattle.commands.specs.Simple.{sim, load, serve, call, pair};
+ghost use Rattle.commands.specs.Simple.{sim, load, serve, call, pair, check, relay};
 ghost use Rattle.commands.specs.Values.{HasFlag, HasNumber};
-ghost use Rattle.commands.specs.Says.{IsLawful, Says, SaysServe, SaysCall, SaysPair, page_word};
-ghost use Rattle.commands.specs.Inner.{IsTold, RefusesUnlessMemory};
+ghost use Rattle.commands.specs.Says.{IsLawful, Says, SaysServe, SaysCall, SaysPair, SaysRelay, page_word};
+ghost use Rattle.commands.specs.Inner.{IsTold, RefusesUnlessMemory, SaysNothing};
 ghost use Rattle.commands.specs.declared.command.Command.{Command};
 ghost use Rattle.commands.specs.declared.command.ServeOptions.{ServeOptions};
 ghost use Rattle.commands.specs.declared.command.CallOptions.{CallOptions};
 ghost use Rattle.commands.specs.declared.command.PairOptions.{PairOptions};
+ghost use Rattle.commands.specs.declared.command.RelayOptions.{RelayOptions};
 ghost use Rattle.commands.specs.declared.page.Page.{Page};
 
-use crate::command::{CallOptions, Command, FileName, PairOptions, ServeOptions, WordsFault};
+use crate::command::{
+    CallOptions, Command, FileName, PairOptions, RelayOptions, ServeOptions, WordsFault,
+};
 use crate::page::Page;
 use crate::simple::{
-    Taken, call_command, load_command, pair_command, serve_command, sim_command, take,
+    Taken, call_command, check_command, load_command, pair_command, relay_command, serve_command,
+    sim_command, take,
 };
 use std::alloc::Global;
 use transport::Form;
@@ -50,6 +54,11 @@ pub fn read<'a>(alloc: Global, words: &'a [String]) -> Result<Command<'a>, Words
         "serve" => Ok(Command::Serve(told_serve(alloc, words)?)),
         "call" => Ok(Command::Call(told_call(alloc, words)?)),
         "pair" => Ok(Command::Pair(told_pair(alloc, words)?)),
+        "check" => {
+            told_check(alloc, words)?;
+            Ok(Command::Check)
+        }
+        "relay" => Ok(Command::Relay(told_relay(alloc, words)?)),
         "--version" if words.len() == 1 => Ok(Command::Version),
         _ => Err(WordsFault::Refused),
     }
@@ -74,6 +83,8 @@ fn page_of(first: &str) -> Option<Page>
         "serve" => Some(Page::Serve),
         "call" => Some(Page::Call),
         "pair" => Some(Page::Pair),
+        "check" => Some(Page::Check),
+        "relay" => Some(Page::Relay),
         _ => None,
     }
 }
@@ -121,6 +132,24 @@ fn told_pair<'a>(alloc: Global, words: &'a [String]) -> Result<PairOptions<'a>, 
 {
     let taken = take(pair_command(alloc)?, words)?;
     pair_options(&taken)
+}
+
+/// That `check` is told nothing.
+fn told_check(alloc: Global, words: &[String]) -> Result<(), WordsFault>
+    ensures found { IfOk result (IsTold check SaysNothing (map string_bytes words.now)) }
+    ensures refused { IfErr result (RefusesUnlessMemory check SaysNothing (map string_bytes words.now)) }
+{
+    take(check_command(alloc)?, words)?;
+    Ok(())
+}
+
+/// What `relay` is told.
+fn told_relay(alloc: Global, words: &[String]) -> Result<RelayOptions, WordsFault>
+    ensures found { IfOk result (IsTold relay SaysRelay (map string_bytes words.now)) }
+    ensures refused { IfErr result (RefusesUnlessMemory relay SaysRelay (map string_bytes words.now)) }
+{
+    let taken = take(relay_command(alloc)?, words)?;
+    relay_options(&taken)
 }
 
 /// The options of `serve`.
@@ -181,4 +210,17 @@ fn pair_options<'a>(taken: &Taken<'a>) -> Result<PairOptions<'a>, WordsFault>
         port,
         stop_after,
     })
+}
+
+/// The options of `relay`.
+fn relay_options(taken: &Taken<'_>) -> Result<RelayOptions, WordsFault>
+    ensures found { IfOk result (SaysRelay taken.now) }
+    ensures refused { IfErr result (λ _. (options : RelayOptions) → SaysRelay taken.now options → ⊥) }
+{
+    let secret = taken.secret("secret")?;
+    let form = taken.form("form")?;
+    if form == Form::Full {
+        return Err(WordsFault::Refused);
+    }
+    Ok(RelayOptions { secret, form })
 }

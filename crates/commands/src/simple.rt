@@ -2,7 +2,7 @@
 
 ghost use Rattle.std.specs.Prelude.{◌≡◌, ◌≢◌, true, false, [], IfOk, IfErr, map, string_bytes, option_map};
 ghost use Rattle.clap.specs.Words.{app_of, is_simple_and_free, rule_of};
-ghost use Rattle.commands.specs.Simple.{sim, load, serve, call, pair, option, needed, defaulted, flag, operand, faults, rows};
+ghost use Rattle.commands.specs.Simple.{sim, load, serve, call, pair, check, relay, option, needed, defaulted, flag, operand, faults, rows};
 ghost use Rattle.commands.specs.Values.{text_of};
 
 use crate::command::WordsFault;
@@ -105,6 +105,23 @@ pub(crate) fn pair_command<'a>(alloc: Global) -> Result<clap::Command<'a>, Memor
         .arg(needed(alloc, "key"))?
         .arg(needed(alloc, "port"))?
         .arg(needed(alloc, "stop-after"))?;
+    Ok(command)
+}
+
+/// `check`.
+pub(crate) fn check_command<'a>(alloc: Global) -> Result<clap::Command<'a>, Memory>
+    ensures { IfOk result (λ command. app_of command ≡ check) }
+{
+    Ok(clap::Command::new(alloc, "check"))
+}
+
+/// `relay --secret HEX --form FORM`.
+pub(crate) fn relay_command<'a>(alloc: Global) -> Result<clap::Command<'a>, Memory>
+    ensures { IfOk result (λ command. app_of command ≡ relay) }
+{
+    let command = clap::Command::new(alloc, "relay")
+        .arg(needed(alloc, "secret"))?
+        .arg(needed(alloc, "form"))?;
     Ok(command)
 }
 

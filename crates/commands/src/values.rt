@@ -1,10 +1,10 @@
 //! What the values of options say.
 
-ghost use Rattle.std.specs.Prelude.{◌≡◌, ◌≢◌, ◌<◌, ◌≤◌, ◌^◌, ◌↔◌, ℕ, None, Some, IsTrue, IfOk, IfErr, IfSome, IfNone, decimal, option_map};
-ghost use Rattle.commands.specs.Values.{HasText, HasFlag, HasNumber, MayHaveNumber, HasId, MayHaveId, HasForm, form_text, id_text, text_of};
+ghost use Rattle.std.specs.Prelude.{◌≡◌, ◌≢◌, ◌<◌, ◌≤◌, ◌^◌, ◌↔◌, ℕ, List, None, Some, IsTrue, IfOk, IfErr, IfSome, IfNone, decimal, option_map};
+ghost use Rattle.commands.specs.Values.{HasText, HasFlag, HasNumber, MayHaveNumber, HasId, MayHaveId, HasForm, HasSecret, IsSecret, form_text, id_text, text_of};
 ghost use Rattle.transport.specs.declared.form.Form.{Form};
 
-use crate::command::WordsFault;
+use crate::command::{Secret, WordsFault};
 use crate::simple::Taken;
 use itoa::Buffer;
 use transport::Form;
@@ -87,6 +87,25 @@ impl<'a> Taken<'a> {
         let text = self.needed(name)?;
         form_of(text).ok_or(WordsFault::Refused)
     }
+
+    /// The secret of an argument.
+    pub(crate) fn secret(&self, name: &str) -> Result<Secret, WordsFault>
+        ensures found { IfOk result (HasSecret name.now self.now) }
+        ensures refused { IfErr result (λ _. (secret : List ℕ) → HasSecret name.now self.now secret → ⊥) }
+    {
+        let text = self.needed(name)?;
+        secret_of(text).ok_or(WordsFault::Refused)
+    }
+}
+
+/// The secret that a text spells: 32 hexadecimal digits, of either case.
+fn secret_of(text: &str) -> Option<Secret>
+    ensures found { IfSome result (IsSecret text.now) }
+    ensures none { IfNone result ((secret : List ℕ) → IsSecret text.now secret → ⊥) }
+{
+    let mut bytes = [0; 16];
+    hex::decode_to_slice(text, &mut bytes).ok()?;
+    Some(Secret::new(bytes))
 }
 
 /// The number that a text spells, which has to lie in a range.

@@ -18,7 +18,8 @@ status_of n =
     else if n == 8 then status.TurnsSpent
     else if n == 9 then status.Memory
     else if n == 10 then status.NumbersSpent
-    else status.NotListening
+    else if n == 11 then status.NotListening
+    else status.Broken
 
 its-own : (one : Status) → status_of (number_of one) ≡ one
 its-own status.Done = refl
@@ -33,6 +34,7 @@ its-own status.TurnsSpent = refl
 its-own status.Memory = refl
 its-own status.NumbersSpent = refl
 its-own status.NotListening = refl
+its-own status.Broken = refl
 
 pub same-number : (one other : Status) → number_of one ≡ number_of other → one ≡ other
 same-number one other h = sym (its-own one) ∙ (ap status_of h ∙ its-own other)

@@ -28,8 +28,10 @@ pub enum Status {
     Memory,
     /// A client has something to send, and fewer than 2,048 numbers left.
     NumbersSpent,
-    /// No connections can be taken.
+    /// No connections can be taken, or a child process can't be started, read or waited for.
     NotListening,
+    /// A trace breaks a sentence of those by which calls execute at most once.
+    Broken,
 }
 
 impl Status {
@@ -50,6 +52,7 @@ impl Status {
             Status::Memory => 9,
             Status::NumbersSpent => 10,
             Status::NotListening => 11,
+            Status::Broken => 13,
         }
     }
 }

@@ -1,7 +1,7 @@
 use Rattle.std.proofs.Common.{◌≡◌, ◌∙◌, ap, sym, rules, codes, string_bytes, Some}
 use Rattle.commands.proofs.Lawful.{pair_lawful, serve_lawful}
 use Rattle.commands.proofs.Numbers.{passed_on}
-use Rattle.commands.proofs.Sayings.{begins, asked, refused-sim, refused-load, refused-serve, refused-call, refused-pair, refused-help}
+use Rattle.commands.proofs.Sayings.{begins, asked, refused-sim, refused-load, refused-serve, refused-call, refused-pair, refused-check, refused-relay, refused-help}
 use Rattle.commands.proofs.reading.read.Goals as goal
 
 pub returns-in-Some-page_of-clause-said : goal.returns-in-Some-page_of-clause-said
@@ -131,6 +131,49 @@ returns-in_ok-told_pair-in-pair-clause-said c =
       );
     }
 
+pub returns-in_err-told_check-in-check-clause-refused : goal.returns-in_err-told_check-in-check-clause-refused
+returns-in_err-told_check-in-check-clause-refused c =
+    let word : c.as_str-2.result.now ≡ codes "check" = search rules in
+    passed_on c.from_residual-in_err-told_check-in-check.result _ _ c.from_residual-in_err-told_check-in-check.ensures.1 (λ fault. refused-check _
+    (begins string_bytes c.args.words.now c.in-Some.first.now c.in-Some.ensures.value ∙ ap Some (sym c.as_str-2.ensures.value ∙ word))
+    (sym (asked string_bytes c.args.words.now _ c.asks_help.ensures) ∙ c.if-asks_help.false)
+    (c.in_err-told_check-in-check.ensures.refused fault))
+
+pub returns-in_ok-told_check-in-check-clause-said : goal.returns-in_ok-told_check-in-check-clause-said
+returns-in_ok-told_check-in-check-clause-said c =
+    let word : c.as_str-2.result.now ≡ codes "check" = search rules in
+    let told = c.in_ok-told_check-in-check.ensures.found in
+    record {
+      first = begins string_bytes c.args.words.now c.in-Some.first.now c.in-Some.ensures.value ∙ ap Some (sym c.as_str-2.ensures.value ∙ word);
+      means = record {
+        plain = sym (asked string_bytes c.args.words.now _ c.asks_help.ensures) ∙ c.if-asks_help.false;
+        taken = told.taken;
+      };
+    }
+
+pub returns-in_err-told_relay-in-relay-clause-refused : goal.returns-in_err-told_relay-in-relay-clause-refused
+returns-in_err-told_relay-in-relay-clause-refused c =
+    let word : c.as_str-2.result.now ≡ codes "relay" = search rules in
+    passed_on c.from_residual-in_err-told_relay-in-relay.result _ _ c.from_residual-in_err-told_relay-in-relay.ensures.1 (λ fault. refused-relay _
+    (begins string_bytes c.args.words.now c.in-Some.first.now c.in-Some.ensures.value ∙ ap Some (sym c.as_str-2.ensures.value ∙ word))
+    (sym (asked string_bytes c.args.words.now _ c.asks_help.ensures) ∙ c.if-asks_help.false)
+    (c.in_err-told_relay-in-relay.ensures.refused fault))
+
+pub returns-in_ok-told_relay-in-relay-clause-said : goal.returns-in_ok-told_relay-in-relay-clause-said
+returns-in_ok-told_relay-in-relay-clause-said c =
+    let word : c.as_str-2.result.now ≡ codes "relay" = search rules in
+    let told = c.in_ok-told_relay-in-relay.ensures.found in
+    record {
+      first = begins string_bytes c.args.words.now c.in-Some.first.now c.in-Some.ensures.value ∙ ap Some (sym c.as_str-2.ensures.value ∙ word);
+      means = (
+        record {
+          plain = sym (asked string_bytes c.args.words.now _ c.asks_help.ensures) ∙ c.if-asks_help.false;
+          taken = told.taken;
+        },
+        told.tells,
+      );
+    }
+
 -- ---- what any words say
 
 pub returns-in_ok-told_serve-in-serve-clause-lawful : goal.returns-in_ok-told_serve-in-serve-clause-lawful
@@ -141,3 +184,6 @@ returns-in_ok-told_call-in-call-clause-lawful c = c.in_ok-told_call-in-call.ensu
 
 pub returns-in_ok-told_pair-in-pair-clause-lawful : goal.returns-in_ok-told_pair-in-pair-clause-lawful
 returns-in_ok-told_pair-in-pair-clause-lawful c = pair_lawful _ _ c.in_ok-told_pair-in-pair.ensures.found.tells
+
+pub returns-in_ok-told_relay-in-relay-clause-lawful : goal.returns-in_ok-told_relay-in-relay-clause-lawful
+returns-in_ok-told_relay-in-relay-clause-lawful c = c.in_ok-told_relay-in-relay.ensures.found.tells.lawful
