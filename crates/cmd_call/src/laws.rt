@@ -1,7 +1,8 @@
 //! Laws of batches, each the contract of a function that does nothing.
 
-ghost use Rattle.std.specs.Prelude.{◌≡◌, ℕ, List, true};
+ghost use Rattle.std.specs.Prelude.{◌≡◌, ℕ, List, Option, Some, true};
 ghost use Rattle.auth_keys.specs.declared.ring.RingKey.{RingKey};
+ghost use Rattle.client_core.specs.Keys.{HasKeys, Keys};
 ghost use Rattle.client_node.specs.Course.{Course, is_decided};
 ghost use Rattle.client_node.specs.Standing.{IsReading};
 ghost use Rattle.client_node.specs.Talks.{Rules};
@@ -12,6 +13,7 @@ ghost use Rattle.client_node.specs.declared.plan.Plan.{Plan};
 ghost use Rattle.client_rules.specs.Client.{Client, calls_of};
 ghost use Rattle.envelope.specs.Lock.{mt_lock};
 ghost use Rattle.statuses.specs.declared.status.Status.{Status};
+ghost use Rattle.cmd_call.specs.Keys.{keys_for};
 ghost use Rattle.cmd_call.specs.Owed.{HasCause};
 ghost use Rattle.cmd_call.specs.Reading.{reading_under};
 ghost use Rattle.cmd_call.specs.Table.{TellsBatch};
@@ -25,6 +27,11 @@ pub fn rings_read_packets()
 {
     packets_open_as_worked_out();
 }
+
+/// The keys that are found in a ring are keys of it.
+pub fn found_keys_are_there()
+    ensures { (ring : List RingKey) (key : ℕ) (perm : Option ℕ) (keys : Keys) → keys_for ring key perm ≡ Some keys → HasKeys ring keys }
+{}
 
 /// The status that tells how a batch ended has its cause in the attempts by which it ended, and comes there and nowhere else.
 pub fn statuses_have_causes<D: Draw>()

@@ -65,6 +65,24 @@ module _ {N C D P : Type 0} (options : PairOptions) (ring : List RingKey) (cours
           (λ one other was is. record { one = one; other = other; whole = refl; first = was; second = is }) before serves.0,
     )
 
+    -- it was or couldn't be
+    pub second-by : (result : Result (Holder × Batch) KidFault) → ServesBy (second_words options) result (kids_of calls counts between last)
+        → IfOk result (λ done. IsBatch ring (options.port + 1) (after_all (rules_for around.step ring) (plan_at options.port) course lost.trace.attempts) (record around { net = lost.net; clock = lost.clock; draw = lost.draw }) done.1 done.0)
+        → PairBy options ring course around (kids_of calls counts first last) result
+    second-by (Ok done) serves trace = ends-second done.0 done.1 trace serves
+    second-by (Err fault) serves trace = stops-second fault serves
+
+-- the first batch lost its connection
+pub lost-by : {N C D : Type 0} (options : PairOptions) (ring : List RingKey) (course : Course D) (around : Around N C D) (net : N) (clock : C) (draw : D) (end : Batch) (kept : Holder) → end ≡ batch.LinkLost
+    → IsBatch ring options.port course (record around { net_then = net; clock_then = clock; draw_then = draw }) end kept → LostFirst options ring course around
+lost-by options ring course around net clock draw end kept is trace = record {
+  kept = kept;
+  net = net;
+  clock = clock;
+  draw = draw;
+  trace = subst (λ (e : Batch). IsBatch ring options.port course (record around { net_then = net; clock_then = clock; draw_then = draw }) e kept) is trace;
+}
+
 -- ---- what is told
 
 module _ {D : Type 0} (law : (rules : Rules D) (plan : Plan) (course : Course D) (end : Batch) (attempts : List Attempt) → EndsBy rules plan course end attempts → (left : Client) (one : Status) (due : List ℕ)

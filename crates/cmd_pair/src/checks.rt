@@ -12,6 +12,7 @@ use crate::halt::Halt;
 use auth_keys::Ring;
 use call_script::{Script, ScriptFault, read_script};
 use client_core::OpeningClient;
+use cmd_call::laws::found_keys_are_there;
 use cmd_call::{keys_in_ring, opening, refused_call, submit_all};
 use commands::PairOptions;
 use draws::Draw;
@@ -146,6 +147,7 @@ fn client_of<D: Draw>(
     ensures given { IfOk result (IsGiven options.now script.now ring.now D.step draw.old draw.new) }
     ensures halts { IfErr result (HaltsAtCalls options.now script.now ring.now D.step draw.old draw.new) }
 {
+    found_keys_are_there();
     let Some(keys) = keys_in_ring(ring, options.key, None) else {
         return Err(Halt::Refused(Answer::new(alloc, Status::KeysRefused, b"no such key\n")?));
     };
