@@ -72,6 +72,11 @@ module _ {N C D P : Type 0} (options : PairOptions) (ring : List RingKey) (cours
     second-by (Ok done) serves trace = ends-second done.0 done.1 trace serves
     second-by (Err fault) serves trace = stops-second fault serves
 
+-- under the keys of this ring
+pub pair-as : {N C D P : Type 0} (options : PairOptions) (ring other : List RingKey) (course : Course D) (around : Around N C D) (kids : Kids P) (result : Result (Holder × Batch) KidFault) → ring ≡ other
+    → PairBy options ring course around kids result → PairBy options other course around kids result
+pair-as options ring other course around kids result same pair = subst (λ (keys : List RingKey). PairBy options keys course around kids result) same pair
+
 -- the first batch lost its connection
 pub lost-by : {N C D : Type 0} (options : PairOptions) (ring : List RingKey) (course : Course D) (around : Around N C D) (net : N) (clock : C) (draw : D) (end : Batch) (kept : Holder) → end ≡ batch.LinkLost
     → IsBatch ring options.port course (record around { net_then = net; clock_then = clock; draw_then = draw }) end kept → LostFirst options ring course around
