@@ -29,7 +29,7 @@ use Rattle.cmd_pair.specs.Batches.{OwesPair, RanPair}
 use Rattle.cmd_pair.specs.Checks.{BadFile, BadLine, NoKey, Refusal, Refuses, TooLong, Unread, Untaken, status_of, text_of}
 use Rattle.cmd_pair.specs.Runs.{IsAside, IsLawful, IsOfPair, IsRefused, IsRun, IsTold, IsUnread, PairRun}
 use Rattle.cmd_pair.specs.Servers.{Kids}
-use Rattle.cmd_pair.proofs.Reads.{always, by-bad, by-both, by-long, if-told, is-script, no-fault, by-script}
+use Rattle.cmd_pair.proofs.Readings.{always, by-bad, by-both, by-long, if-told, is-script, no-fault, by-script}
 use Rattle.cmd_pair.proofs.Spawning.{rises}
 
 -- ---- a status that is due comes, unless a write failed

@@ -1,6 +1,6 @@
 pub mod Spawning
-pub mod Batches
+pub mod Owing
 pub mod Checking
 pub mod Telling
-pub mod Reads
+pub mod Readings
 pub mod Ends
