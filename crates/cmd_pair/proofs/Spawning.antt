@@ -1,15 +1,15 @@
 -- The calls of a spawner, one part and then another.
-use Rattle.std.proofs.Common.{◌≡◌, ◌∙◌, ◌⊎◌, inl, inr, ℕ, ◌-◌, ◌^◌, ◌<◌, ◌≤◌, List, [], ◌∷◌, ◌++◌, map, Option, Some, None, Result, Ok, ap, sym, subst, refl, append_assoc, append-nil, arith}
+use Rattle.std.proofs.Common.{◌≡◌, ◌∙◌, ◌⊎◌, inl, inr, ℕ, ◌-◌, ◌^◌, ◌<◌, ◌≤◌, List, [], ◌∷◌, ◌++◌, map, Option, Some, None, Result, Ok, Err, IfOk, ap, sym, subst, refl, append_assoc, append-nil, arith}
 use Rattle.std.specs.Prelude.{IfSome, IsSomeAnd}
 use Rattle.std.proofs.lemmas.Bool.{cases_lt}
 use Rattle.mt_edge.specs.Faults.{Rose, one_more}
 use Rattle.mt_edge.specs.Kids.{MayNote}
 use Rattle.mt_edge.specs.declared.act.Act.{Act}
-use Rattle.mt_edge.specs.declared.act.Act.TheVariants.{Ready}
+use Rattle.mt_edge.specs.declared.act.Act.TheVariants.{Ready, Failed as NotDone}
 use Rattle.mt_edge.specs.declared.kid_call.KidCall.{KidCall}
 use Rattle.mt_edge.specs.declared.kid_call.KidCall.TheVariants as call
 use Rattle.mt_edge.specs.declared.spawner.Line.{Line}
-use Rattle.cmd_pair.specs.Inner.{BeginsBy, ServesBy, StopsBy, WasBegun}
+use Rattle.cmd_pair.specs.Inner.{BeginsBy, ServesBy, StopsBy, WaitsBy, WasBegun}
 use Rattle.cmd_pair.specs.Servers.{Ask, GoesOn, IsFrontOf, Kids, Made, MadeIn, ReadsLine, Starts, Waits, WasServed, ask_of, asks, kids_of}
 use Rattle.cmd_pair.specs.declared.halt.KidFault.{KidFault}
 use Rattle.cmd_pair.specs.declared.halt.KidFault.TheVariants as faults
@@ -127,22 +127,30 @@ module _ {P : Type 0} (calls : P → Option (List KidCall)) (counts : P → ℕ)
         counted ∙ ap one_more same,
       )
 
-    module _ (first middle last : P) (begun : Made (kids_of calls counts first middle) (WasBegun words)) (same : counts middle ≡ counts first) (answer : Act) where
-      -- it ended as it should
-      pub ends : {X : Type 0} (done : X) → Notes middle last (call.Wait Ready) → counts last ≡ counts middle → ServesBy words (Ok done) (kids_of calls counts first last)
-      ends done noted still = (
-        made-both (WasBegun words) (λ made. made ≡ call.Wait Ready ∷ []) (WasServed words) (calls first) (calls middle) (calls last)
-            (λ one other was is. served words one other was is) begun (made-one (call.Wait Ready) (calls middle) (calls last) noted),
-        still ∙ same,
-      )
+  -- it was waited for
+  pub waited : (first last : P) → Notes first last (call.Wait Ready) → counts last ≡ counts first → WaitsBy {X = Unit {0}} (Ok tt) (kids_of calls counts first last)
+  waited first last noted same = (made-one (call.Wait Ready) (calls first) (calls last) noted, same)
 
-      -- it didn't
-      pub unended : NotesMaybe middle last (call.Wait answer) → counts last ≡ one_more (counts middle) → StopsBy words (kids_of calls counts first last) faults.Failed
-      unended noted counted = (
-        made-both (WasBegun words) (MayBe (call.Wait answer)) (IsFrontOf (asks words)) (calls first) (calls middle) (calls last)
-            (λ one other was may. front-wait words answer one other was may) begun (made-may (call.Wait answer) (calls middle) (calls last) noted),
-        counted ∙ ap one_more same,
-      )
+  pub unwaited : (first last : P) → NotesMaybe first last (call.Wait NotDone) → counts last ≡ one_more (counts first) → WaitsBy {X = Unit {0}} (Err faults.Failed) (kids_of calls counts first last)
+  unwaited first last noted counted = (made-may (call.Wait NotDone) (calls first) (calls last) noted, counted)
+
+  module _ (words : List (List ℕ)) (first middle last : P) (begun : BeginsBy words (Ok tt) (kids_of calls counts first middle)) where
+    -- it ended
+    pub served-by : {X : Type 0} (result : Result X KidFault) → WaitsBy result (kids_of calls counts middle last) → ServesBy words result (kids_of calls counts first last)
+    served-by (Ok done) h = (
+      made-both (WasBegun words) (λ made. made ≡ call.Wait Ready ∷ []) (WasServed words) (calls first) (calls middle) (calls last) (λ one other was is. served words one other was is) begun.0 h.0,
+      h.1 ∙ begun.1,
+    )
+    served-by (Err faults.Failed) h = (
+      made-both (WasBegun words) (MayBe (call.Wait NotDone)) (IsFrontOf (asks words)) (calls first) (calls middle) (calls last) (λ one other was may. front-wait words NotDone one other was may) begun.0 h.0,
+      h.1 ∙ ap one_more begun.1,
+    )
+    served-by (Err faults.Memory) h = ap counts h ∙ begun.1
+
+-- of what ended, whatever held of it before
+pub if-same : {X E : Type 0} (P : X → Type 0) (one : X) (result : Result X E) → IfOk result (λ done. done ≡ one) → P one → IfOk result P
+if-same P one (Ok done) same h = subst P (sym same) h
+if-same P one (Err error) same h = tt
 
 -- its words are these
 pub begins-as : {P : Type 0} (words other : List (List ℕ)) (result : Result Unit KidFault) (kids : Kids P) → words ≡ other → BeginsBy words result kids → BeginsBy other result kids

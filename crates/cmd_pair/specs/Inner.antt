@@ -17,7 +17,7 @@ use Rattle.client_rules.specs.Asking.{Fault}
 use Rattle.commands.specs.declared.command.PairOptions.{PairOptions}
 use Rattle.draws.specs.Draws.{draw_after, word_after}
 use Rattle.key_files.specs.Files.{IsRefusedAt}
-use Rattle.mt_edge.specs.declared.act.Act.TheVariants.{Ready}
+use Rattle.mt_edge.specs.declared.act.Act.TheVariants.{Ready, Failed as NotDone}
 use Rattle.mt_edge.specs.declared.kid_call.KidCall.{KidCall}
 use Rattle.mt_edge.specs.declared.kid_call.KidCall.TheVariants as call
 use Rattle.mt_edge.specs.declared.spawner.Line.{Line}
@@ -116,6 +116,12 @@ BeginsBy words (Err fault) kids = StopsBy words kids fault
 abbrev pub ServesBy : {X P : Type 0} → List (List ℕ) → Result X KidFault → Kids P → Type 0
 ServesBy words (Ok done) kids = Made kids (WasServed words) × FailsNever kids
 ServesBy words (Err fault) kids = StopsBy words kids fault
+
+-- it was waited for after its batch, or memory had run out in that
+abbrev pub WaitsBy : {X P : Type 0} → Result X KidFault → Kids P → Type 0
+WaitsBy (Ok done) kids = Made kids (λ made. made ≡ call.Wait Ready ∷ []) × FailsNever kids
+WaitsBy (Err faults.Failed) kids = Made kids (λ made. (made ≡ call.Wait NotDone ∷ []) ⊎ (made ≡ [])) × FailsOnce kids
+WaitsBy (Err faults.Memory) kids = kids.after ≡ kids.before
 
 -- ---- both
 

@@ -5,16 +5,16 @@ ghost use Rattle.cmd_call.specs.Owed.{around_of};
 ghost use Rattle.client_node.specs.Course.{Course};
 ghost use Rattle.client_node.specs.Standing.{AllDecided, HasKeys, StandsAs};
 ghost use Rattle.cmd_pair.specs.Batches.{IsBatch, OwesPair};
-ghost use Rattle.cmd_pair.specs.Inner.{PairBy, ServesBy};
+ghost use Rattle.cmd_pair.specs.Inner.{PairBy, ServesBy, WaitsBy};
 ghost use Rattle.cmd_pair.specs.Servers.{kids_of, server_words};
 
 use crate::halt::KidFault;
-use crate::servers::{Server, begin, words_of};
+use crate::servers::{Server, begin};
 use auth_keys::Ring;
 use client_core::{Holder, OpeningClient};
 use client_node::{Batch, Plan, run_batch};
 use cmd_call::batch_answer;
-use cmd_call::laws::{rings_read_packets, statuses_have_causes};
+use cmd_call::laws::{batches_are_worked_out, statuses_have_causes};
 use commands::PairOptions;
 use draws::Draw;
 use envelope::MtSeal;
@@ -23,6 +23,70 @@ use octets::Memory;
 use statuses::{Answer, Status};
 use std::alloc::Global;
 use transport::Form;
+
+/// Runs a client's batch over the server on this port.
+fn run_on<N: Net, C: Clock, D: Draw>(
+    alloc: Global,
+    port: u16,
+    client: Holder,
+    seal: &MtSeal,
+    net: &mut N,
+    clock: &mut C,
+    draw: &mut D,
+) -> (Holder, Batch)
+    requires { HasKeys seal.now client }
+    ensures ran { (course : Course D) (drawn : D) → StandsAs client draw.old course → IsBatch seal.now port course
+        (around_of N.calls N.faults C.given D.step net.old net.new clock.old clock.new drawn draw.new) result.1 result.0 }
+    ensures decided { result.1 ≡ Batch.Decided → AllDecided result.0 }
+    ensures keys { HasKeys seal.now result.0 }
+{
+    batches_are_worked_out::<D>();
+    let plan = Plan {
+        port,
+        form: Form::Intermediate,
+        obfuscate: false,
+        retries: 0,
+    };
+    run_batch(alloc, client, &plan, net, seal, clock, draw)
+}
+
+/// Waits for the end of the server that was started last, where memory didn't run out in the batch over it: nothing may have
+/// been connected to then, and a server that waits for its connection never ends.
+///
+/// # Errors
+///
+/// `Failed`: it failed. `Memory`.
+fn wait_for_end<P: Spawner>(end: Batch, kids: &mut P) -> Result<(), KidFault>
+    ensures { WaitsBy result (kids_of P.calls P.faults kids.old kids.new) }
+{
+    if ran_out(end) {
+        return Err(KidFault::Memory);
+    }
+    match kids.wait() {
+        Act::Ready => Ok(()),
+        Act::Failed => Err(KidFault::Failed),
+    }
+}
+
+/// Whether memory ran out in a batch.
+fn ran_out(end: Batch) -> bool
+    ensures { IsTrue result ↔ (end ≡ Batch.Memory) }
+{
+    matches!(end, Batch::Memory)
+}
+
+/// A batch, once its server has ended.
+///
+/// # Errors
+///
+/// `Failed`: the wait failed. `Memory`.
+fn ended<P: Spawner>(batch: (Holder, Batch), kids: &mut P) -> Result<(Holder, Batch), KidFault>
+    ensures waits { WaitsBy result (kids_of P.calls P.faults kids.old kids.new) }
+    ensures same { IfOk result (λ done. done ≡ batch) }
+{
+    wait_for_end(batch.1, kids)?;
+    Ok(batch)
+}
 
 /// Starts a server, runs a client's batch over it, and waits for the server's end.
 ///
@@ -46,31 +110,9 @@ fn over_server<P: Spawner, N: Net, C: Clock, D: Draw>(
     ensures decided { IfOk result (λ done. done.1 ≡ Batch.Decided → AllDecided done.0) }
     ensures keys { IfOk result (λ done. HasKeys seal.now done.0) }
 {
-    rings_read_packets();
-    let words = words_of(alloc, server)?;
-    begin(alloc, words.as_slice(), kids)?;
-    let plan = Plan {
-        port: server.port,
-        form: Form::Intermediate,
-        obfuscate: false,
-        retries: 0,
-    };
-    let (client, end) = run_batch(alloc, client, &plan, net, seal, clock, draw);
-    // (then nothing may have been connected to, and a server that waits for its connection never ends)
-    if ran_out(end) {
-        return Err(KidFault::Memory);
-    }
-    match kids.wait() {
-        Act::Ready => Ok((client, end)),
-        Act::Failed => Err(KidFault::Failed),
-    }
-}
-
-/// Whether memory ran out in a batch.
-fn ran_out(end: Batch) -> bool
-    ensures { IsTrue result ↔ (end ≡ Batch.Memory) }
-{
-    matches!(end, Batch::Memory)
+    begin(alloc, server, kids)?;
+    let batch = run_on(alloc, server.port, client, seal, net, clock, draw);
+    ended(batch, kids)
 }
 
 /// Runs a client's batch over a server that stops, and, where that loses its connection, goes on with the client over a

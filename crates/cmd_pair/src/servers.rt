@@ -26,7 +26,7 @@ pub(crate) struct Server<'a> {
 /// # Errors
 ///
 /// `Memory`.
-pub(crate) fn words_of(alloc: Global, server: &Server<'_>) -> Result<Vec<String>, Memory>
+fn words_of(alloc: Global, server: &Server<'_>) -> Result<Vec<String>, Memory>
     ensures { IfOk result (λ words. map string_bytes words.items ≡ server_words server.now.keys.now server.now.port server.now.stop_after) }
 {
     let mut buffer = Buffer::new();
@@ -54,16 +54,28 @@ fn push_word(alloc: Global, words: &mut Vec<String>, text: &str) -> Result<(), M
     Ok(())
 }
 
-/// Starts a server with these words, and reads one line of it.
+/// Starts a server, and reads one line of it.
 ///
 /// # Errors
 ///
 /// `Failed`: a call of the spawner failed. `Memory`.
 pub(crate) fn begin<P: Spawner>(
     alloc: Global,
-    words: &[String],
+    server: &Server<'_>,
     kids: &mut P,
 ) -> Result<(), KidFault>
+    ensures { BeginsBy (server_words server.now.keys.now server.now.port server.now.stop_after) result (kids_of P.calls P.faults kids.old kids.new) }
+{
+    let words = words_of(alloc, server)?;
+    start(alloc, words.as_slice(), kids)
+}
+
+/// Starts a server with these words, and reads one line of it.
+///
+/// # Errors
+///
+/// `Failed`: a call of the spawner failed. `Memory`.
+fn start<P: Spawner>(alloc: Global, words: &[String], kids: &mut P) -> Result<(), KidFault>
     ensures { BeginsBy (map string_bytes words.now) result (kids_of P.calls P.faults kids.old kids.new) }
 {
     match kids.start(words) {

@@ -1,34 +1,25 @@
-use Rattle.std.proofs.Common.{◌≡◌, ◌∙◌, List, ℕ, Ok, Err, map, ap}
-use Rattle.std.specs.Prelude.{string_bytes}
-use Rattle.cmd_call.specs.Reading.{reading_under}
-use Rattle.cmd_pair.specs.Servers.{kids_of, server_words}
-use Rattle.cmd_pair.proofs.Spawning.{begins-as, ends, unended}
+use Rattle.std.proofs.Common.{◌≡◌}
+use Rattle.client_core.specs.declared.holder.Holder.{Holder}
+use Rattle.client_node.specs.Standing.{AllDecided, HasKeys}
+use Rattle.client_node.specs.declared.plan.Batch.{Batch}
+use Rattle.client_node.specs.declared.plan.Batch.TheVariants as batch
+use Rattle.cmd_call.specs.Owed.{around_of}
+use Rattle.cmd_pair.specs.Batches.{IsBatch}
+use Rattle.cmd_pair.specs.Servers.{server_words}
+use Rattle.cmd_pair.proofs.Spawning.{if-same, served-by}
 use Rattle.cmd_pair.proofs.batches.over_server.Goals as goal
 
-pub returns-in_err-begin-clause-spawns : goal.returns-in_err-begin-clause-spawns
-returns-in_err-begin-clause-spawns g c =
-    let own = server_words c.args.server.now.keys.now c.args.server.now.port c.args.server.now.stop_after in
-    let same = ap (map string_bytes) c.as_slice.ensures.value ∙ c.in_ok-words.ensures in
-    rw c.from_residual-in_err-begin.ensures
-    (begins-as (map string_bytes c.as_slice.result.now) own (Err c.in_err-begin.error) (kids_of g.P.Spawner.calls g.P.Spawner.faults c.args.kids.now c.begin.new.kids) same c.in_err-begin.ensures)
+pub returns-clause-spawns : goal.returns-clause-spawns
+returns-clause-spawns g c =
+    served-by g.P.Spawner.calls g.P.Spawner.faults (server_words c.args.server.now.keys.now c.args.server.now.port c.args.server.now.stop_after) c.args.kids.now c.begin.new.kids c.ended.new.kids c.in_ok-begin.ensures c.ended.result c.ended.ensures.waits
 
-pub returns-then-ran_out-clause-spawns : goal.returns-then-ran_out-clause-spawns
-returns-then-ran_out-clause-spawns g c = c.in_ok-begin.ensures.1
+pub returns-clause-ran : goal.returns-clause-ran
+returns-clause-ran g c course drawn stands =
+    let around = around_of g.N.Net.calls g.N.Net.faults g.C.Clock.given g.D.Draw.step c.args.net.now c.run_on-batch.new.net c.args.clock.now c.run_on-batch.new.clock drawn c.run_on-batch.new.draw in
+    if-same (λ (done : Holder × Batch). IsBatch c.args.seal.now c.args.server.now.port course around done.1 done.0) c.run_on-batch.result c.ended.result c.ended.ensures.same (c.run_on-batch.ensures.ran course drawn stands)
 
-pub returns-in-Ready-clause-spawns : goal.returns-in-Ready-clause-spawns
-returns-in-Ready-clause-spawns g c =
-    let own = server_words c.args.server.now.keys.now c.args.server.now.port c.args.server.now.stop_after in
-    let same = ap (map string_bytes) c.as_slice.ensures.value ∙ c.in_ok-words.ensures in
-    let begun = begins-as (map string_bytes c.as_slice.result.now) own (Ok tt) (kids_of g.P.Spawner.calls g.P.Spawner.faults c.args.kids.now c.begin.new.kids) same c.in_ok-begin.ensures in
-    ends g.P.Spawner.calls g.P.Spawner.faults own c.args.kids.now c.begin.new.kids c.wait.new.self begun.0 begun.1 Ready _ c.in-Ready.ensures.told c.in-Ready.ensures.counted
+pub returns-clause-decided : goal.returns-clause-decided
+returns-clause-decided g c = if-same (λ (done : Holder × Batch). done.1 ≡ batch.Decided → AllDecided done.0) c.run_on-batch.result c.ended.result c.ended.ensures.same c.run_on-batch.ensures.decided
 
-pub returns-in-Failed-clause-spawns : goal.returns-in-Failed-clause-spawns
-returns-in-Failed-clause-spawns g c =
-    let own = server_words c.args.server.now.keys.now c.args.server.now.port c.args.server.now.stop_after in
-    let same = ap (map string_bytes) c.as_slice.ensures.value ∙ c.in_ok-words.ensures in
-    let begun = begins-as (map string_bytes c.as_slice.result.now) own (Ok tt) (kids_of g.P.Spawner.calls g.P.Spawner.faults c.args.kids.now c.begin.new.kids) same c.in_ok-begin.ensures in
-    unended g.P.Spawner.calls g.P.Spawner.faults own c.args.kids.now c.begin.new.kids c.wait.new.self begun.0 begun.1 Failed c.in-Failed.ensures.told c.in-Failed.ensures.counted
-
-pub returns-in-Ready-clause-ran : goal.returns-in-Ready-clause-ran
-returns-in-Ready-clause-ran g c course drawn stands =
-    c.run_batch-client.ensures.trace course (reading_under c.args.seal.now) (c.rings_read_packets.ensures c.args.seal.now) stands
+pub returns-clause-keys : goal.returns-clause-keys
+returns-clause-keys g c = if-same (λ (done : Holder × Batch). HasKeys c.args.seal.now done.0) c.run_on-batch.result c.ended.result c.ended.ensures.same c.run_on-batch.ensures.keys
