@@ -110,6 +110,7 @@ module _ {D : Type 0} (law : (rules : Rules D) (plan : Plan) (course : Course D)
   module _ {N C P : Type 0} (options : PairOptions) (ring : List RingKey) (course : Course D) (around : Around N C D) (kids : Kids P) (kept : Holder) (end : Batch) (decided : end ≡ batch.Decided → AllDecided kept) where
     owes : (one : Status) (due : List ℕ) → PairBy options ring course around kids (Ok (kept, end)) → ((whole : Client) → StandsFor kept whole → TellsBatch end (calls_of whole) one due)
         → OwesPair options ring course around kids one due
+    unfolding last-batch
     owes one due (inl h) told =
         let so = told (after_all (rules_for around.step ring) (plan_at options.port) course h.0.attempts).client h.0.stands.client in
         inl (inl (record { last = last-batch ring options.port course around end kept h.0 one due decided so; not_lost = h.1; children = h.2 }))

@@ -24,5 +24,5 @@ pub returns-in_ok-refused_call-in-Err-clause-halts : goal.returns-in_ok-refused_
 returns-in_ok-refused_call-in-Err-clause-halts g c =
     let keys = keys_of c.in-Some.keys in
     let first = client_under keys (word_after g.D.Draw.step 0 c.args.draw.now) in
-    untaken-by c.args.options.now c.args.script.now c.args.ring.now g.D.Draw.step c.args.draw.now c.opening.new.draw keys c.in-Err.untaken.line (fault_of c.in-Err.untaken.fault) c.in_ok-refused_call-in-Err.value (sym c.in-Some.ensures.keys)
+    untaken-by c.args.options.now c.args.script.now c.args.ring.now g.D.Draw.step c.args.draw.now c.opening.new.draw keys c.in-Err.untaken.line (fault_of c.in-Err.untaken.fault) c.in_ok-refused_call-in-Err.field-0 (sym c.in-Some.ensures.keys)
     c.in_ok-client.ensures.after (c.in-Err.ensures.told first c.in_ok-client.ensures.stands refl) c.in_ok-refused_call-in-Err.ensures

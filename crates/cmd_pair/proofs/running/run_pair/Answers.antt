@@ -23,9 +23,9 @@ returns-in-Err-Refused g c =
     let files = files_of g.F.KeyFiles.told g.F.KeyFiles.faults c.args.files.now c.answer.new.files in
     let kids = kids_of g.P.Spawner.calls g.P.Spawner.faults c.args.kids.now c.answer.new.kids in
     let input : Outside g.row.S.Denot = record { told = g.S.Source.left; faults = g.S.Source.faults; before = c.args.input.now; after = c.answer.new.input } in
-    let out : Outside g.row.O.Denot = record { told = g.O.Sink.written; faults = g.O.Sink.faults; before = c.args.out.now; after = c.tell-2.new.out } in
-    pair-run c.args.options.now input out files around kids c.tell-2.result c.one_reading.ensures.calls c.one_reading.ensures.not_both c.one_reading-2.ensures.ring c.one_reading-2.ensures.no_fault
-    (refused-told c.args.options.now input out files around kids c.tell-2.result c.in-Err-Refused.answer c.in-Err-Refused.ensures.halts c.tell-2.ensures) c.answer.ensures.asked
+    let out : Outside g.row.O.Denot = record { told = g.O.Sink.written; faults = g.O.Sink.faults; before = c.args.out.now; after = c.tell-in-Err-Refused.new.out } in
+    pair-run c.args.options.now input out files around kids c.tell-in-Err-Refused.result c.one_reading.ensures.calls c.one_reading.ensures.not_both c.one_reading-2.ensures.ring c.one_reading-2.ensures.no_fault
+    (refused-told c.args.options.now input out files around kids c.tell-in-Err-Refused.result c.in-Err-Refused.answer (rw c.in-Err-Refused.field-0-is at c.in-Err-Refused.ensures.halts) c.tell-in-Err-Refused.ensures) c.answer.ensures.asked
 
 pub returns-in-Err-ReadFault : goal.returns-in-Err-ReadFault
 returns-in-Err-ReadFault g c =
@@ -35,7 +35,7 @@ returns-in-Err-ReadFault g c =
     let input : Outside g.row.S.Denot = record { told = g.S.Source.left; faults = g.S.Source.faults; before = c.args.input.now; after = c.answer.new.input } in
     let out : Outside g.row.O.Denot = record { told = g.O.Sink.written; faults = g.O.Sink.faults; before = c.args.out.now; after = c.args.out.now } in
     pair-run c.args.options.now input out files around kids status.ReadFault c.one_reading.ensures.calls c.one_reading.ensures.not_both c.one_reading-2.ensures.ring c.one_reading-2.ensures.no_fault
-    (unread-told c.args.options.now input out files around kids status.ReadFault c.in-Err-ReadFault.ensures.halts refl refl) c.answer.ensures.asked
+    (unread-told c.args.options.now input out files around kids status.ReadFault (rw c.in-Err-ReadFault.field-0-is at c.in-Err-ReadFault.ensures.halts) refl refl) c.answer.ensures.asked
 
 pub returns-in-Err-Memory : goal.returns-in-Err-Memory
 returns-in-Err-Memory g c =
