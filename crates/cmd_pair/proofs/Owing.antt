@@ -78,7 +78,7 @@ pub pair-as : {N C D P : Type 0} (options : PairOptions) (ring other : List Ring
 pair-as options ring other course around kids result same pair = subst (λ (keys : List RingKey). PairBy options keys course around kids result) same pair
 
 -- the first batch lost its connection
-pub lost-by : {N C D : Type 0} (options : PairOptions) (ring : List RingKey) (course : Course D) (around : Around N C D) (net : N) (clock : C) (draw : D) (end : Batch) (kept : Holder) → end ≡ batch.LinkLost
+abbrev pub lost-by : {N C D : Type 0} (options : PairOptions) (ring : List RingKey) (course : Course D) (around : Around N C D) (net : N) (clock : C) (draw : D) (end : Batch) (kept : Holder) → end ≡ batch.LinkLost
     → IsBatch ring options.port course (record around { net_then = net; clock_then = clock; draw_then = draw }) end kept → LostFirst options ring course around
 lost-by options ring course around net clock draw end kept is trace = record {
   kept = kept;

@@ -17,7 +17,7 @@ returns-in_err-client-clause-halts g c =
     let input : Outside g.row.S.Denot = record { told = g.S.Source.left; faults = g.S.Source.faults; before = c.args.input.now; after = c.take.new.input } in
     let p = err_from_is_err_and c.from_residual.result c.from_residual.ensures.1 in
     rw (p.1, p.2)
-    (halts-run c.args.options.now input files around kids (record { net = refl; clock = refl; kids_stay = refl }) c.in_err-client.error c.in_err-client.ensures.halts)
+    (halts-run c.args.options.now input files around kids (record { net = refl; clock = refl; kids_stay = refl }) c.in_err-client.field-0.0 c.in_err-client.ensures.halts)
 
 pub returns-clause-owed : goal.returns-clause-owed
 returns-clause-owed g c =
