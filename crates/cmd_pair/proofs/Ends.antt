@@ -1,5 +1,5 @@
 -- What a run promises, by what is owed and by what was written.
-use Rattle.std.proofs.Common.{◌≡◌, ◌∙◌, ◌⊎◌, inl, inr, ℕ, Bool, true, false, List, Option, Some, None, sym, subst, refl}
+use Rattle.std.proofs.Common.{◌≡◌, ◌∙◌, ◌⊎◌, inl, inr, ℕ, Bool, true, false, List, Some, None, sym, subst, refl}
 use Rattle.auth_keys.specs.KeyFile.{IsFaultOf, IsRingOf}
 use Rattle.auth_keys.specs.declared.fault.KeyFault.{KeyFault}
 use Rattle.auth_keys.specs.declared.fault.KeyFault.TheVariants as faults
@@ -21,13 +21,13 @@ use Rattle.client_rules.specs.Client.{calls_of}
 use Rattle.commands.specs.declared.command.PairOptions.{PairOptions}
 use Rattle.key_files.specs.Files.{IsRefusedAt}
 use Rattle.mt_edge.specs.Faults.{Rose}
-use Rattle.statuses.specs.Outside.{HadFault, IfTold, IsUntouched, Outside, Tells, Writes}
+use Rattle.statuses.specs.Outside.{IfTold, Outside, Tells, Writes}
 use Rattle.statuses.specs.Statuses.{UnlessFault}
 use Rattle.statuses.specs.declared.status.Status.{Status}
 use Rattle.statuses.specs.declared.status.Status.TheVariants as status
 use Rattle.cmd_pair.specs.Batches.{OwesPair, RanPair}
 use Rattle.cmd_pair.specs.Checks.{BadFile, BadLine, NoKey, Refusal, Refuses, TooLong, Unread, Untaken, status_of, text_of}
-use Rattle.cmd_pair.specs.Runs.{IsAside, IsLawful, IsOfPair, IsRefused, IsRun, IsTold, IsUnread, PairRun}
+use Rattle.cmd_pair.specs.Runs.{IsLawful, IsOfPair, IsTold, IsUnread, PairRun}
 use Rattle.cmd_pair.specs.Servers.{Kids}
 use Rattle.cmd_pair.proofs.Readings.{always, by-bad, by-both, by-long, if-told, is-script, no-fault, by-script}
 use Rattle.cmd_pair.proofs.Spawning.{rises}

@@ -1,9 +1,8 @@
 -- What came of the batches, and what is told of it.
-use Rattle.std.proofs.Common.{◌≡◌, ◌≢◌, ◌∙◌, inl, inr, ℕ, ◌+◌, Bool, true, false, List, Option, Result, Ok, Err, IfOk, codes, ap, sym, subst, refl}
+use Rattle.std.proofs.Common.{◌≡◌, ◌∙◌, inl, inr, ℕ, ◌+◌, true, List, Option, Result, Ok, Err, IfOk, codes, ap, subst, refl}
 use Rattle.auth_keys.specs.declared.ring.RingKey.{RingKey}
-use Rattle.call_table.specs.Table.{Call}
 use Rattle.cmd_call.specs.Owed.{Around, HasCause}
-use Rattle.cmd_call.specs.Table.{TellsBatch, are_done, decided_status}
+use Rattle.cmd_call.specs.Table.{TellsBatch}
 use Rattle.client_core.specs.declared.holder.Holder.{Holder}
 use Rattle.client_node.specs.Course.{Course, is_decided}
 use Rattle.client_node.specs.Standing.{AllDecided, StandsFor}
@@ -22,7 +21,7 @@ use Rattle.statuses.specs.declared.status.Status.{Status}
 use Rattle.statuses.specs.declared.status.Status.TheVariants as status
 use Rattle.cmd_pair.specs.Batches.{IsBatch, LastBatch, LostFirst, OwesPair, plan_at, rules_for}
 use Rattle.cmd_pair.specs.Inner.{PairBy, ServesBy, StopsBy}
-use Rattle.cmd_pair.specs.Servers.{AreBoth, FailsNever, FailsOnce, IsFrontOf, IsSecondFront, Kids, Made, WasServed, asks, first_words, kids_of, second_words}
+use Rattle.cmd_pair.specs.Servers.{AreBoth, FailsNever, IsFrontOf, IsSecondFront, Kids, Made, WasServed, asks, first_words, kids_of, second_words}
 use Rattle.cmd_pair.specs.declared.halt.KidFault.{KidFault}
 use Rattle.cmd_pair.specs.declared.halt.KidFault.TheVariants as faults
 use Rattle.cmd_pair.proofs.Spawning.{made-both}

@@ -10,7 +10,7 @@ use Rattle.mt_edge.specs.declared.kid_call.KidCall.{KidCall}
 use Rattle.mt_edge.specs.declared.kid_call.KidCall.TheVariants as call
 use Rattle.mt_edge.specs.declared.spawner.Line.{Line}
 use Rattle.cmd_pair.specs.Inner.{BeginsBy, ServesBy, StopsBy, WaitsBy, WasBegun}
-use Rattle.cmd_pair.specs.Servers.{Ask, GoesOn, IsFrontOf, Kids, Made, MadeIn, ReadsLine, Starts, Waits, WasServed, ask_of, asks, kids_of}
+use Rattle.cmd_pair.specs.Servers.{Ask, GoesOn, IsFrontOf, Kids, MadeIn, ReadsLine, Waits, WasServed, ask_of, asks, kids_of}
 use Rattle.cmd_pair.specs.declared.halt.KidFault.{KidFault}
 use Rattle.cmd_pair.specs.declared.halt.KidFault.TheVariants as faults
 

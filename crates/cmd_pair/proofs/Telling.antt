@@ -1,5 +1,5 @@
 -- What a run tells, by what is owed before it is written.
-use Rattle.std.proofs.Common.{◌≡◌, inl, inr, ℕ, List, sym, subst}
+use Rattle.std.proofs.Common.{◌≡◌, inl, inr, ℕ, List, subst}
 use Rattle.cmd_call.specs.Owed.{Around, Files}
 use Rattle.commands.specs.declared.command.PairOptions.{PairOptions}
 use Rattle.statuses.specs.Outside.{IsUntouched, Outside, Tells}

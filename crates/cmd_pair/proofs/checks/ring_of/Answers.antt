@@ -1,7 +1,5 @@
-use Rattle.std.proofs.Common.{inl, inr}
 use Rattle.cmd_call.specs.Owed.{files_of}
-use Rattle.cmd_pair.proofs.Checking.{asked-by, gave-by}
-use Rattle.cmd_pair.proofs.Spawning.{rises}
+use Rattle.cmd_pair.proofs.Checking.{gave-by}
 use Rattle.cmd_pair.proofs.checks.ring_of.Goals as goal
 
 pub returns-in-Ok-clause-ring : goal.returns-in-Ok-clause-ring

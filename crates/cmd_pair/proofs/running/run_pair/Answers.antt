@@ -1,4 +1,4 @@
-use Rattle.std.proofs.Common.{inl, inr, refl}
+use Rattle.std.proofs.Common.{inr, refl}
 use Rattle.cmd_call.specs.Owed.{around_of, files_of}
 use Rattle.statuses.specs.Outside.{Outside}
 use Rattle.statuses.specs.declared.status.Status.TheVariants as status

@@ -1,8 +1,7 @@
 use Rattle.std.proofs.Common.{map}
 use Rattle.std.specs.Prelude.{string_bytes}
 use Rattle.mt_edge.specs.declared.act.Act.TheVariants.{Failed}
-use Rattle.mt_edge.specs.declared.spawner.Line.TheVariants as line
-use Rattle.cmd_pair.proofs.Spawning.{begins, unread, unstarted}
+use Rattle.cmd_pair.proofs.Spawning.{unstarted}
 use Rattle.cmd_pair.proofs.servers.start.Goals as goal
 
 pub returns-in-Failed : goal.returns-in-Failed
