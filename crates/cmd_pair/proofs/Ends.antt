@@ -1,5 +1,5 @@
 -- What a run promises, by what is owed and by what was written.
-use Rattle.std.proofs.Common.{◌≡◌, ◌∙◌, ◌⊎◌, inl, inr, ℕ, Bool, true, false, List, Option, Some, None, sym, subst, refl}
+use Rattle.std.proofs.Common.{◌≡◌, ◌∙◌, ◌⊎◌, inl, inr, ℕ, Bool, true, false, List, Some, None, sym, subst, refl}
 use Rattle.auth_keys.specs.KeyFile.{IsFaultOf, IsRingOf}
 use Rattle.auth_keys.specs.declared.fault.KeyFault.{KeyFault}
 use Rattle.auth_keys.specs.declared.fault.KeyFault.TheVariants as faults
@@ -21,15 +21,15 @@ use Rattle.client_rules.specs.Client.{calls_of}
 use Rattle.commands.specs.declared.command.PairOptions.{PairOptions}
 use Rattle.key_files.specs.Files.{IsRefusedAt}
 use Rattle.mt_edge.specs.Faults.{Rose}
-use Rattle.statuses.specs.Outside.{HadFault, IfTold, IsUntouched, Outside, Tells, Writes}
+use Rattle.statuses.specs.Outside.{IfTold, Outside, Tells, Writes}
 use Rattle.statuses.specs.Statuses.{UnlessFault}
 use Rattle.statuses.specs.declared.status.Status.{Status}
 use Rattle.statuses.specs.declared.status.Status.TheVariants as status
 use Rattle.cmd_pair.specs.Batches.{OwesPair, RanPair}
 use Rattle.cmd_pair.specs.Checks.{BadFile, BadLine, NoKey, Refusal, Refuses, TooLong, Unread, Untaken, status_of, text_of}
-use Rattle.cmd_pair.specs.Runs.{IsAside, IsLawful, IsRefused, IsRun, IsTold, IsUnread, PairRun}
+use Rattle.cmd_pair.specs.Runs.{IsLawful, IsOfPair, IsTold, IsUnread, PairRun}
 use Rattle.cmd_pair.specs.Servers.{Kids}
-use Rattle.cmd_pair.proofs.Reads.{always, by-bad, by-both, by-long, if-told, is-script, no-fault, by-script}
+use Rattle.cmd_pair.proofs.Readings.{always, by-bad, by-both, by-long, if-told, is-script, no-fault, by-script}
 use Rattle.cmd_pair.proofs.Spawning.{rises}
 
 -- ---- a status that is due comes, unless a write failed
@@ -41,6 +41,32 @@ unless out said one due want (inr h) is = inr (inr (inl h.0))
 unless-read : {O F : Type 0} (out : Outside O) (files : Files F) (said one : Status) (due : List ℕ) (want : Status) → Tells out said due one → said ≡ status.KeysRefused → FileFault files → UnlessNotRead files one want
 unless-read out files said one due want (inl h) is fault = inr (h.0 ∙ is, fault)
 unless-read out files said one due want (inr h) is fault = inl (inr (inr (inl h.0)))
+
+-- ---- by what it ends
+
+written-of : {O : Type 0} (out : Outside O) (said one : Status) (due : List ℕ) → IsOfPair said → Tells out said due one
+    → IsOfPair one ⊎ (one ≡ status.ReadFault) ⊎ (one ≡ status.WriteFault) ⊎ (one ≡ status.Memory)
+written-of out said one due of (inl h) = inl (subst (λ (s : Status). IsOfPair s) (sym h.0) of)
+written-of out said one due of (inr h) = inr (inr (inl h.0))
+
+refused-of : (refusal : Refusal) → IsOfPair (status_of refusal)
+refused-of TooLong = inl (inr (inl refl))
+refused-of (BadLine line) = inl (inr (inl refl))
+refused-of Unread = inl (inr (inr (inl refl)))
+refused-of (BadFile line) = inl (inr (inr (inl refl)))
+refused-of NoKey = inl (inr (inr (inl refl)))
+refused-of (Untaken line fault) = inl (inr (inl refl))
+
+decided-of : (all : Bool) → IsOfPair (decided_status all)
+decided-of true = inl (inl refl)
+decided-of false = inl (inr (inr (inr (inl refl))))
+
+batch-of : (end : Batch) (calls : List Call) (one : Status) (due : List ℕ) → TellsBatch end calls one due → IsOfPair one
+batch-of batch.Decided calls one due told = subst (λ (s : Status). IsOfPair s) (sym told.0) (decided-of (are_done calls))
+batch-of batch.LinkLost calls one due told = inl (inr (inr (inr (inr (inl told.0)))))
+batch-of batch.TurnsSpent calls one due told = inl (inr (inr (inr (inr (inr (inl told.0))))))
+batch-of batch.Spent calls one due told = inl (inr (inr (inr (inr (inr (inr told.0))))))
+batch-of batch.Memory calls one due told = absurd told
 
 -- it isn't a child fault
 no-child : {O : Type 0} (out : Outside O) (said one : Status) (due : List ℕ) → Tells out said due one → (said ≡ status.NotListening → ⊥) → one ≡ status.NotListening → ⊥
@@ -70,6 +96,17 @@ module _ {S O F N C D P : Type 0} (options : PairOptions) (input : Outside S) (o
   pair-no-child : (ring : List RingKey) (course : Course D) (said : Status) (due : List ℕ) → RanPair options ring course around kids said due → said ≡ status.NotListening → ⊥
   pair-no-child ring course said due (inl h) is = batch-no-child h.last.end (calls_of h.last.left) said due h.last.told is
   pair-no-child ring course said due (inr h) is = batch-no-child h.last.end (calls_of h.last.left) said due h.last.told is
+
+  owed-of : (ring : List RingKey) (course : Course D) (said : Status) (due : List ℕ) → OwesPair options ring course around kids said due → IsOfPair said
+  owed-of ring course said due (inl (inl h)) = batch-of h.last.end (calls_of h.last.left) said due h.last.told
+  owed-of ring course said due (inl (inr h)) = batch-of h.last.end (calls_of h.last.left) said due h.last.told
+  owed-of ring course said due (inr h) = inr h.said
+
+  ends-by : IsTold options input out files around kids one → IsOfPair one ⊎ (one ≡ status.ReadFault) ⊎ (one ≡ status.WriteFault) ⊎ (one ≡ status.Memory)
+  ends-by (inl h) = written-of out (status_of h.refusal) one (text_of h.refusal) (refused-of h.refusal) h.tells
+  ends-by (inr (inl h)) = written-of out h.said one h.due (owed-of h.ring (begins h.keys h.calls around) h.said h.due h.owed) h.tells
+  ends-by (inr (inr (inl h))) = inr (inl h.said)
+  ends-by (inr (inr (inr h))) = inr (inr (inr h.0))
 
   child-by : (ring : List RingKey) (course : Course D) (said : Status) (due : List ℕ) → OwesPair options ring course around kids said due → Tells out said due one
       → one ≡ status.NotListening → Rose (kids.faults kids.before) (kids.faults kids.after)
@@ -248,6 +285,7 @@ module _ {S O F N C D P : Type 0} (options : PairOptions) (input : Outside S) (o
 
     pub pair-run : IsTold options input out files around kids one → (AskedFor options.keys files ⊎ (files.after ≡ files.before)) → PairRun options input out files around kids one
     pair-run told asked = record {
+      ends = ends-by told;
       told = told;
       asked = asked;
       child_fault = child-fault told;

@@ -1,4 +1,6 @@
 pub mod Spawning
-pub mod Batches
-pub mod Reads
+pub mod Owing
+pub mod Checking
+pub mod Telling
+pub mod Readings
 pub mod Ends

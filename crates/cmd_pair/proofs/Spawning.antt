@@ -1,16 +1,18 @@
 -- The calls of a spawner, one part and then another.
-use Rattle.std.proofs.Common.{◌≡◌, ◌∙◌, ◌⊎◌, inl, inr, ℕ, ◌-◌, ◌^◌, ◌<◌, ◌≤◌, List, [], ◌∷◌, ◌++◌, map, Option, Some, None, ap, sym, refl, append_assoc, append-nil, arith}
+use Rattle.std.proofs.Common.{◌≡◌, ◌∙◌, ◌⊎◌, inl, inr, ℕ, ◌-◌, ◌^◌, ◌<◌, ◌≤◌, List, [], ◌∷◌, ◌++◌, map, Option, Some, None, Result, Ok, Err, IfOk, ap, sym, subst, refl, append_assoc, append-nil, arith}
 use Rattle.std.specs.Prelude.{IfSome, IsSomeAnd}
 use Rattle.std.proofs.lemmas.Bool.{cases_lt}
 use Rattle.mt_edge.specs.Faults.{Rose, one_more}
 use Rattle.mt_edge.specs.Kids.{MayNote}
 use Rattle.mt_edge.specs.declared.act.Act.{Act}
-use Rattle.mt_edge.specs.declared.act.Act.TheVariants.{Ready}
+use Rattle.mt_edge.specs.declared.act.Act.TheVariants.{Ready, Failed as NotDone}
 use Rattle.mt_edge.specs.declared.kid_call.KidCall.{KidCall}
 use Rattle.mt_edge.specs.declared.kid_call.KidCall.TheVariants as call
 use Rattle.mt_edge.specs.declared.spawner.Line.{Line}
-use Rattle.cmd_pair.specs.Inner.{WasBegun}
-use Rattle.cmd_pair.specs.Servers.{Ask, GoesOn, IsFrontOf, MadeIn, ReadsLine, Starts, Waits, WasServed, ask_of, asks}
+use Rattle.cmd_pair.specs.Inner.{BeginsBy, ServesBy, StopsBy, WaitsBy, WasBegun}
+use Rattle.cmd_pair.specs.Servers.{Ask, GoesOn, IsFrontOf, Kids, MadeIn, ReadsLine, Waits, WasServed, ask_of, asks, kids_of}
+use Rattle.cmd_pair.specs.declared.halt.KidFault.{KidFault}
+use Rattle.cmd_pair.specs.declared.halt.KidFault.TheVariants as faults
 
 -- ---- what is told, in parts
 
@@ -89,6 +91,73 @@ module _ (words : List (List ℕ)) where
     goes_on = was.goes_on;
     are = ap (λ (calls : List KidCall). calls ++ other) was.are ∙ ap (λ (calls : List KidCall). call.Start words Ready ∷ call.Line was.line ∷ calls) waited;
   }
+
+-- ---- a server
+
+module _ {P : Type 0} (calls : P → Option (List KidCall)) (counts : P → ℕ) where
+  -- a call was noted between these, or may have been
+  abbrev Notes : P → P → KidCall → Type 0
+  Notes first last one = IfSome (calls first) (λ before. IsSomeAnd (calls last) (λ after. after ≡ before ++ one ∷ []))
+
+  abbrev NotesMaybe : P → P → KidCall → Type 0
+  NotesMaybe first last one = IfSome (calls first) (λ before. IsSomeAnd (calls last) (λ after. MayNote one before after))
+
+  module _ (words : List (List ℕ)) where
+    -- the start failed
+    pub unstarted : (first last : P) (answer : Act) → NotesMaybe first last (call.Start words answer) → counts last ≡ one_more (counts first) → StopsBy words (kids_of calls counts first last) faults.Failed
+    unstarted first last answer noted counted = (
+      made-as (MayBe (call.Start words answer)) (IsFrontOf (asks words)) (calls first) (calls last) (front-start words answer) (made-may (call.Start words answer) (calls first) (calls last) noted),
+      counted,
+    )
+
+    module _ (first middle last : P) (start : Notes first middle (call.Start words Ready)) (same : counts middle ≡ counts first) (line : Line) where
+      -- it was started, and its line was read
+      pub begins : GoesOn line → Notes middle last (call.Line line) → counts last ≡ counts middle → BeginsBy words (Ok tt) (kids_of calls counts first last)
+      begins goes read still = (
+        made-both (λ made. made ≡ call.Start words Ready ∷ []) (λ made. made ≡ call.Line line ∷ []) (WasBegun words) (calls first) (calls middle) (calls last)
+            (λ one other was is. begun words line one other goes was is) (made-one (call.Start words Ready) (calls first) (calls middle) start) (made-one (call.Line line) (calls middle) (calls last) read),
+        still ∙ same,
+      )
+
+      -- it was started, and its line wasn't
+      pub unread : NotesMaybe middle last (call.Line line) → counts last ≡ one_more (counts middle) → StopsBy words (kids_of calls counts first last) faults.Failed
+      unread noted counted = (
+        made-both (λ made. made ≡ call.Start words Ready ∷ []) (MayBe (call.Line line)) (IsFrontOf (asks words)) (calls first) (calls middle) (calls last)
+            (λ one other was may. front-line words line one other was may) (made-one (call.Start words Ready) (calls first) (calls middle) start) (made-may (call.Line line) (calls middle) (calls last) noted),
+        counted ∙ ap one_more same,
+      )
+
+  -- it was waited for
+  pub waited : (first last : P) → Notes first last (call.Wait Ready) → counts last ≡ counts first → WaitsBy {X = Unit {0}} (Ok tt) (kids_of calls counts first last)
+  waited first last noted same = (made-one (call.Wait Ready) (calls first) (calls last) noted, same)
+
+  pub unwaited : (first last : P) → NotesMaybe first last (call.Wait NotDone) → counts last ≡ one_more (counts first) → WaitsBy {X = Unit {0}} (Err faults.Failed) (kids_of calls counts first last)
+  unwaited first last noted counted = (made-may (call.Wait NotDone) (calls first) (calls last) noted, counted)
+
+  module _ (words : List (List ℕ)) (first middle last : P) (begun : BeginsBy words (Ok tt) (kids_of calls counts first middle)) where
+    -- it ended
+    pub served-by : {X : Type 0} (result : Result X KidFault) → WaitsBy result (kids_of calls counts middle last) → ServesBy words result (kids_of calls counts first last)
+    served-by (Ok done) h = (
+      made-both (WasBegun words) (λ made. made ≡ call.Wait Ready ∷ []) (WasServed words) (calls first) (calls middle) (calls last) (λ one other was is. served words one other was is) begun.0 h.0,
+      h.1 ∙ begun.1,
+    )
+    served-by (Err faults.Failed) h = (
+      made-both (WasBegun words) (MayBe (call.Wait NotDone)) (IsFrontOf (asks words)) (calls first) (calls middle) (calls last) (λ one other was may. front-wait words NotDone one other was may) begun.0 h.0,
+      h.1 ∙ ap one_more begun.1,
+    )
+    served-by (Err faults.Memory) h = ap counts h ∙ begun.1
+
+-- of what ended, whatever held of it before
+pub if-same : {X E : Type 0} (P : X → Type 0) (one : X) (result : Result X E) → IfOk result (λ done. done ≡ one) → P one → IfOk result P
+if-same P one (Ok done) same h = subst P (sym same) h
+if-same P one (Err error) same h = tt
+
+-- its words are these
+pub begins-as : {P : Type 0} (words other : List (List ℕ)) (result : Result Unit KidFault) (kids : Kids P) → words ≡ other → BeginsBy words result kids → BeginsBy other result kids
+begins-as words other result kids same begins = subst (λ (some : List (List ℕ)). BeginsBy some result kids) same begins
+
+pub serves-as : {X P : Type 0} (words other : List (List ℕ)) (result : Result X KidFault) (kids : Kids P) → words ≡ other → ServesBy words result kids → ServesBy other result kids
+serves-as words other result kids same serves = subst (λ (some : List (List ℕ)). ServesBy some result kids) same serves
 
 -- ---- faults
 

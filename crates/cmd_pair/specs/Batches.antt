@@ -59,7 +59,7 @@ pub record LostFirst {N C D : Type 0} (options : PairOptions) (ring : List RingK
 -- the first batch is the last one, and the first server the only one
 pub record OverOne {N C D P : Type 0} (options : PairOptions) (ring : List RingKey) (course : Course D) (around : Around N C D) (kids : Kids P) (one : Status) (due : List ℕ) : Type 0 where
   pub last : LastBatch ring options.port course around one due
-  pub not_lost : one ≢ status.LinkLost
+  pub not_lost : last.end ≢ batch.LinkLost
   pub children : Made kids (WasServed (first_words options))
 
 -- the first one lost its connection, and the second one goes on with the same client over the second server

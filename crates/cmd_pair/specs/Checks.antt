@@ -1,5 +1,5 @@
 -- What is read before a server is started, and why none is.
-use Rattle.std.specs.Prelude.{◌≡◌, ◌<◌, ◌≤◌, ◌⊎◌, ℕ, Some, None, codes, List, length}
+use Rattle.std.specs.Prelude.{◌≡◌, ◌<◌, ℕ, Some, None, codes, List, length}
 use Rattle.auth_keys.specs.KeyFile.{IsRingOf}
 use Rattle.auth_keys.specs.declared.ring.RingKey.{RingKey}
 use Rattle.call_script.specs.Scripts.{HasBadLine, Spells}

@@ -17,7 +17,7 @@ use Rattle.client_rules.specs.Asking.{Fault}
 use Rattle.commands.specs.declared.command.PairOptions.{PairOptions}
 use Rattle.draws.specs.Draws.{draw_after, word_after}
 use Rattle.key_files.specs.Files.{IsRefusedAt}
-use Rattle.mt_edge.specs.declared.act.Act.TheVariants.{Ready}
+use Rattle.mt_edge.specs.declared.act.Act.TheVariants.{Ready, Failed as NotDone}
 use Rattle.mt_edge.specs.declared.kid_call.KidCall.{KidCall}
 use Rattle.mt_edge.specs.declared.kid_call.KidCall.TheVariants as call
 use Rattle.mt_edge.specs.declared.spawner.Line.{Line}
@@ -32,6 +32,8 @@ use Rattle.cmd_pair.specs.Runs.{IsAside}
 use Rattle.cmd_pair.specs.Servers.{AreBoth, FailsNever, FailsOnce, GoesOn, IsFrontOf, Kids, Made, WasServed, asks, first_words}
 use Rattle.cmd_pair.specs.declared.halt.Halt.{Halt}
 use Rattle.cmd_pair.specs.declared.halt.Halt.TheVariants as halts
+use Rattle.cmd_pair.specs.declared.halt.KidFault.{KidFault}
+use Rattle.cmd_pair.specs.declared.halt.KidFault.TheVariants as faults
 
 -- ---- the checks
 
@@ -39,13 +41,18 @@ use Rattle.cmd_pair.specs.declared.halt.Halt.TheVariants as halts
 abbrev pub Told : Refusal → Answer → Type 0
 Told refusal answer = (answer.status ≡ status_of refusal) × (answer.text ≡ text_of refusal)
 
+-- the text is no script
+abbrev pub HaltsAtText : List ℕ → Halt → Type 0
+HaltsAtText text (halts.Refused answer) = (line : ℕ) × HasBadLine text line × Told (checks.BadLine line) answer
+HaltsAtText text halts.ReadFault = ⊥
+HaltsAtText text halts.Memory = ⊤
+
 -- the input is no script
 abbrev pub HaltsAtScript : {S : Type 0} → Outside S → Halt → Type 0
 HaltsAtScript input (halts.Refused answer) =
     (IfTold input (λ text. input_bytes_max < length text) × Told checks.TooLong answer)
     ⊎ ((line : ℕ) × (text : List ℕ) × IsRead input text × HasBadLine text line × Told (checks.BadLine line) answer)
 HaltsAtScript input halts.ReadFault = HadFault input
-HaltsAtScript input halts.ChildFault = ⊥
 HaltsAtScript input halts.Memory = ⊤
 
 -- the key file is no ring
@@ -54,7 +61,6 @@ HaltsAtFile options files (halts.Refused answer) =
     (FileFault files × Told checks.Unread answer)
     ⊎ ((line : ℕ) × (text : List ℕ) × Gave options.keys files text × IsRefusedAt text line × Told (checks.BadFile line) answer)
 HaltsAtFile options files halts.ReadFault = ⊥
-HaltsAtFile options files halts.ChildFault = ⊥
 HaltsAtFile options files halts.Memory = ⊤
 
 -- the ring lacks the key, or a call isn't taken
@@ -64,7 +70,6 @@ HaltsAtCalls options calls ring step draw draw_then (halts.Refused answer) =
     ⊎ ((line : ℕ) × (fault : Fault) × (keys : Keys) × HasKeys options ring keys × (untaken calls ≡ Some (line, fault))
     × (draw_then ≡ draw_after step 1 draw) × Told (checks.Untaken line fault) answer)
 HaltsAtCalls options calls ring step draw draw_then halts.ReadFault = ⊥
-HaltsAtCalls options calls ring step draw draw_then halts.ChildFault = ⊥
 HaltsAtCalls options calls ring step draw draw_then halts.Memory = ⊤
 
 -- a client that was given the calls, under the keys of the ring
@@ -81,7 +86,6 @@ abbrev pub HaltsBefore : {S F D : Type 0} → PairOptions → Outside S → File
 HaltsBefore options input files step draw draw_then (halts.Refused answer) =
     (refusal : Refusal) × Refuses options input files refusal × (draw_then ≡ drawn_by refusal step draw) × Told refusal answer
 HaltsBefore options input files step draw draw_then halts.ReadFault = HadFault input × (files.after ≡ files.before) × (draw_then ≡ draw)
-HaltsBefore options input files step draw draw_then halts.ChildFault = ⊥
 HaltsBefore options input files step draw draw_then halts.Memory = ⊤
 
 -- there is one, by what was read
@@ -101,38 +105,35 @@ pub record WasBegun (words : List (List ℕ)) (made : List KidCall) : Type 0 whe
 
 -- where a call of the spawner failed it is a child fault, and where memory ran out none did; the calls are a front of those that are
 -- asked for a server
-abbrev pub HaltsSpawning : {P : Type 0} → List (List ℕ) → Kids P → Halt → Type 0
-HaltsSpawning words kids halts.ChildFault = Made kids (IsFrontOf (asks words)) × FailsOnce kids
-HaltsSpawning words kids halts.Memory = FailsNever kids
-HaltsSpawning words kids halts.ReadFault = ⊥
-HaltsSpawning words kids (halts.Refused answer) = ⊥
+abbrev pub StopsBy : {P : Type 0} → List (List ℕ) → Kids P → KidFault → Type 0
+StopsBy words kids faults.Failed = Made kids (IsFrontOf (asks words)) × FailsOnce kids
+StopsBy words kids faults.Memory = FailsNever kids
 
-abbrev pub BeginsBy : {P : Type 0} → List (List ℕ) → Result Unit Halt → Kids P → Type 0
+abbrev pub BeginsBy : {P : Type 0} → List (List ℕ) → Result Unit KidFault → Kids P → Type 0
 BeginsBy words (Ok done) kids = Made kids (WasBegun words) × FailsNever kids
-BeginsBy words (Err halt) kids = HaltsSpawning words kids halt
+BeginsBy words (Err fault) kids = StopsBy words kids fault
 
-abbrev pub ServesBy : {X P : Type 0} → List (List ℕ) → Result X Halt → Kids P → Type 0
+abbrev pub ServesBy : {X P : Type 0} → List (List ℕ) → Result X KidFault → Kids P → Type 0
 ServesBy words (Ok done) kids = Made kids (WasServed words) × FailsNever kids
-ServesBy words (Err halt) kids = HaltsSpawning words kids halt
+ServesBy words (Err fault) kids = StopsBy words kids fault
+
+-- it was waited for after its batch, or memory had run out in that
+abbrev pub WaitsBy : {X P : Type 0} → Result X KidFault → Kids P → Type 0
+WaitsBy (Ok done) kids = Made kids (λ made. made ≡ call.Wait Ready ∷ []) × FailsNever kids
+WaitsBy (Err faults.Failed) kids = Made kids (λ made. (made ≡ call.Wait NotDone ∷ []) ⊎ (made ≡ [])) × FailsOnce kids
+WaitsBy (Err faults.Memory) kids = kids.after ≡ kids.before
 
 -- ---- both
 
-abbrev pub PairBy : {N C D P : Type 0} → PairOptions → List RingKey → Course D → Around N C D → Kids P → Result (Holder × Batch) Halt → Type 0
+abbrev pub PairBy : {N C D P : Type 0} → PairOptions → List RingKey → Course D → Around N C D → Kids P → Result (Holder × Batch) KidFault → Type 0
 PairBy options ring course around kids (Ok done) =
     (IsBatch ring options.port course around done.1 done.0 × (done.1 ≢ batch.LinkLost) × Made kids (WasServed (first_words options)))
     ⊎ ((first : LostFirst options ring course around)
     × IsBatch ring (options.port + 1) (after_all (rules_for around.step ring) (plan_at options.port) course first.trace.attempts)
     (record around { net = first.net; clock = first.clock; draw = first.draw }) done.1 done.0
     × Made kids (AreBoth options))
-PairBy options ring course around kids (Err halts.ChildFault) = Halts options ring course around kids × FailsOnce kids
-PairBy options ring course around kids (Err halts.Memory) = ⊤
-PairBy options ring course around kids (Err halts.ReadFault) = ⊥
-PairBy options ring course around kids (Err (halts.Refused answer)) = ⊥
-
--- what is told of it; for want of memory nothing is
-abbrev pub AnswersBy : {N C D P : Type 0} → PairOptions → List RingKey → Course D → Around N C D → Kids P → Result Answer Halt → Type 0
-AnswersBy options ring course around kids (Ok answer) = OwesPair options ring course around kids answer.status answer.text
-AnswersBy options ring course around kids (Err halt) = halt ≡ halts.Memory
+PairBy options ring course around kids (Err faults.Failed) = Halts options ring course around kids × FailsOnce kids
+PairBy options ring course around kids (Err faults.Memory) = ⊤
 
 -- ---- a run, before anything is written
 
@@ -148,5 +149,4 @@ HaltsRun options input files around kids (halts.Refused answer) =
     (refusal : Refusal) × Refuses options input files refusal × (around.draw_then ≡ drawn_by refusal around.step around.draw) × Told refusal answer × IsAside around kids
 HaltsRun options input files around kids halts.ReadFault =
     HadFault input × (files.after ≡ files.before) × (around.draw_then ≡ around.draw) × IsAside around kids
-HaltsRun options input files around kids halts.ChildFault = ⊥
 HaltsRun options input files around kids halts.Memory = ⊤

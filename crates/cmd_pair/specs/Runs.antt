@@ -5,7 +5,7 @@ use Rattle.auth_keys.specs.declared.ring.RingKey.{RingKey}
 use Rattle.call_script.specs.declared.script.ScriptCall.{ScriptCall}
 use Rattle.cmd_call.specs.Keys.{keys_for}
 use Rattle.cmd_call.specs.Owed.{AskedFor, Around, Files, begins}
-use Rattle.cmd_call.specs.Runs.{HasNoFault, IfFile, IfScript, IsNoScript, UnlessNotRead}
+use Rattle.cmd_call.specs.Runs.{HasNoFault, IfFile, IfScript, IsNoScript, IsOfCall, UnlessNotRead}
 use Rattle.cmd_call.specs.Script.{untaken}
 use Rattle.client_core.specs.Keys.{Keys}
 use Rattle.client_rules.specs.Asking.{Fault}
@@ -65,8 +65,14 @@ pub record IsLawful (options : PairOptions) (text : List ℕ) (ring : List RingK
   pub read : IsRingOf text ring
   pub found : HasKeys options ring keys
 
+-- a status with which an answer of `pair` comes: one of those of `call`, or a child fault
+abbrev pub IsOfPair : Status → Type 0
+IsOfPair one = IsOfCall one ⊎ (one ≡ status.NotListening)
+
 pub record PairRun {S O F N C D P : Type 0} (options : PairOptions) (input : Outside S) (out : Outside O) (files : Files F) (around : Around N C D) (kids : Kids P) (one : Status) : Type 0 where
-  -- Each status has its cause, and each text.
+  -- it ends by one of these
+  pub ends : IsOfPair one ⊎ (one ≡ status.ReadFault) ⊎ (one ≡ status.WriteFault) ⊎ (one ≡ status.Memory)
+  -- each status has its cause, and each text
   pub told : IsTold options input out files around kids one
   -- key files are asked once, for the file that the options name, or not at all
   pub asked : AskedFor options.keys files ⊎ (files.after ≡ files.before)

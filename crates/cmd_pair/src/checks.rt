@@ -1,15 +1,18 @@
 //! The checks of script, key file, key and calls, in this order.
 
-ghost use Rattle.std.specs.Prelude.{◌≡◌, ◌⊎◌, IfErr, IfOk};
+ghost use Rattle.std.specs.Prelude.{◌≡◌, ◌≤◌, ◌⊎◌, IfErr, IfOk, length};
+ghost use Rattle.call_script.specs.Scripts.{Spells};
 ghost use Rattle.cmd_call.specs.Owed.{AskedFor, files_of};
 ghost use Rattle.key_files.specs.Files.{refused_at};
+ghost use Rattle.statuses.specs.Lines.{input_bytes_max};
 ghost use Rattle.cmd_pair.specs.Checks.{HasRing, HasScript};
-ghost use Rattle.cmd_pair.specs.Inner.{HaltsAtCalls, HaltsAtFile, HaltsAtScript, HaltsBefore, IsGiven, IsTaken};
+ghost use Rattle.cmd_pair.specs.Inner.{HaltsAtCalls, HaltsAtFile, HaltsAtScript, HaltsAtText, HaltsBefore, IsGiven, IsTaken};
 
-use crate::halt::{Halt, refused};
+use crate::halt::Halt;
 use auth_keys::Ring;
 use call_script::{Script, ScriptFault, read_script};
 use client_core::OpeningClient;
+use cmd_call::laws::found_keys_are_there;
 use cmd_call::{keys_in_ring, opening, refused_call, submit_all};
 use commands::PairOptions;
 use draws::Draw;
@@ -22,6 +25,32 @@ use std::alloc::Global;
 /// The most bytes of a script.
 const SCRIPT_BYTES_MAX: usize = 16_777_216;
 
+/// A client that was given the calls of the input, and the ring of its key.
+///
+/// # Errors
+///
+/// Why there is none.
+pub(crate) fn take<S: Source, F: KeyFiles, D: Draw>(
+    alloc: Global,
+    options: &PairOptions<'_>,
+    input: &mut S,
+    files: &mut F,
+    draw: &mut D,
+) -> Result<(OpeningClient, Ring), Halt>
+    ensures taken { IfOk result (λ taken. IsTaken options.now
+        (record { told = S.left; faults = S.faults; before = input.old; after = input.new })
+        (files_of F.told F.faults files.old files.new) D.step draw.old draw.new taken.1 taken.0) }
+    ensures halts { IfErr result (HaltsBefore options.now
+        (record { told = S.left; faults = S.faults; before = input.old; after = input.new })
+        (files_of F.told F.faults files.old files.new) D.step draw.old draw.new) }
+    ensures asked { AskedFor options.now.keys (files_of F.told F.faults files.old files.new) ⊎ (files.new ≡ files.old) }
+{
+    let script = script_of(alloc, input)?;
+    let ring = ring_of(alloc, options, files)?;
+    let client = client_of(alloc, options, &script, &ring, draw)?;
+    Ok((client, ring))
+}
+
 /// The script that the input is.
 ///
 /// # Errors
@@ -32,23 +61,36 @@ fn script_of<S: Source>(alloc: Global, input: &mut S) -> Result<Script, Halt>
     ensures halts { IfErr result (HaltsAtScript (record { told = S.left; faults = S.faults; before = input.old; after = input.new })) }
 {
     match read_all(alloc, input, SCRIPT_BYTES_MAX) {
-        Ok(text) => match read_script(alloc, text.as_slice()) {
-            Ok(script) => Ok(script),
-            Err(ScriptFault::BadLine { line }) => Err(refused(refusal(
-                alloc,
-                Status::InputRefused,
-                line,
-                "bad line",
-            ))),
-            Err(ScriptFault::Memory) => Err(Halt::Memory),
-        },
-        Err(ReadFault::TooLong) => Err(refused(Answer::new(
+        Ok(text) => spelt(alloc, text.as_slice()),
+        Err(ReadFault::TooLong) => Err(Halt::Refused(Answer::new(
             alloc,
             Status::InputRefused,
             b"input too long\n",
-        ))),
+        )?)),
         Err(ReadFault::Failed) => Err(Halt::ReadFault),
         Err(ReadFault::Memory) => Err(Halt::Memory),
+    }
+}
+
+/// The script that a text spells.
+///
+/// # Errors
+///
+/// `Refused`: a line is outside the grammar. `Memory`.
+fn spelt(alloc: Global, text: &[u8]) -> Result<Script, Halt>
+    requires { length text.now ≤ input_bytes_max }
+    ensures script { IfOk result (Spells text.now) }
+    ensures halts { IfErr result (HaltsAtText text.now) }
+{
+    match read_script(alloc, text) {
+        Ok(script) => Ok(script),
+        Err(ScriptFault::BadLine { line }) => Err(Halt::Refused(refusal(
+            alloc,
+            Status::InputRefused,
+            line,
+            "bad line",
+        )?)),
+        Err(ScriptFault::Memory) => Err(Halt::Memory),
     }
 }
 
@@ -68,12 +110,12 @@ fn ring_of<F: KeyFiles>(
 {
     match read_ring(alloc, options.keys.as_str(), files) {
         Ok(ring) => Ok(ring),
-        Err(KeysFault::Unread) => Err(refused(Answer::new(
+        Err(KeysFault::Unread) => Err(Halt::Refused(Answer::new(
             alloc,
             Status::KeysRefused,
             b"key file not read\n",
-        ))),
-        Err(KeysFault::Refused { line }) => Err(refused(file_refusal(alloc, line))),
+        )?)),
+        Err(KeysFault::Refused { line }) => Err(Halt::Refused(file_refusal(alloc, line)?)),
         Err(KeysFault::Memory) => Err(Halt::Memory),
     }
 }
@@ -105,51 +147,13 @@ fn client_of<D: Draw>(
     ensures given { IfOk result (IsGiven options.now script.now ring.now D.step draw.old draw.new) }
     ensures halts { IfErr result (HaltsAtCalls options.now script.now ring.now D.step draw.old draw.new) }
 {
+    found_keys_are_there();
     let Some(keys) = keys_in_ring(ring, options.key, None) else {
-        return Err(refused(Answer::new(alloc, Status::KeysRefused, b"no such key\n")));
+        return Err(Halt::Refused(Answer::new(alloc, Status::KeysRefused, b"no such key\n")?));
     };
-    match opening(alloc, keys, draw) {
-        Ok(client) => {
-            let mut client = client;
-            match submit_all(&mut client, alloc, script) {
-                Ok(()) => Ok(client),
-                Err(untaken) => Err(refused(refused_call(alloc, &untaken))),
-            }
-        }
-        Err(Memory) => Err(Halt::Memory),
-    }
-}
-
-/// A client that was given the calls of the input, and the ring of its key.
-///
-/// # Errors
-///
-/// Why there is none.
-pub(crate) fn take<S: Source, F: KeyFiles, D: Draw>(
-    alloc: Global,
-    options: &PairOptions<'_>,
-    input: &mut S,
-    files: &mut F,
-    draw: &mut D,
-) -> Result<(OpeningClient, Ring), Halt>
-    ensures taken { IfOk result (λ taken. IsTaken options.now
-        (record { told = S.left; faults = S.faults; before = input.old; after = input.new })
-        (files_of F.told F.faults files.old files.new) D.step draw.old draw.new taken.1 taken.0) }
-    ensures halts { IfErr result (HaltsBefore options.now
-        (record { told = S.left; faults = S.faults; before = input.old; after = input.new })
-        (files_of F.told F.faults files.old files.new) D.step draw.old draw.new) }
-    ensures asked { AskedFor options.now.keys (files_of F.told F.faults files.old files.new) ⊎ (files.new ≡ files.old) }
-{
-    let script = match script_of(alloc, input) {
-        Ok(script) => script,
-        Err(halt) => return Err(halt),
-    };
-    let ring = match ring_of(alloc, options, files) {
-        Ok(ring) => ring,
-        Err(halt) => return Err(halt),
-    };
-    match client_of(alloc, options, &script, &ring, draw) {
-        Ok(client) => Ok((client, ring)),
-        Err(halt) => Err(halt),
+    let mut client = opening(alloc, keys, draw)?;
+    match submit_all(&mut client, alloc, script) {
+        Ok(()) => Ok(client),
+        Err(untaken) => Err(Halt::Refused(refused_call(alloc, &untaken)?)),
     }
 }

@@ -52,7 +52,7 @@ pub fn run_pair<S: Source, O: Sink, F: KeyFiles, P: Spawner, N: Net, C: Clock, D
         Ok(answer) => tell(out, &answer),
         Err(Halt::Refused(answer)) => tell(out, &answer),
         Err(Halt::ReadFault) => Status::ReadFault,
-        Err(_) => Status::Memory,
+        Err(Halt::Memory) => Status::Memory,
     }
 }
 
@@ -85,8 +85,6 @@ fn answer<S: Source, F: KeyFiles, P: Spawner, N: Net, C: Clock, D: Draw>(
         (kids_of P.calls P.faults kids.old kids.new)) }
     ensures asked { AskedFor options.now.keys (files_of F.told F.faults files.old files.new) ⊎ (files.new ≡ files.old) }
 {
-    match take(alloc, options, input, files, draw) {
-        Ok((client, ring)) => run(alloc, options, client, ring, kids, net, clock, draw),
-        Err(halt) => Err(halt),
-    }
+    let (client, ring) = take(alloc, options, input, files, draw)?;
+    Ok(run(alloc, options, client, ring, kids, net, clock, draw)?)
 }

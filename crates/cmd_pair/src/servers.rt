@@ -4,7 +4,7 @@ ghost use Rattle.std.specs.Prelude.{◌≡◌, ◌++◌, ◌∷◌, [], map, str
 ghost use Rattle.cmd_pair.specs.Inner.{BeginsBy};
 ghost use Rattle.cmd_pair.specs.Servers.{kids_of, server_words};
 
-use crate::halt::Halt;
+use crate::halt::KidFault;
 use itoa::Buffer;
 use mt_edge::{Act, Line, Spawner};
 use octets::Memory;
@@ -26,7 +26,7 @@ pub(crate) struct Server<'a> {
 /// # Errors
 ///
 /// `Memory`.
-pub(crate) fn words_of(alloc: Global, server: &Server<'_>) -> Result<Vec<String>, Memory>
+fn words_of(alloc: Global, server: &Server<'_>) -> Result<Vec<String>, Memory>
     ensures { IfOk result (λ words. map string_bytes words.items ≡ server_words server.now.keys.now server.now.port server.now.stop_after) }
 {
     let mut buffer = Buffer::new();
@@ -54,21 +54,37 @@ fn push_word(alloc: Global, words: &mut Vec<String>, text: &str) -> Result<(), M
     Ok(())
 }
 
+/// Starts a server, and reads one line of it.
+///
+/// # Errors
+///
+/// `Failed`: a call of the spawner failed. `Memory`.
+pub(crate) fn begin<P: Spawner>(
+    alloc: Global,
+    server: &Server<'_>,
+    kids: &mut P,
+) -> Result<(), KidFault>
+    ensures { BeginsBy (server_words server.now.keys.now server.now.port server.now.stop_after) result (kids_of P.calls P.faults kids.old kids.new) }
+{
+    let words = words_of(alloc, server)?;
+    start(alloc, words.as_slice(), kids)
+}
+
 /// Starts a server with these words, and reads one line of it.
 ///
 /// # Errors
 ///
-/// `ChildFault`: a call of the spawner failed. `Memory`.
-pub(crate) fn begin<P: Spawner>(alloc: Global, words: &[String], kids: &mut P) -> Result<(), Halt>
+/// `Failed`: a call of the spawner failed. `Memory`.
+fn start<P: Spawner>(alloc: Global, words: &[String], kids: &mut P) -> Result<(), KidFault>
     ensures { BeginsBy (map string_bytes words.now) result (kids_of P.calls P.faults kids.old kids.new) }
 {
     match kids.start(words) {
         Act::Ready => match kids.line(alloc) {
             Line::Text(_) => Ok(()),
             Line::End => Ok(()),
-            Line::Failed => Err(Halt::ChildFault),
-            Line::Memory => Err(Halt::Memory),
+            Line::Failed => Err(KidFault::Failed),
+            Line::Memory => Err(KidFault::Memory),
         },
-        Act::Failed => Err(Halt::ChildFault),
+        Act::Failed => Err(KidFault::Failed),
     }
 }

@@ -1,7 +1,8 @@
 //! A server that stops before it runs the job of a call, and one that doesn't stop.
 
-use crate::rounds::{Ended, NONE, played, ran};
+use crate::rounds::{Coming, Ended, NONE, played, ran};
 use mt_edge::KidCall;
+use octets::Octets;
 use std::alloc::Global;
 use std::process::Abort;
 use std::test::Fail;
@@ -64,6 +65,38 @@ fn pairs(rt: HostRuntime) -> Result<(), Fail> {
             let second = "serve --keys k --port 10 --conns 1 ";
             assert_eq!(rt; started(&rt, alloc, &ended, 3)?.as_str(), second);
         }
+    }
+    Ok(())
+}
+
+// What is refused starts no server.
+#[test]
+fn refusals(rt: HostRuntime) -> Result<(), Fail> {
+    let alloc = rt.alloc();
+    let come = Coming {
+        first: Octets::new(alloc),
+        second: Octets::new(alloc),
+    };
+    for (key, script, status, text) in [
+        (
+            "32d1586ea457dfc8",
+            "add x\n",
+            2,
+            "refused at line 1: bad line\n",
+        ),
+        ("32d1586ea457dfc9", "add x 5\n", 5, "no such key\n"),
+        (
+            "32d1586ea457dfc8",
+            "# none\nadd x 5 6\n",
+            2,
+            "refused at line 2: bad line\n",
+        ),
+    ] {
+        let client = format!(in alloc; "pair --keys k --key {key} --port 9 --stop-after 2")?;
+        let ended = ran(alloc, client.as_str(), script.as_bytes(), &come, NONE, 1)?;
+        assert_eq!(rt; ended.out.as_slice(), text.as_bytes());
+        assert_eq!(rt; ended.status, status);
+        assert_eq!(rt; ended.kids.calls().len(), 0);
     }
     Ok(())
 }

@@ -1,5 +1,5 @@
 -- What holds of the script and of the key file that were read.
-use Rattle.std.proofs.Common.{◌≡◌, ◌∙◌, ◌⊎◌, inl, inr, ℕ, ◌<◌, ◌≤◌, List, length, Option, Some, None, IfSome, ap, sym, subst, arith}
+use Rattle.std.proofs.Common.{◌≡◌, ◌∙◌, inl, inr, ℕ, ◌<◌, ◌≤◌, List, length, Option, Some, None, IfSome, ap, sym, subst, arith}
 use Rattle.auth_keys.specs.KeyFile.{IsFaultOf, IsRingOf}
 use Rattle.auth_keys.specs.declared.fault.KeyFault.{KeyFault}
 use Rattle.auth_keys.specs.declared.fault.KeyFault.TheVariants as faults
