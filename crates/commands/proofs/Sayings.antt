@@ -1,5 +1,5 @@
 -- What words say: by their first word, and once.
-use Rattle.std.proofs.Common.{◌≡◌, ◌≢◌, ◌∙◌, ℕ, ◌<◌, ◌^◌, List, [], ◌∷◌, Bool, true, false, Option, Some, None, Ok, Unit, tt, ap, sym, refl, arith, codes, cond, map, option_map}
+use Rattle.std.proofs.Common.{◌≡◌, ◌≢◌, ◌∙◌, ℕ, ◌<◌, ◌^◌, List, [], ◌∷◌, Bool, true, false, Option, Some, None, Result, Ok, ap, sym, refl, arith, codes, cond, map, option_map}
 use Rattle.std.specs.Prelude.{slice_get}
 use Rattle.std.specs.List.{list_any}
 use Rattle.std.specs.Fmt.{decimal}
@@ -10,6 +10,7 @@ use Rattle.std.proofs.lemmas.Nat.{from_le_bytes-to_le_bytes_8}
 use Rattle.std.proofs.lemmas.Option.{slice_get-map}
 use Rattle.std.proofs.lemmas.Slice.Eq.{bytes_eq-Decides}
 use Rattle.clap.specs.Words.{Row}
+use Rattle.hex.specs.Hex.{decode_sized}
 use Rattle.hex.specs.declared.error.FromHexError.{FromHexError}
 use Rattle.clap.proofs.WalkLemmas.{list_any-map}
 use Rattle.transport.specs.declared.form.Form.{Form}
@@ -109,7 +110,7 @@ refused-pair words first plain none Version s = apart words _ _ first s.first re
 
 -- a command that isn't told anything isn't said
 pub refused-check : (words : List (List ℕ)) → slice_get words 0 ≡ Some (codes "check") → asks_help words ≡ false
-    → ((told : Unit) → IsTold check SaysNothing words told → ⊥) → (said : Command) → Says words said → ⊥
+    → ((told : Unit {0}) → IsTold check SaysNothing words told → ⊥) → (said : Command) → Says words said → ⊥
 refused-check words first plain none (Sim told) s = apart words _ _ first s.first refl
 refused-check words first plain none (Load told) s = apart words _ _ first s.first refl
 refused-check words first plain none (Serve told) s = apart words _ _ first s.first refl
@@ -132,6 +133,7 @@ refused-relay words first plain none Check s = apart words _ _ first s.first ref
 refused-relay words first plain none (Relay told) s = none told (record { taken = s.means.0.taken; tells = s.means.1 })
 refused-relay words first plain none (Help page) s = not_both words s.means plain
 refused-relay words first plain none Version s = apart words _ _ first s.first refl
+
 -- words that begin with no command's name
 pub refused-other : (words : List (List ℕ)) (word : List ℕ) → slice_get words 0 ≡ Some word → asks_help words ≡ false
     → word ≢ codes "sim" → word ≢ codes "load" → word ≢ codes "serve" → word ≢ codes "call" → word ≢ codes "pair" → word ≢ codes "check" → word ≢ codes "relay" → words ≢ codes "--version" ∷ []
@@ -295,13 +297,14 @@ one_pairing rows a b p q =
 abbrev relaying : List ℕ → Form → RelayOptions
 relaying secret form = record { secret = secret; form = form }
 
+-- what is decoded of one text is one list
+decoded_once : (found : Result (List ℕ) FromHexError) (a b : List ℕ) → found ≡ Ok a → found ≡ Ok b → a ≡ b
+decoded_once found a b p q = cc
+
 one_secret : (name : List ℕ) (rows : List Row) (a b : List ℕ) → HasSecret name rows a → HasSecret name rows b → a ≡ b
 one_secret name rows a b p q =
     let same = one_text name rows _ _ p.there q.there in
-    let one = p.spelled in
-    let other = q.spelled in
-    let both : Ok a ≡ Ok {E = FromHexError} b = cc in
-    cc
+    decoded_once _ a b p.spelled (ap (λ t. decode_sized t 16) same ∙ q.spelled)
 
 one_relaying : (rows : List Row) (a b : RelayOptions) → SaysRelay rows a → SaysRelay rows b → a ≡ b
 one_relaying rows a b p q =

@@ -1,5 +1,5 @@
 -- Words of private contracts, which are no promise of this crate.
-use Rattle.std.specs.Prelude.{◌≡◌, ℕ, List, [], Unit, ⊤}
+use Rattle.std.specs.Prelude.{◌≡◌, ℕ, List, [], ⊤}
 use Rattle.clap.specs.Words.{App, Row}
 use Rattle.commands.specs.Simple.{faults, rows}
 use Rattle.commands.specs.declared.command.WordsFault.{WordsFault}
@@ -15,5 +15,5 @@ abbrev pub RefusesUnlessMemory : {T : Type 0} → App → (List Row → T → Ty
 RefusesUnlessMemory {T} app Tells words fault = fault ≡ Refused → (told : T) → IsTold app Tells words told → ⊥
 
 -- of a command without options
-abbrev pub SaysNothing : List Row → Unit → Type 0
+abbrev pub SaysNothing : List Row → Unit {0} → Type 0
 SaysNothing rows told = ⊤

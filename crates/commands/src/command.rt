@@ -114,7 +114,7 @@ pub struct PairOptions<'a> {
 }
 
 /// The secret of a proxy: 16 bytes, which are never printed. Contracts see its bytes.
-#[derive(Clone, Copy, Drop)]
+#[derive(Drop)]
 pub struct Secret {
     bytes: [u8; 16],
 }

@@ -158,10 +158,18 @@ impl Page {
             Page::Serve => SERVE,
             Page::Call => CALL,
             Page::Pair => PAIR,
-            Page::Check => CHECK,
+            Page::Check => check_page(),
             Page::Relay => RELAY,
         }
     }
+}
+
+/// The page of `check`.
+#[tactic(auto, unfolding(crate::specs::Pages::page_text))]
+fn check_page() -> &'static str
+    ensures { result.now ≡ page_text Page.Check }
+{
+    CHECK
 }
 
 /// The text for `--version`.
