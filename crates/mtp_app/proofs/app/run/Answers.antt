@@ -212,10 +212,10 @@ returns-in-Err-Memory-clause-pair g c = λ options asked. (
 )
 
 pub returns-in-Err-Memory-clause-check : goal.returns-in-Err-Memory-clause-check
-returns-in-Err-Memory-clause-check g c = λ asked. (status.Memory, c.number-in-Err-Memory.ensures, c.memory_may_end_a_check.ensures _ _ refl)
+returns-in-Err-Memory-clause-check g c = λ asked. (status.Memory, c.number-in-Err-Memory.ensures, c.memory_may_run_out-2.ensures _ _ refl)
 
 pub returns-in-Err-Memory-clause-relay : goal.returns-in-Err-Memory-clause-relay
-returns-in-Err-Memory-clause-relay g c = λ options asked. (status.Memory, c.number-in-Err-Memory.ensures, c.memory_may_end_a_relay.ensures options.form options.secret _ _ refl)
+returns-in-Err-Memory-clause-relay g c = λ options asked. (status.Memory, c.number-in-Err-Memory.ensures, c.memory_may_run_out-3.ensures options.form options.secret _ _ refl)
 
 pub returns-in-Err-Memory-clause-help : goal.returns-in-Err-Memory-clause-help
 returns-in-Err-Memory-clause-help g c = λ page asked. (status.Memory, c.number-in-Err-Memory.ensures, inr (refl, refl))
