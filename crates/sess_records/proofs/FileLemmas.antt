@@ -11,7 +11,7 @@ use Rattle.sess_records.specs.declared.records.Record.{Record}
 use Rattle.sess_records.specs.Format.{HasRecord, IsRecord, Reached, Spells, body_of, kind_of, magic, open_gate, closed_gate, rest_of, spelt, written}
 use Rattle.sess_records.specs.Steps.{HasGate, HasNoEvent, StartsWith, head_bytes}
 use Rattle.sess_records.specs.Standing.{IsSure, Settled, SpellsOneOf}
-use Rattle.sess_records.proofs.FormLemmas.{IsHead, SameHead, append_split, head_for, is_head, length-body_of, length-head_bytes, length-written, same_head, spelt_head, written-append}
+use Rattle.sess_records.proofs.FormLemmas.{IsHead, SameHead, head_for, is_head, length-body_of, length-head_bytes, length-written, same_head, spelt_head, written-append}
 
 pub length-magic : length magic ≡ 8
 unfolding magic
