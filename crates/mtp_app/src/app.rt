@@ -170,7 +170,11 @@ fn obey<S: Source, O: Sink, F: KeyFiles, N: Net, P: Spawner, C: Clock, D: Seeded
         ),
         Command::Check => run_check(alloc, input, out),
         Command::Relay(options) => run_relay(
-            alloc, options.form, options.secret.as_bytes(), input, out,
+            alloc,
+            options.form,
+            options.secret.as_bytes(),
+            input,
+            out,
         ),
         Command::Help(page) => plain(alloc, Status::Done, page.text(), out),
         Command::Version => plain(alloc, Status::Done, version(), out),
