@@ -57,7 +57,8 @@ fn packets_go_out_whole(rt: HostRuntime) -> Result<(), Fail> {
         let out = out.as_slice();
         same(out.len(), 4 + 508 + 512)?;
         holds(out.starts_with(&[0xee, 0xee, 0xee, 0xee, 0xf8, 0x01, 0x00, 0x00]))?;
-        holds(out[512..].starts_with(&[0xfc, 0x01, 0x00, 0x00]))?;
+        let second = out.get(512..).ok_or("512 bytes")?;
+        holds(second.starts_with(&[0xfc, 0x01, 0x00, 0x00]))?;
     }
     Ok(())
 }
