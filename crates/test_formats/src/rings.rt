@@ -162,18 +162,18 @@ fn read_again(alloc: Global, ring: &mut Ring, text: &[u8]) -> Result<(), KeyFaul
 fn keys_of_a_ring(rt: HostRuntime) -> Result<(), Fail> {
     let alloc = rt.alloc();
     let mut ring = Ring::read(alloc, b"")?;
-    holds(ring.is_empty())?;
+    assert!(rt; ring.is_empty());
     let up = hex::encode(alloc, up().as_slice())?;
     let down = hex::encode(alloc, down().as_slice())?;
-    let text = with_digits(alloc, "perm UP\ntemp 7200 DOWN", up.as_str(), down.as_str())?;
+    let text = format!(in alloc; "perm {up}\ntemp 7200 {down}")?;
     if u32::try_from(text.len()).is_ok() {
         read_again(alloc, &mut ring, text.as_bytes())?;
     }
-    same(
+    assert_eq!(rt;
         read_again(alloc, &mut ring, b"perm"),
-        Err(KeyFault::BadLine { line: 1 }),
-    )?;
-    same(ring.len(), 2)?;
+        Err(KeyFault::BadLine { line: 1 })
+    );
+    assert_eq!(rt; ring.len(), 2);
     let expires = Moment::new(7_200);
     let rows = [
         (UP_ID, Some(KeyKind::Perm), true, true),
@@ -181,11 +181,10 @@ fn keys_of_a_ring(rt: HostRuntime) -> Result<(), Fail> {
         (7, None, false, false),
     ];
     for (id, kind, before, at) in rows {
-        same(ring.kind(id), kind)?;
-        let wanted = if kind.is_some() { Some(id) } else { None };
-        same(ring.find(id).map(|key| key.id()), wanted)?;
-        same(good_key(&ring, id, Moment::new(7_199)).is_some(), before)?;
-        same(good_key(&ring, id, expires).is_some(), at)?;
+        assert_eq!(rt; ring.kind(id), kind);
+        assert_eq!(rt; ring.find(id).map(|key| key.id()), kind.map(|_| id));
+        assert_eq!(rt; good_key(&ring, id, Moment::new(7_199)).is_some(), before);
+        assert_eq!(rt; good_key(&ring, id, expires).is_some(), at);
     }
     Ok(())
 }

@@ -1,7 +1,6 @@
 //! The replies that a session keeps, where each is as long as may be (core.telegram.org/mtproto/service_messages).
 
-ghost use Rattle.std.specs.Prelude.{◌≡◌, []};
-ghost use Rattle.regs_service.specs.Served.{IsReply};
+ghost use Rattle.std.specs.Prelude.{◌≡◌, IfOk, replicate};
 
 use crate::bodies::ADD_X_1;
 use crate::played::{Message, Played, SALT, SESSION, container};
@@ -9,49 +8,39 @@ use octets::Octets;
 use regs_service::{NoMemory, REPLY_BYTES_MAX, Service};
 use std::alloc::Global;
 use std::test::Fail;
-use test_asserts::same_text;
 use test_keys::KEY_ID;
 
-// A service that gives one reply to each request.
+// A service that replies to each request with 262,144 zeros.
 #[derive(Drop)]
-struct Always {
-    reply: Octets,
-    ghost fits: { IsReply reply },
-}
+struct Zeros {}
 
-impl Service for Always {
-    ghost fresh_state = { record { reply = [] } };
+impl Service for Zeros {
+    ghost fresh_state = { record {} };
 
-    ghost step = { λ always _. (always.reply, always) };
+    ghost step = { λ zeros _. (replicate 262144 0, zeros) };
 
-    fn fresh(alloc: Global) -> Always {
-        Always {
-            reply: Octets::new(alloc),
-        }
+    fn fresh(_alloc: Global) -> Zeros {
+        Zeros {}
     }
 
-    fn copy(&self, alloc: Global) -> Result<Always, NoMemory> {
-        Ok(Always {
-            reply: Octets::copy(alloc, self.reply.as_slice())?,
-        })
+    fn copy(&self, _alloc: Global) -> Result<Zeros, NoMemory> {
+        Ok(Zeros {})
     }
 
     fn foresee(&self, alloc: Global, _request: &[u8]) -> Result<Octets, NoMemory> {
-        Ok(Octets::copy(alloc, self.reply.as_slice())?)
+        longest(alloc)
     }
 
     fn run(&mut self, alloc: Global, _request: &[u8]) -> Result<Octets, NoMemory> {
-        Ok(Octets::copy(alloc, self.reply.as_slice())?)
+        longest(alloc)
     }
 }
 
-// The service whose reply is 262,144 zeros.
-fn zeros(alloc: Global) -> Result<Always, Fail> {
-    let reply = Octets::from(vec![in alloc; 0u8; REPLY_BYTES_MAX]?);
-    if reply.as_slice().len() % 4 != 0 || reply.as_slice().len() > 262_144 {
-        return Err(Fail::new("no reply"));
-    }
-    Ok(Always { reply })
+// The reply.
+fn longest(alloc: Global) -> Result<Octets, NoMemory>
+    ensures { IfOk result (λ reply. reply ≡ replicate 262144 0) }
+{
+    Ok(Octets::copy(alloc, &[0; REPLY_BYTES_MAX])?)
 }
 
 // Seventeen calls, each to add 1.
@@ -162,23 +151,13 @@ ran 72 012c1b0a017800000100000000000000 (262144)\n\
 0 of 0 ready\n";
 
 // What so many runs give, one after the other, as text.
-fn runs(
-    alloc: Global,
-    server: &mut Played,
-    service: &mut Always,
-    count: u32,
-) -> Result<String, Fail> {
+fn runs(alloc: Global, server: &mut Played, count: u32) -> Result<String, Fail> {
     let mut text = String::new(alloc);
     for _ in 0..count {
-        text.push_str(run(alloc, server, service)?.as_str())?;
+        let effects = server.works(alloc, 0, &mut Zeros {})?;
+        text.push_str(server.told(alloc, &effects)?.as_str())?;
     }
     Ok(text)
-}
-
-// What a run gives, as text.
-fn run(alloc: Global, server: &mut Played, service: &mut Always) -> Result<String, Fail> {
-    let effects = server.works(alloc, 0, service)?;
-    server.told(alloc, &effects)
 }
 
 // What a message gives that comes alone, as text.
@@ -189,13 +168,13 @@ fn comes(alloc: Global, server: &mut Played, message: Message<'_>) -> Result<Str
 
 // All of it, from a fresh server on.
 fn kept(alloc: Global) -> Result<String, Fail> {
-    let (mut server, mut zeros) = (Played::new(alloc, KEY_ID)?, zeros(alloc)?);
+    let mut server = Played::new(alloc, KEY_ID)?;
     let calls = container(alloc, &CALLS)?;
     let mut text = comes(alloc, &mut server, (76, 34, calls.as_slice()))?;
-    text.push_str(runs(alloc, &mut server, &mut zeros, 16)?.as_str())?;
+    text.push_str(runs(alloc, &mut server, 16)?.as_str())?;
     text.push_str(comes(alloc, &mut server, (8, 1, ADD_X_1))?.as_str())?;
     text.push_str(comes(alloc, &mut server, (12, 3, ADD_X_1))?.as_str())?;
-    text.push_str(runs(alloc, &mut server, &mut zeros, 1)?.as_str())?;
+    text.push_str(runs(alloc, &mut server, 1)?.as_str())?;
     text.push_str(comes(alloc, &mut server, (12, 3, ADD_X_1))?.as_str())?;
     let effects = server.attaches(alloc)?;
     text.push_str(server.told(alloc, &effects)?.as_str())?;
@@ -204,6 +183,6 @@ fn kept(alloc: Global) -> Result<String, Fail> {
 
 #[test]
 fn the_oldest_replies_are_dropped(rt: HostRuntime) -> Result<(), Fail> {
-    same_text(kept(rt.alloc())?.as_str(), KEPT)?;
+    assert_eq!(rt; kept(rt.alloc())?.as_str(), KEPT);
     Ok(())
 }

@@ -91,10 +91,10 @@ fn fifteen_great_results_go_by_threes(rt: HostRuntime) -> Result<(), Fail> {
         body: body.as_slice(),
     };
     let great = [result; 15];
-    holds(front(&great) == 3)?;
-    holds(front(&great[3..]) == 3)?;
-    holds(front(&great[12..]) == 3)?;
-    same(packed_size(&great[..3]), 786_524)?;
+    assert_eq!(rt; front(&great), 3);
+    assert_eq!(rt; front(&great[3..]), 3);
+    assert_eq!(rt; front(&great[12..]), 3);
+    assert_eq!(rt; packed_size(&great[..3]), 786_524);
     Ok(())
 }
 
