@@ -152,7 +152,8 @@ fn served(alloc: Global, line: &str, heard: &Octets, seed: u8) -> Result<Octets,
         first: Octets::copy(alloc, heard.as_slice())?,
         second: Octets::new(alloc),
     };
-    Ok(ran(alloc, line, &[], &come, NONE, seed)?.sent.second)
+    let sent = ran(alloc, line, &[], &come, NONE, seed)?.sent;
+    Ok(sent.second)
 }
 
 /// A client over a first server with these words, and over a second one: in each round the client hears what the servers
