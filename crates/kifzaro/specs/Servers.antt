@@ -1,10 +1,11 @@
 -- A server with its draw and what it has to hand out, and the server of the rules that it is.
-use Rattle.std.specs.Prelude.{◌≡◌, ℕ, Bool, false, true, not, Option, Some, None, List, ◌++◌, length, Result, Ok, Err, IsSome, ⊤}
+use Rattle.std.specs.Prelude.{◌≡◌, ℕ, Bool, false, true, not, Option, is_some, List, ◌++◌, length, Result, Ok, Err, ⊤}
 use Rattle.std.specs.Str.{bytes_eq}
 use Rattle.auth_keys.specs.declared.ring.RingKey.{RingKey}
 use Rattle.draws.specs.ChaChaWords.{ChaChaPlace}
 use Rattle.envelope.specs.Lock.{mt_lock}
 use Rattle.envelope.specs.Packet.{Lock}
+use Rattle.envelope.specs.declared.refusal.Refusal.{Refusal}
 use Rattle.regs_service.specs.Served.{IsReply, Step}
 use Rattle.server_output.specs.Outs.{AreSent}
 use Rattle.server_output.specs.declared.outs.Out.{Out}
@@ -41,24 +42,35 @@ pub record Did (before after : Kept) (answer : Answer ChaChaPlace) : Type 0 wher
   pub outs : List Out
   pub sent : AreSent mt_lock before.server.seal answer.packets outs
   pub waits : after.waiting ≡ before.waiting ++ outs
-  pub asked : (before.asked ≡ None) × (after.asked ≡ None)
+  pub asked : (is_some before.asked ≡ false) × (is_some after.asked ≡ false)
 
 -- ---- what is answered
 
 -- an event happens at a server that no request keeps busy, unless memory runs out
 abbrev pub TellsEvent : {X : Type 0} → Option (List ℕ) → Result X Error → Type 0
-TellsEvent asked (Ok done) = asked ≡ None
-TellsEvent asked (Err errors.Busy) = IsSome asked
-TellsEvent asked (Err errors.Memory) = asked ≡ None
+TellsEvent asked (Ok done) = is_some asked ≡ false
+TellsEvent asked (Err errors.Busy) = is_some asked ≡ true
+TellsEvent asked (Err errors.Memory) = is_some asked ≡ false
 TellsEvent asked (Err other) = ⊥
 
 -- the same of a packet, of which the server tells whose it is or why it doesn't open
 abbrev pub TellsHeard : Option (List ℕ) → Lock → List RingKey → ℕ → List ℕ → Result SessionName Error → Type 0
-TellsHeard asked lock keys now packet (Ok name) = (asked ≡ None) × IsHeardOf lock keys now packet (Judged name.key name.session)
-TellsHeard asked lock keys now packet (Err errors.Busy) = IsSome asked
-TellsHeard asked lock keys now packet (Err (errors.Refused why)) = (asked ≡ None) × IsHeardOf lock keys now packet (NotOpened why)
-TellsHeard asked lock keys now packet (Err errors.Memory) = asked ≡ None
+TellsHeard asked lock keys now packet (Ok name) = (is_some asked ≡ false) × IsHeardOf lock keys now packet (Judged name.key name.session)
+TellsHeard asked lock keys now packet (Err errors.Busy) = is_some asked ≡ true
+TellsHeard asked lock keys now packet (Err (errors.Refused why)) = (is_some asked ≡ false) × IsHeardOf lock keys now packet (NotOpened why)
+TellsHeard asked lock keys now packet (Err errors.Memory) = is_some asked ≡ false
 TellsHeard asked lock keys now packet (Err other) = ⊥
+
+-- where the packet is refused, this holds of why
+abbrev pub IfRefused : {X : Type 0} → Result X Error → (Refusal → Type 0) → Type 0
+IfRefused (Err (errors.Refused why)) P = P why
+IfRefused other P = ⊤
+
+-- where nothing was done, and the packet wasn't refused either, this holds
+abbrev pub UnlessRefused : {X : Type 0} → Result X Error → Type 0 → Type 0
+UnlessRefused (Ok done) P = ⊤
+UnlessRefused (Err (errors.Refused why)) P = ⊤
+UnlessRefused (Err other) P = P
 
 -- a reply isn't one, or memory ran out
 abbrev pub IsBadReply : List ℕ → Error → Type 0

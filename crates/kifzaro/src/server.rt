@@ -1,12 +1,11 @@
 //! A server.
 
-ghost use Rattle.std.specs.Prelude.{◌≡◌, ◌↔◌, ◌<◌, ◌≤◌, ◌∷◌, List, ℕ, None, Some, Ok, [], Err, IfErr, IfOk, IfSome, IsSome, IsTrue, MatchOption, OnErr, OnOk, false, true, length, max};
+ghost use Rattle.std.specs.Prelude.{◌≡◌, ◌↔◌, ◌<◌, ◌≤◌, ◌∷◌, List, ℕ, None, Some, Ok, [], Err, IfErr, IfOk, IfSome, IsTrue, MatchOption, OnErr, OnOk, false, true, is_some, max};
 ghost use Rattle.auth_keys.specs.KeyFile.{IsRingOf};
 ghost use Rattle.envelope.specs.declared.parts.Dir.TheVariants.{Up};
 ghost use Rattle.envelope.specs.declared.parts.Envelope.{Envelope as Sealed};
-ghost use Rattle.envelope.specs.declared.refusal.Refusal.{Refusal as Why};
 ghost use Rattle.envelope.specs.Lock.{mt_lock};
-ghost use Rattle.envelope.specs.Opening.{IsRefused, Opens};
+ghost use Rattle.envelope.specs.Opening.{Opens};
 ghost use Rattle.server_core.specs.Packets.{brought_in};
 ghost use Rattle.server_dispatch.specs.Rings.{AreOf};
 ghost use Rattle.server_rules.specs.Answer.{after_attach, after_packet, after_restart, after_tick, after_work};
@@ -21,7 +20,7 @@ ghost use Rattle.kifzaro.specs.Rooms.{TellsRoom};
 ghost use Rattle.kifzaro.specs.Clients.{TellsTaken};
 ghost use Rattle.kifzaro.specs.Queues.{IsFirst};
 ghost use Rattle.server_output.specs.declared.outs.Out.{Out as Going};
-ghost use Rattle.kifzaro.specs.Servers.{Did, Is, IsBadReply, TellsEvent, TellsHeard, answering};
+ghost use Rattle.kifzaro.specs.Servers.{Did, Is, IfRefused, IsBadReply, TellsEvent, TellsHeard, UnlessRefused, answering};
 ghost use Rattle.kifzaro.specs.declared.error.Error.TheVariants as errors;
 
 use crate::error::Error;
@@ -88,16 +87,11 @@ impl Server {
         })
     }
 
-    // Room for the packets of an event, at a server that no request keeps busy.
-    fn begin(&mut self) -> Result<(), Error>
-        ensures same { self.new ≡ self.old }
-        ensures told { TellsEvent self.old.asked result }
+    /// Whether a request that was handed out waits for its answer.
+    pub fn is_busy(&self) -> bool
+        ensures { result ≡ is_some self.now.asked }
     {
-        if let Some(_request) = &self.asked {
-            return Err(Error::Busy);
-        }
-        self.queue.make_room()?;
-        Ok(())
+        self.asked.is_some()
     }
 
     /// A packet came at a moment: the session that its envelope names judges what is in it, and answers. It answers the name
@@ -112,27 +106,33 @@ impl Server {
         now: Moment,
         packet: &[u8],
     ) -> Result<SessionName, Error>
-        ensures busy { IfSome self.old.asked (λ _. result ≡ Err errors.Busy) }
         ensures heard { TellsHeard self.old.asked mt_lock self.old.server.seal (max self.old.server.moment now) packet.now result }
         ensures given { (keys : Keys) (server : Rules) (envelope : Sealed) → AreOf self.old.server.seal keys → Is self.old server
             → Opens mt_lock self.old.server.seal (max self.old.server.moment now) Up packet.now envelope
             → OnOk result (Did self.old self.new (after_packet (setting_of (max self.old.server.moment now) drawing keys) (brought_in envelope) server self.old.draw)) }
-        ensures refused { (server : Rules) → Is self.old server → IfErr result (λ error. (why : Why) → error ≡ errors.Refused why
-            → Is self.new (record server { now = max self.old.server.moment now }) × (self.new ≡ record self.old { server = self.new.server })) }
-        ensures unchanged { IfErr result (λ error. ((why : Why) → error ≡ errors.Refused why → ⊥) → self.new.server ≡ self.old.server) }
+        ensures refused { (server : Rules) → Is self.old server → IfRefused result (λ _. Is self.new (record server { now = max self.old.server.moment now })
+            × (self.new ≡ record self.old { server = self.new.server })) }
+        ensures unchanged { UnlessRefused result (self.new ≡ record self.old { draw = self.new.draw }) }
         ensures same_ring { self.new.server.seal ≡ self.old.server.seal }
     {
         events_keep_order::<ChaChaDraw>();
         sessions_stand_later();
         is_early(now);
-        self.begin()?;
-        let reply = self.server.on_packet(alloc, now, packet, &mut self.draw)?;
-        match reply.heard {
-            Heard::NotOpened(refusal) => Err(Error::Refused(refusal)),
-            Heard::Judged { key, session } => {
-                self.queue.put(reply.out);
-                Ok(SessionName { key, session })
-            }
+        if self.is_busy() {
+            return Err(Error::Busy);
+        }
+        if self.queue.make_room().is_err() {
+            return Err(Error::Memory);
+        }
+        match self.server.on_packet(alloc, now, packet, &mut self.draw) {
+            Ok(reply) => match reply.heard {
+                Heard::NotOpened(refusal) => Err(Error::Refused(refusal)),
+                Heard::Judged { key, session } => {
+                    self.queue.put(reply.out);
+                    Ok(SessionName { key, session })
+                }
+            },
+            Err(Memory) => Err(Error::Memory),
         }
     }
 
@@ -150,10 +150,19 @@ impl Server {
     {
         events_keep_order::<ChaChaDraw>();
         is_early(now);
-        self.begin()?;
-        let effects = self.server.tick(alloc, now, &mut self.draw)?;
-        self.queue.put(effects.out);
-        Ok(())
+        if self.is_busy() {
+            return Err(Error::Busy);
+        }
+        if self.queue.make_room().is_err() {
+            return Err(Error::Memory);
+        }
+        match self.server.tick(alloc, now, &mut self.draw) {
+            Ok(effects) => {
+                self.queue.put(effects.out);
+                Ok(())
+            }
+            Err(Memory) => Err(Error::Memory),
+        }
     }
 
     /// A connection was opened for a session: what the server keeps for it is said again.
@@ -170,12 +179,22 @@ impl Server {
     {
         events_keep_order::<ChaChaDraw>();
         is_early(now);
-        self.begin()?;
-        let effects = self
+        if self.is_busy() {
+            return Err(Error::Busy);
+        }
+        if self.queue.make_room().is_err() {
+            return Err(Error::Memory);
+        }
+        match self
             .server
-            .attach(alloc, name.key, name.session, now, &mut self.draw)?;
-        self.queue.put(effects.out);
-        Ok(())
+            .attach(alloc, name.key, name.session, now, &mut self.draw)
+        {
+            Ok(effects) => {
+                self.queue.put(effects.out);
+                Ok(())
+            }
+            Err(Memory) => Err(Error::Memory),
+        }
     }
 
     /// Starts again, at the same moment: no session, no job and no binding is left. Packets that wait are still handed out.
@@ -185,15 +204,15 @@ impl Server {
     ///
     /// `Busy`.
     pub fn restart(&mut self, alloc: Global) -> Result<(), Error>
-        ensures busy { IfSome self.old.asked (λ _. result ≡ Err errors.Busy) }
-        ensures done { self.old.asked ≡ None → result ≡ Ok tt }
+        ensures busy { is_some self.old.asked ≡ true → result ≡ Err errors.Busy }
+        ensures done { is_some self.old.asked ≡ false → result ≡ Ok tt }
         ensures is { (server : Rules) → Is self.old server → OnOk result (Is self.new (after_restart server)) }
         ensures rest { OnOk result (self.new ≡ record self.old { server = self.new.server }) }
         ensures unchanged { OnErr result (self.new ≡ self.old) }
         ensures same_ring { self.new.server.seal ≡ self.old.server.seal }
     {
         events_keep_order::<ChaChaDraw>();
-        if self.asked.is_some() {
+        if self.is_busy() {
             return Err(Error::Busy);
         }
         self.server.restart(alloc);
@@ -215,13 +234,13 @@ impl Server {
     ///
     /// `Memory`.
     pub fn next_request(&mut self, alloc: Global) -> Result<bool, Error>
-        ensures again { IfSome self.old.asked (λ _. (result ≡ Ok true) × (self.new ≡ self.old)) }
-        ensures asked { IfOk result (λ there. IsTrue there ↔ IsSome self.new.asked) }
-        ensures ready { (server : Rules) → Is self.old server → self.old.asked ≡ None → IfOk result (λ there. IsTrue there ↔ (0 < ready_count server.jobs)) }
+        ensures again { is_some self.old.asked ≡ true → (result ≡ Ok true) × (self.new ≡ self.old) }
+        ensures asked { IfOk result (λ there. there ≡ is_some self.new.asked) }
+        ensures ready { (server : Rules) → Is self.old server → is_some self.old.asked ≡ false → IfOk result (λ there. IsTrue there ↔ (0 < ready_count server.jobs)) }
         ensures waits { (server : Rules) → Is self.old server → self.new ≡ record self.old { asked = self.new.asked } }
         ensures unchanged { (server : Rules) → Is self.old server → OnErr result (self.new ≡ self.old) }
     {
-        if self.asked.is_some() {
+        if self.is_busy() {
             return Ok(true);
         }
         if self.server.ready() == 0 {
