@@ -10,7 +10,6 @@ use envelope::MtSeal;
 use msg_ids::Moment;
 use std::alloc::Global;
 use std::test::*;
-use test_asserts::{holds, same};
 use test_clients::{
     SESSION, SentMessage, answered, envelope_of, message_of, packet_down, seal, sends, sent_again,
     submits, told,
@@ -26,16 +25,16 @@ fn a_call_goes_again_under_the_right_salt(rt: HostRuntime) -> Result<(), Fail> {
     let seal = seal(alloc)?;
     let mut client = answered(alloc, &seal, &mut draw)?;
     let sent = sends(alloc, &mut client, &seal, &mut draw)?;
-    same(sent.named(), (5, 16, 4))?;
-    same(
+    assert_eq!(rt; sent.named(), (5, 16, 4));
+    assert_eq!(rt;
         sent.body.as_slice(),
         b"\xdc\xf8\xf1\x73\x02\0\0\0\
         \x08\0\0\0\0\0\0\0\x02\0\0\0\x14\0\0\0\x59\xb4\xd6\x62\x15\xc4\xb5\x1c\x01\0\0\0\x07\0\0\0\0\0\0\0\
         \x0c\0\0\0\0\0\0\0\x03\0\0\0\x04\0\0\0\x01\0\0\0"
-            .as_slice(),
-    )?;
+            .as_slice()
+    );
     let next = client.flush(alloc, Moment::new(0), &seal, &mut draw);
-    holds(envelope_of(alloc, &seal, next)?.is_none())?;
+    assert!(rt; envelope_of(alloc, &seal, next)?.is_none());
     Ok(())
 }
 
@@ -72,7 +71,7 @@ fn one_call_is_sent_one_held_one_queued(rt: HostRuntime) -> Result<(), Fail> {
     let first = matches!(client.state(CallNo { n: 1 }), CallState::Sent);
     let second = matches!(client.state(CallNo { n: 2 }), CallState::Held);
     let third = matches!(client.state(CallNo { n: 3 }), CallState::Queued);
-    holds(first && second && third)?;
+    assert!(rt; first && second && third);
     Ok(())
 }
 
@@ -99,8 +98,8 @@ fn a_renewal_queues_what_was_not_sent(rt: HostRuntime) -> Result<(), Fail> {
     );
     let second = matches!(client.state(CallNo { n: 2 }), CallState::Queued);
     let third = matches!(client.state(CallNo { n: 3 }), CallState::Queued);
-    holds(first && second && third)?;
-    same(client.session(), NEXT_SESSION)?;
+    assert!(rt; first && second && third);
+    assert_eq!(rt; client.session(), NEXT_SESSION);
     Ok(())
 }
 
@@ -115,14 +114,14 @@ fn renewed_sends(alloc: Global, now: Moment) -> Result<SentMessage, Fail> {
 #[test]
 fn the_first_packet_of_a_renewed_client(rt: HostRuntime) -> Result<(), Fail> {
     let sent = renewed_sends(rt.alloc(), Moment::new(0))?;
-    same(sent.named(), (0, 12, 4))?;
-    same(
+    assert_eq!(rt; sent.named(), (0, 12, 4));
+    assert_eq!(rt;
         sent.body.as_slice(),
         b"\xdc\xf8\xf1\x73\x02\0\0\0\
         \x04\0\0\0\0\0\0\0\x01\0\0\0\x04\0\0\0\x03\0\0\0\
         \x08\0\0\0\0\0\0\0\x03\0\0\0\x04\0\0\0\x04\0\0\0"
-            .as_slice(),
-    )?;
+            .as_slice()
+    );
     Ok(())
 }
 
@@ -130,14 +129,14 @@ fn the_first_packet_of_a_renewed_client(rt: HostRuntime) -> Result<(), Fail> {
 #[test]
 fn the_first_packet_of_a_renewed_client_at_7(rt: HostRuntime) -> Result<(), Fail> {
     let sent = renewed_sends(rt.alloc(), Moment::new(7))?;
-    same(sent.named(), (0, 30_064_771_080, 4))?;
-    same(
+    assert_eq!(rt; sent.named(), (0, 30_064_771_080, 4));
+    assert_eq!(rt;
         sent.body.as_slice(),
         b"\xdc\xf8\xf1\x73\x02\0\0\0\
         \0\0\0\0\x07\0\0\0\x01\0\0\0\x04\0\0\0\x03\0\0\0\
         \x04\0\0\0\x07\0\0\0\x03\0\0\0\x04\0\0\0\x04\0\0\0"
-            .as_slice(),
-    )?;
+            .as_slice()
+    );
     Ok(())
 }
 
@@ -158,7 +157,7 @@ fn what_an_end_decides(rt: HostRuntime) -> Result<(), Fail> {
     );
     let second = matches!(client.state(CallNo { n: 2 }), CallState::Refused(0));
     let third = matches!(client.state(CallNo { n: 3 }), CallState::Refused(0));
-    holds(first && second && third)?;
+    assert!(rt; first && second && third);
     Ok(())
 }
 
@@ -201,52 +200,52 @@ fn sends_by(alloc: Global, wish: Wish) -> Result<SentMessage, Fail> {
 #[test]
 fn a_tick_asks_for_the_state_of_the_call(rt: HostRuntime) -> Result<(), Fail> {
     let sent = sends_by(rt.alloc(), Wish::Tick)?;
-    same(sent.named(), (5, 20, 4))?;
-    same(
+    assert_eq!(rt; sent.named(), (5, 20, 4));
+    assert_eq!(rt;
         sent.body.as_slice(),
-        b"\x52\xfb\x69\xda\x15\xc4\xb5\x1c\x01\0\0\0\x0c\0\0\0\0\0\0\0".as_slice(),
-    )?;
+        b"\x52\xfb\x69\xda\x15\xc4\xb5\x1c\x01\0\0\0\x0c\0\0\0\0\0\0\0".as_slice()
+    );
     Ok(())
 }
 
 #[test]
 fn a_ping_goes(rt: HostRuntime) -> Result<(), Fail> {
     let sent = sends_by(rt.alloc(), Wish::Ping)?;
-    same(sent.named(), (5, 20, 4))?;
-    same(
+    assert_eq!(rt; sent.named(), (5, 20, 4));
+    assert_eq!(rt;
         sent.body.as_slice(),
-        b"\xec\x77\xbe\x7a\x4d\0\0\0\0\0\0\0".as_slice(),
-    )?;
+        b"\xec\x77\xbe\x7a\x4d\0\0\0\0\0\0\0".as_slice()
+    );
     Ok(())
 }
 
 #[test]
 fn salts_are_asked_for(rt: HostRuntime) -> Result<(), Fail> {
     let sent = sends_by(rt.alloc(), Wish::Salts)?;
-    same(sent.named(), (5, 20, 5))?;
-    same(
+    assert_eq!(rt; sent.named(), (5, 20, 5));
+    assert_eq!(rt;
         sent.body.as_slice(),
-        b"\x04\xbd\x21\xb9\x03\0\0\0".as_slice(),
-    )?;
+        b"\x04\xbd\x21\xb9\x03\0\0\0".as_slice()
+    );
     Ok(())
 }
 
 #[test]
 fn an_answer_is_to_be_dropped(rt: HostRuntime) -> Result<(), Fail> {
     let sent = sends_by(rt.alloc(), Wish::Drop)?;
-    same(sent.named(), (5, 20, 5))?;
-    same(
+    assert_eq!(rt; sent.named(), (5, 20, 5));
+    assert_eq!(rt;
         sent.body.as_slice(),
-        b"\x40\xa7\xe4\x58\x0c\0\0\0\0\0\0\0".as_slice(),
-    )?;
+        b"\x40\xa7\xe4\x58\x0c\0\0\0\0\0\0\0".as_slice()
+    );
     Ok(())
 }
 
 #[test]
 fn a_call_goes_again_under_its_number(rt: HostRuntime) -> Result<(), Fail> {
     let sent = sends_by(rt.alloc(), Wish::Attach)?;
-    same(sent.named(), (5, 12, 3))?;
-    same(sent.body.as_slice(), [1, 0, 0, 0].as_slice())?;
+    assert_eq!(rt; sent.named(), (5, 12, 3));
+    assert_eq!(rt; sent.body.as_slice(), [1, 0, 0, 0].as_slice());
     Ok(())
 }
 
@@ -266,10 +265,10 @@ fn a_result_is_the_calls(rt: HostRuntime) -> Result<(), Fail> {
         17,
         b"\x01\x6d\x5c\xf3\x0c\0\0\0\0\0\0\0\x07\0\0\0",
     )?;
-    same(
+    assert_eq!(rt;
         client.state(CallNo { n: 1 }),
-        CallState::Done(&[7, 0, 0, 0]),
-    )?;
+        CallState::Done(&[7, 0, 0, 0])
+    );
     Ok(())
 }
 
@@ -280,7 +279,7 @@ fn a_result_for_a_former_number_is_none(rt: HostRuntime) -> Result<(), Fail> {
         17,
         b"\x01\x6d\x5c\xf3\x04\0\0\0\0\0\0\0\x07\0\0\0",
     )?;
-    same(client.state(CallNo { n: 1 }), CallState::Sent)?;
+    assert_eq!(rt; client.state(CallNo { n: 1 }), CallState::Sent);
     Ok(())
 }
 
@@ -291,7 +290,7 @@ fn an_even_number_is_not_looked_at(rt: HostRuntime) -> Result<(), Fail> {
         18,
         b"\x01\x6d\x5c\xf3\x0c\0\0\0\0\0\0\0\x07\0\0\0",
     )?;
-    same(client.state(CallNo { n: 1 }), CallState::Sent)?;
+    assert_eq!(rt; client.state(CallNo { n: 1 }), CallState::Sent);
     Ok(())
 }
 
@@ -302,10 +301,10 @@ fn another_session_of_the_server_is_learnt(rt: HostRuntime) -> Result<(), Fail> 
         17,
         b"\x08\x09\xc2\x9e\x0c\0\0\0\0\0\0\0\x0a\0\0\0\0\0\0\0\x06\0\0\0\0\0\0\0",
     )?;
-    same(
+    assert_eq!(rt;
         client.state(CallNo { n: 1 }),
-        CallState::Unknown(Cause::Session),
-    )?;
+        CallState::Unknown(Cause::Session)
+    );
     Ok(())
 }
 
@@ -331,12 +330,12 @@ fn told_of(alloc: Global, count: u16) -> Result<OpenStep, Fail> {
 
 #[test]
 fn the_1024th_session_leaves_it_open(rt: HostRuntime) -> Result<(), Fail> {
-    holds(matches!(told_of(rt.alloc(), 1022)?, OpenStep::Still(_)))?;
+    assert!(rt; matches!(told_of(rt.alloc(), 1022)?, OpenStep::Still(_)));
     Ok(())
 }
 
 #[test]
 fn the_1025th_session_ends_it(rt: HostRuntime) -> Result<(), Fail> {
-    holds(matches!(told_of(rt.alloc(), 1023)?, OpenStep::Ended(_)))?;
+    assert!(rt; matches!(told_of(rt.alloc(), 1023)?, OpenStep::Ended(_)));
     Ok(())
 }
