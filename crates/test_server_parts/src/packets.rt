@@ -99,14 +99,14 @@ fn fifteen_great_results_go_by_threes(rt: HostRuntime) -> Result<(), Fail> {
 }
 
 #[test]
-fn small_messages_go_by_1020() -> Result<(), Fail> {
+fn small_messages_go_by_1020(rt: HostRuntime) -> Result<(), Fail> {
     let small = Part {
         number: 5,
         seq: 1,
         body: b"",
     };
     let many = [small; 1_021];
-    same(front(&many), 1_020)?;
-    same(front(&many[1_020..]), 1)?;
+    assert_eq!(rt; front(&many), 1_020);
+    assert_eq!(rt; front(&many[1_020..]), 1);
     Ok(())
 }
