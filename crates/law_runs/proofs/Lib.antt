@@ -5,3 +5,4 @@ pub mod Attempts
 pub mod Places
 pub mod Clients
 pub mod Servers
+pub mod Turns
