@@ -1,5 +1,5 @@
 -- What is computed of a joint run: whether its words are new, and whether its packets were made.
-use Rattle.std.proofs.Common.{◌≡◌, ◌∙◌, ◌≢◌, ◌==◌, ◌<◌, length, ℕ, zero, suc, Bool, true, false, not, Option, Some, None, List, [], ◌∷◌, refl, sym, ap, eq-eqb, inl, inr, arith}
+use Rattle.std.proofs.Common.{◌≡◌, ◌∙◌, ◌≢◌, ◌==◌, ◌<◌, length, ℕ, zero, suc, Bool, true, false, not, Option, Some, None, List, [], ◌∷◌, refl, sym, eq-eqb, inl, inr, arith}
 use Rattle.std.specs.Prelude.{◌&&◌, slice_get}
 use Rattle.std.specs.List.{All, AllPairs, Contains, list_any}
 use Rattle.std.proofs.lemmas.Bool.{cases_Bool}
@@ -10,10 +10,10 @@ use Rattle.envelope.specs.declared.parts.Dir.TheVariants as way
 use Rattle.server_node.specs.Trace.{Attach, Hear, Run, Tick}
 use Rattle.world_rules.specs.Premises.{OpensOnly}
 use Rattle.world_rules.specs.Setting.{Setting}
-use Rattle.world_rules.specs.World.{Packet, World, bytes_of, counted}
+use Rattle.world_rules.specs.World.{Packet, World, counted}
 use Rattle.law_connections.specs.Joint.{Joint, Step, Attaches, Begins, Does, Draws, Flushes, Hears, Renews, Serves, Starts, Submits, at_client_moment, at_moment, steps_on}
 use Rattle.law_connections.specs.Premises.{IsStepByNoChance, NoChance}
-use Rattle.law_connections.specs.Witness.{Down, Goes, Turn, Up, bytes_in, packet_at, step_in, steps_in}
+use Rattle.law_connections.specs.Witness.{Down, Goes, Turn, Up, bytes_in, step_in, steps_in}
 
 -- ---- words
 

@@ -1,5 +1,5 @@
 -- Each step of a joint run keeps what is kept of its world.
-use Rattle.std.proofs.Common.{◌≡◌, ℕ, zero, suc, Option, Some, None, List, [], ◌∷◌, true, fold}
+use Rattle.std.proofs.Common.{◌≡◌, ℕ, Option, Some, None, List, [], ◌∷◌, true}
 use Rattle.std.specs.Prelude.{IfSome}
 use Rattle.std.specs.List.{All}
 use Rattle.std.proofs.lemmas.List.Elements.{All-head, All-tail}
@@ -8,16 +8,16 @@ use Rattle.envelope.specs.Packet.{Lock}
 use Rattle.draws.specs.Draws.{draw_after}
 use Rattle.sched_text.specs.declared.event.Event.TheVariants as line
 use Rattle.server_node.specs.Trace.{Act, Attach, Hear, Run, Tick}
-use Rattle.client_core.specs.Keys.{BoundTo, Keys}
+use Rattle.client_core.specs.Keys.{BoundTo}
 use Rattle.world_rules.specs.Setting.{Setting, Keys as WorldKeys}
-use Rattle.world_rules.specs.World.{Seat, World, counted}
-use Rattle.world_rules.specs.Premises.{Fresh, IsByNoChance, IsSealed, IsSound, OpensOnly}
+use Rattle.world_rules.specs.World.{World, counted}
+use Rattle.world_rules.specs.Premises.{Fresh, IsSealed, IsSound}
 use Rattle.world_rules.specs.Run.{after, joins}
 use Rattle.law_packets.specs.Lawful.{is_held}
 use Rattle.law_once.specs.Served.{IsServed}
-use Rattle.law_connections.specs.Joint.{Deed, Joint, Step, Attaches, Begins, Does, Draws, Flushes, Hears, Renews, Serves, Starts, Submits, at_client_moment, at_moment, begun, comes, did, does, drawing, joint_from, served, started, steps_on, temporary_in}
+use Rattle.law_connections.specs.Joint.{Deed, Joint, Step, Attaches, Begins, Does, Draws, Flushes, Hears, Renews, Serves, Starts, Submits, at_client_moment, at_moment, begun, did, does, drawing, joint_from, served, started, steps_on, temporary_in}
 use Rattle.law_connections.specs.Keeping.{Keeps}
-use Rattle.law_connections.specs.Premises.{AreHeld, IsByNoChanceDown, IsByNoChanceUp, IsOf, IsOfBytes, IsStepByNoChance, NoChance}
+use Rattle.law_connections.specs.Premises.{IsByNoChanceDown, IsByNoChanceUp, IsOf, IsOfBytes, IsStepByNoChance, NoChance}
 use Rattle.law_connections.proofs.Worlds.{Laws, attach_kept, clock_kept, drawn_kept, event_kept, keys_back, keys_kept, sealed_with, sound_with, started_kept}
 
 -- the keys of a world that a client comes with

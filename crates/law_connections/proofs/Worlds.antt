@@ -1,16 +1,15 @@
 -- What is kept of a world behind an event, an attach, and where words are drawn from elsewhere.
-use Rattle.std.proofs.Common.{◌≡◌, ℕ, zero, List, true, arith, refl}
-use Rattle.std.specs.Prelude.{◌≤◌}
+use Rattle.std.proofs.Common.{◌≡◌, ℕ, List, true, arith}
 use Rattle.auth_keys.specs.declared.ring.RingKey.{RingKey}
 use Rattle.envelope.specs.Lawful.{OpensWhatItSealed}
 use Rattle.envelope.specs.Packet.{Lock}
 use Rattle.regs_service.specs.Served.{Served}
 use Rattle.sched_text.specs.declared.event.Event.{Event}
 use Rattle.sched_text.specs.declared.event.Event.TheVariants as line
-use Rattle.server_rules.specs.Server.{Name, fresh_server}
+use Rattle.server_rules.specs.Server.{Name}
 use Rattle.law_moves.specs.World.{World as Moved}
 use Rattle.world_rules.specs.Setting.{Setting, Keys as WorldKeys}
-use Rattle.world_rules.specs.World.{World, begins}
+use Rattle.world_rules.specs.World.{World}
 use Rattle.world_rules.specs.Once.{InOrder, Once, ran_in}
 use Rattle.world_rules.specs.Premises.{Fresh, IsByNoChance, IsOfBytes, IsSealed, IsSound}
 use Rattle.world_rules.specs.Run.{after}

@@ -1,15 +1,15 @@
 -- What is taken for granted of the steps of a joint run.
-use Rattle.std.specs.Prelude.{◌≡◌, true, ℕ, Option, IfSome, List, [], ◌∷◌}
+use Rattle.std.specs.Prelude.{◌≡◌, true, ℕ, IfSome, List, [], ◌∷◌}
 use Rattle.octets.specs.Bytes.{IsBytes}
 use Rattle.auth_keys.specs.declared.ring.RingKey.{RingKey}
 use Rattle.sched_text.specs.declared.event.Event.TheVariants as line
-use Rattle.server_node.specs.Trace.{Act, Attach, Hear, Run, Tick}
+use Rattle.server_node.specs.Trace.{Act, Hear}
 use Rattle.client_core.specs.Keys.{Keys}
 use Rattle.world_rules.specs.Setting.{Setting}
 use Rattle.world_rules.specs.World.{World}
 use Rattle.world_rules.specs.Premises.{IsByNoChance}
 use Rattle.law_packets.specs.Lawful.{is_held}
-use Rattle.law_connections.specs.Joint.{Deed, Joint, Step, Attaches, Begins, Does, Draws, Flushes, Hears, Renews, Serves, Starts, Submits, at_client_moment, at_moment, steps_on}
+use Rattle.law_connections.specs.Joint.{Deed, Joint, Step, Begins, Does, Hears, Serves, Starts, Submits, at_client_moment, at_moment, steps_on}
 
 -- ---- keys and bodies
 

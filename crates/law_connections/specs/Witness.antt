@@ -6,7 +6,7 @@ use Rattle.server_node.specs.Trace.{Attach, Hear, Run, Tick}
 use Rattle.world_rules.specs.Report.{report}
 use Rattle.world_rules.specs.Setting.{Setting}
 use Rattle.world_rules.specs.Witness.{add_x, setting}
-use Rattle.world_rules.specs.World.{Packet, World, bytes_of, counted}
+use Rattle.world_rules.specs.World.{Packet, bytes_of, counted}
 use Rattle.law_connections.specs.Joint.{Joint, Step, Attaches, Begins, Does, Draws, Flushes, Hears, Serves, Starts, Submits, joint_of, nobody_yet, steps_on}
 
 -- ---- steps that bring packets of the run

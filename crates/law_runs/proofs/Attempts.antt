@@ -1,9 +1,8 @@
 -- What a batch makes of its client is what its deeds make of it: turns, connections and attempts.
-use Rattle.std.proofs.Common.{◌≡◌, ◌∙◌, ℕ, suc, ◌+◌, Bool, true, false, List, [], ◌∷◌, ◌++◌, inl, inr, refl, sym, ap, subst}
-use Rattle.std.specs.Prelude.{Option, Some, None, is_none, option_map, length}
+use Rattle.std.proofs.Common.{◌≡◌, ℕ, List, [], ◌∷◌, ◌++◌, inl, inr, refl, sym, subst}
+use Rattle.std.specs.Prelude.{length}
 use Rattle.auth_keys.specs.declared.ring.RingKey.{RingKey}
 use Rattle.transport.specs.Starts.{Opening, words_drawn}
-use Rattle.client_rules.specs.Client.{Client, calls_of}
 use Rattle.client_node.specs.Course.{Course, attaches}
 use Rattle.client_node.specs.Talks as client
 use Rattle.client_node.specs.Talks.{AreTurns, Began, Close, Connection, Heard, IsClosed, IsConnection, IsTalk, IsTurn, Place, Refused, Said, Stopped, Talk, Turn, TurnsDone, Unread, Unstarted, begun, closes, course_after, drawn, end_by, end_of, gets, says, turned, turns_from}

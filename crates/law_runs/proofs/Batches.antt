@@ -1,7 +1,7 @@
 -- What a batch makes of its client is what its deeds make of it: the parts of a connection.
-use Rattle.std.proofs.Common.{◌≡◌, ◌∙◌, ℕ, ◌≤◌, zero, suc, if◌then◌else◌, not, Bool, true, false, Option, List, [], ◌∷◌, ◌++◌, fold, refl, sym, ap, subst, inl, inr, arith}
-use Rattle.std.specs.Prelude.{◌⊎◌, max, min}
-use Rattle.std.specs.List.{AllByRecursion, list_any}
+use Rattle.std.proofs.Common.{◌≡◌, ◌∙◌, ℕ, ◌≤◌, if◌then◌else◌, not, Bool, true, false, Option, List, [], ◌∷◌, ◌++◌, refl, sym, ap, subst, inl, inr}
+use Rattle.std.specs.Prelude.{max}
+use Rattle.std.specs.List.{AllByRecursion}
 use Rattle.std.proofs.Math.Nat.{min-eq_left}
 use Rattle.std.proofs.lemmas.Bool.{cases_Bool}
 use Rattle.std.proofs.lemmas.List.Sums.{fold-append}
@@ -9,17 +9,16 @@ use Rattle.auth_keys.specs.declared.ring.RingKey.{RingKey}
 use Rattle.msg_ids.specs.Moments.{latest_moment, moment_of}
 use Rattle.envelope.specs.declared.parts.Envelope.{Envelope}
 use Rattle.client_rules.specs.Asking.{attached}
-use Rattle.client_rules.specs.Client.{Client, calls_of, is_open}
+use Rattle.client_rules.specs.Client.{Client, is_open}
 use Rattle.client_rules.specs.Events.{Run, flushed, takes}
 use Rattle.client_rules.specs.Flush.{Flushed, flush}
-use Rattle.client_node.specs.Course.{Course, Phase, Ended, Open, Opening, attached_in, attaches, flush_of, flushed_in, flushes, heard_in, hears, is_decided, is_undecided, must_renew, opened_at, phase_after, renews, renews_if, renews_unless, sends_all, takes_packet}
+use Rattle.client_node.specs.Course.{Course, Phase, Ended, Open, Opening, attached_in, attaches, flush_of, flushed_in, flushes, heard_in, hears, is_decided, must_renew, opened_at, phase_after, renews, renews_if, renews_unless, sends_all, takes_packet}
 use Rattle.client_node.specs.Flow.{flowed}
 use Rattle.client_node.specs.Talks.{Rules}
 use Rattle.client_node.specs.Took.{NoneDecides, decides, takes_all}
 use Rattle.world_rules.specs.Setting.{Setting, at_client}
-use Rattle.cmd_call.specs.Reading.{reading_under}
 use Rattle.cmd_serve.specs.Runs.{Registers}
-use Rattle.law_connections.specs.Joint.{Deed, Attaches, Draws, Flushes, Hears, Renews, Submits}
+use Rattle.law_connections.specs.Joint.{Deed, Attaches, Flushes, Hears}
 use Rattle.law_runs.specs.Deeds.{flushes_of, heard_deeds, last_flush, packet_deeds, renew_deeds, renewal, renewal_unless}
 use Rattle.law_runs.specs.Joining.{IsTimely, client_rules_under, setting_under}
 use Rattle.law_runs.proofs.Living.{EndsDecided, flush_alike, takes_so}

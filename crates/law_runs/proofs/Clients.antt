@@ -1,5 +1,5 @@
 -- The clients of a joint run are those that the runs of `call` left.
-use Rattle.std.proofs.Common.{◌≡◌, ◌∙◌, ℕ, zero, ◌+◌, Bool, true, false, Option, Some, None, List, [], ◌∷◌, ◌++◌, map, length, length-append, fold, refl, sym, ap, subst, arith}
+use Rattle.std.proofs.Common.{◌≡◌, ◌∙◌, ℕ, ◌+◌, false, Option, Some, None, List, [], ◌∷◌, ◌++◌, map, length, length-append, refl, sym, ap, subst, arith}
 use Rattle.std.specs.Prelude.{is_none, if◌then◌else◌}
 use Rattle.std.specs.List.{AllByRecursion}
 use Rattle.std.proofs.lemmas.List.Sums.{fold-append}
@@ -10,7 +10,6 @@ use Rattle.client_rules.specs.Asking.{Fault, fault_at, submit_fault, submitted}
 use Rattle.client_rules.specs.Client.{Client, calls_of}
 use Rattle.client_rules.specs.Events.{Run, unless_fault}
 use Rattle.client_node.specs.Course.{Course}
-use Rattle.client_node.specs.Trace.{after_all}
 use Rattle.cmd_call.specs.Keys.{client_under}
 use Rattle.cmd_call.specs.Script.{earlier_of, fault_of, first_of, given, given_all, untaken_from}
 use Rattle.cmd_serve.specs.Runs.{Registers}
@@ -19,8 +18,8 @@ use Rattle.world_rules.specs.Setting.{Setting}
 use Rattle.world_rules.specs.World.{Seat}
 use Rattle.law_connections.specs.Joint.{Step, joint_of, nobody_yet}
 use Rattle.law_runs.specs.Deeds.{attempts_deeds, given_deeds}
-use Rattle.law_runs.specs.Joining.{AreJoint, AreLeft, Called, IsTimely, Served, batch_begins, client_rules_under, left_by, part_by, setting_under}
-use Rattle.law_runs.specs.Parts.{Part, parts_of}
+use Rattle.law_runs.specs.Joining.{AreJoint, AreLeft, Called, Served, batch_begins, client_rules_under, left_by, part_by, setting_under}
+use Rattle.law_runs.specs.Parts.{Part}
 use Rattle.law_runs.proofs.Owns.{done, done_all}
 use Rattle.law_runs.proofs.Batches.{AreTimely, Lives, timely-back}
 use Rattle.law_runs.proofs.Attempts.{batch-tied}

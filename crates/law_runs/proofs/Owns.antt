@@ -1,6 +1,6 @@
 -- What a client's deeds make of it and of what it draws its words from.
-use Rattle.std.proofs.Common.{◌≡◌, ℕ, if◌then◌else◌, List, [], ◌∷◌, ◌++◌, Bool, true, false, fold, refl}
-use Rattle.std.specs.Prelude.{max, Option, option_map}
+use Rattle.std.proofs.Common.{if◌then◌else◌, List, fold}
+use Rattle.std.specs.Prelude.{max, option_map}
 use Rattle.draws.specs.Draws.{draw_after}
 use Rattle.msg_ids.specs.Moments.{moment_of}
 use Rattle.envelope.specs.declared.parts.Dir.TheVariants.{Down}

@@ -1,23 +1,20 @@
 -- Each client of a joint run is what its own deeds make of it, whatever the others do between.
-use Rattle.std.proofs.Common.{◌≡◌, ◌∙◌, ℕ, zero, suc, if◌then◌else◌, Bool, true, false, Option, Some, None, List, [], ◌∷◌, ◌++◌, fold, refl, sym, ap, subst, inl, inr}
-use Rattle.std.specs.Prelude.{max, option_map, slice_get, map}
+use Rattle.std.proofs.Common.{◌≡◌, ◌∙◌, ℕ, zero, suc, if◌then◌else◌, Bool, Option, Some, None, List, [], ◌∷◌, ◌++◌, fold, refl, sym, ap, subst, inl, inr}
+use Rattle.std.specs.Prelude.{max, option_map, slice_get}
 use Rattle.std.proofs.lemmas.Bool.{cases_Bool}
 use Rattle.std.proofs.lemmas.List.Sums.{fold-append}
 use Rattle.msg_ids.specs.Moments.{moment_of}
-use Rattle.draws.specs.Draws.{draw_after}
 use Rattle.envelope.specs.declared.parts.Dir.TheVariants.{Down}
-use Rattle.sched_text.specs.declared.event.Event.TheVariants as line
 use Rattle.server_node.specs.Trace.{Act, Attach, Hear, Run as Runs, Tick}
-use Rattle.client_core.specs.Keys.{Keys}
 use Rattle.client_rules.specs.Client.{Client}
 use Rattle.client_rules.specs.Events as wishes
 use Rattle.client_rules.specs.Events.{Run, made}
 use Rattle.world_rules.specs.Refusals.{call_numbered}
 use Rattle.world_rules.specs.Setting.{Setting, at_client}
-use Rattle.world_rules.specs.World.{Seat, World, changed_at, changed_from_0, counted, seat_now}
+use Rattle.world_rules.specs.World.{Seat, World, changed_from_0}
 use Rattle.world_rules.specs.Ends.{acts, comes_down, flushed_at, flushes, seated}
 use Rattle.world_rules.specs.Run.{set}
-use Rattle.law_connections.specs.Joint.{Deed, Joint, Step, Attaches, Begins, Does, Draws, Flushes, Hears, Renews, Serves, Starts, Submits, at_client_moment, begun, comes, did, does, drawing, joint_from, served, steps_on, temporary_in}
+use Rattle.law_connections.specs.Joint.{Deed, Joint, Step, Attaches, Begins, Does, Draws, Flushes, Hears, Renews, Serves, Starts, Submits, at_client_moment, did, does, drawing, joint_from, served, steps_on, temporary_in}
 use Rattle.law_runs.specs.Parts.{Part, part_on, with_deed}
 use Rattle.law_runs.proofs.Owns.{done, done_all}
 

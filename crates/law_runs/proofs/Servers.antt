@@ -33,7 +33,7 @@ use Rattle.world_rules.specs.Ends.{acts, comes_down, flushes, seated}
 use Rattle.law_connections.specs.Joint.{Deed, Joint, Step, Attaches, Begins, Does, Draws, Flushes, Hears, Renews, Serves as Acts, Starts, Submits, at_client_moment, did, does, drawing, joint_from, joint_of, nobody_yet, served, steps_on}
 use Rattle.law_runs.specs.Acts.{close_acts, connection_acts, run_acts, trace_acts, turn_acts, turns_acts}
 use Rattle.law_runs.specs.Joining.{AreInTurn, AreJoint, Called, IsServerLeft, IsTimelyAct, Served, setting_under, start_by}
-use Rattle.law_runs.specs.Parts.{Start, start_on, starts_of}
+use Rattle.law_runs.specs.Parts.{Start, start_on}
 
 -- ---- what a server's events make of it
 

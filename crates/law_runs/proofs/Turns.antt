@@ -1,16 +1,13 @@
 -- The clauses of runs say in which packets decide, and how connections follow one another.
 use Rattle.std.proofs.Common.{◌≡◌, ℕ, List, [], ◌∷◌, ◌++◌, length, inl, inr, arith}
-use Rattle.std.specs.Prelude.{◌⊎◌}
-use Rattle.auth_keys.specs.declared.ring.RingKey.{RingKey}
 use Rattle.transport.specs.Starts.{Opening}
-use Rattle.server_node.specs.declared.conn.ConnEnd.TheVariants as ends
 use Rattle.client_node.specs.Course.{Course}
 use Rattle.client_node.specs.Talks.{Began, Close, Connection as Made, EndsHearing, Heard, IsClosed, IsConnection, Place, Refused, Rules, Said, Stopped, TurnsDone, Unread, Unstarted, begun, gets, says, turns_from}
 use Rattle.client_node.specs.Trace.{AreLost, Attempt, EndsBy as BatchEndsBy, IsAttempt, Made as MadeOne, NoLink, after_all}
 use Rattle.client_node.specs.declared.plan.Batch.{Batch}
 use Rattle.client_node.specs.declared.plan.Plan.{Plan}
 use Rattle.client_node.specs.Took.{NoneDecides}
-use Rattle.cmd_serve.specs.Connections.{AllGoOn, Connection, EndsBy, GoesOn}
+use Rattle.cmd_serve.specs.Connections.{Connection, EndsBy}
 use Rattle.cmd_serve.specs.Runs.{Registers}
 use Rattle.law_runs.specs.Deeds.{AllInTurn, AreHeardInTurn, ClosesInTurn, ConnectsInTurn, TriesInTurn}
 use Rattle.law_runs.specs.Joining.{AreInTurn}

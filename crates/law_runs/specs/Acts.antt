@@ -1,6 +1,5 @@
 -- The events of a server that the trace of its connections tells of, in order.
 use Rattle.std.specs.Prelude.{List, [], ◌∷◌, ◌++◌}
-use Rattle.mt_edge.specs.declared.source.Got.{Got}
 use Rattle.server_rules.specs.Server.{Server}
 use Rattle.server_node.specs.Connection.{Close, Heard, Hearing, Place, ServerTrace, Sight, Spent, Turn, Unbegun, Unfed, Unread, Working, began, turns_from}
 use Rattle.server_node.specs.Trace.{Act, Rules, Talk, packets_acts, work_acts}

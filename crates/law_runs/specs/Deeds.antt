@@ -1,5 +1,5 @@
 -- What a client does that the trace of its batch tells of, in order.
-use Rattle.std.specs.Prelude.{◌≡◌, ◌⊎◌, ℕ, Bool, true, false, if◌then◌else◌, List, [], ◌∷◌, ◌++◌, map}
+use Rattle.std.specs.Prelude.{◌≡◌, ◌⊎◌, ℕ, Bool, true, false, List, [], ◌∷◌, ◌++◌, map}
 use Rattle.call_script.specs.declared.script.ScriptCall.{ScriptCall}
 use Rattle.transport.specs.Starts.{words_drawn}
 use Rattle.client_node.specs.Course.{Course, Reading, attaches, hears, is_decided, must_renew, takes_packet}

@@ -12,13 +12,13 @@ use Rattle.client_node.specs.Trace.{Attempt, EndsBy as BatchEndsBy, after_all}
 use Rattle.client_node.specs.Course.{Course, Opening}
 use Rattle.client_node.specs.declared.plan.Batch.{Batch}
 use Rattle.client_node.specs.declared.plan.Plan.{Plan}
-use Rattle.client_rules.specs.Client.{Client, calls_of}
+use Rattle.client_rules.specs.Client.{Client}
 use Rattle.cmd_call.specs.Keys.{client_under}
 use Rattle.cmd_call.specs.Reading.{reading_under}
 use Rattle.cmd_call.specs.Script.{given_all, untaken}
 use Rattle.cmd_serve.specs.Connections.{AllGoOn, AreConnections, Between, Connection, GoesOn, behind_all}
 use Rattle.cmd_serve.specs.Packets.{outside_of}
-use Rattle.cmd_serve.specs.Runs.{Registers}
+use Rattle.cmd_serve.specs.Runs.{Course as ServeCourse, Deaf, Mute, Refused, Registers, Serves, Unbegun, Unread}
 use Rattle.draws.specs.Draws.{draw_after, word_after}
 use Rattle.envelope.specs.Lock.{mt_lock}
 use Rattle.envelope.specs.Packet.{packet_of}
@@ -33,7 +33,7 @@ use Rattle.server_node.specs.declared.conn.ConnEnd.TheVariants as ends
 use Rattle.server_node.specs.Trace.{Act, Attach, Hear, Run, Tick, rules_of}
 use Rattle.world_rules.specs.Setting.{Setting}
 use Rattle.world_rules.specs.World.{Seat, World}
-use Rattle.law_connections.specs.Joint.{Deed, Step, Attaches, Draws, Flushes, Hears, Renews, Submits}
+use Rattle.law_connections.specs.Joint.{Deed, Step, Flushes, Hears}
 use Rattle.law_runs.specs.Acts.{run_acts}
 use Rattle.law_runs.specs.Deeds.{AllInTurn, attempts_deeds, given_deeds}
 use Rattle.law_runs.specs.Parts.{Part, Start, parts_of, starts_of}
@@ -83,6 +83,23 @@ pub record Served {D : Type 0} (step : D → ℕ × D) (ring : List RingKey) : T
   pub in_turn : AreInTurn connections
   pub server : first.server ≡ fresh_server
   pub service : first.service ≡ registers.fresh
+
+-- a run of `serve` came to serve connections, with this ring and these connections
+abbrev pub IsServing : {D : Type 0} → ServeCourse D → Type 0
+IsServing (Serves ring connections ending) = Unit {0}
+IsServing Unread = ⊥
+IsServing (Refused line) = ⊥
+IsServing Unbegun = ⊥
+IsServing (Deaf ring) = ⊥
+IsServing (Mute ring) = ⊥
+
+abbrev pub ring_in : {D : Type 0} → ServeCourse D → List RingKey
+ring_in (Serves ring connections ending) = ring
+ring_in _ = []
+
+abbrev pub connections_in : {D : Type 0} → ServeCourse D → List (Connection D Registers)
+connections_in (Serves ring connections ending) = connections
+connections_in _ = []
 
 -- as a start of the server in a joint run
 abbrev pub start_by : {D : Type 0} {step : D → ℕ × D} {ring : List RingKey} → Served step ring → Start D

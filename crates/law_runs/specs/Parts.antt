@@ -1,5 +1,5 @@
 -- The parts of a joint run: what each start of the server does in it, and each client, whatever the others do between.
-use Rattle.std.specs.Prelude.{ℕ, List, [], ◌∷◌, ◌++◌, fold}
+use Rattle.std.specs.Prelude.{List, [], ◌∷◌, ◌++◌, fold}
 use Rattle.server_node.specs.Trace.{Act}
 use Rattle.client_core.specs.Keys.{Keys}
 use Rattle.world_rules.specs.World.{changed_at}

@@ -6,8 +6,7 @@ ghost use Rattle.auth_keys.specs.declared.ring.RingKey.{RingKey};
 ghost use Rattle.call_script.specs.declared.script.ScriptCall.{ScriptCall};
 ghost use Rattle.client_core.specs.Keys.{Keys};
 ghost use Rattle.cmd_call.specs.Owed.{Around, LeftBatch, RanBatch};
-ghost use Rattle.cmd_serve.specs.Connections.{Connection};
-ghost use Rattle.cmd_serve.specs.Runs.{Draws, Moments, Registers, Serves, ServesBy, first_of};
+ghost use Rattle.cmd_serve.specs.Runs.{Course, Draws, Moments, ServesBy, first_of};
 ghost use Rattle.commands.specs.declared.command.CallOptions.{CallOptions};
 ghost use Rattle.commands.specs.declared.command.ServeOptions.{ServeOptions};
 ghost use Rattle.envelope.specs.Lock.{mt_lock};
@@ -16,7 +15,7 @@ ghost use Rattle.world_rules.specs.Premises.{Fresh, IsSealed, IsSound};
 ghost use Rattle.world_rules.specs.Once.{InOrder, Once};
 ghost use Rattle.law_connections.specs.Joint.{Step, joint_of, nobody_yet};
 ghost use Rattle.law_connections.specs.Premises.{IsOf, NoChance};
-ghost use Rattle.law_runs.specs.Joining.{AreJoint, AreLeft, Called, IsServerLeft, Served, left_by, setting_under};
+ghost use Rattle.law_runs.specs.Joining.{AreJoint, AreLeft, Called, IsServerLeft, IsServing, Served, connections_in, left_by, ring_in, setting_under};
 
 use draws::Draw;
 use envelope::MtSeal;
@@ -25,9 +24,9 @@ use regs_service::Regs;
 /// What `ServeRun.serves` tells of a run that served connections, and what `CallRun.told` tells of a batch that was run, or left where
 /// memory ran out, is a run of `serve`, and one of `call`, as joint runs have them, with the client whose table was told.
 pub fn runs_are_told<D: Draw, N, C>()
-    ensures serves { (step : D → ℕ × D) (options : ServeOptions) (moments : Moments) (draws : Draws D) (ring : List RingKey) (connections : List (Connection D Registers)) (ending : _)
-        → ServesBy step options moments draws (Serves ring connections ending)
-        → (run : Served step ring) × (run.first ≡ first_of options moments draws.before) × (run.connections ≡ connections) }
+    ensures serves { (step : D → ℕ × D) (options : ServeOptions) (moments : Moments) (draws : Draws D) (course : Course D) → ServesBy step options moments draws course
+        → IsServing course
+        → (run : Served step (ring_in course)) × (run.first ≡ first_of options moments draws.before) × (run.connections ≡ connections_in course) }
     ensures calls { (options : CallOptions) (calls : List ScriptCall) (ring : List RingKey) (keys : Keys) (around : Around N C D) (one : Status) (due : List ℕ) (ran : RanBatch options calls ring keys around one due)
         → (run : Called around.step ring) × (run.keys ≡ keys) × (run.calls ≡ calls) × (run.draw ≡ around.draw) × (left_by run ≡ ran.left) }
     ensures left { (options : CallOptions) (calls : List ScriptCall) (ring : List RingKey) (keys : Keys) (around : Around N C D) → LeftBatch options calls ring keys around

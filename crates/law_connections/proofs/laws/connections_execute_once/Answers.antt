@@ -1,4 +1,4 @@
-use Rattle.std.proofs.Common.{List, []}
+use Rattle.std.proofs.Common.{List}
 use Rattle.auth_keys.specs.declared.ring.RingKey.{RingKey}
 use Rattle.envelope.specs.Lawful.{OpensWhatItSealed}
 use Rattle.envelope.specs.Packet.{Lock}

@@ -1,15 +1,14 @@
-use Rattle.std.proofs.Common.{refl, sym}
-use Rattle.regs_service.specs.Registers as registers
-use Rattle.server_node.specs.Trace.{rules_of}
+use Rattle.std.proofs.Common.{◌≡◌, ℕ, refl, sym}
+use Rattle.commands.specs.declared.command.ServeOptions.{ServeOptions}
 use Rattle.cmd_call.specs.Owed.{plan_of}
-use Rattle.cmd_serve.specs.Packets.{outside_of}
-use Rattle.cmd_serve.specs.Runs.{first_of}
-use Rattle.law_runs.specs.Joining.{batch_begins, client_rules_under}
+use Rattle.cmd_serve.specs.Runs.{Course, Deaf, Draws, Moments, Mute, Refused, Serves, ServesBy, Unbegun, Unread, first_of}
+use Rattle.law_runs.specs.Joining.{IsServing, Served, batch_begins, client_rules_under, connections_in, ring_in}
 use Rattle.law_runs.proofs.Turns.{connections-in-turn, tries-in-turn}
 use Rattle.law_runs.proofs.laws.runs_are_told.Goals as goal
 
-pub returns-clause-serves : goal.returns-clause-serves
-returns-clause-serves g c = λ step options moments draws ring connections ending served. (
+served-so : {D : Type 0} (step : D → ℕ × D) (options : ServeOptions) (moments : Moments) (draws : Draws D) (course : Course D) → ServesBy step options moments draws course → IsServing course
+    → (run : Served step (ring_in course)) × (run.first ≡ first_of options moments draws.before) × (run.connections ≡ connections_in course)
+served-so step options moments draws (Serves ring connections ending) served is = (
   record {
     first = first_of options moments draws.before;
     connections = connections;
@@ -21,6 +20,14 @@ returns-clause-serves g c = λ step options moments draws ring connections endin
   refl,
   refl,
 )
+served-so step options moments draws Unread served is = absurd is
+served-so step options moments draws (Refused line) served is = absurd is
+served-so step options moments draws Unbegun served is = absurd is
+served-so step options moments draws (Deaf ring) served is = absurd is
+served-so step options moments draws (Mute ring) served is = absurd is
+
+pub returns-clause-serves : goal.returns-clause-serves
+returns-clause-serves g c = λ step options moments draws course served is. served-so step options moments draws course served is
 
 pub returns-clause-calls : goal.returns-clause-calls
 returns-clause-calls g c = λ options calls ring keys around one due ran. (

@@ -1,4 +1,4 @@
-use Rattle.std.proofs.Common.{◌≡◌, List, Option, Some, ap}
+use Rattle.std.proofs.Common.{Option, ap}
 use Rattle.auth_keys.specs.declared.ring.RingKey.{RingKey}
 use Rattle.law_runs.specs.Joining.{packet_under}
 use Rattle.law_runs.proofs.laws.settings_seal.Goals as goal
