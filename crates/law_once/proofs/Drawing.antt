@@ -16,7 +16,8 @@ use Rattle.law_once.specs.Words.{AreDrawn, HavePlaces, given_step, times}
 use Rattle.law_once.proofs.Counting.{AreFresh, count, fewer_fresh, none_some, once_apart}
 use Rattle.law_once.proofs.Named.{Themselves}
 use Rattle.law_once.proofs.Growing.{Speaks}
-use Rattle.law_once.proofs.Served.{IsServed, stepped, stepped_any}
+use Rattle.law_once.specs.Served.{IsServed}
+use Rattle.law_once.proofs.Served.{stepped, stepped_any}
 use Rattle.law_once.proofs.Later.{IsLater, later_itself, later_then}
 use Rattle.law_once.proofs.Chosen.{have_places}
 use Rattle.law_once.proofs.Words.{event_drew, names_of}

@@ -10,7 +10,7 @@ use Rattle.envelope.specs.declared.parts.Dir.TheVariants.{Up, Down}
 use Rattle.envelope.specs.declared.parts.Envelope.{Envelope}
 use Rattle.sched_text.specs.declared.event.Event.{Event}
 use Rattle.sched_text.specs.declared.event.Event.TheVariants as line
-use Rattle.server_rules.specs.Server.{Session, name_of}
+use Rattle.server_rules.specs.Server.{Name as SessionName, Session, name_of}
 use Rattle.server_rules.specs.Events.{Attach, Loss, Packet as Comes, Restart, Tick, Work}
 use Rattle.client_rules.specs.Client.{Client, Temporary, temporary_of}
 use Rattle.client_rules.specs.Events as wishes
@@ -170,6 +170,9 @@ module _ {S V : Type 0} (k : Speaks S) (alone : Themselves S) (setting : Setting
   worked_at zero = itself
   worked_at (suc place) = by_lives (lives (serves setting (Work world.clock place) world)) (λ x. work_drawn x k alone setting world apart world.clock place)
 
+  pub attached_at : (name : SessionName) → Had (serves setting (Attach world.clock name) world)
+  attached_at name = by_lives (lives (serves setting (Attach world.clock name) world)) (λ x. attach_drawn x k alone setting world apart world.clock name)
+
   -- ---- any event
 
   pub names_stay : (event : Event) → Had (after setting world event)
@@ -188,7 +191,7 @@ module _ {S V : Type 0} (k : Speaks S) (alone : Themselves S) (setting : Setting
   names_stay (line.TickClient client) = wished client wishes.Tick (λ same. absurd (cc))
   names_stay (line.AttachServer client) =
       sat (counted client world.seats) (λ seat. serves setting (Attach world.clock (present_name seat)))
-      (λ seat is. by_lives (lives (serves setting (Attach world.clock (present_name seat)) world)) (λ x. attach_drawn x k alone setting world apart world.clock (present_name seat)))
+      (λ seat is. attached_at (present_name seat))
   names_stay (line.AttachClient client) = wished client wishes.Attach (λ same. absurd (cc))
   names_stay (line.Ping client) = wished client (wishes.Ping 1) (λ same. absurd (cc))
   names_stay (line.Salts client number) = wished client (wishes.AskSalts number) (λ same. absurd (cc))

@@ -25,7 +25,8 @@ use Rattle.law_once.proofs.Counting.{fewer_fresh}
 use Rattle.law_once.proofs.Growing.{Speaks}
 use Rattle.law_once.proofs.Names.{names_stay}
 use Rattle.law_once.proofs.Bags.{packets_stay}
-use Rattle.law_once.proofs.Served.{IsServed, goes_on as served_on}
+use Rattle.law_once.specs.Served.{IsServed}
+use Rattle.law_once.proofs.Served.{goes_on as served_on}
 use Rattle.law_once.proofs.Events.{Laws, goes_on}
 
 -- ---- it begins

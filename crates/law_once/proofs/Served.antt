@@ -26,6 +26,7 @@ use Rattle.world_rules.specs.Ends.{acts, arrives, comes_down, comes_to_owner, co
 use Rattle.world_rules.specs.Refusals.{call_numbered, refusal}
 use Rattle.world_rules.specs.Run.{after, is_in_the_way, present_name, set, step, step_any, wishes_so, works}
 use Rattle.world_rules.specs.Once.{ran_in}
+use Rattle.law_once.specs.Served.{IsServed}
 use Rattle.law_once.proofs.Lists.{here, kept_in, later as one_later}
 use Rattle.law_once.proofs.Ran.{attached_same, ended_same, ran_of, runs_so, takes_same, ticks_same}
 
@@ -107,13 +108,6 @@ session_of sessions jobs place job ordered is =
 
 -- ---- a world
 
--- what is kept of a world
-pub record IsServed {S V : Type 0} (setting : Setting S V) (world : World S V) : Type 0 where
-  pub ordered : AreOrdered world.server.sessions world.server.jobs
-  pub past : (start : ℕ) → Served setting.serve setting.fresh (ran_in start world.entries)
-  pub now : state_after setting.serve setting.fresh (requests_of (ran_in world.start world.entries)) ≡ world.service
-  pub later : (start : ℕ) → world.start < start → ran_in start world.entries ≡ []
-
 module _ {S V : Type 0} (setting : Setting S V) (keeps_order : (course : Course S V) (event : ServerEvent) → AreOrdered course.server.sessions course.server.jobs
     → AreOrdered (after_event (at_server setting) setting.serve setting.fresh course event).server.sessions (after_event (at_server setting) setting.serve setting.fresh course event).server.jobs) where
   abbrev Has : World S V → Type 0
@@ -187,7 +181,7 @@ module _ {S V : Type 0} (setting : Setting S V) (keeps_order : (course : Course 
       let now = at moment world in
       quiet world (Tick moment) h (ended_same now (ticks now (begun world.server world.draw)) ∙ ticks_same now (begun world.server world.draw)) refl
 
-  attached : (world : World S V) (moment : ℕ) (name : Name) → Has world → Has (serves setting (Attach moment name) world)
+  pub attached : (world : World S V) (moment : ℕ) (name : Name) → Has world → Has (serves setting (Attach moment name) world)
   attached world moment name h =
       let now = at moment world in
       quiet world (Attach moment name) h (ended_same now (speaks name (attaches now) (begun world.server world.draw)) ∙ attached_same now name (begun world.server world.draw)) refl

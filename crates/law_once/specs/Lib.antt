@@ -2,3 +2,4 @@ pub mod Standing
 pub mod Made
 pub mod Small
 pub mod Words
+pub mod Served

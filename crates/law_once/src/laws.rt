@@ -19,7 +19,11 @@ ghost use Rattle.world_rules.specs.Once.{Once, ran_in};
 ghost use Rattle.world_rules.specs.Run.{after, run_of, run_of_any};
 ghost use Rattle.law_packet_parts.specs.Sizes.{KeepsSizes};
 ghost use Rattle.law_packets.specs.Lawful.{AreLawfulPackets, IsSealedPacket};
+ghost use Rattle.server_rules.specs.Events.{Attach};
+ghost use Rattle.server_rules.specs.Server.{Name};
+ghost use Rattle.world_rules.specs.Ends.{serves};
 ghost use Rattle.law_once.specs.Made.{IsOfPacket, IsShort};
+ghost use Rattle.law_once.specs.Served.{IsServed};
 ghost use Rattle.law_once.specs.Small.{Fits};
 ghost use Rattle.law_once.specs.Standing.{HasMoves, MovesOn, WorldStands};
 ghost use Rattle.law_once.specs.Words.{AreDrawn, HavePlaces, given_step};
@@ -40,8 +44,13 @@ use law_server_moves::laws::{
 };
 
 /// After every schedule, what ran in each start of the server has the replies that the service gives to these requests, one
-/// after the other, from its fresh state. So it is too where foreign bytes that open are taken like packets.
+/// after the other, from its fresh state. So it is too where foreign bytes that open are taken like packets. Each event leaves
+/// it so, and so does the attach of a session of any name.
 pub fn starts_are_served<D: Draw, V>()
+    ensures begins { (setting : Setting D V) (draw : D) → IsServed setting (begins setting draw) }
+    ensures event { (setting : Setting D V) (world : World D V) (event : Event) → IsServed setting world → IsServed setting (after setting world event) }
+    ensures attach { (setting : Setting D V) (world : World D V) (name : Name) → IsServed setting world
+        → IsServed setting (serves setting (Attach world.clock name) world) }
     ensures all { (setting : Setting D V) (draw : D) (events : List Event) (start : ℕ)
         → Served setting.serve setting.fresh (ran_in start (run_of setting draw events).entries) }
     ensures any { (setting : Setting D V) (draw : D) (events : List Event) (start : ℕ)
@@ -64,10 +73,13 @@ pub fn what_opens_was_made<D: Draw, V>()
 {}
 
 /// Where the words drawn for session numbers, unique numbers and salts differ behind an event of a world whose server is in
-/// order, and aren't 0, they did so before it; and where all packets are lawful behind an event, they were.
+/// order, and aren't 0, they did so before it, also where it attaches a session of any name; and where all packets are lawful
+/// behind an event, they were.
 pub fn worlds_only_grow<D: Draw, V>()
     ensures words { (setting : Setting D V) (world : World D V) (event : Event) → AreOrdered world.server.sessions world.server.jobs
         → Fresh (after setting world event) → Fresh world }
+    ensures words_attached { (setting : Setting D V) (world : World D V) (name : Name) → AreOrdered world.server.sessions world.server.jobs
+        → Fresh (serves setting (Attach world.clock name) world) → Fresh world }
     ensures packets { (lock : Lock) (ring : List RingKey) (setting : Setting D V) (world : World D V) (event : Event)
         → AreLawfulPackets lock ring setting (after setting world event) → AreLawfulPackets lock ring setting world }
 {
@@ -80,12 +92,16 @@ pub fn worlds_only_grow<D: Draw, V>()
 /// with its clients, sessions, jobs, packets and entries. The premises: a seal that opens what it sealed and keeps sizes,
 /// foreign bytes that open by no chance (a schedule refuses those that open), words that aren't 0 and differ; keys that are in
 /// the ring, words of 64 bits, replies of the service that are whole words of bytes and short, binding messages of bytes
-/// (`IsSound`); and bodies of calls that are bytes. Each packet may be sealed then.
+/// (`IsSound`); and bodies of calls that are bytes. Each packet may be sealed then. The attach of a session of any name is such
+/// a list too.
 pub fn worlds_are_moves<D: Draw, V>()
     ensures begins { (setting : Setting D V) (draw : D) → WorldStands empty (begins setting draw) }
     ensures event { (lock : Lock) (ring : List RingKey) (setting : Setting D V) (w : Moved) (world : World D V) (event : Event) → OpensWhatItSealed lock
         → IsSealed lock ring setting → Fits setting → WorldStands w world → AreLawfulPackets lock ring setting world → IsByNoChance setting world event
         → Fresh (after setting world event) → AreLawfulPackets lock ring setting (after setting world event) → MovesOn w (after setting world event) }
+    ensures attach { (lock : Lock) (ring : List RingKey) (setting : Setting D V) (w : Moved) (world : World D V) (name : Name) → OpensWhatItSealed lock
+        → Fits setting → WorldStands w world → Fresh (serves setting (Attach world.clock name) world)
+        → AreLawfulPackets lock ring setting (serves setting (Attach world.clock name) world) → MovesOn w (serves setting (Attach world.clock name) world) }
     ensures schedule { (lock : Lock) (ring : List RingKey) (setting : Setting D V) (draw : D) (events : List Event) → OpensWhatItSealed lock → KeepsSizes lock
         → IsSealed lock ring setting → IsSound ring setting → All IsOfBytes events → Fresh (run_of setting draw events)
         → HasMoves (run_of setting draw events) }

@@ -21,10 +21,10 @@ use Rattle.law_order.proofs.Runs.{IsAny, IsOrdered, Known, Steps, any-opened, fr
 use Rattle.law_order.proofs.Ordering.{clients-order, server-order}
 
 -- behind an event, where calls are executed once and those that wait are in order
-abbrev InOrderThen : {S V : Type 0} → Setting S V → World S V → Type 0
+abbrev pub InOrderThen : {S V : Type 0} → Setting S V → World S V → Type 0
 InOrderThen setting behind = Once setting behind → WaitingInOrder behind → InOrder behind
 
-order-walk : {S V : Type 0} (setting : Setting S V) (ends : Ends S V setting) (m : Moved) (world : World S V) → WorldStands m world → KeepsOrder world → Once setting world → InOrder world
+pub order-walk : {S V : Type 0} (setting : Setting S V) (ends : Ends S V setting) (m : Moved) (world : World S V) → WorldStands m world → KeepsOrder world → Once setting world → InOrder world
     → Walk S V setting world (InOrderThen setting) IsAny
 order-walk setting ends m world h kept once order = record {
   still = λ once_on waiting. order;

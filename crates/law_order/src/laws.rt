@@ -14,6 +14,9 @@ ghost use Rattle.world_rules.specs.Run.{after, run_of, run_of_any};
 ghost use Rattle.world_rules.specs.Once.{InOrder, Once};
 ghost use Rattle.law_packet_parts.specs.Sizes.{KeepsSizes};
 ghost use Rattle.law_packets.specs.Lawful.{AreLawfulPackets};
+ghost use Rattle.server_rules.specs.Events.{Attach};
+ghost use Rattle.server_rules.specs.Server.{Name};
+ghost use Rattle.world_rules.specs.Ends.{serves};
 ghost use Rattle.law_once.specs.Standing.{HasMoves, WorldStands};
 ghost use Rattle.law_order.specs.Keeping.{KeepsOrder, WaitingInOrder};
 
@@ -23,12 +26,15 @@ use draws::Draw;
 /// client's calls are in turn; each packet up that was ever made has messages as which calls of a client went, behind the number
 /// of an earlier message where they went behind one, and others that ask nothing of the service. And for each two messages of a
 /// session of which the packets say that the one waits for the other, an entry of the one that ran stands behind an entry of
-/// the other that ran, and whose reply begins with neither `rpc_error` nor `rpc_answer_dropped_running`.
+/// the other that ran, and whose reply begins with neither `rpc_error` nor `rpc_answer_dropped_running`. The attach of a session of
+/// any name keeps it too.
 pub fn worlds_keep_order<D: Draw, V>()
     ensures begins { (setting : Setting D V) (draw : D) → KeepsOrder (begins setting draw) }
     ensures event { (lock : Lock) (ring : List RingKey) (setting : Setting D V) (world : World D V) (event : Event) → OpensWhatItSealed lock
         → IsSealed lock ring setting → HasMoves world → AreLawfulPackets lock ring setting world → IsByNoChance setting world event
         → KeepsOrder world → KeepsOrder (after setting world event) }
+    ensures attach { (setting : Setting D V) (world : World D V) (name : Name) → HasMoves world → KeepsOrder world
+        → KeepsOrder (serves setting (Attach world.clock name) world) }
     ensures schedule { (lock : Lock) (ring : List RingKey) (setting : Setting D V) (draw : D) (events : List Event) → OpensWhatItSealed lock → KeepsSizes lock
         → IsSealed lock ring setting → IsSound ring setting → All IsOfBytes events → Fresh (run_of setting draw events)
         → KeepsOrder (run_of setting draw events) }
@@ -75,8 +81,16 @@ pub fn calls_that_wait_run_in_order<D: Draw, V>()
 }
 
 /// An entry that ran of a call with an earlier call stands behind an entry of that earlier call that ran, and whose reply
-/// doesn't begin with `rpc_error`: over every schedule, under the premises of `calls_execute_once` of `law_once`.
+/// doesn't begin with `rpc_error`: over every schedule, under the premises of `calls_execute_once` of `law_once`. An event keeps it,
+/// and so does the attach of a session of any name, where calls are executed once before and behind it, and those that wait are in
+/// order behind it.
 pub fn calls_run_in_order<D: Draw, V>()
+    ensures begins { (setting : Setting D V) (draw : D) → InOrder (begins setting draw) }
+    ensures event { (setting : Setting D V) (w : Moved) (world : World D V) (event : Event) → WorldStands w world → KeepsOrder world → Once setting world
+        → InOrder world → Once setting (after setting world event) → WaitingInOrder (after setting world event) → InOrder (after setting world event) }
+    ensures attach { (setting : Setting D V) (w : Moved) (world : World D V) (name : Name) → WorldStands w world → KeepsOrder world → Once setting world
+        → InOrder world → Once setting (serves setting (Attach world.clock name) world) → WaitingInOrder (serves setting (Attach world.clock name) world)
+        → InOrder (serves setting (Attach world.clock name) world) }
     ensures schedule { (lock : Lock) (ring : List RingKey) (setting : Setting D V) (draw : D) (events : List Event) → OpensWhatItSealed lock → KeepsSizes lock
         → IsSealed lock ring setting → IsSound ring setting → All IsOfBytes events → Fresh (run_of setting draw events)
         → InOrder (run_of setting draw events) }

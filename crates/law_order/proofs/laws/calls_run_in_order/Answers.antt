@@ -12,8 +12,10 @@ use Rattle.law_once.specs.Standing.{HasMoves}
 use Rattle.law_once.specs.Small.{Fits}
 use Rattle.law_order.specs.Keeping.{KeepsOrder, WaitingInOrder}
 use Rattle.law_order.proofs.Keeping.{Ends}
-use Rattle.law_order.proofs.Runs.{Known, Opens, any-steps, event-kept, event-ordered, its-steps}
-use Rattle.law_order.proofs.Orders.{ordered-run, unordered}
+use Rattle.server_rules.specs.Events.{Attach}
+use Rattle.law_order.proofs.Walking.{walked}
+use Rattle.law_order.proofs.Runs.{IsAny, Known, Opens, any-opened, any-steps, event-kept, event-ordered, its-steps}
+use Rattle.law_order.proofs.Orders.{InOrderThen, order-walk, ordered-run, unordered}
 use Rattle.law_order.proofs.laws.calls_run_in_order.Goals as goal
 
 module _ (g : Rattle.law_order.proofs.laws.calls_run_in_order.Given.Over) (c : goal.After-calls_that_wait_run_in_order g) where
@@ -55,6 +57,17 @@ module _ (g : Rattle.law_order.proofs.laws.calls_run_in_order.Given.Over) (c : g
   there setting world served both =
       let once = c.calls_execute_once.ensures.standing setting both.0.0 world both.0.1 served in
       (once, c.calls_that_wait_run_in_order.ensures.standing setting both.0.0 world both.0.1 once both.1)
+
+pub returns-clause-begins : goal.returns-clause-begins
+returns-clause-begins g c = λ setting draw. unordered setting draw
+
+pub returns-clause-event : goal.returns-clause-event
+returns-clause-event g c = λ setting w world event stands kept once order once_on waiting.
+    walked setting world (InOrderThen setting) IsAny (order-walk setting (ends g c setting) w world stands kept once order) event (any-opened setting world event) once_on waiting
+
+pub returns-clause-attach : goal.returns-clause-attach
+returns-clause-attach g c = λ setting w world name stands kept once order once_on waiting.
+    (order-walk setting (ends g c setting) w world stands kept once order).served (Attach world.clock name) (λ pair. tt) once_on waiting
 
 pub returns-clause-schedule : goal.returns-clause-schedule
 returns-clause-schedule g c = λ lock ring setting draw events seals sizes so sound bytes fresh.

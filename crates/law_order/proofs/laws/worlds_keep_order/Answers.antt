@@ -8,7 +8,8 @@ use Rattle.world_rules.specs.Premises.{IsSealed, IsSound}
 use Rattle.world_rules.specs.Run.{step, step_any}
 use Rattle.law_once.specs.Small.{Fits}
 use Rattle.law_order.specs.Keeping.{KeepsOrder}
-use Rattle.law_order.proofs.Keeping.{Ends}
+use Rattle.server_rules.specs.Events.{Attach}
+use Rattle.law_order.proofs.Keeping.{Ends, walk}
 use Rattle.law_order.proofs.Runs.{Known, Opens, all-kept, any-steps, event-kept, event-ordered, its-steps}
 use Rattle.law_order.proofs.laws.worlds_keep_order.Goals as goal
 
@@ -54,6 +55,10 @@ returns-clause-begins g c = begun g c
 pub returns-clause-event : goal.returns-clause-event
 returns-clause-event g c = λ lock ring setting world event seals so moves sealed chance kept.
     event-kept lock ring setting (opens g c lock ring setting seals so) (ends g c setting) world event moves sealed chance kept
+
+pub returns-clause-attach : goal.returns-clause-attach
+returns-clause-attach g c = λ setting world name moves kept.
+    (walk setting (ends g c setting) world kept moves.0 moves.1).served (Attach world.clock name) (λ pair. tt)
 
 pub returns-clause-schedule : goal.returns-clause-schedule
 returns-clause-schedule g c = λ lock ring setting draw events seals sizes so sound bytes fresh.

@@ -1,0 +1,4 @@
+pub mod Joint
+pub mod Premises
+pub mod Keeping
+pub mod Witness

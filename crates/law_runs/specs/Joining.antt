@@ -1,0 +1,184 @@
+-- Runs of `serve` and of `call` that are together one joint run.
+use Rattle.std.specs.Prelude.{◌≡◌, ◌⊎◌, ◌≤◌, ℕ, Option, Some, None, List, [], ◌∷◌, ◌++◌, map}
+use Rattle.std.specs.List.{AllByRecursion}
+use Rattle.auth_keys.specs.Keys.{identifier}
+use Rattle.auth_keys.specs.Rings.{entry_of, key_in}
+use Rattle.auth_keys.specs.declared.ring.RingKey.{RingKey}
+use Rattle.call_script.specs.declared.script.ScriptCall.{ScriptCall}
+use Rattle.client_core.specs.Flushed.{binding_under}
+use Rattle.client_core.specs.Keys.{Keys}
+use Rattle.client_node.specs.Talks as client
+use Rattle.client_node.specs.Trace.{Attempt, EndsBy as BatchEndsBy, after_all}
+use Rattle.client_node.specs.Course.{Course, Opening}
+use Rattle.client_node.specs.declared.plan.Batch.{Batch}
+use Rattle.client_node.specs.declared.plan.Plan.{Plan}
+use Rattle.client_rules.specs.Client.{Client}
+use Rattle.cmd_call.specs.Keys.{client_under}
+use Rattle.cmd_call.specs.Reading.{reading_under}
+use Rattle.cmd_call.specs.Script.{given_all, untaken}
+use Rattle.cmd_serve.specs.Connections.{AllGoOn, AreConnections, Between, Connection, GoesOn, behind_all}
+use Rattle.cmd_serve.specs.Packets.{outside_of}
+use Rattle.cmd_serve.specs.Runs.{Course as ServeCourse, Deaf, Mute, Refused, Registers, Serves, Unbegun, Unread}
+use Rattle.draws.specs.Draws.{draw_after, word_after}
+use Rattle.envelope.specs.Lock.{mt_lock}
+use Rattle.envelope.specs.Packet.{packet_of}
+use Rattle.envelope.specs.declared.parts.Dir.{Dir}
+use Rattle.envelope.specs.declared.parts.Envelope.{Envelope}
+use Rattle.msg_ids.specs.Moments.{latest_moment}
+use Rattle.regs_service.specs.Registers as registers
+use Rattle.ring_rules.specs.Binding.{keys_of}
+use Rattle.ring_rules.specs.Opening.{opened}
+use Rattle.server_rules.specs.Server.{fresh_server}
+use Rattle.server_node.specs.declared.conn.ConnEnd.TheVariants as ends
+use Rattle.server_node.specs.Trace.{Act, Attach, Hear, Run, Tick, rules_of}
+use Rattle.world_rules.specs.Setting.{Setting}
+use Rattle.world_rules.specs.World.{Seat, World}
+use Rattle.law_connections.specs.Joint.{Deed, Step, Flushes, Hears}
+use Rattle.law_runs.specs.Acts.{run_acts}
+use Rattle.law_runs.specs.Deeds.{AllInTurn, attempts_deeds, given_deeds}
+use Rattle.law_runs.specs.Parts.{Part, Start, parts_of, starts_of}
+
+-- ---- in what they run
+
+-- a packet under a key of a ring, where there is one
+abbrev pub packet_under : Option RingKey → Dir → Envelope → List ℕ → List ℕ
+packet_under None dir envelope padding = []
+packet_under (Some entry) dir envelope padding = packet_of mt_lock entry.key dir envelope padding
+
+-- the identifier of the first key of a ring
+abbrev pub first_key : List RingKey → ℕ
+first_key [] = 0
+first_key (entry ∷ entries) = identifier entry.key
+
+-- The protocol's seal under a ring, with the register service. Clients come with the keys that their runs name, so the two keys of
+-- a world's setting don't matter: they are the first one of the ring.
+abbrev pub setting_under : {D : Type 0} → (D → ℕ × D) → List RingKey → Setting D Registers
+setting_under step ring =
+    record {
+      step = step;
+      sealed = λ dir envelope padding. packet_under (entry_of envelope.key ring) dir envelope padding;
+      opens = opened mt_lock ring;
+      keys = record { permanent = first_key ring; temporary = first_key ring; expires = 0 };
+      is_temporary = (keys_of ring).is_temporary;
+      binding_message = λ perm. binding_under (key_in (entry_of perm ring));
+      bound_by = (keys_of ring).bound_by;
+      serve = registers.step;
+      fresh = registers.fresh;
+    }
+
+-- ---- a run of `serve`
+
+-- each connection but the last one was followed by the next; the last one too, or it answered as many packets as were left, or
+-- memory ran out in it
+abbrev pub AreInTurn : {D : Type 0} → List (Connection D Registers) → Type 0
+AreInTurn [] = Unit {0}
+AreInTurn (last ∷ earlier) = AllGoOn earlier × (GoesOn last.end ⊎ (last.end ≡ ends.Stopped) ⊎ (last.end ≡ ends.Memory))
+
+-- The connections that a run of `serve` served with this ring, as `ServeRun.serves` tells of them: one trace from a fresh server and
+-- a fresh service on.
+pub record Served {D : Type 0} (step : D → ℕ × D) (ring : List RingKey) : Type 0 where
+  pub first : Between D Registers
+  pub connections : List (Connection D Registers)
+  pub are : AreConnections (rules_of step registers.step (outside_of ring)) first connections
+  pub in_turn : AreInTurn connections
+  pub server : first.server ≡ fresh_server
+  pub service : first.service ≡ registers.fresh
+
+-- a run of `serve` came to serve connections, with this ring and these connections
+abbrev pub IsServing : {D : Type 0} → ServeCourse D → Type 0
+IsServing (Serves ring connections ending) = Unit {0}
+IsServing Unread = ⊥
+IsServing (Refused line) = ⊥
+IsServing Unbegun = ⊥
+IsServing (Deaf ring) = ⊥
+IsServing (Mute ring) = ⊥
+
+abbrev pub ring_in : {D : Type 0} → ServeCourse D → List RingKey
+ring_in (Serves ring connections ending) = ring
+ring_in _ = []
+
+abbrev pub connections_in : {D : Type 0} → ServeCourse D → List (Connection D Registers)
+connections_in (Serves ring connections ending) = connections
+connections_in _ = []
+
+-- as a start of the server in a joint run
+abbrev pub start_by : {D : Type 0} {step : D → ℕ × D} {ring : List RingKey} → Served step ring → Start D
+start_by {step = step} {ring = ring} run =
+    record { draw = run.first.draw; acts = run_acts (rules_of step registers.step (outside_of ring)) run.first run.connections run.are }
+
+-- ---- a run of `call`
+
+-- a client under these keys that was given the calls, at the beginning of its batch
+abbrev pub batch_begins : {D : Type 0} → (D → ℕ × D) → Keys → List ScriptCall → D → Course D
+batch_begins step keys calls draw =
+    record {
+      phase = Opening;
+      client = given_all calls (client_under keys (word_after step 0 draw));
+      draw = draw_after step 1 draw;
+    }
+
+abbrev pub client_rules_under : {D : Type 0} → (D → ℕ × D) → List RingKey → client.Rules D
+client_rules_under step ring = client.rules_of step mt_lock ring (reading_under ring)
+
+-- The batch of a run of `call` with this ring, as `CallRun.told` tells of it: each call was taken, and these are the attempts to
+-- connect of the client's trace.
+pub record Called {D : Type 0} (step : D → ℕ × D) (ring : List RingKey) : Type 0 where
+  pub plan : Plan
+  pub keys : Keys
+  pub calls : List ScriptCall
+  pub draw : D
+  pub end : Batch
+  pub attempts : List Attempt
+  pub taken : untaken calls ≡ None
+  pub ended : BatchEndsBy (client_rules_under step ring) plan (batch_begins step keys calls draw) end attempts
+  pub in_turn : AllInTurn (client_rules_under step ring) plan (batch_begins step keys calls draw) attempts
+
+-- the client as the batch left it, whose calls are those of the table
+abbrev pub left_by : {D : Type 0} {step : D → ℕ × D} {ring : List RingKey} → Called step ring → Client
+left_by {step = step} {ring = ring} run =
+    (after_all (client_rules_under step ring) run.plan (batch_begins step run.keys run.calls run.draw) run.attempts).client
+
+-- as a client of a joint run
+abbrev pub part_by : {D : Type 0} {step : D → ℕ × D} {ring : List RingKey} → Called step ring → Part D
+part_by {step = step} {ring = ring} run =
+    record {
+      keys = run.keys;
+      draw = run.draw;
+      deeds = given_deeds run.calls
+          ++ attempts_deeds (client_rules_under step ring) run.plan (batch_begins step run.keys run.calls run.draw) run.attempts;
+    }
+
+-- ---- together
+
+-- a moment is one that a clock gives
+abbrev pub IsTimely : Deed → Type 0
+IsTimely (Flushes now) = now ≤ latest_moment
+IsTimely (Hears now packet) = now ≤ latest_moment
+IsTimely _ = Unit {0}
+
+abbrev pub IsTimelyAct : Act → Type 0
+IsTimelyAct (Hear now packet) = now ≤ latest_moment
+IsTimelyAct (Attach now name) = now ≤ latest_moment
+IsTimelyAct (Tick now) = now ≤ latest_moment
+IsTimelyAct (Run now) = now ≤ latest_moment
+
+-- These steps are what the runs of `serve` did, one after the other, and what the runs of `call` did, in some order: each end's part
+-- is what its run tells. The runs of `serve` stand with the last one first.
+pub record AreJoint {D : Type 0} (step : D → ℕ × D) (ring : List RingKey) (draw : D) (served : List (Served step ring)) (called : List (Called step ring)) (steps : List (Step D)) : Type 0 where
+  pub servers : starts_of draw steps ≡ map (λ run. start_by run) served
+  pub clients : parts_of steps ≡ map (λ run. part_by run) called
+  pub timely : AllByRecursion (λ run. AllByRecursion IsTimely (part_by run).deeds) called
+  pub timely_acts : AllByRecursion (λ run. AllByRecursion IsTimelyAct (start_by run).acts) served
+
+-- each client of the world is the one that its run left
+abbrev pub AreLeft : {D : Type 0} {step : D → ℕ × D} {ring : List RingKey} → List (Called step ring) → List Seat → Type 0
+AreLeft [] [] = Unit {0}
+AreLeft [] (seat ∷ seats) = ⊥
+AreLeft (run ∷ called) [] = ⊥
+AreLeft (run ∷ called) (seat ∷ seats) = (seat.client ≡ left_by run) × AreLeft called seats
+
+-- the server of the world, with its service, is the one that the last run of `serve` left
+abbrev pub IsServerLeft : {D : Type 0} {step : D → ℕ × D} {ring : List RingKey} → List (Served step ring) → World D Registers → Type 0
+IsServerLeft [] world = ⊥
+IsServerLeft (run ∷ earlier) world =
+    (world.server ≡ (behind_all run.first run.connections).server) × (world.service ≡ (behind_all run.first run.connections).service)

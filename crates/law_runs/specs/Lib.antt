@@ -1,0 +1,4 @@
+pub mod Acts
+pub mod Deeds
+pub mod Parts
+pub mod Joining
