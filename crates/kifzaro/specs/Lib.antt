@@ -1,0 +1,6 @@
+pub mod Errors
+pub mod Rooms
+pub mod Drawing
+pub mod Clients
+pub mod Queues
+pub mod Servers
