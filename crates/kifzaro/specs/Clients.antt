@@ -1,10 +1,10 @@
 -- A client with its ring and its draw, and the client of the rules that it is.
-use Rattle.std.specs.Prelude.{◌≡◌, ◌⊎◌, ℕ, if◌then◌else◌, Bool, true, false, IsSome, Option, Some, None, List, [], length, Result, Ok, Err, ⊤}
+use Rattle.std.specs.Prelude.{◌≡◌, ℕ, if◌then◌else◌, Bool, true, false, Option, Some, None, is_some, List, [], ◌∷◌, length, All, Result, Ok, Err, ⊤}
 use Rattle.auth_keys.specs.declared.ring.RingKey.{RingKey}
 use Rattle.auth_keys.specs.KeyFile.{IsRingOf}
 use Rattle.auth_keys.specs.Rings.{entry_of}
 use Rattle.call_table.specs.declared.call.CallNo.{CallNo}
-use Rattle.call_table.specs.Table.{State, Done}
+use Rattle.call_table.specs.Table.{Call, State, Done, is_open}
 use Rattle.client_rules.specs.Asking.{Fault, has_call, pinged, salts_asked, submit_fault, ticked}
 use Rattle.client_rules.specs.Client.{Client, calls_of, fresh_client}
 use Rattle.client_rules.specs.Flush.{Answer, Flushed, Nothing, Spent, Sends, flush}
@@ -17,7 +17,10 @@ use Rattle.client_core.specs.declared.flush.Flush.TheVariants as told
 use Rattle.client_core.specs.declared.holder.Holder.{Holder}
 use Rattle.client_core.specs.declared.holder.Holder.TheVariants as holder
 use Rattle.draws.specs.ChaChaWords.{ChaChaPlace}
+use Rattle.envelope.specs.Opening.{IsRefused, Opens}
 use Rattle.envelope.specs.Packet.{Lock}
+use Rattle.envelope.specs.declared.parts.Dir.TheVariants.{Down}
+use Rattle.envelope.specs.declared.parts.Envelope.{Envelope}
 use Rattle.kifzaro.specs.Errors.{IsKeysError}
 use Rattle.kifzaro.specs.Rooms.{TellsRoom}
 use Rattle.kifzaro.specs.declared.error.Error.{Error}
@@ -53,10 +56,15 @@ held (Some holder) = holder
 
 -- ---- what is answered
 
--- why there is no client under a key: the text is no key file, or it is one that hasn't this key
-abbrev pub IsNoClient : List ℕ → ℕ → Error → Type 0
-IsNoClient text key error =
-    IsKeysError text error ⊎ ((error ≡ errors.NoKey key) × ((ring : List RingKey) × IsRingOf text ring × (IsSome (entry_of key ring) → ⊥)))
+-- the first of these keys that a ring hasn't
+abbrev pub first_missing : List ℕ → List RingKey → Option ℕ
+first_missing [] ring = None
+first_missing (key ∷ keys) ring = if is_some (entry_of key ring) then first_missing keys ring else Some key
+
+-- why there is no client under these keys: the text is no key file, or it is one that hasn't all of them
+abbrev pub IsNoClient : List ℕ → List ℕ → Error → Type 0
+IsNoClient text keys (errors.NoKey key) = (ring : List RingKey) × IsRingOf text ring × (first_missing keys ring ≡ Some key)
+IsNoClient text keys other = IsKeysError text other
 
 -- a call is taken by a client that hasn't ended, where nothing refuses it; or the refusal is told
 abbrev pub TellsSubmit : {X : Type 0} → Bool → Option Fault → Result X Error → Type 0
@@ -133,6 +141,10 @@ TellsReply (Some (Done reply)) before after result = TellsRoom reply before afte
 TellsReply (Some other) before after result = (result ≡ Err errors.NoReply) × (after ≡ before)
 TellsReply None before after result = (result ≡ Err errors.NoCall) × (after ≡ before)
 
+-- it is known of each call what became of it, or known that it isn't
+abbrev pub AreDecided : List Call → Type 0
+AreDecided calls = All (λ call. is_open call.state ≡ false) calls
+
 -- ---- what an open client is asked to do
 
 abbrev pub wished : Wish → Client → Client
@@ -142,15 +154,17 @@ wished (wish.Salts count) client = salts_asked count client
 
 -- ---- what comes
 
--- nothing but want of memory keeps a client from taking a packet
-abbrev pub TellsHeard : Result Unit Error → Type 0
-TellsHeard (Ok done) = ⊤
-TellsHeard (Err error) = error ≡ errors.Memory
+-- a client takes each packet that opens, and tells of each other why it doesn't; only memory may run out
+abbrev pub TellsHeard : Lock → List RingKey → ℕ → List ℕ → Result Unit Error → Type 0
+TellsHeard lock ring now packet (Ok done) = (envelope : Envelope) × Opens lock ring now Down packet envelope
+TellsHeard lock ring now packet (Err (errors.Refused why)) = IsRefused lock ring now Down packet why
+TellsHeard lock ring now packet (Err errors.Memory) = ⊤
+TellsHeard lock ring now packet (Err other) = ⊥
 
--- it took the packet, or memory ran out and it is the client that it was
+-- it became this client, or memory ran out and it is the client that it was
 abbrev pub Comes : Client → Client → Holder → Result Unit Error → Type 0
-Comes before after kept (Ok done) = Stands (kept_of kept) after
-Comes before after kept (Err error) = Stands (kept_of kept) before
+Comes before after kept (Err errors.Memory) = Stands (kept_of kept) before
+Comes before after kept other = Stands (kept_of kept) after
 
 abbrev pub Becomes : Client → Client → Kept → Result Unit Error → Type 0
 Becomes before after kept result = Comes before after kept.holder result

@@ -1,11 +1,9 @@
 -- A server with its draw and what it has to hand out, and the server of the rules that it is.
-use Rattle.std.specs.Prelude.{◌≡◌, ℕ, Bool, false, true, not, Option, is_some, List, ◌++◌, length, Result, Ok, Err, ⊤}
-use Rattle.std.specs.Str.{bytes_eq}
+use Rattle.std.specs.Prelude.{◌≡◌, ℕ, Bool, false, true, if◌then◌else◌, Option, None, option_map, is_some, IfSome, List, ◌++◌, length, max, Result, Ok, Err, ⊤}
 use Rattle.auth_keys.specs.declared.ring.RingKey.{RingKey}
 use Rattle.draws.specs.ChaChaWords.{ChaChaPlace}
 use Rattle.envelope.specs.Lock.{mt_lock}
 use Rattle.envelope.specs.Packet.{Lock}
-use Rattle.envelope.specs.declared.refusal.Refusal.{Refusal}
 use Rattle.regs_service.specs.Served.{IsReply, Step}
 use Rattle.server_output.specs.Outs.{AreSent}
 use Rattle.server_output.specs.declared.outs.Out.{Out}
@@ -15,6 +13,7 @@ use Rattle.server_core.specs.declared.desk.Heard.TheVariants.{Judged, NotOpened}
 use Rattle.server_core.specs.Desks.{IsBetweenEvents}
 use Rattle.server_core.specs.Packets.{IsHeardOf}
 use Rattle.server_core.specs.Server as core
+use Rattle.waits.specs.Jobs.{Queue, ready_job}
 use Rattle.kifzaro.specs.declared.error.Error.{Error}
 use Rattle.kifzaro.specs.declared.error.Error.TheVariants as errors
 use Rattle.kifzaro.specs.declared.names.SessionName.{SessionName}
@@ -29,63 +28,77 @@ pub record Kept : Type 0 where
   pub waiting : List Out
   pub asked : Option (List ℕ)
 
--- it is this server of the rules, which is in order and within its limits
+-- the request of the job that is first among those that are ready
+abbrev pub first_request : Queue → Option (List ℕ)
+first_request jobs = option_map (λ job. job.request) (ready_job 0 jobs)
+
+-- what was handed out, if it was
+abbrev pub asked_of : Bool → Queue → Option (List ℕ)
+asked_of is_asked jobs = if is_asked then first_request jobs else None
+
+-- It is this server of the rules, which is in order and within its limits, and a request that waits for its answer is that
+-- of the first ready job.
 pub record Is (kept : Kept) (server : Server) : Type 0 where
   pub stands : core.Stands kept.server server
   pub order : IsBetweenEvents server
+  pub asked : IfSome kept.asked (λ request. first_request server.jobs ≡ Some request)
 
 -- After an event it is the server that the rules say, its draw is theirs, and behind the packets that waited before stands
--- each packet of the event, sealed, in order. No request is handed out.
+-- each packet of the event, sealed, in order. No request waits for its answer.
 pub record Did (before after : Kept) (answer : Answer ChaChaPlace) : Type 0 where
   pub is : Is after answer.server
   pub drawn : after.draw ≡ answer.draw
   pub outs : List Out
   pub sent : AreSent mt_lock before.server.seal answer.packets outs
   pub waits : after.waiting ≡ before.waiting ++ outs
-  pub asked : (is_some before.asked ≡ false) × (is_some after.asked ≡ false)
+  pub asked : after.asked ≡ None
 
 -- ---- what is answered
 
 -- an event happens at a server that no request keeps busy, unless memory runs out
 abbrev pub TellsEvent : {X : Type 0} → Option (List ℕ) → Result X Error → Type 0
-TellsEvent asked (Ok done) = is_some asked ≡ false
+TellsEvent asked (Ok done) = asked ≡ None
 TellsEvent asked (Err errors.Busy) = is_some asked ≡ true
-TellsEvent asked (Err errors.Memory) = is_some asked ≡ false
+TellsEvent asked (Err errors.Memory) = asked ≡ None
 TellsEvent asked (Err other) = ⊥
 
 -- the same of a packet, of which the server tells whose it is or why it doesn't open
 abbrev pub TellsHeard : Option (List ℕ) → Lock → List RingKey → ℕ → List ℕ → Result SessionName Error → Type 0
-TellsHeard asked lock keys now packet (Ok name) = (is_some asked ≡ false) × IsHeardOf lock keys now packet (Judged name.key name.session)
+TellsHeard asked lock keys now packet (Ok name) = (asked ≡ None) × IsHeardOf lock keys now packet (Judged name.key name.session)
 TellsHeard asked lock keys now packet (Err errors.Busy) = is_some asked ≡ true
-TellsHeard asked lock keys now packet (Err (errors.Refused why)) = (is_some asked ≡ false) × IsHeardOf lock keys now packet (NotOpened why)
-TellsHeard asked lock keys now packet (Err errors.Memory) = is_some asked ≡ false
+TellsHeard asked lock keys now packet (Err (errors.Refused why)) = (asked ≡ None) × IsHeardOf lock keys now packet (NotOpened why)
+TellsHeard asked lock keys now packet (Err errors.Memory) = asked ≡ None
 TellsHeard asked lock keys now packet (Err other) = ⊥
 
--- where the packet is refused, this holds of why
-abbrev pub IfRefused : {X : Type 0} → Result X Error → (Refusal → Type 0) → Type 0
-IfRefused (Err (errors.Refused why)) P = P why
-IfRefused other P = ⊤
+-- an answer is taken where a request waits for it and it is a reply, unless memory runs out
+abbrev pub TellsAnswered : Option (List ℕ) → List ℕ → Result Unit Error → Type 0
+TellsAnswered asked reply (Ok done) = (is_some asked ≡ true) × IsReply reply
+TellsAnswered asked reply (Err errors.NotAsked) = asked ≡ None
+TellsAnswered asked reply (Err (errors.BadReply len)) = (is_some asked ≡ true) × (len ≡ length reply) × (IsReply reply → ⊥)
+TellsAnswered asked reply (Err errors.Memory) = (is_some asked ≡ true) × IsReply reply
+TellsAnswered asked reply (Err other) = ⊥
 
--- where nothing was done, and the packet wasn't refused either, this holds
-abbrev pub UnlessRefused : {X : Type 0} → Result X Error → Type 0 → Type 0
-UnlessRefused (Ok done) P = ⊤
-UnlessRefused (Err (errors.Refused why)) P = ⊤
-UnlessRefused (Err other) P = P
+-- ---- what is left where an event didn't happen
 
--- a reply isn't one, or memory ran out
-abbrev pub IsBadReply : List ℕ → Error → Type 0
-IsBadReply reply (errors.BadReply len) = (len ≡ length reply) × (IsReply reply → ⊥)
-IsBadReply reply errors.Memory = ⊤
-IsBadReply reply other = ⊥
+-- only the moment has changed
+abbrev pub at_moment : ℕ → Kept → Kept
+at_moment now kept = record kept { server = record kept.server { moment = max kept.server.moment now } }
+
+-- A packet that is refused leaves the moment, and want of memory words that were drawn; all else is as it was.
+abbrev pub Leaves : {X : Type 0} → ℕ → Kept → Kept → Result X Error → Type 0
+Leaves now before after (Ok done) = ⊤
+Leaves now before after (Err (errors.Refused why)) = after ≡ at_moment now before
+Leaves now before after (Err errors.Memory) = after ≡ record before { draw = after.draw }
+Leaves now before after (Err other) = after ≡ before
+
+-- it is still the server of the rules that it was, at this moment where it was told the moment alone
+abbrev pub StaysAt : {X : Type 0} → ℕ → Server → Kept → Result X Error → Type 0
+StaysAt now server after (Ok done) = ⊤
+StaysAt now server after (Err (errors.Refused why)) = Is after (record server { now = now })
+StaysAt now server after (Err other) = Is after server
 
 -- ---- a service that is asked from outside
 
--- a request, the reply that it was given, and whether another request was run with it
-pub record Exchange : Type 0 where
-  pub asked : List ℕ
-  pub reply : List ℕ
-  pub strayed : Bool
-
--- the service that gives this reply
-abbrev pub answering : Step Exchange
-answering exchange request = (exchange.reply, record exchange { strayed = not (bytes_eq request exchange.asked) })
+-- the service that gives this reply, whatever it is asked
+abbrev pub answering : Step (List ℕ)
+answering reply request = (reply, reply)

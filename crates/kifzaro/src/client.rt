@@ -1,10 +1,9 @@
 //! A client.
 
-ghost use Rattle.std.specs.Prelude.{◌≡◌, ◌⊎◌, None, Some, Ok, IfErr, IfOk, IfSome, MatchOption, OnErr, OnOk, false, length, max, true};
+ghost use Rattle.std.specs.Prelude.{◌≡◌, ◌↔◌, ◌∷◌, [], None, Some, Ok, IfErr, IfOk, IfSome, IsTrue, MatchOption, OnErr, OnOk, false, length, max, true};
 ghost use Rattle.auth_keys.specs.KeyFile.{IsRingOf};
-ghost use Rattle.auth_keys.specs.Rings.{entry_of};
 ghost use Rattle.call_table.specs.Kept.{shown};
-ghost use Rattle.call_table.specs.Table.{IsGiven, call_no, state_at};
+ghost use Rattle.call_table.specs.Table.{call_no, is_open, state_at};
 ghost use Rattle.draws.specs.Draws.{draw_after, word_after};
 ghost use Rattle.envelope.specs.declared.parts.Dir.TheVariants.{Down};
 ghost use Rattle.envelope.specs.declared.parts.Envelope.{Envelope};
@@ -18,7 +17,7 @@ ghost use Rattle.client_rules.specs.Taking.{take};
 ghost use Rattle.client_core.specs.Flushed.{Flushes, setting_of};
 ghost use Rattle.client_core.specs.declared.flush.Flush.TheVariants as flushed;
 ghost use Rattle.client_core.specs.Holding.{is_open_now, kept_of};
-ghost use Rattle.kifzaro.specs.Clients.{Becomes, Is, IsNoClient, Polls, TellsDropped, TellsEnded, TellsHeard, TellsNoCall, TellsOpen, TellsReply, TellsSubmit, TellsTaken, outcome};
+ghost use Rattle.kifzaro.specs.Clients.{AreDecided, Becomes, Is, IsNoClient, Polls, TellsDropped, TellsEnded, TellsHeard, TellsNoCall, TellsOpen, TellsReply, TellsSubmit, TellsTaken, first_missing, outcome};
 ghost use Rattle.kifzaro.specs.Drawing.{drawing, drawn_from};
 
 use crate::error::Error;
@@ -69,7 +68,8 @@ impl Client {
         ensures ring { IfOk result (λ client. IsRingOf keys.now client.ring) }
         ensures drawn { IfOk result (λ client. client.draw ≡ draw_after drawing 1 (drawn_from seed.now)) }
         ensures nothing_waits { IfOk result (λ client. client.waiting ≡ None) }
-        ensures refused { IfErr result (IsNoClient keys.now key) }
+        ensures has_key { IfOk result (λ client. first_missing (key ∷ []) client.ring ≡ None) }
+        ensures refused { IfErr result (IsNoClient keys.now (key ∷ [])) }
     {
         let seal = seal_of(alloc, keys)?;
         if !seal.has(key) {
@@ -103,7 +103,8 @@ impl Client {
         ensures ring { IfOk result (λ client. IsRingOf keys.now client.ring) }
         ensures drawn { IfOk result (λ client. client.draw ≡ draw_after drawing 1 (drawn_from seed.now)) }
         ensures nothing_waits { IfOk result (λ client. client.waiting ≡ None) }
-        ensures refused { IfErr result (λ error. IsNoClient keys.now temp error ⊎ IsNoClient keys.now perm error) }
+        ensures has_keys { IfOk result (λ client. first_missing (temp ∷ perm ∷ []) client.ring ≡ None) }
+        ensures refused { IfErr result (IsNoClient keys.now (temp ∷ perm ∷ [])) }
     {
         let seal = seal_of(alloc, keys)?;
         if !seal.has(temp) {
@@ -274,9 +275,9 @@ impl Client {
     ///
     /// # Errors
     ///
-    /// `Memory`, and then it is the client that it was.
+    /// `Refused`, why the packet doesn't open, and only the moment counts; `Memory`, and then it is the client that it was.
     pub fn handle_packet(&mut self, alloc: Global, now: Moment, packet: &[u8]) -> Result<(), Error>
-        ensures told { TellsHeard result }
+        ensures told { (client : Rules) → Is self.old client → client.has_ended ≡ false → TellsHeard mt_lock self.old.ring (max client.now now) packet.now result }
         ensures opened { (client : Rules) (envelope : Envelope) → Is self.old client → client.has_ended ≡ false
             → Opens mt_lock self.old.ring (max client.now now) Down packet.now envelope → Becomes client (take now envelope client) self.new result }
         ensures other { (client : Rules) → Is self.old client → client.has_ended ≡ false
@@ -358,7 +359,8 @@ impl Client {
     ///
     /// # Errors
     ///
-    /// `Spent`, there may not be numbers for what is to be sent; `Memory`. It is the client that it was.
+    /// `Spent`, there may not be numbers for what is to be sent, and only the moment counts; `Memory`, and then it is the
+    /// client that it was.
     pub fn prepare_transmit(&mut self, alloc: Global, now: Moment) -> Result<(), Error>
         ensures waits { IfSome self.old.waiting (λ _. (result ≡ Ok tt) × (self.new ≡ self.old)) }
         ensures polls { (client : Rules) → Is self.old client → self.old.waiting ≡ None
@@ -414,7 +416,8 @@ impl Client {
     ///
     /// # Errors
     ///
-    /// `Spent`, there may not be numbers for what is to be sent; `Memory`. It is the client that it was.
+    /// `Spent`, there may not be numbers for what is to be sent, and only the moment counts; `Memory`, and then it is the
+    /// client that it was.
     pub fn poll_transmit(&mut self, alloc: Global, now: Moment) -> Result<Option<Octets>, Error>
         ensures handed { IfSome self.old.waiting (λ packet. (result ≡ Ok (Some packet)) × (self.new ≡ record self.old { waiting = None })) }
         ensures polls { (client : Rules) → Is self.old client → self.old.waiting ≡ None
@@ -457,7 +460,9 @@ impl Client {
     }
 
     /// Whether it is known of each call what became of it, or known that it isn't: each is `Done`, `Refused` or `Unknown`.
-    pub fn calls_decided(&self) -> bool {
+    pub fn calls_decided(&self) -> bool
+        ensures { (client : Rules) → Is self.now client → IsTrue result ↔ AreDecided (calls_of client) }
+    {
         let holder = self.holder();
         for place in 0..holding::calls(holder) {
             let call = CallNo {
@@ -472,7 +477,9 @@ impl Client {
 }
 
 // Whether it isn't known yet what becomes of a call in this state.
-fn is_undecided(state: &CallState<'_>) -> bool {
+fn is_undecided(state: &CallState<'_>) -> bool
+    ensures { result ≡ is_open (shown state.now) }
+{
     match state {
         CallState::Queued | CallState::Sent | CallState::Held => true,
         CallState::Done(_) | CallState::Refused(_) | CallState::Unknown(_) => false,

@@ -18,14 +18,14 @@ ghost use Rattle.client_core.specs.Holding.{IsInState, is_open_now, kept_of};
 ghost use Rattle.client_core.specs.Keys.{HasKeys, keys_in};
 ghost use Rattle.client_core.specs.Kept.{Stands};
 ghost use Rattle.kifzaro.specs.Clients.{Comes, TellsDropped, TellsEnded, TellsHeard, TellsOpen, TellsSubmit, wished};
+ghost use Rattle.kifzaro.specs.Holding.{IsDoneOrMemory, refused_for};
 
 use crate::error::Error;
 use client_core::{
-    BindState, CallNo, CallState, Flush, Holder, NotSent, OpenClient, OpenStep, OpeningClient,
-    OpeningStep,
+    CallNo, CallState, Flush, Holder, NotSent, OpenClient, OpenStep, OpeningClient, OpeningStep,
 };
 use draws::Draw;
-use envelope::Seal;
+use envelope::{Dir, Opened, Refusal, Seal};
 use msg_ids::Moment;
 use std::alloc::Global;
 
@@ -164,7 +164,8 @@ fn state_is_known(holder: &Holder)
     let _ended = holder.has_ended();
 }
 
-/// A packet comes to a client at a moment. One that has ended takes none.
+/// A packet comes to a client at a moment: it takes one that opens, and of any other the moment alone counts. One that has
+/// ended takes none.
 pub(crate) fn hear<S: Seal>(
     holder: Holder,
     alloc: Global,
@@ -172,7 +173,7 @@ pub(crate) fn hear<S: Seal>(
     seal: &S,
     packet: &[u8],
 ) -> (Holder, Result<(), Error>)
-    ensures told { TellsHeard result.1 }
+    ensures told { (client : Client) → Stands (kept_of holder) client → client.has_ended ≡ false → TellsHeard S.lock (S.keys seal.now) (max client.now now) packet.now result.1 }
     ensures opened { (client : Client) (envelope : Envelope) → Stands (kept_of holder) client → client.has_ended ≡ false
         → Opens S.lock (S.keys seal.now) (max client.now now) Down packet.now envelope → Comes client (take now envelope client) result.0 result.1 }
     ensures other { (client : Client) → Stands (kept_of holder) client → client.has_ended ≡ false
@@ -180,9 +181,57 @@ pub(crate) fn hear<S: Seal>(
     ensures ended { (client : Client) → Stands (kept_of holder) client → client.has_ended ≡ true → (result.0 ≡ holder) × (result.1 ≡ Ok tt) }
     ensures keys { keys_in (kept_of result.0) ≡ keys_in (kept_of holder) }
 {
+    S::opens_what_it_sealed();
     if holder.has_ended() {
         return (holder, Ok(()));
     }
+    match seal.unseal(alloc, later(holder.moment(), now), Dir::Down, packet) {
+        Opened::Envelope(_) => takes(holder, alloc, now, seal, packet),
+        Opened::Refused(why) => {
+            let (holder, taken) = takes(holder, alloc, now, seal, packet);
+            (holder, refused(taken, why))
+        }
+        Opened::Memory => (holder, Err(Error::Memory)),
+    }
+}
+
+// The later of two moments.
+fn later(one: Moment, other: Moment) -> Moment
+    ensures { result ≡ max one other }
+{
+    if one.seconds() < other.seconds() {
+        other
+    } else {
+        one
+    }
+}
+
+// A packet that doesn't open was taken, unless memory ran out.
+fn refused(taken: Result<(), Error>, why: Refusal) -> Result<(), Error>
+    ensures { result ≡ refused_for why taken }
+{
+    match taken {
+        Ok(()) => Err(Error::Refused(why)),
+        Err(fault) => Err(fault),
+    }
+}
+
+// A client that hasn't ended takes a packet.
+fn takes<S: Seal>(
+    holder: Holder,
+    alloc: Global,
+    now: Moment,
+    seal: &S,
+    packet: &[u8],
+) -> (Holder, Result<(), Error>)
+    ensures told { IsDoneOrMemory result.1 }
+    ensures opened { (client : Client) (envelope : Envelope) → Stands (kept_of holder) client → client.has_ended ≡ false
+        → Opens S.lock (S.keys seal.now) (max client.now now) Down packet.now envelope → Comes client (take now envelope client) result.0 result.1 }
+    ensures other { (client : Client) → Stands (kept_of holder) client → client.has_ended ≡ false
+        → ((envelope : Envelope) → Opens S.lock (S.keys seal.now) (max client.now now) Down packet.now envelope → ⊥) → Comes client (at_moment now client) result.0 result.1 }
+    ensures keys { keys_in (kept_of result.0) ≡ keys_in (kept_of holder) }
+{
+    state_is_known(&holder);
     match holder {
         Holder::Opening(client) => opening_hears(client, alloc, now, seal, packet),
         Holder::Open(client) => open_hears(client, alloc, now, seal, packet),
@@ -197,7 +246,7 @@ fn opening_hears<S: Seal>(
     seal: &S,
     packet: &[u8],
 ) -> (Holder, Result<(), Error>)
-    ensures told { TellsHeard result.1 }
+    ensures told { IsDoneOrMemory result.1 }
     ensures opened { (whole : Client) (envelope : Envelope) → Stands client whole
         → Opens S.lock (S.keys seal.now) (max whole.now now) Down packet.now envelope → Comes whole (take now envelope whole) result.0 result.1 }
     ensures other { (whole : Client) → Stands client whole
@@ -218,7 +267,7 @@ fn open_hears<S: Seal>(
     seal: &S,
     packet: &[u8],
 ) -> (Holder, Result<(), Error>)
-    ensures told { TellsHeard result.1 }
+    ensures told { IsDoneOrMemory result.1 }
     ensures opened { (whole : Client) (envelope : Envelope) → Stands client whole
         → Opens S.lock (S.keys seal.now) (max whole.now now) Down packet.now envelope → Comes whole (take now envelope whole) result.0 result.1 }
     ensures other { (whole : Client) → Stands client whole

@@ -1,30 +1,29 @@
 //! A server.
 
-ghost use Rattle.std.specs.Prelude.{◌≡◌, ◌↔◌, ◌<◌, ◌≤◌, ◌∷◌, List, ℕ, None, Some, Ok, [], Err, IfErr, IfOk, IfSome, IsTrue, MatchOption, OnErr, OnOk, false, true, is_some, max};
+ghost use Rattle.std.specs.Prelude.{◌≡◌, ◌≤◌, ◌∷◌, List, None, Some, Ok, [], Err, IfErr, IfOk, MatchOption, OnErr, OnOk, false, is_some, max, true};
 ghost use Rattle.auth_keys.specs.KeyFile.{IsRingOf};
 ghost use Rattle.envelope.specs.declared.parts.Dir.TheVariants.{Up};
 ghost use Rattle.envelope.specs.declared.parts.Envelope.{Envelope as Sealed};
 ghost use Rattle.envelope.specs.Lock.{mt_lock};
 ghost use Rattle.envelope.specs.Opening.{Opens};
+ghost use Rattle.msg_ids.specs.Moments.{latest_moment};
 ghost use Rattle.server_core.specs.Packets.{brought_in};
 ghost use Rattle.server_dispatch.specs.Rings.{AreOf};
+ghost use Rattle.server_output.specs.declared.outs.Out.{Out as Going};
 ghost use Rattle.server_rules.specs.Answer.{after_attach, after_packet, after_restart, after_tick, after_work};
 ghost use Rattle.server_rules.specs.Server.{Server as Rules, fresh_server};
 ghost use Rattle.server_session.specs.Says.{Keys, setting_of};
-ghost use Rattle.waits.specs.declared.job.Job.{Job};
-ghost use Rattle.msg_ids.specs.Moments.{latest_moment};
-ghost use Rattle.waits.specs.Jobs.{ready_count, ready_job};
+ghost use Rattle.waits.specs.Jobs.{ready_count};
+ghost use Rattle.kifzaro.specs.Clients.{TellsTaken};
 ghost use Rattle.kifzaro.specs.Drawing.{drawing, drawn_from};
 ghost use Rattle.kifzaro.specs.Errors.{IsKeysError};
-ghost use Rattle.kifzaro.specs.Rooms.{TellsRoom};
-ghost use Rattle.kifzaro.specs.Clients.{TellsTaken};
 ghost use Rattle.kifzaro.specs.Queues.{IsFirst};
-ghost use Rattle.server_output.specs.declared.outs.Out.{Out as Going};
-ghost use Rattle.kifzaro.specs.Servers.{Did, Is, IfRefused, IsBadReply, TellsEvent, TellsHeard, UnlessRefused, answering};
+ghost use Rattle.kifzaro.specs.Rooms.{TellsRoom};
+ghost use Rattle.kifzaro.specs.Servers.{Did, Is, Leaves, StaysAt, TellsAnswered, TellsEvent, TellsHeard, answering, first_request};
 ghost use Rattle.kifzaro.specs.declared.error.Error.TheVariants as errors;
 
 use crate::error::Error;
-use crate::given::{Given, Listening};
+use crate::given::{Given, is_reply};
 use crate::names::SessionName;
 use crate::queue::Queue;
 use crate::rings::seal_of;
@@ -41,27 +40,37 @@ use std::alloc::Global;
 use std::marker::Model;
 
 /// A server with its own ring of keys and its own draw. It is a server of the rules, and each call that isn't refused is one
-/// of its events. Calls of its sessions are answered from outside: [`Server::next_request`] and [`Server::answer`] are one
-/// event together. Contracts see what it keeps of its sessions, the draw, the packets that aren't handed out yet, and the
-/// request that waits for its answer.
+/// of its events.
+///
+/// Calls of its sessions are answered from outside: [`Server::next_request`] lends the next ready request, [`Server::answer`]
+/// gives its reply, and both are one event together. Between the two the server is busy: each other event is refused as
+/// `Busy`, and so is a further request, while packets that were made before are still handed out. Contracts see what it keeps
+/// of its sessions, the draw, the packets that aren't handed out yet, and the request that waits for its answer.
 #[derive(Debug, Drop)]
 pub struct Server {
     server: Core<MtSeal>,
     draw: ChaChaDraw,
     queue: Queue,
-    asked: Option<Octets>,
+    // The request of the first ready job waits for its answer.
+    is_asked: bool,
 }
 
 impl Model for Server {
-    ghost use Rattle.kifzaro.specs.Clients.{TellsTaken};
-    ghost use Rattle.kifzaro.specs.Queues.{IsFirst};
-    ghost use Rattle.server_output.specs.declared.outs.Out.{Out as Going};
-    ghost use Rattle.kifzaro.specs.Servers.{Kept};
+    ghost use Rattle.std.specs.Prelude.{◌≡◌, IsSome, true};
+    ghost use Rattle.waits.specs.Jobs.{ready_job};
     ghost use Rattle.kifzaro.specs.Queues.{all_in};
+    ghost use Rattle.kifzaro.specs.Servers.{Kept, asked_of};
 
     ghost Value = { Kept };
 
-    ghost view = { λ server. record { server = server.server; draw = server.draw; waiting = all_in server.queue; asked = server.asked } };
+    ghost view = { λ server. record {
+      server = server.server;
+      draw = server.draw;
+      waiting = all_in server.queue;
+      asked = asked_of server.is_asked server.server.jobs;
+    } };
+
+    ghost invariant = { λ server. server.is_asked ≡ true → IsSome (ready_job 0 server.server.jobs) };
 }
 
 impl Server {
@@ -83,7 +92,7 @@ impl Server {
             server: Core::new(alloc, seal_of(alloc, keys)?),
             draw: ChaChaDraw::at(seed, 0),
             queue: Queue::new(alloc),
-            asked: None,
+            is_asked: false,
         })
     }
 
@@ -91,7 +100,7 @@ impl Server {
     pub fn is_busy(&self) -> bool
         ensures { result ≡ is_some self.now.asked }
     {
-        self.asked.is_some()
+        self.is_asked
     }
 
     /// A packet came at a moment: the session that its envelope names judges what is in it, and answers. It answers the name
@@ -99,7 +108,8 @@ impl Server {
     ///
     /// # Errors
     ///
-    /// `Busy`, a request waits for its answer; `Refused`, the packet doesn't open, and only the moment has changed; `Memory`.
+    /// `Busy`, a request waits for its answer; `Refused`, why the packet doesn't open, and only the moment has changed;
+    /// `Memory`, and it is the server that it was, though words may have been drawn.
     pub fn handle_packet(
         &mut self,
         alloc: Global,
@@ -107,12 +117,12 @@ impl Server {
         packet: &[u8],
     ) -> Result<SessionName, Error>
         ensures heard { TellsHeard self.old.asked mt_lock self.old.server.seal (max self.old.server.moment now) packet.now result }
+        ensures busy { is_some self.old.asked ≡ true → result ≡ Err errors.Busy }
         ensures given { (keys : Keys) (server : Rules) (envelope : Sealed) → AreOf self.old.server.seal keys → Is self.old server
             → Opens mt_lock self.old.server.seal (max self.old.server.moment now) Up packet.now envelope
             → OnOk result (Did self.old self.new (after_packet (setting_of (max self.old.server.moment now) drawing keys) (brought_in envelope) server self.old.draw)) }
-        ensures refused { (server : Rules) → Is self.old server → IfRefused result (λ _. Is self.new (record server { now = max self.old.server.moment now })
-            × (self.new ≡ record self.old { server = self.new.server })) }
-        ensures unchanged { UnlessRefused result (self.new ≡ record self.old { draw = self.new.draw }) }
+        ensures leaves { Leaves now self.old self.new result }
+        ensures stays { (server : Rules) → Is self.old server → StaysAt (max self.old.server.moment now) server self.new result }
         ensures same_ring { self.new.server.seal ≡ self.old.server.seal }
     {
         events_keep_order::<ChaChaDraw>();
@@ -140,12 +150,14 @@ impl Server {
     ///
     /// # Errors
     ///
-    /// `Busy`; `Memory`.
+    /// `Busy`; `Memory`, as of [`Server::handle_packet`].
     pub fn tick(&mut self, alloc: Global, now: Moment) -> Result<(), Error>
         ensures told { TellsEvent self.old.asked result }
+        ensures busy { is_some self.old.asked ≡ true → result ≡ Err errors.Busy }
         ensures given { (keys : Keys) (server : Rules) → Is self.old server
             → OnOk result (Did self.old self.new (after_tick (setting_of (max self.old.server.moment now) drawing keys) server self.old.draw)) }
-        ensures unchanged { OnErr result (self.new ≡ record self.old { draw = self.new.draw }) }
+        ensures leaves { Leaves now self.old self.new result }
+        ensures stays { (server : Rules) → Is self.old server → OnErr result (Is self.new server) }
         ensures same_ring { self.new.server.seal ≡ self.old.server.seal }
     {
         events_keep_order::<ChaChaDraw>();
@@ -169,12 +181,14 @@ impl Server {
     ///
     /// # Errors
     ///
-    /// `Busy`; `Memory`.
+    /// `Busy`; `Memory`, as of [`Server::handle_packet`].
     pub fn attach(&mut self, alloc: Global, name: SessionName, now: Moment) -> Result<(), Error>
         ensures told { TellsEvent self.old.asked result }
+        ensures busy { is_some self.old.asked ≡ true → result ≡ Err errors.Busy }
         ensures given { (keys : Keys) (server : Rules) → Is self.old server
             → OnOk result (Did self.old self.new (after_attach (setting_of (max self.old.server.moment now) drawing keys) (record { key = name.key; session = name.session }) server self.old.draw)) }
-        ensures unchanged { OnErr result (self.new ≡ record self.old { draw = self.new.draw }) }
+        ensures leaves { Leaves now self.old self.new result }
+        ensures stays { (server : Rules) → Is self.old server → OnErr result (Is self.new server) }
         ensures same_ring { self.new.server.seal ≡ self.old.server.seal }
     {
         events_keep_order::<ChaChaDraw>();
@@ -205,7 +219,7 @@ impl Server {
     /// `Busy`.
     pub fn restart(&mut self, alloc: Global) -> Result<(), Error>
         ensures busy { is_some self.old.asked ≡ true → result ≡ Err errors.Busy }
-        ensures done { is_some self.old.asked ≡ false → result ≡ Ok tt }
+        ensures done { self.old.asked ≡ None → result ≡ Ok tt }
         ensures is { (server : Rules) → Is self.old server → OnOk result (Is self.new (after_restart server)) }
         ensures rest { OnOk result (self.new ≡ record self.old { server = self.new.server }) }
         ensures unchanged { OnErr result (self.new ≡ self.old) }
@@ -219,67 +233,40 @@ impl Server {
         Ok(())
     }
 
-    /// How many requests are ready to be handed out.
+    /// How many requests are ready to be handed out, the one that was handed out and waits for its answer among them.
     pub fn ready(&self) -> usize
         ensures { (server : Rules) → Is self.now server → result ≡ ready_count server.jobs }
     {
         self.server.ready()
     }
 
-    /// Hands out the next ready request, unless one that was handed out waits for its answer: `request` has its bytes then.
-    /// Whether there is one. Until it is answered, the server takes no other event. That it is the request of the job which is
-    /// first among those that are ready is shown by the answer, which comes to no other.
+    /// Hands out the next ready request, that of the job which was accepted first: [`Server::request`] lends its bytes. Whether
+    /// there is one. Until [`Server::answer`] gives its reply, the server is busy. Takes no memory.
     ///
     /// # Errors
     ///
-    /// `Memory`.
-    pub fn next_request(&mut self, alloc: Global) -> Result<bool, Error>
-        ensures again { is_some self.old.asked ≡ true → (result ≡ Ok true) × (self.new ≡ self.old) }
-        ensures asked { IfOk result (λ there. there ≡ is_some self.new.asked) }
-        ensures ready { (server : Rules) → Is self.old server → is_some self.old.asked ≡ false → IfOk result (λ there. IsTrue there ↔ (0 < ready_count server.jobs)) }
-        ensures waits { (server : Rules) → Is self.old server → self.new ≡ record self.old { asked = self.new.asked } }
-        ensures unchanged { (server : Rules) → Is self.old server → OnErr result (self.new ≡ self.old) }
+    /// `Busy`, one that was handed out waits for its answer.
+    pub fn next_request(&mut self) -> Result<bool, Error>
+        ensures busy { is_some self.old.asked ≡ true → result ≡ Err errors.Busy }
+        ensures lends { self.old.asked ≡ None → (result ≡ Ok (is_some self.new.asked)) × (self.new ≡ record self.old { asked = first_request self.old.server.jobs }) }
+        ensures is { (server : Rules) → Is self.old server → Is self.new server }
+        ensures unchanged { OnErr result (self.new ≡ self.old) }
     {
         if self.is_busy() {
-            return Ok(true);
+            return Err(Error::Busy);
         }
-        if self.server.ready() == 0 {
-            return Ok(false);
-        }
-        let heard = self.listen(alloc);
-        match heard {
-            Some(request) => {
-                self.asked = Some(request);
-                Ok(true)
-            }
-            None => Err(Error::Memory),
-        }
-    }
-
-    // The request of the first ready job. Nothing runs.
-    fn listen(&mut self, alloc: Global) -> Option<Octets>
-        requires ready { 0 < ready_count self.old.server.jobs }
-        ensures same { (server : Rules) → Is self.old server → self.new ≡ self.old }
-    {
-        let mut draw = ChaChaDraw::at(&[0; 32], 0);
-        let mut listening = Listening::new();
-        let worked = self
-            .server
-            .work(alloc, 0, &mut listening, Moment::new(0), &mut draw);
-        listening.has_run_nothing();
-        match worked {
-            Ok(_) => None,
-            Err(Memory) => listening.into_heard(),
-        }
+        self.is_asked = self.server.request(0).is_some();
+        Ok(self.is_asked)
     }
 
     /// The request that was handed out and waits for its answer, if there is one.
     pub fn request(&self) -> Option<&[u8]>
         ensures { MatchOption result (self.now.asked ≡ None) (λ request. self.now.asked ≡ Some request.now) }
     {
-        match &self.asked {
-            Some(request) => Some(request.as_slice()),
-            None => None,
+        if self.is_asked {
+            self.server.request(0)
+        } else {
+            None
         }
     }
 
@@ -288,30 +275,28 @@ impl Server {
     ///
     /// # Errors
     ///
-    /// `NotAsked`, no request was handed out; `BadReply`; `Memory`, and then the request waits on.
+    /// `NotAsked`, no request was handed out; `BadReply`, and the request waits on; `Memory`, and the request waits on, though
+    /// words may have been drawn.
     pub fn answer(&mut self, alloc: Global, now: Moment, reply: &[u8]) -> Result<(), Error>
-        ensures given { (keys : Keys) (server : Rules) (asked : List ℕ) → Is self.old server → self.old.asked ≡ Some asked
-            → OnOk result (Did (record self.old { asked = None }) self.new (after_work (setting_of (max self.old.server.moment now) drawing keys) 0 answering
-            (record { asked = asked; reply = reply.now; strayed = false }) server self.old.draw).0) }
-        ensures own { (server : Rules) (job : Job) → Is self.old server → ready_job 0 server.jobs ≡ Some job → OnOk result (self.old.asked ≡ Some job.request) }
-        ensures not_asked { self.old.asked ≡ None → result ≡ Err errors.NotAsked }
-        ensures refused { IfSome self.old.asked (λ _. IfErr result (IsBadReply reply.now)) }
-        ensures unchanged { OnErr result (self.new ≡ record self.old { draw = self.new.draw }) }
+        ensures told { TellsAnswered self.old.asked reply.now result }
+        ensures given { (keys : Keys) (server : Rules) → Is self.old server
+            → OnOk result (Did self.old self.new (after_work (setting_of (max self.old.server.moment now) drawing keys) 0 answering reply.now server self.old.draw).0) }
+        ensures leaves { Leaves now self.old self.new result }
+        ensures stays { (server : Rules) → Is self.old server → OnErr result (Is self.new server) }
         ensures same_ring { self.new.server.seal ≡ self.old.server.seal }
     {
         runs_keep_order::<ChaChaDraw, Given>();
         is_early(now);
-        let Some(asked) = &self.asked else {
+        if !self.is_busy() {
             return Err(Error::NotAsked);
-        };
-        if self.server.ready() == 0 {
-            return Err(Error::Memory);
         }
-        let mut given = Given::new(alloc, asked.as_slice(), reply)?;
+        if !is_reply(reply) {
+            return Err(Error::BadReply { len: reply.len() });
+        }
+        let mut given = Given::new(alloc, reply)?;
         self.queue.make_room()?;
         let effects = self.server.work(alloc, 0, &mut given, now, &mut self.draw)?;
-        given.has_not_strayed();
-        self.asked = None;
+        self.is_asked = false;
         self.queue.put(effects.out);
         Ok(())
     }
@@ -365,8 +350,8 @@ impl Server {
     pub fn copy_request(&self, room: &mut [u8]) -> Result<usize, Error>
         ensures { MatchOption self.now.asked ((result ≡ Err errors.NotAsked) × (room.new ≡ room.old)) (λ request. TellsRoom request room.old room.new result) }
     {
-        match &self.asked {
-            Some(request) => put(request.as_slice(), room),
+        match self.request() {
+            Some(request) => put(request, room),
             None => Err(Error::NotAsked),
         }
     }

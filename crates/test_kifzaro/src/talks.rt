@@ -64,7 +64,7 @@ fn a_call_comes_to_its_reply(rt: HostRuntime) -> Result<(), Fail> {
     let mut pair = make_pair(alloc)?;
     let call = pair.client.submit(alloc, b"ask me!!", None)?;
     turns(alloc, &mut pair)?;
-    assert!(rt; pair.server.next_request(alloc)?);
+    assert!(rt; pair.server.next_request()?);
     assert!(rt; pair.server.request() == Some(b"ask me!!".as_slice()));
     pair.server.answer(alloc, Moment::new(NOW), b"answered")?;
     comes_down(alloc, &mut pair)?;
@@ -85,7 +85,7 @@ fn a_packet_that_comes_twice_runs_once(rt: HostRuntime) -> Result<(), Fail> {
                 let _name = pair
                     .server
                     .handle_packet(alloc, Moment::new(NOW), packet.as_slice())?;
-                if pair.server.next_request(alloc)? {
+                if pair.server.next_request()? {
                     asked = 1 + asked % 100;
                     pair.server.answer(alloc, Moment::new(NOW), b"done")?;
                 }
@@ -118,7 +118,7 @@ fn a_server_that_was_asked_is_busy(rt: HostRuntime) -> Result<(), Fail> {
     let mut pair = make_pair(alloc)?;
     let _call = pair.client.submit(alloc, b"ask me!!", None)?;
     turns(alloc, &mut pair)?;
-    assert!(rt; pair.server.next_request(alloc)?);
+    assert!(rt; pair.server.next_request()?);
     let name = SessionName {
         key: KEY_ID,
         session: pair.client.session(),
