@@ -68,12 +68,47 @@ moment_alone law before after now server given stands is same =
 
 pub did : (before after : Kept) (effects : Effects) (answer : Answer ChaChaPlace)
     → Gives mt_lock before.server.seal after.server after.draw effects answer → IsBetweenEvents answer.server
-    → after.waiting ≡ before.waiting ++ effects.out.outs → is_some before.asked ≡ false → is_some after.asked ≡ false → Did before after answer
-did before after effects answer gives order waits was stays = record {
+    → after.waiting ≡ before.waiting ++ effects.out.outs → after.asked ≡ None → Did before after answer
+did before after effects answer gives order waits none = record {
   is = record { stands = gives.stands; order = order };
   drawn = gives.drawn;
   outs = effects.out.outs;
   sent = gives.sent;
   waits = waits;
-  asked = (was, stays);
+  asked = none;
 }
+
+-- ---- a request
+
+ready_step : (ready : Bool) (one : Unfinished) (others : Queue) → 0 < one_if ready + ready_count others
+    → (0 < ready_count others → IsSome (ready_job 0 others)) → IsSome (if ready then Some one.job else ready_job 0 others)
+ready_step true one others some rest = tt
+ready_step false one others some rest = rest (omega (arith, some))
+
+-- where a job is ready there is a first one
+pub ready_there : (queue : Queue) → 0 < ready_count queue → IsSome (ready_job 0 queue)
+ready_there [] some = absurd (omega (arith, some))
+ready_there (one ∷ others) some = ready_step (is_ready one) one others some (ready_there others)
+
+-- a service that runs nothing, as if it had run
+abbrev pub listening : Step Bool
+listening state request = ([], true)
+
+-- it has run nothing
+pub runs_nothing : (setting : Setting ChaChaPlace) (found : Option Job) (server : Server) (draw : ChaChaPlace) (service : Bool)
+    → IsSome found → service ≡ (after_run setting 0 found listening false server draw).1 → service ≡ false → ⊥
+runs_nothing setting (Some job) server draw service some is none = true≢false (sym is ∙ none)
+runs_nothing setting None server draw service some is none = absurd some
+
+not-false : (b : Bool) → not b ≡ false → b ≡ true
+not-false true is = refl
+not-false false is = absurd (true≢false is)
+
+-- a service that was given one reply ran the request that it was given for
+pub runs_its_own : (setting : Setting ChaChaPlace) (found : Option Job) (job : Job) (server : Server) (draw : ChaChaPlace) (given now : Exchange)
+    → found ≡ Some job → now ≡ (after_run setting 0 found answering given server draw).1 → now.strayed ≡ false → given.asked ≡ job.request
+runs_its_own setting found job server draw given now there is own =
+    let run : now ≡ (after_run setting 0 (Some job) answering given server draw).1 =
+    subst (λ (one : Option Job). now ≡ (after_run setting 0 one answering given server draw).1) there is in
+    let same : not (bytes_eq job.request given.asked) ≡ false = sym (ap (λ (e : Exchange). e.strayed) run) ∙ own in
+    sym ((bytes_eq-Decides job.request given.asked).0 (not-false (bytes_eq job.request given.asked) same))

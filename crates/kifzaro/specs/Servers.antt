@@ -1,5 +1,6 @@
 -- A server with its draw and what it has to hand out, and the server of the rules that it is.
-use Rattle.std.specs.Prelude.{◌≡◌, ℕ, Bool, false, true, if◌then◌else◌, Option, None, option_map, is_some, IfSome, List, ◌++◌, length, max, Result, Ok, Err, ⊤}
+use Rattle.std.specs.Prelude.{◌≡◌, ℕ, Bool, true, not, Option, None, is_some, List, ◌++◌, length, max, Result, Ok, Err, ⊤}
+use Rattle.std.specs.Str.{bytes_eq}
 use Rattle.auth_keys.specs.declared.ring.RingKey.{RingKey}
 use Rattle.draws.specs.ChaChaWords.{ChaChaPlace}
 use Rattle.envelope.specs.Lock.{mt_lock}
@@ -13,7 +14,6 @@ use Rattle.server_core.specs.declared.desk.Heard.TheVariants.{Judged, NotOpened}
 use Rattle.server_core.specs.Desks.{IsBetweenEvents}
 use Rattle.server_core.specs.Packets.{IsHeardOf}
 use Rattle.server_core.specs.Server as core
-use Rattle.waits.specs.Jobs.{Queue, ready_job}
 use Rattle.kifzaro.specs.declared.error.Error.{Error}
 use Rattle.kifzaro.specs.declared.error.Error.TheVariants as errors
 use Rattle.kifzaro.specs.declared.names.SessionName.{SessionName}
@@ -28,20 +28,10 @@ pub record Kept : Type 0 where
   pub waiting : List Out
   pub asked : Option (List ℕ)
 
--- the request of the job that is first among those that are ready
-abbrev pub first_request : Queue → Option (List ℕ)
-first_request jobs = option_map (λ job. job.request) (ready_job 0 jobs)
-
--- what was handed out, if it was
-abbrev pub asked_of : Bool → Queue → Option (List ℕ)
-asked_of is_asked jobs = if is_asked then first_request jobs else None
-
--- It is this server of the rules, which is in order and within its limits, and a request that waits for its answer is that
--- of the first ready job.
+-- it is this server of the rules, which is in order and within its limits
 pub record Is (kept : Kept) (server : Server) : Type 0 where
   pub stands : core.Stands kept.server server
   pub order : IsBetweenEvents server
-  pub asked : IfSome kept.asked (λ request. first_request server.jobs ≡ Some request)
 
 -- After an event it is the server that the rules say, its draw is theirs, and behind the packets that waited before stands
 -- each packet of the event, sealed, in order. No request waits for its answer.
@@ -99,6 +89,12 @@ StaysAt now server after (Err other) = Is after server
 
 -- ---- a service that is asked from outside
 
--- the service that gives this reply, whatever it is asked
-abbrev pub answering : Step (List ℕ)
-answering reply request = (reply, reply)
+-- a request, the reply that it was given, and whether another request was run with it
+pub record Exchange : Type 0 where
+  pub asked : List ℕ
+  pub reply : List ℕ
+  pub strayed : Bool
+
+-- the service that gives this reply
+abbrev pub answering : Step Exchange
+answering exchange request = (exchange.reply, record exchange { strayed = not (bytes_eq request exchange.asked) })

@@ -1,29 +1,31 @@
 //! A server.
 
-ghost use Rattle.std.specs.Prelude.{◌≡◌, ◌≤◌, ◌∷◌, List, None, Some, Ok, [], Err, IfErr, IfOk, MatchOption, OnErr, OnOk, false, is_some, max, true};
+ghost use Rattle.std.specs.Prelude.{◌≡◌, ◌<◌, ◌≤◌, ◌↔◌, ◌∷◌, ℕ, List, None, Some, Ok, [], Err, IfErr, IfOk, IfSome, IsTrue, MatchOption, OnErr, OnOk, false, is_some, max, option_map, true};
 ghost use Rattle.auth_keys.specs.KeyFile.{IsRingOf};
 ghost use Rattle.envelope.specs.declared.parts.Dir.TheVariants.{Up};
 ghost use Rattle.envelope.specs.declared.parts.Envelope.{Envelope as Sealed};
 ghost use Rattle.envelope.specs.Lock.{mt_lock};
 ghost use Rattle.envelope.specs.Opening.{Opens};
 ghost use Rattle.msg_ids.specs.Moments.{latest_moment};
+ghost use Rattle.server_core.specs.Desks.{IsBetweenEvents};
 ghost use Rattle.server_core.specs.Packets.{brought_in};
+ghost use Rattle.server_core.specs.Server.{Stands};
 ghost use Rattle.server_dispatch.specs.Rings.{AreOf};
 ghost use Rattle.server_output.specs.declared.outs.Out.{Out as Going};
 ghost use Rattle.server_rules.specs.Answer.{after_attach, after_packet, after_restart, after_tick, after_work};
 ghost use Rattle.server_rules.specs.Server.{Server as Rules, fresh_server};
 ghost use Rattle.server_session.specs.Says.{Keys, setting_of};
-ghost use Rattle.waits.specs.Jobs.{ready_count};
+ghost use Rattle.waits.specs.Jobs.{ready_count, ready_job};
 ghost use Rattle.kifzaro.specs.Clients.{TellsTaken};
 ghost use Rattle.kifzaro.specs.Drawing.{drawing, drawn_from};
 ghost use Rattle.kifzaro.specs.Errors.{IsKeysError};
 ghost use Rattle.kifzaro.specs.Queues.{IsFirst};
 ghost use Rattle.kifzaro.specs.Rooms.{TellsRoom};
-ghost use Rattle.kifzaro.specs.Servers.{Did, Is, Leaves, StaysAt, TellsAnswered, TellsEvent, TellsHeard, answering, first_request};
+ghost use Rattle.kifzaro.specs.Servers.{Did, Is, Leaves, StaysAt, TellsAnswered, TellsEvent, TellsHeard, answering};
 ghost use Rattle.kifzaro.specs.declared.error.Error.TheVariants as errors;
 
 use crate::error::Error;
-use crate::given::{Given, is_reply};
+use crate::given::{Given, Listening, is_reply};
 use crate::names::SessionName;
 use crate::queue::Queue;
 use crate::rings::seal_of;
@@ -51,26 +53,22 @@ pub struct Server {
     server: Core<MtSeal>,
     draw: ChaChaDraw,
     queue: Queue,
-    // The request of the first ready job waits for its answer.
-    is_asked: bool,
+    // The request of the first ready job, while it waits for its answer.
+    asked: Option<Octets>,
 }
 
 impl Model for Server {
-    ghost use Rattle.std.specs.Prelude.{◌≡◌, IsSome, true};
-    ghost use Rattle.waits.specs.Jobs.{ready_job};
+    ghost use Rattle.std.specs.Prelude.{◌<◌, IfSome};
+    ghost use Rattle.waits.specs.Jobs.{ready_count};
     ghost use Rattle.kifzaro.specs.Queues.{all_in};
-    ghost use Rattle.kifzaro.specs.Servers.{Kept, asked_of};
+    ghost use Rattle.kifzaro.specs.Servers.{Kept};
 
     ghost Value = { Kept };
 
-    ghost view = { λ server. record {
-      server = server.server;
-      draw = server.draw;
-      waiting = all_in server.queue;
-      asked = asked_of server.is_asked server.server.jobs;
-    } };
+    ghost view = { λ server. record { server = server.server; draw = server.draw; waiting = all_in server.queue; asked = server.asked } };
 
-    ghost invariant = { λ server. server.is_asked ≡ true → IsSome (ready_job 0 server.server.jobs) };
+    // A job is ready while a request waits for its answer.
+    ghost invariant = { λ server. IfSome server.asked (λ _. 0 < ready_count server.server.jobs) };
 }
 
 impl Server {
@@ -92,7 +90,7 @@ impl Server {
             server: Core::new(alloc, seal_of(alloc, keys)?),
             draw: ChaChaDraw::at(seed, 0),
             queue: Queue::new(alloc),
-            is_asked: false,
+            asked: None,
         })
     }
 
@@ -100,7 +98,7 @@ impl Server {
     pub fn is_busy(&self) -> bool
         ensures { result ≡ is_some self.now.asked }
     {
-        self.is_asked
+        self.asked.is_some()
     }
 
     /// A packet came at a moment: the session that its envelope names judges what is in it, and answers. It answers the name
@@ -241,32 +239,43 @@ impl Server {
     }
 
     /// Hands out the next ready request, that of the job which was accepted first: [`Server::request`] lends its bytes. Whether
-    /// there is one. Until [`Server::answer`] gives its reply, the server is busy. Takes no memory.
+    /// there is one. Until [`Server::answer`] gives its reply, the server is busy. That it is the request of that job is shown by
+    /// the answer, which is taken for no other.
     ///
     /// # Errors
     ///
-    /// `Busy`, one that was handed out waits for its answer.
-    pub fn next_request(&mut self) -> Result<bool, Error>
+    /// `Busy`, one that was handed out waits for its answer; `Memory`. The server is as it was.
+    pub fn next_request(&mut self, alloc: Global) -> Result<bool, Error>
+        ensures told { TellsEvent self.old.asked result }
         ensures busy { is_some self.old.asked ≡ true → result ≡ Err errors.Busy }
-        ensures lends { self.old.asked ≡ None → (result ≡ Ok (is_some self.new.asked)) × (self.new ≡ record self.old { asked = first_request self.old.server.jobs }) }
-        ensures is { (server : Rules) → Is self.old server → Is self.new server }
-        ensures unchanged { OnErr result (self.new ≡ self.old) }
+        ensures there { IfOk result (λ there. there ≡ is_some self.new.asked) }
+        ensures ready { (server : Rules) → Is self.old server → IfOk result (λ there. IsTrue there ↔ (0 < ready_count server.jobs)) }
+        ensures lends { (server : Rules) → Is self.old server → self.new ≡ record self.old { asked = self.new.asked } }
+        ensures unchanged { (server : Rules) → Is self.old server → OnErr result (self.new ≡ self.old) }
+        ensures same_ring { self.new.server.seal ≡ self.old.server.seal }
     {
         if self.is_busy() {
             return Err(Error::Busy);
         }
-        self.is_asked = self.server.request(0).is_some();
-        Ok(self.is_asked)
+        if self.server.ready() == 0 {
+            return Ok(false);
+        }
+        match listen(&mut self.server, alloc) {
+            Some(request) => {
+                self.asked = Some(request);
+                Ok(true)
+            }
+            None => Err(Error::Memory),
+        }
     }
 
     /// The request that was handed out and waits for its answer, if there is one.
     pub fn request(&self) -> Option<&[u8]>
         ensures { MatchOption result (self.now.asked ≡ None) (λ request. self.now.asked ≡ Some request.now) }
     {
-        if self.is_asked {
-            self.server.request(0)
-        } else {
-            None
+        match &self.asked {
+            Some(request) => Some(request.as_slice()),
+            None => None,
         }
     }
 
@@ -279,24 +288,27 @@ impl Server {
     /// words may have been drawn.
     pub fn answer(&mut self, alloc: Global, now: Moment, reply: &[u8]) -> Result<(), Error>
         ensures told { TellsAnswered self.old.asked reply.now result }
-        ensures given { (keys : Keys) (server : Rules) → Is self.old server
-            → OnOk result (Did self.old self.new (after_work (setting_of (max self.old.server.moment now) drawing keys) 0 answering reply.now server self.old.draw).0) }
+        ensures given { (keys : Keys) (server : Rules) (asked : List ℕ) → Is self.old server → self.old.asked ≡ Some asked
+            → OnOk result (Did self.old self.new (after_work (setting_of (max self.old.server.moment now) drawing keys) 0 answering
+            (record { asked = asked; reply = reply.now; strayed = false }) server self.old.draw).0) }
+        ensures own { (server : Rules) → Is self.old server → OnOk result (option_map (λ job. job.request) (ready_job 0 server.jobs) ≡ self.old.asked) }
         ensures leaves { Leaves now self.old self.new result }
         ensures stays { (server : Rules) → Is self.old server → OnErr result (Is self.new server) }
         ensures same_ring { self.new.server.seal ≡ self.old.server.seal }
     {
         runs_keep_order::<ChaChaDraw, Given>();
         is_early(now);
-        if !self.is_busy() {
+        let Some(asked) = &self.asked else {
             return Err(Error::NotAsked);
-        }
+        };
         if !is_reply(reply) {
             return Err(Error::BadReply { len: reply.len() });
         }
-        let mut given = Given::new(alloc, reply)?;
+        let mut given = Given::new(alloc, asked.as_slice(), reply)?;
         self.queue.make_room()?;
         let effects = self.server.work(alloc, 0, &mut given, now, &mut self.draw)?;
-        self.is_asked = false;
+        given.has_not_strayed();
+        self.asked = None;
         self.queue.put(effects.out);
         Ok(())
     }
@@ -362,4 +374,21 @@ fn is_early(now: Moment)
     ensures { now ≤ latest_moment }
 {
     let _ = now.seconds();
+}
+
+// The request of the first ready job, where there is memory for it. Nothing runs.
+fn listen(server: &mut Core<MtSeal>, alloc: Global) -> Option<Octets>
+    requires ready { 0 < ready_count server.old.jobs }
+    ensures same { (rules : Rules) → Stands server.old rules → IsBetweenEvents rules → server.new ≡ server.old }
+    ensures heard { IfSome result (λ _. server.new ≡ server.old) }
+    ensures same_seal { server.new.seal ≡ server.old.seal }
+{
+    let mut draw = ChaChaDraw::at(&[0; 32], 0);
+    let mut listening = Listening::new();
+    let worked = server.work(alloc, 0, &mut listening, Moment::new(0), &mut draw);
+    listening.has_run_nothing();
+    match worked {
+        Ok(_) => None,
+        Err(Memory) => listening.into_heard(),
+    }
 }

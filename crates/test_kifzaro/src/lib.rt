@@ -3,4 +3,8 @@
 #![tactic(auto)]
 
 #[cfg(test)]
+mod pair;
+#[cfg(test)]
+mod refusals;
+#[cfg(test)]
 mod talks;

@@ -1,62 +1,9 @@
 //! Calls from their submission to their replies, over both ends.
 
-use kifzaro::{CallId, CallState, Cause, Client, Error, Moment, Octets, Server, SessionName};
-use std::alloc::Global;
+use crate::pair::{comes_down, make_pair, make_temporary_pair, next_up, turn, turns};
+use kifzaro::{CallState, Cause};
 use std::test::Fail;
-use test_keys::{KEY_ID, line};
-
-/// A client and a server that share a key.
-#[derive(Drop)]
-struct Pair {
-    client: Client,
-    server: Server,
-}
-
-const NOW: u64 = 1_000_000;
-
-fn make_pair(alloc: Global) -> Result<Pair, Fail> {
-    let keys = line(alloc, "perm")?;
-    Ok(Pair {
-        client: Client::new(alloc, keys.as_bytes(), KEY_ID, &[1; 32])?,
-        server: Server::new(alloc, keys.as_bytes(), &[2; 32])?,
-    })
-}
-
-/// All that the server sends reaches the client: at most ten packets.
-fn comes_down(alloc: Global, pair: &mut Pair) -> Result<(), Fail> {
-    for _ in 0..10 {
-        if let Some(out) = pair.server.poll_transmit(alloc) {
-            pair.client
-                .handle_packet(alloc, Moment::new(NOW), out.packet.as_slice())?;
-        }
-    }
-    Ok(())
-}
-
-/// The client's next packet.
-fn next_up(alloc: Global, pair: &mut Pair) -> Result<Option<Octets>, Error> {
-    pair.client.poll_transmit(alloc, Moment::new(NOW))
-}
-
-/// The client's next packet reaches the server, and what the server sends reaches the client.
-fn turn(alloc: Global, pair: &mut Pair) -> Result<(), Fail> {
-    if let Some(packet) = next_up(alloc, pair)? {
-        let _name = pair
-            .server
-            .handle_packet(alloc, Moment::new(NOW), packet.as_slice())?;
-    }
-    comes_down(alloc, pair)
-}
-
-/// Turns until a request is ready: what the client has to learn first takes a few.
-fn turns(alloc: Global, pair: &mut Pair) -> Result<(), Fail> {
-    for _ in 0..4 {
-        if pair.server.ready() == 0 {
-            turn(alloc, pair)?;
-        }
-    }
-    Ok(())
-}
+use test_asserts::{holds, same};
 
 #[test]
 fn a_call_comes_to_its_reply(rt: HostRuntime) -> Result<(), Fail> {
@@ -64,37 +11,68 @@ fn a_call_comes_to_its_reply(rt: HostRuntime) -> Result<(), Fail> {
     let mut pair = make_pair(alloc)?;
     let call = pair.client.submit(alloc, b"ask me!!", None)?;
     turns(alloc, &mut pair)?;
-    assert!(rt; pair.server.next_request()?);
-    assert!(rt; pair.server.request() == Some(b"ask me!!".as_slice()));
-    pair.server.answer(alloc, Moment::new(NOW), b"answered")?;
+    holds(pair.server.next_request(alloc)?)?;
+    holds(pair.server.request() == Some(b"ask me!!".as_slice()))?;
+    pair.server.answer(alloc, pair.now, b"answered")?;
     comes_down(alloc, &mut pair)?;
-    assert!(rt; pair.client.state(call)? == CallState::Done(b"answered"));
-    assert!(rt; pair.client.calls_decided());
-    Ok(())
+    holds(pair.client.state(call)? == CallState::Done(b"answered"))?;
+    holds(pair.client.calls_decided())
+}
+
+#[test]
+fn two_calls_are_asked_in_order(rt: HostRuntime) -> Result<(), Fail> {
+    let alloc = rt.alloc();
+    let mut pair = make_pair(alloc)?;
+    let one = pair.client.submit(alloc, b"one.", None)?;
+    let two = pair.client.submit(alloc, b"two.", Some(one))?;
+    turns(alloc, &mut pair)?;
+    holds(pair.server.next_request(alloc)?)?;
+    holds(pair.server.request() == Some(b"one.".as_slice()))?;
+    pair.server.answer(alloc, pair.now, b"1111")?;
+    holds(pair.server.next_request(alloc)?)?;
+    holds(pair.server.request() == Some(b"two.".as_slice()))?;
+    pair.server.answer(alloc, pair.now, b"2222")?;
+    holds(!pair.server.next_request(alloc)?)?;
+    comes_down(alloc, &mut pair)?;
+    holds(pair.client.state(one)? == CallState::Done(b"1111"))?;
+    holds(pair.client.state(two)? == CallState::Done(b"2222"))
+}
+
+#[test]
+fn a_call_under_a_temporary_key_comes_to_its_reply(rt: HostRuntime) -> Result<(), Fail> {
+    let alloc = rt.alloc();
+    let mut pair = make_temporary_pair(alloc)?;
+    let call = pair.client.submit(alloc, b"ask me!!", None)?;
+    turns(alloc, &mut pair)?;
+    holds(pair.server.next_request(alloc)?)?;
+    holds(pair.server.request() == Some(b"ask me!!".as_slice()))?;
+    pair.server.answer(alloc, pair.now, b"answered")?;
+    comes_down(alloc, &mut pair)?;
+    holds(pair.client.state(call)? == CallState::Done(b"answered"))
 }
 
 #[test]
 fn a_packet_that_comes_twice_runs_once(rt: HostRuntime) -> Result<(), Fail> {
     let alloc = rt.alloc();
     let mut pair = make_pair(alloc)?;
-    let _call = pair.client.submit(alloc, b"add five", None)?;
+    let call = pair.client.submit(alloc, b"add five", None)?;
     let mut asked = 0;
     for _ in 0..5 {
         if let Some(packet) = next_up(alloc, &mut pair)? {
             for _ in 0..2 {
                 let _name = pair
                     .server
-                    .handle_packet(alloc, Moment::new(NOW), packet.as_slice())?;
-                if pair.server.next_request()? {
+                    .handle_packet(alloc, pair.now, packet.as_slice())?;
+                if pair.server.next_request(alloc)? {
                     asked = 1 + asked % 100;
-                    pair.server.answer(alloc, Moment::new(NOW), b"done")?;
+                    pair.server.answer(alloc, pair.now, b"done")?;
                 }
             }
         }
         comes_down(alloc, &mut pair)?;
     }
-    assert_eq!(rt; asked, 1);
-    Ok(())
+    same(asked, 1)?;
+    holds(pair.client.state(call)? == CallState::Done(b"done"))
 }
 
 #[test]
@@ -104,49 +82,35 @@ fn a_server_that_starts_again_has_lost_the_call(rt: HostRuntime) -> Result<(), F
     let call = pair.client.submit(alloc, b"ask me!!", None)?;
     turns(alloc, &mut pair)?;
     pair.server.restart(alloc)?;
+    same(pair.server.ready(), 0)?;
     pair.client.attach()?;
-    turns(alloc, &mut pair)?;
-    let state = pair.client.state(call)?;
-    assert!(rt; state == CallState::Unknown(Cause::Session) || pair.server.ready() == 1);
-    Ok(())
+    turn(alloc, &mut pair)?;
+    holds(pair.client.state(call)? == CallState::Unknown(Cause::Session))?;
+    holds(pair.client.calls_decided())
 }
 
 #[test]
-fn a_server_that_was_asked_is_busy(rt: HostRuntime) -> Result<(), Fail> {
+fn a_client_that_ends_is_told_of_its_calls(rt: HostRuntime) -> Result<(), Fail> {
     let alloc = rt.alloc();
-    let now = Moment::new(NOW);
     let mut pair = make_pair(alloc)?;
-    let _call = pair.client.submit(alloc, b"ask me!!", None)?;
+    let sent = pair.client.submit(alloc, b"ask me!!", None)?;
     turns(alloc, &mut pair)?;
-    assert!(rt; pair.server.next_request()?);
-    let name = SessionName {
-        key: KEY_ID,
-        session: pair.client.session(),
-    };
-    assert!(rt; pair.server.handle_packet(alloc, now, b"") == Err(Error::Busy));
-    assert!(rt; pair.server.tick(alloc, now) == Err(Error::Busy));
-    assert!(rt; pair.server.attach(alloc, name, now) == Err(Error::Busy));
-    assert!(rt; pair.server.restart(alloc) == Err(Error::Busy));
-    assert!(rt; pair.server.answer(alloc, now, b"odd") == Err(Error::BadReply { len: 3 }));
-    pair.server.answer(alloc, now, b"even")?;
-    assert!(rt; pair.server.answer(alloc, now, b"even") == Err(Error::NotAsked));
-    Ok(())
+    let queued = pair.client.submit(alloc, b"too late", None)?;
+    pair.client.end()?;
+    holds(pair.client.has_ended())?;
+    holds(pair.client.state(sent)? == CallState::Unknown(Cause::Ended))?;
+    holds(pair.client.state(queued)? == CallState::Refused(0))
 }
 
 #[test]
-fn room_that_is_too_short_keeps_the_packet(rt: HostRuntime) -> Result<(), Fail> {
+fn a_client_that_is_renewed_goes_on_in_another_session(rt: HostRuntime) -> Result<(), Fail> {
     let alloc = rt.alloc();
     let mut pair = make_pair(alloc)?;
-    let mut room = [7; 4];
-    let mut more = Vec::from_elem(alloc, 0u8, 2048)?;
-    let call = pair.client.submit(alloc, b"ask me!!", None)?;
-    pair.client.prepare_transmit(alloc, Moment::new(NOW))?;
-    let len = pair.client.waiting().map_or(0, |packet| packet.len());
-    assert!(rt; pair.client.take_transmit(&mut room) == Err(Error::TooShort { needed: len }));
-    assert_eq!(rt; room, [7; 4]);
-    assert!(rt; pair.client.take_transmit(&mut more[..]) == Ok(Some(len)));
-    assert!(rt; pair.client.take_transmit(&mut more[..]) == Ok(None));
-    assert!(rt; pair.client.take_reply(call, &mut room) == Err(Error::NoReply));
-    assert!(rt; pair.client.take_reply(CallId { n: 2 }, &mut room) == Err(Error::NoCall));
-    Ok(())
+    let sent = pair.client.submit(alloc, b"ask me!!", None)?;
+    turns(alloc, &mut pair)?;
+    let former = pair.client.session();
+    pair.client.renew()?;
+    holds(pair.client.session() != former)?;
+    holds(!pair.client.is_open())?;
+    holds(pair.client.state(sent)? == CallState::Unknown(Cause::Renewed))
 }
