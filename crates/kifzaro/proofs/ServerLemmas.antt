@@ -1,29 +1,22 @@
 -- What an event leaves of a server with its draw and its packets.
-use Rattle.std.proofs.Common.{◌≡◌, ◌≤◌, ◌<◌, ◌+◌, ℕ, Bool, true, false, if◌then◌else◌, Option, Some, None, List, [], ◌∷◌, ◌++◌, max, refl, sym, ap, subst, ◌∙◌, arith}
-use Rattle.std.specs.Prelude.{is_some, not, IsSome}
-use Rattle.std.specs.Str.{bytes_eq}
+use Rattle.std.proofs.Common.{◌≡◌, ◌≤◌, ℕ, Bool, true, false, Option, Some, None, List, [], ◌∷◌, ◌++◌, max, refl, sym, subst, arith}
+use Rattle.std.specs.Prelude.{is_some}
 use Rattle.std.proofs.lemmas.Bool.{true≢false}
-use Rattle.std.proofs.lemmas.Slice.Eq.{bytes_eq-Decides}
 use Rattle.auth_keys.specs.declared.ring.RingKey.{RingKey}
 use Rattle.draws.specs.ChaChaWords.{ChaChaPlace}
 use Rattle.envelope.specs.Lock.{mt_lock}
 use Rattle.msg_ids.specs.Moments.{latest_moment}
-use Rattle.regs_service.specs.Served.{Step}
 use Rattle.server_core.specs.Desks.{IsBetweenEvents}
 use Rattle.server_core.specs.Effects.{Gives}
 use Rattle.server_core.specs.Server as core
 use Rattle.server_core.specs.Sessions.{AreKept}
 use Rattle.server_core.specs.declared.effects.Effects.{Effects}
 use Rattle.server_output.specs.declared.outs.Out.{Out}
-use Rattle.server_rules.specs.Answer.{Answer, after_run}
-use Rattle.server_rules.specs.Event.{Setting}
+use Rattle.server_rules.specs.Answer.{Answer}
 use Rattle.server_rules.specs.Server.{Server, Session}
 use Rattle.server_session.specs.SessionState.{Stands}
 use Rattle.server_session.specs.declared.session.SessionState.{SessionState}
-use Rattle.waits.specs.declared.job.Job.{Job}
-use Rattle.waits.specs.declared.job.Unfinished.{Unfinished}
-use Rattle.waits.specs.Jobs.{Queue, is_ready, one_if, ready_count, ready_job}
-use Rattle.kifzaro.specs.Servers.{Did, Exchange, Is, Kept, answering}
+use Rattle.kifzaro.specs.Servers.{Did, Is, Kept}
 
 -- ---- moments
 
@@ -78,37 +71,30 @@ did before after effects answer gives order waits none = record {
   asked = none;
 }
 
--- ---- a request
+-- an event that gives what the rules say
+pub event_did : (before after : Kept) (effects : Effects) (answer : ℕ → Answer ChaChaPlace) (now : ℕ) (server : Server)
+    → Is before server → now ≤ latest_moment
+    → ((at : ℕ) → at ≤ latest_moment → IsBetweenEvents (answer at).server)
+    → Gives mt_lock before.server.seal after.server after.draw effects (answer (max before.server.moment now))
+    → after.waiting ≡ before.waiting ++ effects.out.outs → after.asked ≡ None
+    → Did before after (answer (max before.server.moment now))
+event_did before after effects answer now server is given keeps gives waits none =
+    let at = max before.server.moment now in
+    did before after effects (answer at) gives (keeps at (early before.server.moment now server.now is.stands.moment is.order.at given)) waits none
 
-ready_step : (ready : Bool) (one : Unfinished) (others : Queue) → 0 < one_if ready + ready_count others
-    → (0 < ready_count others → IsSome (ready_job 0 others)) → IsSome (if ready then Some one.job else ready_job 0 others)
-ready_step true one others some rest = tt
-ready_step false one others some rest = rest (omega (arith, some))
+-- what nothing was done to is the server that it was
+pub still : (before after : Kept) (server : Server) → Is before server → after.server ≡ before.server → Is after server
+still before after server is same =
+    record { stands = subst (λ (kept : core.Kept (List RingKey)). core.Stands kept server) (sym same) is.stands; order = is.order }
 
--- where a job is ready there is a first one
-pub ready_there : (queue : Queue) → 0 < ready_count queue → IsSome (ready_job 0 queue)
-ready_there [] some = absurd (omega (arith, some))
-ready_there (one ∷ others) some = ready_step (is_ready one) one others some (ready_there others)
+-- a packet that doesn't open leaves the moment
+pub moved : Later → (before after : Kept) (now : ℕ) (server : Server) → now ≤ latest_moment → Is before server
+    → after.server ≡ record before.server { moment = max before.server.moment now } → Is after (record server { now = max before.server.moment now })
+moved law before after now server given is same =
+    let both = moment_alone law before.server after.server now server given is.stands is.order same in
+    record { stands = both.0; order = both.1 }
 
--- a service that runs nothing, as if it had run
-abbrev pub listening : Step Bool
-listening state request = ([], true)
-
--- it has run nothing
-pub runs_nothing : (setting : Setting ChaChaPlace) (found : Option Job) (server : Server) (draw : ChaChaPlace) (service : Bool)
-    → IsSome found → service ≡ (after_run setting 0 found listening false server draw).1 → service ≡ false → ⊥
-runs_nothing setting (Some job) server draw service some is none = true≢false (sym is ∙ none)
-runs_nothing setting None server draw service some is none = absurd some
-
-not-false : (b : Bool) → not b ≡ false → b ≡ true
-not-false true is = refl
-not-false false is = absurd (true≢false is)
-
--- a service that was given one reply ran the request that it was given for
-pub runs_its_own : (setting : Setting ChaChaPlace) (found : Option Job) (job : Job) (server : Server) (draw : ChaChaPlace) (given now : Exchange)
-    → found ≡ Some job → now ≡ (after_run setting 0 found answering given server draw).1 → now.strayed ≡ false → given.asked ≡ job.request
-runs_its_own setting found job server draw given now there is own =
-    let run : now ≡ (after_run setting 0 (Some job) answering given server draw).1 =
-    subst (λ (one : Option Job). now ≡ (after_run setting 0 one answering given server draw).1) there is in
-    let same : not (bytes_eq job.request given.asked) ≡ false = sym (ap (λ (e : Exchange). e.strayed) run) ∙ own in
-    sym ((bytes_eq-Decides job.request given.asked).0 (not-false (bytes_eq job.request given.asked) same))
+-- no request waits
+pub not_asked : (asked : Option (List ℕ)) → is_some asked ≡ false → asked ≡ None
+not_asked None none = refl
+not_asked (Some request) none = absurd (true≢false none)

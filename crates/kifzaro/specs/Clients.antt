@@ -1,10 +1,10 @@
 -- A client with its ring and its draw, and the client of the rules that it is.
-use Rattle.std.specs.Prelude.{◌≡◌, ℕ, if◌then◌else◌, Bool, true, false, Option, Some, None, is_some, List, [], ◌∷◌, length, All, Result, Ok, Err, ⊤}
+use Rattle.std.specs.Prelude.{◌≡◌, ◌<◌, ℕ, if◌then◌else◌, Bool, true, false, Option, Some, None, is_some, IfSome, List, [], ◌∷◌, length, Result, Ok, Err, ⊤}
 use Rattle.auth_keys.specs.declared.ring.RingKey.{RingKey}
 use Rattle.auth_keys.specs.KeyFile.{IsRingOf}
 use Rattle.auth_keys.specs.Rings.{entry_of}
 use Rattle.call_table.specs.declared.call.CallNo.{CallNo}
-use Rattle.call_table.specs.Table.{Call, State, Done, is_open}
+use Rattle.call_table.specs.Table.{Call, State, Done, call_no, is_open, state_at}
 use Rattle.client_rules.specs.Asking.{Fault, has_call, pinged, salts_asked, submit_fault, ticked}
 use Rattle.client_rules.specs.Client.{Client, calls_of, fresh_client}
 use Rattle.client_rules.specs.Flush.{Answer, Flushed, Nothing, Spent, Sends, flush}
@@ -131,6 +131,10 @@ TellsTaken packet before after (Err error) = TellsRoom packet before after (Err 
 
 -- ---- what became of a call
 
+-- what became of the call of a number, where there is one
+abbrev pub state_of : CallNo → Client → Option State
+state_of call client = if has_call (length (calls_of client)) call then state_at call (calls_of client) else None
+
 -- there is no such call
 abbrev pub TellsNoCall : CallNo → Client → Error → Type 0
 TellsNoCall call client error = (error ≡ errors.NoCall) × (has_call (length (calls_of client)) call ≡ false)
@@ -141,9 +145,13 @@ TellsReply (Some (Done reply)) before after result = TellsRoom reply before afte
 TellsReply (Some other) before after result = (result ≡ Err errors.NoReply) × (after ≡ before)
 TellsReply None before after result = (result ≡ Err errors.NoCall) × (after ≡ before)
 
--- it is known of each call what became of it, or known that it isn't
+-- the call at a place, from 0, is decided: it is known what became of it, or known that it isn't
+abbrev pub IsDecidedAt : List Call → ℕ → Type 0
+IsDecidedAt calls place = IfSome (state_at (call_no place) calls) (λ state. is_open state ≡ false)
+
+-- each call is
 abbrev pub AreDecided : List Call → Type 0
-AreDecided calls = All (λ call. is_open call.state ≡ false) calls
+AreDecided calls = (place : ℕ) → place < length calls → IsDecidedAt calls place
 
 -- ---- what an open client is asked to do
 

@@ -1,9 +1,9 @@
 //! A client.
 
-ghost use Rattle.std.specs.Prelude.{◌≡◌, ◌↔◌, ◌∷◌, [], None, Some, Ok, IfErr, IfOk, IfSome, IsTrue, MatchOption, OnErr, OnOk, false, length, max, true};
+ghost use Rattle.std.specs.Prelude.{◌≡◌, ◌∷◌, [], None, Some, Ok, IfErr, IfOk, IfSome, MatchBool, MatchOption, OnErr, OnOk, false, length, max, true};
 ghost use Rattle.auth_keys.specs.KeyFile.{IsRingOf};
 ghost use Rattle.call_table.specs.Kept.{shown};
-ghost use Rattle.call_table.specs.Table.{call_no, is_open, state_at};
+ghost use Rattle.call_table.specs.Table.{call_no, is_open};
 ghost use Rattle.draws.specs.Draws.{draw_after, word_after};
 ghost use Rattle.envelope.specs.declared.parts.Dir.TheVariants.{Down};
 ghost use Rattle.envelope.specs.declared.parts.Envelope.{Envelope};
@@ -17,7 +17,7 @@ ghost use Rattle.client_rules.specs.Taking.{take};
 ghost use Rattle.client_core.specs.Flushed.{Flushes, setting_of};
 ghost use Rattle.client_core.specs.declared.flush.Flush.TheVariants as flushed;
 ghost use Rattle.client_core.specs.Holding.{is_open_now, kept_of};
-ghost use Rattle.kifzaro.specs.Clients.{AreDecided, Becomes, Is, IsNoClient, Polls, TellsDropped, TellsEnded, TellsHeard, TellsNoCall, TellsOpen, TellsReply, TellsSubmit, TellsTaken, first_missing, outcome};
+ghost use Rattle.kifzaro.specs.Clients.{AreDecided, Becomes, Is, IsNoClient, Polls, TellsDropped, TellsEnded, TellsHeard, TellsNoCall, TellsOpen, TellsReply, TellsSubmit, TellsTaken, first_missing, outcome, state_of};
 ghost use Rattle.kifzaro.specs.Drawing.{drawing, drawn_from};
 
 use crate::error::Error;
@@ -63,6 +63,7 @@ impl Client {
     /// # Errors
     ///
     /// `Keys` or `LongKeys`, the text is no key file; `NoKey`, it hasn't that key; `Memory`.
+    #[tactic(auto, using(crate::proofs::KeyLemmas::keys_error, crate::proofs::KeyLemmas::memory_error, crate::proofs::KeyLemmas::is_there, crate::proofs::KeyLemmas::is_missing))]
     pub fn new(alloc: Global, keys: &[u8], key: u64, seed: &[u8; 32]) -> Result<Client, Error>
         ensures is { IfOk result (λ client. Is client (fresh_client key None (word_after drawing 0 (drawn_from seed.now)))) }
         ensures ring { IfOk result (λ client. IsRingOf keys.now client.ring) }
@@ -91,6 +92,7 @@ impl Client {
     /// # Errors
     ///
     /// As of [`Client::new`]; `NoKey` names the first of the two keys that isn't there.
+    #[tactic(auto, using(crate::proofs::KeyLemmas::keys_error, crate::proofs::KeyLemmas::memory_error, crate::proofs::KeyLemmas::is_there, crate::proofs::KeyLemmas::is_missing))]
     pub fn new_temp(
         alloc: Global,
         keys: &[u8],
@@ -434,8 +436,9 @@ impl Client {
     /// # Errors
     ///
     /// `NoCall`, the client has no such call.
+    #[tactic(auto, using(crate::proofs::DecidedLemmas::state_there))]
     pub fn state(&self, call: CallNo) -> Result<CallState<'_>, Error>
-        ensures state { (client : Rules) → Is self.now client → IfOk result (λ state. state_at call (calls_of client) ≡ Some (shown state)) }
+        ensures state { (client : Rules) → Is self.now client → IfOk result (λ state. state_of call client ≡ Some (shown state)) }
         ensures refused { (client : Rules) → Is self.now client → IfErr result (TellsNoCall call client) }
     {
         let holder = self.holder();
@@ -450,8 +453,9 @@ impl Client {
     /// # Errors
     ///
     /// `NoCall`; `NoReply`, it isn't `Done`; `TooShort`, with the length that is needed. The room is as it was.
+    #[tactic(auto, using(crate::proofs::DecidedLemmas::none_told))]
     pub fn take_reply(&self, call: CallNo, room: &mut [u8]) -> Result<usize, Error>
-        ensures told { (client : Rules) → Is self.now client → TellsReply (state_at call (calls_of client)) room.old room.new result }
+        ensures told { (client : Rules) → Is self.now client → TellsReply (state_of call client) room.old room.new result }
     {
         match self.state(call)? {
             CallState::Done(reply) => put(reply, room),
@@ -461,7 +465,7 @@ impl Client {
 
     /// Whether it is known of each call what became of it, or known that it isn't: each is `Done`, `Refused` or `Unknown`.
     pub fn calls_decided(&self) -> bool
-        ensures { (client : Rules) → Is self.now client → IsTrue result ↔ AreDecided (calls_of client) }
+        ensures { (client : Rules) → Is self.now client → MatchBool result (AreDecided (calls_of client)) (AreDecided (calls_of client) → ⊥) }
     {
         let holder = self.holder();
         for place in 0..holding::calls(holder) {

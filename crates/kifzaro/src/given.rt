@@ -149,6 +149,7 @@ impl Service for Listening {
     }
 
     fn copy(&self, _alloc: Global) -> Result<Listening, NoMemory> {
+        self.has_run_nothing();
         Ok(Listening::new())
     }
 

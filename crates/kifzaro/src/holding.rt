@@ -185,13 +185,21 @@ pub(crate) fn hear<S: Seal>(
     if holder.has_ended() {
         return (holder, Ok(()));
     }
-    match seal.unseal(alloc, later(holder.moment(), now), Dir::Down, packet) {
-        Opened::Envelope(_) => takes(holder, alloc, now, seal, packet),
-        Opened::Refused(why) => {
-            let (holder, taken) = takes(holder, alloc, now, seal, packet);
-            (holder, refused(taken, why))
-        }
-        Opened::Memory => (holder, Err(Error::Memory)),
+    match opens(alloc, later(holder.moment(), now), seal, packet) {
+        Ok(()) => takes(holder, alloc, now, seal, packet),
+        Err(Error::Refused(why)) => refused(takes(holder, alloc, now, seal, packet), why),
+        Err(_) => (holder, Err(Error::Memory)),
+    }
+}
+
+// Whether a packet that comes down at a moment opens, or why it doesn't.
+fn opens<S: Seal>(alloc: Global, at: Moment, seal: &S, packet: &[u8]) -> Result<(), Error>
+    ensures { TellsHeard S.lock (S.keys seal.now) at packet.now result }
+{
+    match seal.unseal(alloc, at, Dir::Down, packet) {
+        Opened::Envelope(_) => Ok(()),
+        Opened::Refused(why) => Err(Error::Refused(why)),
+        Opened::Memory => Err(Error::Memory),
     }
 }
 
@@ -207,12 +215,14 @@ fn later(one: Moment, other: Moment) -> Moment
 }
 
 // A packet that doesn't open was taken, unless memory ran out.
-fn refused(taken: Result<(), Error>, why: Refusal) -> Result<(), Error>
-    ensures { result ≡ refused_for why taken }
+fn refused(left: (Holder, Result<(), Error>), why: Refusal) -> (Holder, Result<(), Error>)
+    ensures same { result.0 ≡ left.0 }
+    ensures told { result.1 ≡ refused_for why left.1 }
 {
+    let (holder, taken) = left;
     match taken {
-        Ok(()) => Err(Error::Refused(why)),
-        Err(fault) => Err(fault),
+        Ok(()) => (holder, Err(Error::Refused(why))),
+        Err(fault) => (holder, Err(fault)),
     }
 }
 

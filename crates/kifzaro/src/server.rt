@@ -385,10 +385,11 @@ fn listen(server: &mut Core<MtSeal>, alloc: Global) -> Option<Octets>
 {
     let mut draw = ChaChaDraw::at(&[0; 32], 0);
     let mut listening = Listening::new();
-    let worked = server.work(alloc, 0, &mut listening, Moment::new(0), &mut draw);
-    listening.has_run_nothing();
-    match worked {
-        Ok(_) => None,
+    match server.work(alloc, 0, &mut listening, Moment::new(0), &mut draw) {
+        Ok(_) => {
+            listening.has_run_nothing();
+            None
+        }
         Err(Memory) => listening.into_heard(),
     }
 }
