@@ -1,0 +1,262 @@
+"""A client and a server, over the functions of kifzaro.h."""
+
+from __future__ import annotations
+
+import ctypes
+import enum
+import hashlib
+import os
+import time
+from collections.abc import Callable, Iterator
+from ctypes import byref, c_int, c_size_t, c_uint32, c_uint64
+from typing import NamedTuple, TypeVar, Union
+
+from ._library import TOO_SHORT, Handle, library, must
+
+_ROOM_BYTES = 4096
+
+Key = Union[int, str]
+"""The identifier of a key: the number of kifzaro.h, or the 16 digits that examples/make_keys and ``mtp`` write."""
+
+
+class SessionName(NamedTuple):
+    """What names a session: the identifier of its key, and its number."""
+
+    key: int
+    session: int
+
+
+class State(enum.IntEnum):
+    """What became of a call."""
+
+    QUEUED = 0
+    SENT = 1
+    HELD = 2
+    DONE = 3
+    REFUSED = 4
+    UNKNOWN = 5
+
+
+def version() -> str:
+    """The library's version."""
+    return library.kf_version().decode()
+
+
+def build() -> str:
+    """Of what the library was built: ``"proved"``, or ``"checked, not proved"``."""
+    return library.kf_build().decode()
+
+
+def key_id(key: bytes) -> int:
+    """The identifier of a key of 256 bytes."""
+    return int.from_bytes(hashlib.sha1(key).digest()[12:20], "little")
+
+
+def _number(key: Key) -> int:
+    if isinstance(key, int):
+        return key
+    if len(key) != 16:
+        raise ValueError("a key's identifier has 16 digits")
+    return int.from_bytes(bytes.fromhex(key), "little")
+
+
+def _moment(now: int | None) -> int:
+    return int(time.time()) if now is None else now
+
+
+def _text(keys: str | bytes) -> bytes:
+    return keys.encode() if isinstance(keys, str) else bytes(keys)
+
+
+def _seed(seed: bytes | None) -> bytes:
+    seed = os.urandom(32) if seed is None else bytes(seed)
+    if len(seed) != 32:
+        raise ValueError("a seed has 32 bytes")
+    return seed
+
+
+_Its = TypeVar("_Its", bound="_End")
+
+
+class _End:
+    """A handle that is freed with its object."""
+
+    _free: Callable[..., None]
+
+    def __init__(self) -> None:
+        self._handle = Handle()
+        self._room = ctypes.create_string_buffer(_ROOM_BYTES)
+
+    def close(self) -> None:
+        """Frees it now. Every later call fails."""
+        self._free(byref(self._handle))
+
+    def __enter__(self: _Its) -> _Its:
+        return self
+
+    def __exit__(self, *_found: object) -> None:
+        self.close()
+
+    def __del__(self) -> None:
+        if hasattr(self, "_handle"):
+            self.close()
+
+    def _put(self, call: Callable[..., int], *words: object) -> bytes:
+        """The bytes that a call puts into room, with more of it where it asks for more."""
+        count = c_size_t()
+        status = call(byref(self._handle), *words, self._room, len(self._room), byref(count))
+        if status == TOO_SHORT:
+            self._room = ctypes.create_string_buffer(count.value)
+            status = call(byref(self._handle), *words, self._room, len(self._room), byref(count))
+        must(status)
+        return ctypes.string_at(self._room, count.value)
+
+
+class Client(_End):
+    """A client under the permanent key with the identifier ``key``, which the text ``keys`` of a key file has.
+
+    ``seed``, 32 bytes, is drawn from the system where none is given. ``bind_to`` makes the key a temporary one: it is the permanent key
+    and the moment up to which the server is to bind the temporary one to it.
+    """
+
+    _free = staticmethod(library.kf_client_free)
+
+    def __init__(self, keys: str | bytes, key: Key, *, seed: bytes | None = None, bind_to: tuple[Key, int] | None = None) -> None:
+        super().__init__()
+        text, number, seed = _text(keys), _number(key), _seed(seed)
+        if bind_to is None:
+            must(library.kf_client_new(byref(self._handle), text, len(text), number, seed))
+        else:
+            must(library.kf_client_new_temp(byref(self._handle), text, len(text), number, _number(bind_to[0]), bind_to[1], seed))
+
+    def submit(self, body: bytes, after: int | None = None) -> int:
+        """Submits a call, whole words of 4 bytes, that is to execute after an earlier one if one is given. Its number."""
+        call = c_uint64()
+        must(library.kf_client_submit(byref(self._handle), bytes(body), len(body), after or 0, byref(call)))
+        return call.value
+
+    def attach(self) -> None:
+        """A connection was opened after an earlier one: what was sent and isn't answered is sent again."""
+        must(library.kf_client_attach(byref(self._handle)))
+
+    def handle_packet(self, packet: bytes, now: int | None = None) -> None:
+        """A packet came. It raises :class:`Refused` where the packet doesn't open; of that one, and of one that isn't of this session or
+        isn't lawful, only the moment counts."""
+        must(library.kf_client_handle_packet(byref(self._handle), _moment(now), bytes(packet), len(packet)))
+
+    def poll_transmit(self, now: int | None = None) -> bytes | None:
+        """The packet that is to be sent next, if there is one. Each is handed out once."""
+        return self._put(library.kf_client_poll_transmit, _moment(now)) or None
+
+    def transmits(self, now: int | None = None) -> Iterator[bytes]:
+        """All packets that are to be sent now."""
+        while (packet := self.poll_transmit(now)) is not None:
+            yield packet
+
+    def renew(self) -> None:
+        """Goes on in another session."""
+        must(library.kf_client_renew(byref(self._handle)))
+
+    def end(self) -> None:
+        """Ends."""
+        must(library.kf_client_end(byref(self._handle)))
+
+    def tick(self) -> None:
+        """Has the server asked how the calls that are sent fared."""
+        must(library.kf_client_tick(byref(self._handle)))
+
+    def ping(self, number: int) -> None:
+        """Has the server answer a ping."""
+        must(library.kf_client_ping(byref(self._handle), number))
+
+    def ask_salts(self, count: int) -> None:
+        """Has the server tell so many of its next salts."""
+        must(library.kf_client_ask_salts(byref(self._handle), count))
+
+    def drop_answer(self, call: int) -> None:
+        """Has the server drop the answer to a call."""
+        must(library.kf_client_drop_answer(byref(self._handle), call))
+
+    def state(self, call: int) -> State:
+        """What became of a call."""
+        return State(self.state_and_code(call)[0])
+
+    def state_and_code(self, call: int) -> tuple[State, int]:
+        """The same with the code of a refusal, or why it is unknown, as kifzaro.h has them."""
+        state, code = c_uint32(), c_uint32()
+        must(library.kf_client_state(byref(self._handle), call, byref(state), byref(code)))
+        return State(state.value), code.value
+
+    def take_reply(self, call: int) -> bytes:
+        """The reply to a call."""
+        return self._put(library.kf_client_take_reply, call)
+
+    def calls_decided(self) -> bool:
+        """Whether each call is done, refused or unknown."""
+        decided = c_int()
+        must(library.kf_client_calls_decided(byref(self._handle), byref(decided)))
+        return bool(decided.value)
+
+    @property
+    def session(self) -> int:
+        """The number of its session."""
+        session = c_uint64()
+        must(library.kf_client_session(byref(self._handle), byref(session)))
+        return session.value
+
+
+class Server(_End):
+    """A server with the keys of the text of a key file. Its calls are answered from outside."""
+
+    _free = staticmethod(library.kf_server_free)
+
+    def __init__(self, keys: str | bytes, *, seed: bytes | None = None) -> None:
+        super().__init__()
+        text = _text(keys)
+        must(library.kf_server_new(byref(self._handle), text, len(text), _seed(seed)))
+
+    def handle_packet(self, packet: bytes, now: int | None = None) -> SessionName:
+        """A packet came: the name of its session, whose packets go where this one came from. It raises :class:`Refused` where the packet
+        doesn't open, and :class:`Busy` while a request waits for its answer, as ``tick``, ``attach`` and ``restart`` do."""
+        key, session = c_uint64(), c_uint64()
+        must(library.kf_server_handle_packet(byref(self._handle), _moment(now), bytes(packet), len(packet), byref(key), byref(session)))
+        return SessionName(key.value, session.value)
+
+    def tick(self, now: int | None = None) -> None:
+        """Time passed: calls that have waited too long for others are answered."""
+        must(library.kf_server_tick(byref(self._handle), _moment(now)))
+
+    def attach(self, name: SessionName, now: int | None = None) -> None:
+        """A packet came for a session, the first one over this connection: what the server keeps for it is said again."""
+        must(library.kf_server_attach(byref(self._handle), *name, _moment(now)))
+
+    def restart(self) -> None:
+        """Starts again, with no session left."""
+        must(library.kf_server_restart(byref(self._handle)))
+
+    def ready(self) -> int:
+        """How many requests are ready."""
+        ready = c_uint64()
+        must(library.kf_server_ready(byref(self._handle), byref(ready)))
+        return ready.value
+
+    def next_request(self) -> bytes | None:
+        """The next ready request, if there is one. Until it is answered the server takes nothing else, and this gives it again."""
+        there = c_int()
+        request = self._put(library.kf_server_next_request, byref(there))
+        return request if there.value else None
+
+    def answer(self, reply: bytes, now: int | None = None) -> None:
+        """The request that was handed out has run, and this is its reply, whole words of 4 bytes."""
+        must(library.kf_server_answer(byref(self._handle), _moment(now), bytes(reply), len(reply)))
+
+    def poll_transmit(self) -> tuple[SessionName, bytes] | None:
+        """The packet that is to be sent next, if there is one, with the session that it is for. Each is handed out once."""
+        key, session = c_uint64(), c_uint64()
+        packet = self._put(library.kf_server_poll_transmit, byref(key), byref(session))
+        return (SessionName(key.value, session.value), packet) if packet else None
+
+    def transmits(self) -> Iterator[tuple[SessionName, bytes]]:
+        """All packets that are to be sent now."""
+        while (out := self.poll_transmit()) is not None:
+            yield out

@@ -1,0 +1,8 @@
+pub mod ClientLemmas
+pub mod DecidedLemmas
+pub mod HearingLemmas
+pub mod KeyLemmas
+pub mod PollLemmas
+pub mod QueueLemmas
+pub mod RequestLemmas
+pub mod ServerLemmas

@@ -1,0 +1,36 @@
+use Rattle.std.proofs.Common.{◌≡◌, ◌∙◌, max, List, ap, sym, subst}
+use Rattle.auth_keys.specs.declared.ring.RingKey.{RingKey}
+use Rattle.client_core.specs.Holding.{kept_of}
+use Rattle.client_core.specs.Kept.{Stands}
+use Rattle.client_core.specs.declared.holder.Holder.{Holder}
+use Rattle.envelope.specs.Lock.{mt_lock}
+use Rattle.envelope.specs.Opening.{Opens}
+use Rattle.envelope.specs.declared.parts.Dir.TheVariants.{Down}
+use Rattle.kifzaro.specs.Clients.{Kept, TellsHeard}
+use Rattle.kifzaro.proofs.ClientLemmas.{held_now}
+use Rattle.kifzaro.proofs.client.Client.handle_packet.Goals as goal
+
+pub returns-clause-told : goal.returns-clause-told
+returns-clause-told c = λ client is living.
+    let held : c.in-Some.holder ≡ c.args.self.now.holder =
+    held_now c.args.self.now c.self.inside.holder c.self.inside.seal c.self.inside.draw c.self.inside.waiting c.in-Some.holder c.self.view_is (sym c.take.ensures.value ∙ c.in-Some.is) in
+    let stands = subst (λ (holder : Holder). Stands (kept_of holder) client) (sym held) is in
+    subst (λ (ring : List RingKey). TellsHeard mt_lock ring (max client.now c.args.now) c.args.packet.now c.hear-holder.result.1) (ap (λ (kept : Kept). kept.ring) c.self.view_is)
+    (c.hear-holder.ensures.told client stands living)
+
+pub returns-clause-opened : goal.returns-clause-opened
+returns-clause-opened c = λ client envelope is living opens.
+    let held : c.in-Some.holder ≡ c.args.self.now.holder =
+    held_now c.args.self.now c.self.inside.holder c.self.inside.seal c.self.inside.draw c.self.inside.waiting c.in-Some.holder c.self.view_is (sym c.take.ensures.value ∙ c.in-Some.is) in
+    let stands = subst (λ (holder : Holder). Stands (kept_of holder) client) (sym held) is in
+    let opened = subst (λ (ring : List RingKey). Opens mt_lock ring (max client.now c.args.now) Down c.args.packet.now envelope) (sym (ap (λ (kept : Kept). kept.ring) c.self.view_is)) opens in
+    c.hear-holder.ensures.opened client envelope stands living opened
+
+pub returns-clause-other : goal.returns-clause-other
+returns-clause-other c = λ client is living none.
+    let held : c.in-Some.holder ≡ c.args.self.now.holder =
+    held_now c.args.self.now c.self.inside.holder c.self.inside.seal c.self.inside.draw c.self.inside.waiting c.in-Some.holder c.self.view_is (sym c.take.ensures.value ∙ c.in-Some.is) in
+    let stands = subst (λ (holder : Holder). Stands (kept_of holder) client) (sym held) is in
+    c.hear-holder.ensures.other client stands living
+    (λ envelope opens. none envelope
+    (subst (λ (ring : List RingKey). Opens mt_lock ring (max client.now c.args.now) Down c.args.packet.now envelope) (ap (λ (kept : Kept). kept.ring) c.self.view_is) opens))

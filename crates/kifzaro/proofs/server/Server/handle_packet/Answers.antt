@@ -1,0 +1,42 @@
+use Rattle.std.proofs.Common.{◌≡◌, ◌++◌, ℕ, max, None, Option, List, ap, sym, subst, ◌∙◌}
+use Rattle.std.specs.Prelude.{is_some}
+use Rattle.envelope.specs.Lock.{mt_lock}
+use Rattle.envelope.specs.declared.parts.Dir.TheVariants.{Up}
+use Rattle.envelope.specs.Opening.{Opens}
+use Rattle.server_core.specs.Packets.{IsHeardOf, brought_in, effects_in}
+use Rattle.server_core.specs.declared.desk.Heard.{Heard}
+use Rattle.server_output.specs.declared.outs.Out.{Out}
+use Rattle.server_rules.specs.Answer.{after_packet}
+use Rattle.server_dispatch.specs.Rings.{AreOf}
+use Rattle.server_session.specs.Says.{setting_of}
+use Rattle.kifzaro.specs.Drawing.{drawing}
+use Rattle.kifzaro.specs.Queues.{all_in}
+use Rattle.kifzaro.specs.Servers.{Did, Is, Kept}
+use Rattle.kifzaro.proofs.ServerLemmas.{event_did, moved, not_asked}
+use Rattle.kifzaro.proofs.server.Server.handle_packet.Goals as goal
+
+pub returns-in-Judged-clause-given : goal.returns-in-Judged-clause-given
+returns-in-Judged-clause-given c = λ keys server envelope of is opens.
+    let inside : Kept = record { server = c.self.inside.server; draw = c.self.inside.draw; waiting = all_in c.self.inside.queue; asked = c.self.inside.asked } in
+    let after : Kept = record { server = c.on_packet.new.self; draw = c.on_packet.new.draw; waiting = all_in c.put.new.self; asked = c.self.inside.asked } in
+    let effects = effects_in c.in-Ok.reply in
+    let none : inside.asked ≡ None = not_asked inside.asked (ap (λ (kept : Kept). is_some kept.asked) c.self.view_is ∙ sym c.is_busy.ensures ∙ c.if-is_busy.false) in
+    let waits : after.waiting ≡ inside.waiting ++ effects.out.outs =
+    c.put.ensures.put ∙ ap (λ (outs : List Out). outs ++ effects.out.outs) c.make_room.ensures.same in
+    subst (λ (old : Kept). AreOf old.server.seal keys → Is old server → Opens mt_lock old.server.seal (max old.server.moment c.args.now) Up c.args.packet.now envelope
+    → Did old after (after_packet (setting_of (max old.server.moment c.args.now) drawing keys) (brought_in envelope) server old.draw)) c.self.view_is
+    (λ (known : AreOf inside.server.seal keys) (own : Is inside server) (opened : Opens mt_lock inside.server.seal (max inside.server.moment c.args.now) Up c.args.packet.now envelope).
+    event_did inside after effects (λ at. after_packet (setting_of at drawing keys) (brought_in envelope) server inside.draw) c.args.now server own c.is_early.ensures
+    (λ at early. c.events_keep_order.ensures.packet (setting_of at drawing keys) (brought_in envelope) server inside.draw early own.order)
+    (c.in-Ok.ensures.given keys server envelope known own.stands own.order.order opened) waits none)
+    of is opens
+
+pub returns-in-NotOpened-clause-stays : goal.returns-in-NotOpened-clause-stays
+returns-in-NotOpened-clause-stays c = λ server is.
+    let inside : Kept = record { server = c.self.inside.server; draw = c.self.inside.draw; waiting = all_in c.self.inside.queue; asked = c.self.inside.asked } in
+    let after : Kept = record { server = c.on_packet.new.self; draw = c.on_packet.new.draw; waiting = all_in c.make_room.new.self; asked = c.self.inside.asked } in
+    let heard = subst (λ (one : Heard). IsHeardOf mt_lock inside.server.seal (max inside.server.moment c.args.now) c.args.packet.now one) c.in-NotOpened.is c.in-Ok.ensures.heard in
+    let nothing = c.in-Ok.ensures.refused c.in-NotOpened.refusal heard in
+    subst (λ (old : Kept). Is old server → Is after (record server { now = max old.server.moment c.args.now })) c.self.view_is
+    (λ (own : Is inside server). moved c.sessions_stand_later.ensures.later inside after c.args.now server c.is_early.ensures own nothing.same)
+    is

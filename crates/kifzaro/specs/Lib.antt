@@ -1,0 +1,7 @@
+pub mod Errors
+pub mod Rooms
+pub mod Drawing
+pub mod Clients
+pub mod Holding
+pub mod Queues
+pub mod Servers

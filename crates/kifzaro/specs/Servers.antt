@@ -1,0 +1,100 @@
+-- A server with its draw and what it has to hand out, and the server of the rules that it is.
+use Rattle.std.specs.Prelude.{◌≡◌, ℕ, Bool, true, not, Option, None, is_some, List, ◌++◌, length, max, Result, Ok, Err, ⊤}
+use Rattle.std.specs.Str.{bytes_eq}
+use Rattle.auth_keys.specs.declared.ring.RingKey.{RingKey}
+use Rattle.draws.specs.ChaChaWords.{ChaChaPlace}
+use Rattle.envelope.specs.Lock.{mt_lock}
+use Rattle.envelope.specs.Packet.{Lock}
+use Rattle.regs_service.specs.Served.{IsReply, Step}
+use Rattle.server_output.specs.Outs.{AreSent}
+use Rattle.server_output.specs.declared.outs.Out.{Out}
+use Rattle.server_rules.specs.Answer.{Answer}
+use Rattle.server_rules.specs.Server.{Server}
+use Rattle.server_core.specs.declared.desk.Heard.TheVariants.{Judged, NotOpened}
+use Rattle.server_core.specs.Desks.{IsBetweenEvents}
+use Rattle.server_core.specs.Packets.{IsHeardOf}
+use Rattle.server_core.specs.Server as core
+use Rattle.kifzaro.specs.declared.error.Error.{Error}
+use Rattle.kifzaro.specs.declared.error.Error.TheVariants as errors
+use Rattle.kifzaro.specs.declared.names.SessionName.{SessionName}
+
+-- ---- what contracts see of a server
+
+-- what it keeps of its sessions, jobs and bindings, with the keys of its ring; what it draws from; the packets that aren't
+-- handed out yet, in order; and the request that was handed out and waits for its answer
+pub record Kept : Type 0 where
+  pub server : core.Kept (List RingKey)
+  pub draw : ChaChaPlace
+  pub waiting : List Out
+  pub asked : Option (List ℕ)
+
+-- it is this server of the rules, which is in order and within its limits
+pub record Is (kept : Kept) (server : Server) : Type 0 where
+  pub stands : core.Stands kept.server server
+  pub order : IsBetweenEvents server
+
+-- After an event it is the server that the rules say, its draw is theirs, and behind the packets that waited before stands
+-- each packet of the event, sealed, in order. No request waits for its answer.
+pub record Did (before after : Kept) (answer : Answer ChaChaPlace) : Type 0 where
+  pub is : Is after answer.server
+  pub drawn : after.draw ≡ answer.draw
+  pub outs : List Out
+  pub sent : AreSent mt_lock before.server.seal answer.packets outs
+  pub waits : after.waiting ≡ before.waiting ++ outs
+  pub asked : after.asked ≡ None
+
+-- ---- what is answered
+
+-- an event happens at a server that no request keeps busy, unless memory runs out
+abbrev pub TellsEvent : {X : Type 0} → Option (List ℕ) → Result X Error → Type 0
+TellsEvent asked (Ok done) = asked ≡ None
+TellsEvent asked (Err errors.Busy) = is_some asked ≡ true
+TellsEvent asked (Err errors.Memory) = asked ≡ None
+TellsEvent asked (Err other) = ⊥
+
+-- the same of a packet, of which the server tells whose it is or why it doesn't open
+abbrev pub TellsHeard : Option (List ℕ) → Lock → List RingKey → ℕ → List ℕ → Result SessionName Error → Type 0
+TellsHeard asked lock keys now packet (Ok name) = (asked ≡ None) × IsHeardOf lock keys now packet (Judged name.key name.session)
+TellsHeard asked lock keys now packet (Err errors.Busy) = is_some asked ≡ true
+TellsHeard asked lock keys now packet (Err (errors.Refused why)) = (asked ≡ None) × IsHeardOf lock keys now packet (NotOpened why)
+TellsHeard asked lock keys now packet (Err errors.Memory) = asked ≡ None
+TellsHeard asked lock keys now packet (Err other) = ⊥
+
+-- an answer is taken where a request waits for it and it is a reply, unless memory runs out
+abbrev pub TellsAnswered : Option (List ℕ) → List ℕ → Result Unit Error → Type 0
+TellsAnswered asked reply (Ok done) = (is_some asked ≡ true) × IsReply reply
+TellsAnswered asked reply (Err errors.NotAsked) = asked ≡ None
+TellsAnswered asked reply (Err (errors.BadReply len)) = (is_some asked ≡ true) × (len ≡ length reply) × (IsReply reply → ⊥)
+TellsAnswered asked reply (Err errors.Memory) = (is_some asked ≡ true) × IsReply reply
+TellsAnswered asked reply (Err other) = ⊥
+
+-- ---- what is left where an event didn't happen
+
+-- only the moment has changed
+abbrev pub at_moment : ℕ → Kept → Kept
+at_moment now kept = record kept { server = record kept.server { moment = max kept.server.moment now } }
+
+-- A packet that is refused leaves the moment, and want of memory words that were drawn; all else is as it was.
+abbrev pub Leaves : {X : Type 0} → ℕ → Kept → Kept → Result X Error → Type 0
+Leaves now before after (Ok done) = ⊤
+Leaves now before after (Err (errors.Refused why)) = after ≡ at_moment now before
+Leaves now before after (Err errors.Memory) = after ≡ record before { draw = after.draw }
+Leaves now before after (Err other) = after ≡ before
+
+-- it is still the server of the rules that it was, at this moment where it was told the moment alone
+abbrev pub StaysAt : {X : Type 0} → ℕ → Server → Kept → Result X Error → Type 0
+StaysAt now server after (Ok done) = ⊤
+StaysAt now server after (Err (errors.Refused why)) = Is after (record server { now = now })
+StaysAt now server after (Err other) = Is after server
+
+-- ---- a service that is asked from outside
+
+-- a request, the reply that it was given, and whether another request was run with it
+pub record Exchange : Type 0 where
+  pub asked : List ℕ
+  pub reply : List ℕ
+  pub strayed : Bool
+
+-- the service that gives this reply
+abbrev pub answering : Step Exchange
+answering exchange request = (exchange.reply, record exchange { strayed = not (bytes_eq request exchange.asked) })

@@ -1,0 +1,352 @@
+//! The events of a client, whatever state it is in.
+
+ghost use Rattle.std.specs.Prelude.{◌≡◌, ◌<◌, ◌≤◌, None, Some, Ok, IfErr, IfOk, OnErr, OnOk, false, length, max, true};
+ghost use Rattle.call_table.specs.Kept.{shown, state_in};
+ghost use Rattle.call_table.specs.Table.{IsGiven, call_no, state_at};
+ghost use Rattle.draws.specs.Draws.{draw_after, word_after};
+ghost use Rattle.envelope.specs.declared.parts.Dir.TheVariants.{Down};
+ghost use Rattle.envelope.specs.declared.parts.Envelope.{Envelope};
+ghost use Rattle.envelope.specs.Opening.{Opens};
+ghost use Rattle.client_rules.specs.Asking.{attached, can_drop, dropped, pinged, salts_asked, submit_fault, submitted, ticked};
+ghost use Rattle.client_rules.specs.Client.{Client, at_moment, calls_of};
+ghost use Rattle.client_rules.specs.Events.{renewed};
+ghost use Rattle.client_rules.specs.Learning.{ended};
+ghost use Rattle.client_rules.specs.Taking.{take};
+ghost use Rattle.client_core.specs.Flushed.{Flushes, setting_of};
+ghost use Rattle.client_core.specs.declared.flush.Flush.TheVariants as flushed;
+ghost use Rattle.client_core.specs.Holding.{IsInState, is_open_now, kept_of};
+ghost use Rattle.client_core.specs.Keys.{HasKeys, keys_in};
+ghost use Rattle.client_core.specs.Kept.{Stands};
+ghost use Rattle.kifzaro.specs.Clients.{Comes, TellsDropped, TellsEnded, TellsHeard, TellsOpen, TellsSubmit, wished};
+ghost use Rattle.kifzaro.specs.Holding.{IsDoneOrMemory, refused_for};
+
+use crate::error::Error;
+use client_core::{
+    CallNo, CallState, Flush, Holder, NotSent, OpenClient, OpenStep, OpeningClient, OpeningStep,
+};
+use draws::Draw;
+use envelope::{Dir, Opened, Refusal, Seal};
+use msg_ids::Moment;
+use std::alloc::Global;
+
+/// What an open client is asked to do.
+#[derive(Clone, Copy, Debug, PartialEq, Eq)]
+pub(crate) enum Wish {
+    /// To ask how the calls that are sent fared.
+    Tick,
+    /// To ask for an answer to a ping of this number.
+    Ping(u64),
+    /// To ask for so many salts.
+    Salts(u32),
+}
+
+/// A client submits a call.
+pub(crate) fn submit(
+    holder: &mut Holder,
+    alloc: Global,
+    body: &[u8],
+    after: Option<CallNo>,
+) -> Result<CallNo, Error>
+    ensures refused { (client : Client) → Stands (kept_of holder.old) client → TellsSubmit client.has_ended (submit_fault body.now after client) result }
+    ensures stands { OnOk result ((client : Client) → Stands (kept_of holder.old) client → Stands (kept_of holder.new) (submitted body.now after client)) }
+    ensures call { IfOk result (λ call. (client : Client) → Stands (kept_of holder.old) client → call ≡ call_no (length (calls_of client))) }
+    ensures keys { keys_in (kept_of holder.new) ≡ keys_in (kept_of holder.old) }
+    ensures unchanged { OnErr result (holder.new ≡ holder.old) }
+{
+    if holder.has_ended() {
+        return Err(Error::Ended);
+    }
+    match holder {
+        Holder::Opening(client) => Ok(client.submit(alloc, body, after)?),
+        Holder::Open(client) => Ok(client.submit(alloc, body, after)?),
+        Holder::Ended(_) => Err(Error::Ended),
+    }
+}
+
+/// A connection of a client was opened.
+pub(crate) fn attach(holder: &mut Holder) -> Result<(), Error>
+    ensures refused { (client : Client) → Stands (kept_of holder.old) client → TellsEnded client.has_ended result }
+    ensures stands { OnOk result ((client : Client) → Stands (kept_of holder.old) client → Stands (kept_of holder.new) (attached client)) }
+    ensures keys { keys_in (kept_of holder.new) ≡ keys_in (kept_of holder.old) }
+    ensures unchanged { OnErr result (holder.new ≡ holder.old) }
+{
+    if holder.has_ended() {
+        return Err(Error::Ended);
+    }
+    match holder {
+        Holder::Opening(client) => {
+            client.attach();
+            Ok(())
+        }
+        Holder::Open(client) => {
+            client.attach();
+            Ok(())
+        }
+        Holder::Ended(_) => Err(Error::Ended),
+    }
+}
+
+/// An open client does as it is asked.
+pub(crate) fn ask(holder: &mut Holder, wish: Wish) -> Result<(), Error>
+    ensures refused { (client : Client) → Stands (kept_of holder.old) client → TellsOpen (is_open_now client) result }
+    ensures stands { OnOk result ((client : Client) → Stands (kept_of holder.old) client → Stands (kept_of holder.new) (wished wish client)) }
+    ensures keys { keys_in (kept_of holder.new) ≡ keys_in (kept_of holder.old) }
+    ensures unchanged { OnErr result (holder.new ≡ holder.old) }
+{
+    if !holder.is_open() {
+        return Err(Error::NotOpen);
+    }
+    match holder {
+        Holder::Open(client) => {
+            grant(client, wish);
+            Ok(())
+        }
+        Holder::Opening(_) | Holder::Ended(_) => Err(Error::NotOpen),
+    }
+}
+
+fn grant(client: &mut OpenClient, wish: Wish)
+    ensures stands { (whole : Client) → Stands client.old whole → Stands client.new (wished wish whole) }
+    ensures keys { keys_in client.new ≡ keys_in client.old }
+{
+    match wish {
+        Wish::Tick => client.tick(),
+        Wish::Ping(id) => client.ping(id),
+        Wish::Salts(count) => client.ask_salts(count),
+    }
+}
+
+/// An open client is to have the answer to a call dropped.
+pub(crate) fn drop_answer(holder: &mut Holder, call: CallNo) -> Result<(), Error>
+    ensures refused { (client : Client) → Stands (kept_of holder.old) client → TellsDropped (is_open_now client) (can_drop call client) result }
+    ensures stands { OnOk result ((client : Client) → Stands (kept_of holder.old) client → Stands (kept_of holder.new) (dropped call client)) }
+    ensures keys { keys_in (kept_of holder.new) ≡ keys_in (kept_of holder.old) }
+    ensures unchanged { OnErr result (holder.new ≡ holder.old) }
+{
+    if !holder.is_open() {
+        return Err(Error::NotOpen);
+    }
+    match holder {
+        Holder::Open(client) => match client.drop_answer(call) {
+            Ok(()) => Ok(()),
+            Err(NotSent) => Err(Error::NotSent),
+        },
+        Holder::Opening(_) | Holder::Ended(_) => Err(Error::NotOpen),
+    }
+}
+
+/// A client that hasn't ended sends what is due at a moment; one that has sends nothing.
+pub(crate) fn flush<S: Seal, D: Draw>(
+    holder: &mut Holder,
+    alloc: Global,
+    now: Moment,
+    seal: &S,
+    draw: &mut D,
+) -> Flush
+    requires keys { HasKeys (S.keys seal.now) (keys_in (kept_of holder.old)) }
+    ensures flushes { (client : Client) → Stands (kept_of holder.old) client → client.has_ended ≡ false
+        → Flushes (setting_of D.step (S.keys seal.now)) S.lock (S.keys seal.now) now client draw.old result (kept_of holder.new) draw.new }
+    ensures ended { (client : Client) → Stands (kept_of holder.old) client → client.has_ended ≡ true → (result ≡ flushed.Nothing) × (holder.new ≡ holder.old) × (draw.new ≡ draw.old) }
+    ensures keys { keys_in (kept_of holder.new) ≡ keys_in (kept_of holder.old) }
+{
+    state_is_known(holder);
+    match holder {
+        Holder::Opening(client) => client.flush(alloc, now, seal, draw),
+        Holder::Open(client) => client.flush(alloc, now, seal, draw),
+        Holder::Ended(_) => Flush::Nothing,
+    }
+}
+
+// The state in which it is held is that of the client. Does nothing.
+fn state_is_known(holder: &Holder)
+    ensures { IsInState holder.now }
+{
+    let _ended = holder.has_ended();
+}
+
+/// A packet comes to a client at a moment: it takes one that opens, and of any other the moment alone counts. One that has
+/// ended takes none.
+pub(crate) fn hear<S: Seal>(
+    holder: Holder,
+    alloc: Global,
+    now: Moment,
+    seal: &S,
+    packet: &[u8],
+) -> (Holder, Result<(), Error>)
+    ensures told { (client : Client) → Stands (kept_of holder) client → client.has_ended ≡ false → TellsHeard S.lock (S.keys seal.now) (max client.now now) packet.now result.1 }
+    ensures opened { (client : Client) (envelope : Envelope) → Stands (kept_of holder) client → client.has_ended ≡ false
+        → Opens S.lock (S.keys seal.now) (max client.now now) Down packet.now envelope → Comes client (take now envelope client) result.0 result.1 }
+    ensures other { (client : Client) → Stands (kept_of holder) client → client.has_ended ≡ false
+        → ((envelope : Envelope) → Opens S.lock (S.keys seal.now) (max client.now now) Down packet.now envelope → ⊥) → Comes client (at_moment now client) result.0 result.1 }
+    ensures ended { (client : Client) → Stands (kept_of holder) client → client.has_ended ≡ true → (result.0 ≡ holder) × (result.1 ≡ Ok tt) }
+    ensures keys { keys_in (kept_of result.0) ≡ keys_in (kept_of holder) }
+{
+    S::opens_what_it_sealed();
+    if holder.has_ended() {
+        return (holder, Ok(()));
+    }
+    match opens(alloc, later(holder.moment(), now), seal, packet) {
+        Ok(()) => takes(holder, alloc, now, seal, packet),
+        Err(Error::Refused(why)) => refused(takes(holder, alloc, now, seal, packet), why),
+        Err(_) => (holder, Err(Error::Memory)),
+    }
+}
+
+// Whether a packet that comes down at a moment opens, or why it doesn't.
+fn opens<S: Seal>(alloc: Global, at: Moment, seal: &S, packet: &[u8]) -> Result<(), Error>
+    ensures { TellsHeard S.lock (S.keys seal.now) at packet.now result }
+{
+    match seal.unseal(alloc, at, Dir::Down, packet) {
+        Opened::Envelope(_) => Ok(()),
+        Opened::Refused(why) => Err(Error::Refused(why)),
+        Opened::Memory => Err(Error::Memory),
+    }
+}
+
+// The later of two moments.
+fn later(one: Moment, other: Moment) -> Moment
+    ensures { result ≡ max one other }
+{
+    if one.seconds() < other.seconds() {
+        other
+    } else {
+        one
+    }
+}
+
+// A packet that doesn't open was taken, unless memory ran out.
+fn refused(left: (Holder, Result<(), Error>), why: Refusal) -> (Holder, Result<(), Error>)
+    ensures same { result.0 ≡ left.0 }
+    ensures told { result.1 ≡ refused_for why left.1 }
+{
+    let (holder, taken) = left;
+    match taken {
+        Ok(()) => (holder, Err(Error::Refused(why))),
+        Err(fault) => (holder, Err(fault)),
+    }
+}
+
+// A client that hasn't ended takes a packet.
+fn takes<S: Seal>(
+    holder: Holder,
+    alloc: Global,
+    now: Moment,
+    seal: &S,
+    packet: &[u8],
+) -> (Holder, Result<(), Error>)
+    ensures told { IsDoneOrMemory result.1 }
+    ensures opened { (client : Client) (envelope : Envelope) → Stands (kept_of holder) client → client.has_ended ≡ false
+        → Opens S.lock (S.keys seal.now) (max client.now now) Down packet.now envelope → Comes client (take now envelope client) result.0 result.1 }
+    ensures other { (client : Client) → Stands (kept_of holder) client → client.has_ended ≡ false
+        → ((envelope : Envelope) → Opens S.lock (S.keys seal.now) (max client.now now) Down packet.now envelope → ⊥) → Comes client (at_moment now client) result.0 result.1 }
+    ensures keys { keys_in (kept_of result.0) ≡ keys_in (kept_of holder) }
+{
+    state_is_known(&holder);
+    match holder {
+        Holder::Opening(client) => opening_hears(client, alloc, now, seal, packet),
+        Holder::Open(client) => open_hears(client, alloc, now, seal, packet),
+        Holder::Ended(client) => (Holder::Ended(client), Ok(())),
+    }
+}
+
+fn opening_hears<S: Seal>(
+    client: OpeningClient,
+    alloc: Global,
+    now: Moment,
+    seal: &S,
+    packet: &[u8],
+) -> (Holder, Result<(), Error>)
+    ensures told { IsDoneOrMemory result.1 }
+    ensures opened { (whole : Client) (envelope : Envelope) → Stands client whole
+        → Opens S.lock (S.keys seal.now) (max whole.now now) Down packet.now envelope → Comes whole (take now envelope whole) result.0 result.1 }
+    ensures other { (whole : Client) → Stands client whole
+        → ((envelope : Envelope) → Opens S.lock (S.keys seal.now) (max whole.now now) Down packet.now envelope → ⊥) → Comes whole (at_moment now whole) result.0 result.1 }
+    ensures keys { keys_in (kept_of result.0) ≡ keys_in client }
+{
+    match client.on_packet(alloc, now, seal, packet) {
+        OpeningStep::Still(client) => (Holder::Opening(client), Ok(())),
+        OpeningStep::Opened(client) => (Holder::Open(client), Ok(())),
+        OpeningStep::Memory(client) => (Holder::Opening(client), Err(Error::Memory)),
+    }
+}
+
+fn open_hears<S: Seal>(
+    client: OpenClient,
+    alloc: Global,
+    now: Moment,
+    seal: &S,
+    packet: &[u8],
+) -> (Holder, Result<(), Error>)
+    ensures told { IsDoneOrMemory result.1 }
+    ensures opened { (whole : Client) (envelope : Envelope) → Stands client whole
+        → Opens S.lock (S.keys seal.now) (max whole.now now) Down packet.now envelope → Comes whole (take now envelope whole) result.0 result.1 }
+    ensures other { (whole : Client) → Stands client whole
+        → ((envelope : Envelope) → Opens S.lock (S.keys seal.now) (max whole.now now) Down packet.now envelope → ⊥) → Comes whole (at_moment now whole) result.0 result.1 }
+    ensures keys { keys_in (kept_of result.0) ≡ keys_in client }
+{
+    match client.on_packet(alloc, now, seal, packet) {
+        OpenStep::Still(client) => (Holder::Open(client), Ok(())),
+        OpenStep::Ended(client) => (Holder::Ended(client), Ok(())),
+        OpenStep::Memory(client) => (Holder::Open(client), Err(Error::Memory)),
+    }
+}
+
+/// An open client goes on in another session, whose number is drawn.
+pub(crate) fn renew<D: Draw>(holder: Holder, draw: &mut D) -> (Holder, Result<(), Error>)
+    ensures refused { (client : Client) → Stands (kept_of holder) client → TellsOpen (is_open_now client) result.1 }
+    ensures stands { OnOk result.1 ((client : Client) → Stands (kept_of holder) client → Stands (kept_of result.0) (renewed (word_after D.step 0 draw.old) client)) }
+    ensures drawn { OnOk result.1 (draw.new ≡ draw_after D.step 1 draw.old) }
+    ensures keys { keys_in (kept_of result.0) ≡ keys_in (kept_of holder) }
+    ensures unchanged { OnErr result.1 ((result.0 ≡ holder) × (draw.new ≡ draw.old)) }
+{
+    if !holder.is_open() {
+        return (holder, Err(Error::NotOpen));
+    }
+    match holder {
+        Holder::Open(client) => (Holder::Opening(client.renew(draw)), Ok(())),
+        Holder::Opening(client) => (Holder::Opening(client), Err(Error::NotOpen)),
+        Holder::Ended(client) => (Holder::Ended(client), Err(Error::NotOpen)),
+    }
+}
+
+/// An open client ends.
+pub(crate) fn end(holder: Holder) -> (Holder, Result<(), Error>)
+    ensures refused { (client : Client) → Stands (kept_of holder) client → TellsOpen (is_open_now client) result.1 }
+    ensures stands { OnOk result.1 ((client : Client) → Stands (kept_of holder) client → Stands (kept_of result.0) (ended client)) }
+    ensures keys { keys_in (kept_of result.0) ≡ keys_in (kept_of holder) }
+    ensures unchanged { OnErr result.1 (result.0 ≡ holder) }
+{
+    if !holder.is_open() {
+        return (holder, Err(Error::NotOpen));
+    }
+    match holder {
+        Holder::Open(client) => (Holder::Ended(client.end()), Ok(())),
+        Holder::Opening(client) => (Holder::Opening(client), Err(Error::NotOpen)),
+        Holder::Ended(client) => (Holder::Ended(client), Err(Error::NotOpen)),
+    }
+}
+
+/// How many calls a client has.
+pub(crate) fn calls(holder: &Holder) -> u32
+    ensures kept { result ≡ length (kept_of holder.now).calls.rows }
+    ensures count { (client : Client) → Stands (kept_of holder.now) client → result ≡ length (calls_of client) }
+{
+    match holder {
+        Holder::Opening(client) => client.calls(),
+        Holder::Open(client) => client.calls(),
+        Holder::Ended(client) => client.calls(),
+    }
+}
+
+/// What became of a call of a client.
+pub(crate) fn state(holder: &Holder, call: CallNo) -> CallState<'_>
+    requires given { IsGiven call (kept_of holder.now).calls.rows }
+    ensures kept { state_in call (kept_of holder.now).calls.rows ≡ Some (shown result) }
+    ensures state { (client : Client) → Stands (kept_of holder.now) client → state_at call (calls_of client) ≡ Some (shown result) }
+{
+    match holder {
+        Holder::Opening(client) => client.state(call),
+        Holder::Open(client) => client.state(call),
+        Holder::Ended(client) => client.state(call),
+    }
+}

@@ -1,0 +1,100 @@
+//! The handle of a server.
+
+ghost use Rattle.std.specs.Box.Ownership.{box_owns};
+ghost use Rattle.std.specs.Prelude.{◌≡◌, IfOk, OnErr, OnOk};
+ghost use Rattle.std.specs.contracts.impls.GlobalAllocator.TheImpl.{ghosts};
+ghost use Rattle.kifzaro_c.specs.contracts.server_handle.ServerSlot.{the_row};
+ghost use Rattle.kifzaro_c.specs.declared.server_handle.ServerSlot.{ServerSlot as Inside};
+ghost use Rattle.kifzaro_c.specs.declared.server_handle.ServerSlot.TheVariants as slots;
+
+use crate::loose::Loose;
+use kifzaro::Server;
+use std::alloc::{AllocError, AllocFailed, Global};
+use std::marker::Model;
+use std::mem;
+
+/// What a handle's box holds: a server, which is away only while a call is at work on it.
+#[derive(Drop)]
+pub enum ServerSlot {
+    /// A call is at work on it.
+    Away,
+    /// It is here.
+    Here(Server),
+}
+
+/// A pointer that owns a server. C sees the pointer alone: what frees it has no bytes, and a pointer to what holds a `Vec` doesn't
+/// cross under its own type.
+#[repr(C)]
+pub struct ServerHandle {
+    pub(crate) at: *mut u8,
+    pub(crate) alloc: Global,
+    pub(crate) ghost value: { Inside },
+}
+
+impl Model for ServerHandle {
+    ghost also_owns = { λ h. box_owns (ghosts.dealloc_token h.alloc) the_row h.at h.value };
+}
+
+impl ServerHandle {
+    fn of_loose(it: Loose<ServerSlot, Global>) -> ServerHandle
+        ensures { result.value ≡ it.value }
+    {
+        let Loose { at, alloc } = it;
+        let at = at as *mut u8;
+        ServerHandle { at, alloc }
+    }
+
+    fn into_loose(self) -> Loose<ServerSlot, Global>
+        ensures { result.value ≡ self.value }
+    {
+        let ServerHandle { at, alloc } = self;
+        let at = at as *mut ServerSlot;
+        Loose { at, alloc }
+    }
+
+    /// The handle of a box.
+    pub(crate) fn of(it: Box<ServerSlot>) -> ServerHandle
+        ensures { result.value ≡ it.value }
+    {
+        ServerHandle::of_loose(Loose::of(it))
+    }
+
+    /// The box of a handle.
+    pub(crate) fn into_box(self) -> Box<ServerSlot>
+        ensures { result.value ≡ self.value }
+    {
+        self.into_loose().into_box()
+    }
+
+    /// The box out of the handle: one with nothing is in its place until `put`.
+    ///
+    /// # Errors
+    ///
+    /// Where there is no memory, and the handle is as it was.
+    pub(crate) fn take(&mut self, alloc: Global) -> Result<Box<ServerSlot>, AllocFailed<ServerSlot>>
+        ensures taken { IfOk result (λ slot. slot.value ≡ self.old.value) }
+        ensures away { OnOk result (self.new.value ≡ slots.Away) }
+        ensures unchanged { OnErr result (self.new ≡ self.old) }
+    {
+        let spare = Box::new(alloc, ServerSlot::Away)?;
+        Ok(mem::replace(self, ServerHandle::of(spare)).into_box())
+    }
+
+    /// The box is back in the handle.
+    pub(crate) fn put(&mut self, slot: Box<ServerSlot>)
+        ensures { self.new.value ≡ slot.value }
+    {
+        let spare = mem::replace(self, ServerHandle::of(slot)).into_box();
+        drop(spare);
+    }
+}
+
+/// A pointer to a box of its own for a server, which a handle becomes by it.
+///
+/// # Errors
+///
+/// Where there is no memory.
+pub(crate) fn boxed(alloc: Global, it: Server) -> Result<*mut u8, AllocError> {
+    let slot = Box::new(alloc, ServerSlot::Here(it))?;
+    Ok(Box::into_raw(slot).cast())
+}
