@@ -15,7 +15,8 @@ use octets::{Buffer, Octets};
 use service_tl::Message;
 
 impl Core {
-    /// Seals a message under the client's session number and salt, in room that was taken before.
+    /// Seals a message under the client's session number and salt, in room that was taken before. What room is left over
+    /// is given up.
     pub(crate) fn sealed<S: Seal, D: Draw>(
         &self,
         seal: &S,
@@ -40,6 +41,15 @@ impl Core {
             seq: message.seq,
             body: message.body,
         };
-        seal.seal_in(room, Dir::Up, &envelope, draw)
+        fitted(seal.seal_in(room, Dir::Up, &envelope, draw))
     }
+}
+
+/// The same bytes, in no more room than they have. Where memory has none for that, they stay where they are.
+fn fitted(packet: Octets) -> Octets
+    ensures { result ≡ packet }
+{
+    let mut bytes = packet.into_vec();
+    bytes.shrink_to_fit();
+    Octets::from(bytes)
 }

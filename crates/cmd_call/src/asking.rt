@@ -66,6 +66,23 @@ pub fn submit_all(client: &mut OpeningClient, alloc: Global, script: &Script) ->
     Ok(())
 }
 
+/// Submits the calls of a script to a client that has none yet, and gives up the script.
+///
+/// # Errors
+///
+/// The first call that isn't taken.
+pub(crate) fn submit_whole(
+    client: &mut OpeningClient,
+    alloc: Global,
+    script: Script,
+) -> Result<(), Untaken>
+    ensures told { (whole : Client) → Stands client.old whole → calls_of whole ≡ [] → TellsUntaken (untaken script) result }
+    ensures stands { OnOk result ((whole : Client) → Stands client.old whole → Stands client.new (given_all script whole)) }
+    ensures keys { keys_in client.new ≡ keys_in client.old }
+{
+    submit_all(client, alloc, &script)
+}
+
 /// The call of this number.
 fn earlier(after: Option<u64>) -> Option<CallNo>
     ensures { result ≡ earlier_of after }

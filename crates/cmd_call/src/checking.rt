@@ -6,11 +6,12 @@ ghost use Rattle.key_files.specs.Files.{refused_at};
 ghost use Rattle.statuses.specs.Lines.{input_bytes_max};
 ghost use Rattle.transport.specs.declared.form.Form.TheVariants as forms;
 ghost use Rattle.sim_text.specs.Faults.{fault_of};
+ghost use Rattle.call_script.specs.Scripts.{IsFaultOf, Spells};
 ghost use Rattle.cmd_call.specs.Inner.{IsRefusalOf, LeavesKeys, LeavesRing, LeavesScript, LeavesText, keys_of};
 ghost use Rattle.cmd_call.specs.Owed.{AskedFor, OwesToKeys, OwesToRing, OwesToScript, OwesToText, around_of, files_of};
 ghost use Rattle.cmd_call.specs.Runs.{UsesNet};
 
-use crate::asking::{Untaken, opening, submit_all};
+use crate::asking::{Untaken, opening, submit_whole};
 use crate::batching::run;
 use crate::keys::{Acting, keys_in_ring};
 use auth_keys::Ring;
@@ -19,12 +20,13 @@ use commands::CallOptions;
 use draws::Draw;
 use key_files::{KeysFault, read_ring, refused_line};
 use mt_edge::{Clock, KeyFiles, Net};
-use octets::Memory;
+use octets::{Memory, Octets};
 use sim_text::submit_cause;
 use statuses::{Answer, Status, refusal};
 use std::alloc::Global;
 
-/// The answer to the text of the input.
+/// The answer to the text of the input. The text is given up once it is read, and the script once its calls are the
+/// client's.
 ///
 /// # Errors
 ///
@@ -32,27 +34,27 @@ use std::alloc::Global;
 pub(crate) fn answer_to_text<F: KeyFiles, N: Net, C: Clock, D: Draw>(
     alloc: Global,
     options: &CallOptions<'_>,
-    text: &[u8],
+    text: Octets,
     files: &mut F,
     net: &mut N,
     clock: &mut C,
     draw: &mut D,
 ) -> Result<Answer, Memory>
-    requires short { length text.now ≤ input_bytes_max }
+    requires short { length text ≤ input_bytes_max }
     requires full_is_plain { options.now.obfuscate ≡ true → options.now.form ≢ forms.Full }
-    ensures owed { IfOk result (λ answer. OwesToText options.now text.now
+    ensures owed { IfOk result (λ answer. OwesToText options.now text
         (files_of F.told F.faults files.old files.new)
         (around_of N.calls N.faults C.given D.step net.old net.new clock.old clock.new draw.old draw.new)
         answer.status answer.text) }
-    ensures left { IfErr result (λ _. LeavesText options.now text.now
+    ensures left { IfErr result (λ _. LeavesText options.now text
         (files_of F.told F.faults files.old files.new)
         (around_of N.calls N.faults C.given D.step net.old net.new clock.old clock.new draw.old draw.new)) }
     ensures asked { AskedFor options.now.keys (files_of F.told F.faults files.old files.new) ⊎ (files.new ≡ files.old) }
     ensures connects { UsesNet options.now
         (around_of N.calls N.faults C.given D.step net.old net.new clock.old clock.new draw.old draw.new) }
 {
-    match read_script(alloc, text) {
-        Ok(script) => answer_to_script(alloc, options, &script, files, net, clock, draw),
+    match script_of(alloc, text) {
+        Ok(script) => answer_to_script(alloc, options, script, files, net, clock, draw),
         Err(ScriptFault::BadLine { line }) => {
             refusal(alloc, Status::InputRefused, line, "bad line")
         }
@@ -60,22 +62,35 @@ pub(crate) fn answer_to_text<F: KeyFiles, N: Net, C: Clock, D: Draw>(
     }
 }
 
+/// Reads a script, and gives up its text.
+///
+/// # Errors
+///
+/// `BadLine` with the first line that is outside the grammar. `Memory`.
+fn script_of(alloc: Global, text: Octets) -> Result<Script, ScriptFault>
+    requires { length text ≤ input_bytes_max }
+    ensures calls { IfOk result (λ script. Spells text script) }
+    ensures bad_line { IfErr result (IsFaultOf text) }
+{
+    read_script(alloc, text.as_slice())
+}
+
 /// The answer to a script, by the key file.
 fn answer_to_script<F: KeyFiles, N: Net, C: Clock, D: Draw>(
     alloc: Global,
     options: &CallOptions<'_>,
-    script: &Script,
+    script: Script,
     files: &mut F,
     net: &mut N,
     clock: &mut C,
     draw: &mut D,
 ) -> Result<Answer, Memory>
     requires full_is_plain { options.now.obfuscate ≡ true → options.now.form ≢ forms.Full }
-    ensures owed { IfOk result (λ answer. OwesToScript options.now script.now
+    ensures owed { IfOk result (λ answer. OwesToScript options.now script
         (files_of F.told F.faults files.old files.new)
         (around_of N.calls N.faults C.given D.step net.old net.new clock.old clock.new draw.old draw.new)
         answer.status answer.text) }
-    ensures left { IfErr result (λ _. LeavesScript options.now script.now
+    ensures left { IfErr result (λ _. LeavesScript options.now script
         (files_of F.told F.faults files.old files.new)
         (around_of N.calls N.faults C.given D.step net.old net.new clock.old clock.new draw.old draw.new)) }
     ensures asked { AskedFor options.now.keys (files_of F.told F.faults files.old files.new) }
@@ -105,17 +120,17 @@ fn key_file_refused(alloc: Global, line: u32) -> Result<Answer, Memory>
 fn answer_to_ring<N: Net, C: Clock, D: Draw>(
     alloc: Global,
     options: &CallOptions<'_>,
-    script: &Script,
+    script: Script,
     ring: Ring,
     net: &mut N,
     clock: &mut C,
     draw: &mut D,
 ) -> Result<Answer, Memory>
     requires full_is_plain { options.now.obfuscate ≡ true → options.now.form ≢ forms.Full }
-    ensures owed { IfOk result (λ answer. OwesToRing options.now script.now ring
+    ensures owed { IfOk result (λ answer. OwesToRing options.now script ring
         (around_of N.calls N.faults C.given D.step net.old net.new clock.old clock.new draw.old draw.new)
         answer.status answer.text) }
-    ensures left { IfErr result (λ _. LeavesRing options.now script.now ring
+    ensures left { IfErr result (λ _. LeavesRing options.now script ring
         (around_of N.calls N.faults C.given D.step net.old net.new clock.old clock.new draw.old draw.new)) }
     ensures connects { UsesNet options.now
         (around_of N.calls N.faults C.given D.step net.old net.new clock.old clock.new draw.old draw.new) }
@@ -130,7 +145,7 @@ fn answer_to_ring<N: Net, C: Clock, D: Draw>(
 fn answer_under<N: Net, C: Clock, D: Draw>(
     alloc: Global,
     options: &CallOptions<'_>,
-    script: &Script,
+    script: Script,
     ring: Ring,
     keys: Acting,
     net: &mut N,
@@ -139,16 +154,16 @@ fn answer_under<N: Net, C: Clock, D: Draw>(
 ) -> Result<Answer, Memory>
     requires full_is_plain { options.now.obfuscate ≡ true → options.now.form ≢ forms.Full }
     requires keys { HasKeys ring (keys_of keys) }
-    ensures owed { IfOk result (λ answer. OwesToKeys options.now script.now ring (keys_of keys)
+    ensures owed { IfOk result (λ answer. OwesToKeys options.now script ring (keys_of keys)
         (around_of N.calls N.faults C.given D.step net.old net.new clock.old clock.new draw.old draw.new)
         answer.status answer.text) }
-    ensures left { IfErr result (λ _. LeavesKeys options.now script.now ring (keys_of keys)
+    ensures left { IfErr result (λ _. LeavesKeys options.now script ring (keys_of keys)
         (around_of N.calls N.faults C.given D.step net.old net.new clock.old clock.new draw.old draw.new)) }
     ensures connects { UsesNet options.now
         (around_of N.calls N.faults C.given D.step net.old net.new clock.old clock.new draw.old draw.new) }
 {
     let mut client = opening(alloc, keys, draw)?;
-    match submit_all(&mut client, alloc, script) {
+    match submit_whole(&mut client, alloc, script) {
         Ok(()) => run(alloc, options, client, ring, net, clock, draw),
         Err(untaken) => refused_call(alloc, &untaken),
     }

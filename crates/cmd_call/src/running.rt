@@ -82,7 +82,7 @@ fn answer<S: Source, F: KeyFiles, N: Net, C: Clock, D: Draw>(
         (around_of N.calls N.faults C.given D.step net.old net.new clock.old clock.new draw.old draw.new) }
 {
     match read_all(alloc, input, SCRIPT_BYTES_MAX) {
-        Ok(text) => Ok(answer_to_text(alloc, options, text.as_slice(), files, net, clock, draw)?),
+        Ok(text) => Ok(answer_to_text(alloc, options, text, files, net, clock, draw)?),
         Err(ReadFault::TooLong) => {
             Ok(Answer::new(alloc, Status::InputRefused, b"input too long\n")?)
         }

@@ -8,7 +8,7 @@ use Rattle.crc_core.specs.Crc32.{polynomial, fed_bit, fed_bits}
 use Rattle.crc_core.proofs.TableTests.{by_bit}
 
 -- the inner two of four change places
-xor_swap : (a b c d : ℕ) → bit_xor (bit_xor a b) (bit_xor c d) ≡ bit_xor (bit_xor a c) (bit_xor b d)
+pub xor_swap : (a b c d : ℕ) → bit_xor (bit_xor a b) (bit_xor c d) ≡ bit_xor (bit_xor a c) (bit_xor b d)
 xor_swap a b c d =
     xor_assoc a b (bit_xor c d)
     ∙ ap (λ (x : ℕ). bit_xor a x) (sym (xor_assoc b c d) ∙ ap (λ (x : ℕ). bit_xor x d) (xor_comm b c) ∙ xor_assoc c b d)

@@ -2,4 +2,4 @@ pub mod TableTests
 pub mod BitLaws
 pub mod Tables
 pub mod TextLaws
-pub mod EightLaws
+pub mod WordLaws

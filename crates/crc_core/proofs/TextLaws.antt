@@ -21,7 +21,7 @@ pub byte_fed : (register byte : ℕ) → byte < 256
 byte_fed register byte h =
     fed_as_added 8 register byte (omega arith) ∙ zeros_out (bit_xor register byte)
 
-zeros_in_turn : (m n x : ℕ) → fed_bits m (fed_bits n x 0) 0 ≡ fed_bits (n + m) x 0
+pub zeros_in_turn : (m n x : ℕ) → fed_bits m (fed_bits n x 0) 0 ≡ fed_bits (n + m) x 0
 unfolding fed_bits
 zeros_in_turn m zero x =
     let e : m ≡ 0 + m = omega arith in
@@ -31,7 +31,7 @@ zeros_in_turn m (suc n) x =
     zeros_in_turn m n (fed_bit x 0) ∙ ap (λ (j : ℕ). fed_bits j x 0) e
 
 -- what is added to the register beforehand is, after a text, what it becomes after as many bytes of 0
-fed-xor : (bytes : List ℕ) (r s : ℕ) → fed (bit_xor r s) bytes ≡ bit_xor (fed r bytes) (fed_bits (length bytes * 8) s 0)
+pub fed-xor : (bytes : List ℕ) (r s : ℕ) → fed (bit_xor r s) bytes ≡ bit_xor (fed r bytes) (fed_bits (length bytes * 8) s 0)
 unfolding fed fed_bits
 fed-xor [] r s = refl
 fed-xor (byte ∷ bytes) r s =
@@ -52,7 +52,3 @@ first_byte register byte bytes h =
     ap (λ (r : ℕ). fed r bytes) (byte_fed register byte h ∙ ap (λ (r : ℕ). bit_xor r (fed_bits 8 (x % 256) 0)) moved)
     ∙ fed-xor bytes (register / 256) (fed_bits 8 (x % 256) 0)
     ∙ ap (bit_xor (fed (register / 256) bytes)) (zeros_in_turn (length bytes * 8) 8 (x % 256))
-
-pub last_byte : (byte : ℕ) → byte < 256 → fed 0 (byte ∷ []) ≡ fed_bits 8 (byte % 256) 0
-unfolding fed
-last_byte byte h = first_byte 0 byte [] h

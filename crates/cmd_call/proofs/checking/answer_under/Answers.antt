@@ -18,8 +18,8 @@ returns-in-Ok-clause-owed g c =
     let around = around_of g.N.Net.calls g.N.Net.faults g.C.Clock.given g.D.Draw.step c.args.net.now c.run.new.net c.args.clock.now c.run.new.clock c.args.draw.now c.run.new.draw in
     let keys = keys_of c.args.keys in
     let first = client_under keys (word_after g.D.Draw.step 0 c.args.draw.now) in
-    owes_batch c.args.options.now c.args.script.now around c.run.result c.args.ring keys c.opening.new.draw (c.in-Ok.ensures.told first c.in_ok-client.ensures.stands refl)
-    (c.run.ensures.ran (begins keys c.args.script.now around) (record { phase = refl; client = c.in-Ok.ensures.stands first c.in_ok-client.ensures.stands; draw = c.in_ok-client.ensures.after }))
+    owes_batch c.args.options.now c.args.script around c.run.result c.args.ring keys c.opening.new.draw (c.in-Ok.ensures.told first c.in_ok-client.ensures.stands refl)
+    (c.run.ensures.ran (begins keys c.args.script around) (record { phase = refl; client = c.in-Ok.ensures.stands first c.in_ok-client.ensures.stands; draw = c.in_ok-client.ensures.after }))
 
 pub returns-in-Ok-clause-connects : goal.returns-in-Ok-clause-connects
 returns-in-Ok-clause-connects g c =
@@ -31,7 +31,7 @@ returns-in-Err-clause-owed g c =
     let around = around_of g.N.Net.calls g.N.Net.faults g.C.Clock.given g.D.Draw.step c.args.net.now c.args.net.now c.args.clock.now c.args.clock.now c.args.draw.now c.opening.new.draw in
     let keys = keys_of c.args.keys in
     let first = client_under keys (word_after g.D.Draw.step 0 c.args.draw.now) in
-    owes_refusal c.args.options.now c.args.script.now around c.refused_call.result c.args.ring keys c.in-Err.untaken.line (fault_of c.in-Err.untaken.fault) (record { net = refl; clock = refl }) c.in_ok-client.ensures.after
+    owes_refusal c.args.options.now c.args.script around c.refused_call.result c.args.ring keys c.in-Err.untaken.line (fault_of c.in-Err.untaken.fault) (record { net = refl; clock = refl }) c.in_ok-client.ensures.after
     (c.in-Err.ensures.told first c.in_ok-client.ensures.stands refl) c.refused_call.ensures
 
 pub returns-in-Err-clause-connects : goal.returns-in-Err-clause-connects
@@ -48,8 +48,8 @@ returns-in-Ok-clause-left g c =
     let around = around_of g.N.Net.calls g.N.Net.faults g.C.Clock.given g.D.Draw.step c.args.net.now c.run.new.net c.args.clock.now c.run.new.clock c.args.draw.now c.run.new.draw in
     let keys = keys_of c.args.keys in
     let first = client_under keys (word_after g.D.Draw.step 0 c.args.draw.now) in
-    leaves_batch c.args.options.now c.args.script.now around c.run.result c.args.ring keys c.opening.new.draw (c.in-Ok.ensures.told first c.in_ok-client.ensures.stands refl)
-    (c.run.ensures.left (begins keys c.args.script.now around) (record { phase = refl; client = c.in-Ok.ensures.stands first c.in_ok-client.ensures.stands; draw = c.in_ok-client.ensures.after }))
+    leaves_batch c.args.options.now c.args.script around c.run.result c.args.ring keys c.opening.new.draw (c.in-Ok.ensures.told first c.in_ok-client.ensures.stands refl)
+    (c.run.ensures.left (begins keys c.args.script around) (record { phase = refl; client = c.in-Ok.ensures.stands first c.in_ok-client.ensures.stands; draw = c.in_ok-client.ensures.after }))
 
 pub returns-in-Err-clause-left : goal.returns-in-Err-clause-left
 returns-in-Err-clause-left g c =

@@ -1,4 +1,4 @@
-use Rattle.std.proofs.Common.{ℕ, List, Err, ◌∙◌, ap, inl, inr, refl, subst, sym}
+use Rattle.std.proofs.Common.{Err, ◌∙◌, ap, inl, inr, refl}
 use Rattle.mt_edge.specs.declared.whole.ReadFault.{ReadFault}
 use Rattle.cmd_call.specs.Owed.{IsRead, around_of, files_of}
 use Rattle.statuses.specs.Outside.{Outside}
@@ -10,7 +10,7 @@ pub returns-in_ok-answer_to_text-in-Ok-clause-owed : goal.returns-in_ok-answer_t
 returns-in_ok-answer_to_text-in-Ok-clause-owed g c =
     let input : Outside g.row.S.Denot = record { told = g.S.Source.left; faults = g.S.Source.faults; before = c.args.input.now; after = c.read_all.new.source } in
     let read : IsRead input c.in-Ok.text = record { whole = c.in-Ok.ensures.whole; to_the_end = c.in-Ok.ensures.to_the_end; short = c.in-Ok.ensures.short } in
-    inr (c.as_slice.result.now, subst (λ (text : List ℕ). IsRead input text) (sym c.as_slice.ensures.value) read, c.in_ok-answer_to_text-in-Ok.ensures.owed)
+    inr (c.in-Ok.text, read, c.in_ok-answer_to_text-in-Ok.ensures.owed)
 
 pub returns-in_ok-new-in-Err-TooLong-clause-owed : goal.returns-in_ok-new-in-Err-TooLong-clause-owed
 returns-in_ok-new-in-Err-TooLong-clause-owed g c =
@@ -42,7 +42,7 @@ returns-in_err-answer_to_text-in-Ok-clause-left g c =
     let files = files_of g.F.KeyFiles.told g.F.KeyFiles.faults c.args.files.now c.answer_to_text.new.files in
     let input : Outside g.row.S.Denot = record { told = g.S.Source.left; faults = g.S.Source.faults; before = c.args.input.now; after = c.read_all.new.source } in
     let read : IsRead input c.in-Ok.text = record { whole = c.in-Ok.ensures.whole; to_the_end = c.in-Ok.ensures.to_the_end; short = c.in-Ok.ensures.short } in
-    λ is. leaves_text c.args.options.now input files around c.as_slice.result.now (subst (λ (text : List ℕ). IsRead input text) (sym c.as_slice.ensures.value) read) c.in_err-answer_to_text-in-Ok.ensures.left
+    λ is. leaves_text c.args.options.now input files around c.in-Ok.text read c.in_err-answer_to_text-in-Ok.ensures.left
 
 pub returns-in_err-new-in-Err-TooLong-clause-left : goal.returns-in_err-new-in-Err-TooLong-clause-left
 returns-in_err-new-in-Err-TooLong-clause-left g c =
