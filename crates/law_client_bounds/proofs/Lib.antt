@@ -1,0 +1,5 @@
+mod Keeping
+mod Sending
+mod Taking
+mod Bounded
+mod Salted
