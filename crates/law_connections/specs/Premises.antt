@@ -48,7 +48,8 @@ IsStepByNoChance setting joint (Does number deed) = IsByNoChanceDown setting joi
 IsStepByNoChance setting joint (Starts draw) = Unit {0}
 IsStepByNoChance setting joint (Begins keys draw) = Unit {0}
 
--- over all steps, bytes that open at an end were sealed by the other in that direction
+-- over all steps, bytes that open at an end were sealed by the other in that direction: so the run has all that was ever done under
+-- these keys, from the first step on
 abbrev pub NoChance : {S V : Type 0} → Setting S V → Joint S V → List (Step S) → Type 0
 NoChance setting joint [] = Unit {0}
 NoChance setting joint (step ∷ steps) = IsStepByNoChance setting joint step × NoChance setting (steps_on setting joint step) steps

@@ -49,7 +49,9 @@ pub fn connections_execute_once<D: Draw, V>()
 }
 
 /// A joint run in which a connection is lost and the server starts again: one call is done, and of another, which ran, it isn't
-/// known what became. The words that it draws for names aren't 0 and differ, and all bytes that open were sealed by the other end.
+/// known what became. The words that it draws for names aren't 0 and differ, and all bytes that open were sealed by the other end. Its
+/// setting is that of a world's witness, in which packets are laid out and not sealed: so it shows that `Fresh` and `NoChance` are
+/// met by a run, and nothing of the premises on seals and rings.
 pub fn a_joint_run()
     ensures told { shown.told shown.lossy ≡ codes "call 1 1 done 5\ncall 1 2 unknown session\nrun 1 1 12 5\nrun 1 1 24 12\n" }
     ensures fresh { Fresh (joint_of setting 0 shown.lossy).world }

@@ -163,7 +163,8 @@ IsTimelyAct (Tick now) = now ≤ latest_moment
 IsTimelyAct (Run now) = now ≤ latest_moment
 
 -- These steps are what the runs of `serve` did, one after the other, and what the runs of `call` did, in some order: each end's part
--- is what its run tells. The runs of `serve` stand with the last one first.
+-- is what its run tells. The runs of `serve` stand with the last one first. No moment is past the latest that a clock gives; what
+-- runs tell of moments doesn't bound them.
 pub record AreJoint {D : Type 0} (step : D → ℕ × D) (ring : List RingKey) (draw : D) (served : List (Served step ring)) (called : List (Called step ring)) (steps : List (Step D)) : Type 0 where
   pub servers : starts_of draw steps ≡ map (λ run. start_by run) served
   pub clients : parts_of steps ≡ map (λ run. part_by run) called

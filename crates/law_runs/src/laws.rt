@@ -52,11 +52,13 @@ pub fn servers_are_left<D: Draw>()
         → AreJoint step ring draw served called steps → IsServerLeft served (joint_of (setting_under step ring) draw steps).world }
 {}
 
-/// Of runs of `serve`, one after the other, and runs of `call` that are one joint run, each call executes at most once, as its
-/// client sent it, and what is told of it is so; calls run in order; and the clients of which this is said are those that the
-/// runs of `call` left, the server the one that the last run of `serve` left. The premises: bytes that open at an end were sealed by the other in that direction (`NoChance`); words drawn
-/// for session numbers, unique numbers and salts aren't 0 and differ, whichever process drew them (`Fresh`); the setting is one of a
-/// world (`IsSound`), clients are under keys of the ring, and bodies of calls are bytes (`IsOf`).
+/// Of runs of `serve`, one after the other, and runs of `call`, all with one key file, that are one joint run (`AreJoint`), each
+/// call executes at most once, as its client sent it, and what is told of it is so; calls run in order; and the clients of which
+/// this is said are those that the runs of `call` left, the server the one that the last run of `serve` left. The premises: no
+/// moment is past the latest (in `AreJoint`); bytes that open at an end were sealed by the other in that direction (`NoChance`),
+/// so the joint run has all that was ever done under these keys; words drawn for session numbers, unique numbers and salts aren't
+/// 0 and differ, whichever process drew them (`Fresh`); the setting is one of a world (`IsSound`), clients are under keys of the
+/// ring, and bodies of calls are bytes (`IsOf`).
 pub fn runs_execute_once<D: Draw>()
     ensures once { (step : D → ℕ × D) (ring : List RingKey) (draw : D) (served : List (Served step ring)) (called : List (Called step ring)) (steps : List (Step D))
         → AreJoint step ring draw served called steps → IsSound ring (setting_under step ring) → All (IsOf ring) steps
