@@ -4,8 +4,8 @@
 ghost use Rattle.std.specs.Prelude.{◌≡◌, ◌%◌};
 ghost use Rattle.crc_core.specs.Crc32.{fed_bits};
 
-// After one byte.
-const ONE: [u32; 256] = [
+// After one byte, then after two, three and four, in one table: so a loop has one address at hand.
+static WORD: [u32; 1024] = [
     0x00000000, 0x77073096, 0xee0e612c, 0x990951ba, 0x076dc419, 0x706af48f, 0xe963a535, 0x9e6495a3,
     0x0edb8832, 0x79dcb8a4, 0xe0d5e91e, 0x97d2d988, 0x09b64c2b, 0x7eb17cbd, 0xe7b82d07, 0x90bf1d91,
     0x1db71064, 0x6ab020f2, 0xf3b97148, 0x84be41de, 0x1adad47d, 0x6ddde4eb, 0xf4d4b551, 0x83d385c7,
@@ -38,10 +38,6 @@ const ONE: [u32; 256] = [
     0xaed16a4a, 0xd9d65adc, 0x40df0b66, 0x37d83bf0, 0xa9bcae53, 0xdebb9ec5, 0x47b2cf7f, 0x30b5ffe9,
     0xbdbdf21c, 0xcabac28a, 0x53b39330, 0x24b4a3a6, 0xbad03605, 0xcdd70693, 0x54de5729, 0x23d967bf,
     0xb3667a2e, 0xc4614ab8, 0x5d681b02, 0x2a6f2b94, 0xb40bbe37, 0xc30c8ea1, 0x5a05df1b, 0x2d02ef8d,
-];
-
-// After two bytes.
-const TWO: [u32; 256] = [
     0x00000000, 0x191b3141, 0x32366282, 0x2b2d53c3, 0x646cc504, 0x7d77f445, 0x565aa786, 0x4f4196c7,
     0xc8d98a08, 0xd1c2bb49, 0xfaefe88a, 0xe3f4d9cb, 0xacb54f0c, 0xb5ae7e4d, 0x9e832d8e, 0x87981ccf,
     0x4ac21251, 0x53d92310, 0x78f470d3, 0x61ef4192, 0x2eaed755, 0x37b5e614, 0x1c98b5d7, 0x05838496,
@@ -74,10 +70,6 @@ const TWO: [u32; 256] = [
     0x96a779e4, 0x8fbc48a5, 0xa4911b66, 0xbd8a2a27, 0xf2cbbce0, 0xebd08da1, 0xc0fdde62, 0xd9e6ef23,
     0x14bce1bd, 0x0da7d0fc, 0x268a833f, 0x3f91b27e, 0x70d024b9, 0x69cb15f8, 0x42e6463b, 0x5bfd777a,
     0xdc656bb5, 0xc57e5af4, 0xee530937, 0xf7483876, 0xb809aeb1, 0xa1129ff0, 0x8a3fcc33, 0x9324fd72,
-];
-
-// After three bytes.
-const THREE: [u32; 256] = [
     0x00000000, 0x01c26a37, 0x0384d46e, 0x0246be59, 0x0709a8dc, 0x06cbc2eb, 0x048d7cb2, 0x054f1685,
     0x0e1351b8, 0x0fd13b8f, 0x0d9785d6, 0x0c55efe1, 0x091af964, 0x08d89353, 0x0a9e2d0a, 0x0b5c473d,
     0x1c26a370, 0x1de4c947, 0x1fa2771e, 0x1e601d29, 0x1b2f0bac, 0x1aed619b, 0x18abdfc2, 0x1969b5f5,
@@ -110,10 +102,6 @@ const THREE: [u32; 256] = [
     0xa7f18118, 0xa633eb2f, 0xa4755576, 0xa5b73f41, 0xa0f829c4, 0xa13a43f3, 0xa37cfdaa, 0xa2be979d,
     0xb5c473d0, 0xb40619e7, 0xb640a7be, 0xb782cd89, 0xb2cddb0c, 0xb30fb13b, 0xb1490f62, 0xb08b6555,
     0xbbd72268, 0xba15485f, 0xb853f606, 0xb9919c31, 0xbcde8ab4, 0xbd1ce083, 0xbf5a5eda, 0xbe9834ed,
-];
-
-// After four bytes.
-const FOUR: [u32; 256] = [
     0x00000000, 0xb8bc6765, 0xaa09c88b, 0x12b5afee, 0x8f629757, 0x37def032, 0x256b5fdc, 0x9dd738b9,
     0xc5b428ef, 0x7d084f8a, 0x6fbde064, 0xd7018701, 0x4ad6bfb8, 0xf26ad8dd, 0xe0df7733, 0x58631056,
     0x5019579f, 0xe8a530fa, 0xfa109f14, 0x42acf871, 0xdf7bc0c8, 0x67c7a7ad, 0x75720843, 0xcdce6f26,
@@ -148,8 +136,8 @@ const FOUR: [u32; 256] = [
     0x43d23e48, 0xfb6e592d, 0xe9dbf6c3, 0x516791a6, 0xccb0a91f, 0x740cce7a, 0x66b96194, 0xde0506f1,
 ];
 
-// After thirteen bytes.
-const THIRTEEN: [u32; 256] = [
+// After thirteen bytes, fourteen, fifteen and sixteen.
+static BLOCK: [u32; 1024] = [
     0x00000000, 0xdd96d985, 0x605cb54b, 0xbdca6cce, 0xc0b96a96, 0x1d2fb313, 0xa0e5dfdd, 0x7d730658,
     0x5a03d36d, 0x87950ae8, 0x3a5f6626, 0xe7c9bfa3, 0x9abab9fb, 0x472c607e, 0xfae60cb0, 0x2770d535,
     0xb407a6da, 0x69917f5f, 0xd45b1391, 0x09cdca14, 0x74becc4c, 0xa92815c9, 0x14e27907, 0xc974a082,
@@ -182,10 +170,6 @@ const THIRTEEN: [u32; 256] = [
     0xf49a2c24, 0x290cf5a1, 0x94c6996f, 0x495040ea, 0x342346b2, 0xe9b59f37, 0x547ff3f9, 0x89e92a7c,
     0x1a9e5993, 0xc7088016, 0x7ac2ecd8, 0xa754355d, 0xda273305, 0x07b1ea80, 0xba7b864e, 0x67ed5fcb,
     0x409d8afe, 0x9d0b537b, 0x20c13fb5, 0xfd57e630, 0x8024e068, 0x5db239ed, 0xe0785523, 0x3dee8ca6,
-];
-
-// After fourteen bytes.
-const FOURTEEN: [u32; 256] = [
     0x00000000, 0x9d0fe176, 0xe16ec4ad, 0x7c6125db, 0x19ac8f1b, 0x84a36e6d, 0xf8c24bb6, 0x65cdaac0,
     0x33591e36, 0xae56ff40, 0xd237da9b, 0x4f383bed, 0x2af5912d, 0xb7fa705b, 0xcb9b5580, 0x5694b4f6,
     0x66b23c6c, 0xfbbddd1a, 0x87dcf8c1, 0x1ad319b7, 0x7f1eb377, 0xe2115201, 0x9e7077da, 0x037f96ac,
@@ -218,10 +202,6 @@ const FOURTEEN: [u32; 256] = [
     0x3cf77efd, 0xa1f89f8b, 0xdd99ba50, 0x40965b26, 0x255bf1e6, 0xb8541090, 0xc435354b, 0x593ad43d,
     0x691c5ca7, 0xf413bdd1, 0x8872980a, 0x157d797c, 0x70b0d3bc, 0xedbf32ca, 0x91de1711, 0x0cd1f667,
     0x5a454291, 0xc74aa3e7, 0xbb2b863c, 0x2624674a, 0x43e9cd8a, 0xdee62cfc, 0xa2870927, 0x3f88e851,
-];
-
-// After fifteen bytes.
-const FIFTEEN: [u32; 256] = [
     0x00000000, 0xb9fbdbe8, 0xa886b191, 0x117d6a79, 0x8a7c6563, 0x3387be8b, 0x22fad4f2, 0x9b010f1a,
     0xcf89cc87, 0x7672176f, 0x670f7d16, 0xdef4a6fe, 0x45f5a9e4, 0xfc0e720c, 0xed731875, 0x5488c39d,
     0x44629f4f, 0xfd9944a7, 0xece42ede, 0x551ff536, 0xce1efa2c, 0x77e521c4, 0x66984bbd, 0xdf639055,
@@ -254,10 +234,6 @@ const FIFTEEN: [u32; 256] = [
     0xc33079df, 0x7acba237, 0x6bb6c84e, 0xd24d13a6, 0x494c1cbc, 0xf0b7c754, 0xe1caad2d, 0x583176c5,
     0x48db2a17, 0xf120f1ff, 0xe05d9b86, 0x59a6406e, 0xc2a74f74, 0x7b5c949c, 0x6a21fee5, 0xd3da250d,
     0x8752e690, 0x3ea93d78, 0x2fd45701, 0x962f8ce9, 0x0d2e83f3, 0xb4d5581b, 0xa5a83262, 0x1c53e98a,
-];
-
-// After sixteen bytes.
-const SIXTEEN: [u32; 256] = [
     0x00000000, 0xae689191, 0x87a02563, 0x29c8b4f2, 0xd4314c87, 0x7a59dd16, 0x539169e4, 0xfdf9f875,
     0x73139f4f, 0xdd7b0ede, 0xf4b3ba2c, 0x5adb2bbd, 0xa722d3c8, 0x094a4259, 0x2082f6ab, 0x8eea673a,
     0xe6273e9e, 0x484faf0f, 0x61871bfd, 0xcfef8a6c, 0x32167219, 0x9c7ee388, 0xb5b6577a, 0x1bdec6eb,
@@ -297,7 +273,7 @@ const SIXTEEN: [u32; 256] = [
 pub fn after_one(register: u32) -> u32
     ensures { result ≡ fed_bits 8 (register % 256) 0 }
 {
-    ONE[(register % 256) as usize]
+    WORD[(register % 256) as usize]
 }
 
 /// After two bytes of 0.
@@ -305,7 +281,7 @@ pub fn after_one(register: u32) -> u32
 pub fn after_two(register: u32) -> u32
     ensures { result ≡ fed_bits 16 (register % 256) 0 }
 {
-    TWO[(register % 256) as usize]
+    WORD[(register % 256) as usize + 256]
 }
 
 /// After three bytes of 0.
@@ -313,7 +289,7 @@ pub fn after_two(register: u32) -> u32
 pub fn after_three(register: u32) -> u32
     ensures { result ≡ fed_bits 24 (register % 256) 0 }
 {
-    THREE[(register % 256) as usize]
+    WORD[(register % 256) as usize + 512]
 }
 
 /// After four bytes of 0.
@@ -321,7 +297,7 @@ pub fn after_three(register: u32) -> u32
 pub fn after_four(register: u32) -> u32
     ensures { result ≡ fed_bits 32 (register % 256) 0 }
 {
-    FOUR[(register % 256) as usize]
+    WORD[(register % 256) as usize + 768]
 }
 
 /// After thirteen bytes of 0.
@@ -329,7 +305,7 @@ pub fn after_four(register: u32) -> u32
 pub fn after_thirteen(register: u32) -> u32
     ensures { result ≡ fed_bits 104 (register % 256) 0 }
 {
-    THIRTEEN[(register % 256) as usize]
+    BLOCK[(register % 256) as usize]
 }
 
 /// After fourteen bytes of 0.
@@ -337,7 +313,7 @@ pub fn after_thirteen(register: u32) -> u32
 pub fn after_fourteen(register: u32) -> u32
     ensures { result ≡ fed_bits 112 (register % 256) 0 }
 {
-    FOURTEEN[(register % 256) as usize]
+    BLOCK[(register % 256) as usize + 256]
 }
 
 /// After fifteen bytes of 0.
@@ -345,7 +321,7 @@ pub fn after_fourteen(register: u32) -> u32
 pub fn after_fifteen(register: u32) -> u32
     ensures { result ≡ fed_bits 120 (register % 256) 0 }
 {
-    FIFTEEN[(register % 256) as usize]
+    BLOCK[(register % 256) as usize + 512]
 }
 
 /// After sixteen bytes of 0.
@@ -353,5 +329,5 @@ pub fn after_fifteen(register: u32) -> u32
 pub fn after_sixteen(register: u32) -> u32
     ensures { result ≡ fed_bits 128 (register % 256) 0 }
 {
-    SIXTEEN[(register % 256) as usize]
+    BLOCK[(register % 256) as usize + 768]
 }
