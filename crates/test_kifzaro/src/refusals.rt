@@ -17,39 +17,63 @@ fn asked(alloc: Global) -> Result<Pair, Fail> {
 }
 
 #[test]
-fn a_server_that_was_asked_is_busy(rt: HostRuntime) -> Result<(), Fail> {
+fn a_busy_server_takes_no_packet(rt: HostRuntime) -> Result<(), Fail> {
+    let alloc = rt.alloc();
+    let mut pair = asked(alloc)?;
+    let told = pair.server.handle_packet(alloc, pair.now, b"");
+    holds(told == Err(Error::Busy))?;
+    holds(pair.server.request() == Some(b"ask me!!".as_slice()))
+}
+
+#[test]
+fn a_busy_server_takes_no_tick(rt: HostRuntime) -> Result<(), Fail> {
+    let alloc = rt.alloc();
+    let mut pair = asked(alloc)?;
+    holds(pair.server.tick(alloc, pair.now) == Err(Error::Busy))
+}
+
+#[test]
+fn a_busy_server_takes_no_connection(rt: HostRuntime) -> Result<(), Fail> {
     let alloc = rt.alloc();
     let mut pair = asked(alloc)?;
     let name = SessionName {
         key: KEY_ID,
         session: pair.client.session(),
     };
-    same(
-        pair.server.handle_packet(alloc, pair.now, b""),
-        Err(Error::Busy),
-    )?;
-    same(pair.server.tick(alloc, pair.now), Err(Error::Busy))?;
-    same(pair.server.attach(alloc, name, pair.now), Err(Error::Busy))?;
-    same(pair.server.restart(alloc), Err(Error::Busy))?;
-    same(pair.server.next_request(alloc), Err(Error::Busy))?;
-    holds(pair.server.request() == Some(b"ask me!!".as_slice()))
+    holds(pair.server.attach(alloc, name, pair.now) == Err(Error::Busy))
 }
 
 #[test]
-fn an_answer_is_a_reply_to_what_was_asked(rt: HostRuntime) -> Result<(), Fail> {
+fn a_busy_server_does_not_start_again(rt: HostRuntime) -> Result<(), Fail> {
     let alloc = rt.alloc();
     let mut pair = asked(alloc)?;
-    same(
-        pair.server.answer(alloc, pair.now, b"odd"),
-        Err(Error::BadReply { len: 3 }),
-    )?;
-    holds(pair.server.is_busy())?;
+    holds(pair.server.restart(alloc) == Err(Error::Busy))
+}
+
+#[test]
+fn a_busy_server_is_asked_nothing_more(rt: HostRuntime) -> Result<(), Fail> {
+    let alloc = rt.alloc();
+    let mut pair = asked(alloc)?;
+    holds(pair.server.next_request(alloc) == Err(Error::Busy))
+}
+
+#[test]
+fn an_answer_is_a_reply(rt: HostRuntime) -> Result<(), Fail> {
+    let alloc = rt.alloc();
+    let mut pair = asked(alloc)?;
+    let told = pair.server.answer(alloc, pair.now, b"odd");
+    holds(told == Err(Error::BadReply { len: 3 }))?;
+    holds(pair.server.is_busy())
+}
+
+#[test]
+fn an_answer_is_given_once(rt: HostRuntime) -> Result<(), Fail> {
+    let alloc = rt.alloc();
+    let mut pair = asked(alloc)?;
     pair.server.answer(alloc, pair.now, b"even")?;
     holds(!pair.server.is_busy())?;
-    same(
-        pair.server.answer(alloc, pair.now, b"even"),
-        Err(Error::NotAsked),
-    )
+    let told = pair.server.answer(alloc, pair.now, b"even");
+    holds(told == Err(Error::NotAsked))
 }
 
 #[test]
