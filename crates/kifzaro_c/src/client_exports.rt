@@ -2,22 +2,47 @@
 //! says so.
 
 use crate::client_handle::{ClientHandle, ClientSlot, boxed};
+use crate::seed::seed_of;
 use crate::status;
 use kifzaro::{CallId, CallState, Cause, Client, Error, Moment};
 use std::alloc::Global;
 
-/// The 32 bytes of a seed.
-fn seed_of(seed: &[u8]) -> Option<[u8; 32]> {
-    if seed.len() != 32 {
-        return None;
+/// A client under a permanent key of a key file's text, with a seed of 32 bytes; else the status.
+pub(crate) fn client_under(
+    alloc: Global,
+    keys: &[u8],
+    key: u64,
+    seed: &[u8],
+) -> Result<Client, u32> {
+    let Some(seed) = seed_of(seed) else {
+        return Err(status::BAD_SEED);
+    };
+    match Client::new(alloc, keys, key, &seed) {
+        Ok(client) => Ok(client),
+        Err(error) => Err(status::of(error)),
     }
-    let mut bytes = [0; 32];
-    bytes.copy_from_slice(seed);
-    Some(bytes)
+}
+
+/// A client under a temporary key, which is to be bound to a permanent one up to a moment; else the status.
+pub(crate) fn client_under_temp(
+    alloc: Global,
+    keys: &[u8],
+    temp: u64,
+    perm: u64,
+    expires: u64,
+    seed: &[u8],
+) -> Result<Client, u32> {
+    let Some(seed) = seed_of(seed) else {
+        return Err(status::BAD_SEED);
+    };
+    match Client::new_temp(alloc, keys, temp, perm, Moment::new(expires), &seed) {
+        Ok(client) => Ok(client),
+        Err(error) => Err(status::of(error)),
+    }
 }
 
 // A client in a box of its own, where there is one.
-fn boxes(alloc: Global, made: Result<Client, Error>, out: &mut *mut u8) -> u32 {
+fn boxes(alloc: Global, made: Result<Client, u32>, out: &mut *mut u8) -> u32 {
     match made {
         Ok(client) => match boxed(alloc, client) {
             Ok(at) => {
@@ -26,7 +51,7 @@ fn boxes(alloc: Global, made: Result<Client, Error>, out: &mut *mut u8) -> u32 {
             }
             Err(_) => status::MEMORY,
         },
-        Err(error) => status::of(error),
+        Err(told) => told,
     }
 }
 
@@ -39,10 +64,7 @@ pub extern "C" fn kfr_client_new(
     seed: &[u8],
     out: &mut *mut u8,
 ) -> u32 {
-    match seed_of(seed) {
-        Some(seed) => boxes(alloc, Client::new(alloc, keys, key, &seed), out),
-        None => status::BAD_SEED,
-    }
+    boxes(alloc, client_under(alloc, keys, key, seed), out)
 }
 
 /// A client under the temporary key `temp`, which is to be bound to the permanent key `perm` up to a moment.
@@ -56,17 +78,11 @@ pub extern "C" fn kfr_client_new_temp(
     seed: &[u8],
     out: &mut *mut u8,
 ) -> u32 {
-    match seed_of(seed) {
-        Some(seed) => {
-            let expires = Moment::new(expires);
-            boxes(
-                alloc,
-                Client::new_temp(alloc, keys, temp, perm, expires, &seed),
-                out,
-            )
-        }
-        None => status::BAD_SEED,
-    }
+    boxes(
+        alloc,
+        client_under_temp(alloc, keys, temp, perm, expires, seed),
+        out,
+    )
 }
 
 /// Frees a client. Its handle isn't used again.
@@ -85,20 +101,9 @@ fn submit(alloc: Global, client: &mut Client, body: &[u8], after: u64) -> Result
 }
 
 /// What is due at a moment goes into the room, and how many bytes it has.
-fn poll(alloc: Global, client: &mut Client, now: u64, room: &mut [u8]) -> Result<u64, Error> {
+fn poll(alloc: Global, client: &mut Client, now: u64, room: &mut [u8]) -> Result<usize, Error> {
     client.prepare_transmit(alloc, Moment::new(now))?;
-    match client.take_transmit(room)? {
-        Some(len) => Ok(len as u64),
-        None => Ok(0),
-    }
-}
-
-fn tell_poll(alloc: Global, client: &mut Client, now: u64, room: &mut [u8], len: &mut u64) -> u32 {
-    let told = poll(alloc, client, now, room);
-    if let Err(Error::TooShort { needed }) = told {
-        *len = needed as u64;
-    }
-    status::tell(told, len)
+    Ok(client.take_transmit(room)?.unwrap_or(0))
 }
 
 /// A number for what became of a call, and a code: that of a refusal, or why it is unknown.
@@ -123,20 +128,6 @@ fn tell_state(client: &Client, call: u64, state: &mut u32, code: &mut u32) -> u3
             *state = numbers.0;
             *code = numbers.1;
             status::OK
-        }
-        Err(error) => status::of(error),
-    }
-}
-
-fn tell_reply(client: &Client, call: u64, room: &mut [u8], len: &mut u64) -> u32 {
-    match client.take_reply(CallId { n: call }, room) {
-        Ok(count) => {
-            *len = count as u64;
-            status::OK
-        }
-        Err(Error::TooShort { needed }) => {
-            *len = needed as u64;
-            status::TOO_SHORT
         }
         Err(error) => status::of(error),
     }
@@ -183,7 +174,7 @@ pub extern "C" fn kfr_client_attach(alloc: Global, handle: &mut ClientHandle) ->
     told
 }
 
-/// A packet came at a moment.
+/// A packet came at a moment. A status `REFUSED_..`: it doesn't open, and only the moment counts.
 #[unsafe(no_mangle)]
 pub extern "C" fn kfr_client_handle_packet(
     alloc: Global,
@@ -219,7 +210,7 @@ pub extern "C" fn kfr_client_poll_transmit(
         return status::MEMORY;
     };
     let told = match slot.as_mut() {
-        ClientSlot::Here(client) => tell_poll(alloc, client, now, room, len),
+        ClientSlot::Here(client) => status::told_len(poll(alloc, client, now, room), len),
         ClientSlot::Away => status::NO_HANDLE,
     };
     handle.put(slot);
@@ -351,7 +342,10 @@ pub extern "C" fn kfr_client_take_reply(
         return status::MEMORY;
     };
     let told = match slot.as_mut() {
-        ClientSlot::Here(client) => tell_reply(client, call, room, len),
+        ClientSlot::Here(client) => status::told_len(
+            client.take_reply(CallId { n: call }, room),
+            len,
+        ),
         ClientSlot::Away => status::NO_HANDLE,
     };
     handle.put(slot);

@@ -1,10 +1,11 @@
 //! The handle of a client.
 
 ghost use Rattle.std.specs.Box.Ownership.{box_owns};
-ghost use Rattle.std.specs.Prelude.{◌≡◌};
+ghost use Rattle.std.specs.Prelude.{◌≡◌, IfOk, OnErr, OnOk};
 ghost use Rattle.std.specs.contracts.impls.GlobalAllocator.TheImpl.{ghosts};
 ghost use Rattle.kifzaro_c.specs.contracts.client_handle.ClientSlot.{the_row};
 ghost use Rattle.kifzaro_c.specs.declared.client_handle.ClientSlot.{ClientSlot as Inside};
+ghost use Rattle.kifzaro_c.specs.declared.client_handle.ClientSlot.TheVariants as slots;
 
 use crate::loose::Loose;
 use kifzaro::Client;
@@ -65,17 +66,24 @@ impl ClientHandle {
         self.into_loose().into_box()
     }
 
-    /// The box out of the handle: an empty one is in its place until `put`.
-    pub(crate) fn take(
-        &mut self,
-        alloc: Global,
-    ) -> Result<Box<ClientSlot>, AllocFailed<ClientSlot>> {
+    /// The box out of the handle: one with nothing is in its place until `put`.
+    ///
+    /// # Errors
+    ///
+    /// Where there is no memory, and the handle is as it was.
+    pub(crate) fn take(&mut self, alloc: Global) -> Result<Box<ClientSlot>, AllocFailed<ClientSlot>>
+        ensures taken { IfOk result (λ slot. slot.value ≡ self.old.value) }
+        ensures away { OnOk result (self.new.value ≡ slots.Away) }
+        ensures unchanged { OnErr result (self.new ≡ self.old) }
+    {
         let spare = Box::new(alloc, ClientSlot::Away)?;
         Ok(mem::replace(self, ClientHandle::of(spare)).into_box())
     }
 
-    /// It is back.
-    pub(crate) fn put(&mut self, slot: Box<ClientSlot>) {
+    /// The box is back in the handle.
+    pub(crate) fn put(&mut self, slot: Box<ClientSlot>)
+        ensures { self.new.value ≡ slot.value }
+    {
         let spare = mem::replace(self, ClientHandle::of(slot)).into_box();
         drop(spare);
     }

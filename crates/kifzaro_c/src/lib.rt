@@ -7,6 +7,9 @@
 mod client_exports;
 mod client_handle;
 mod loose;
+#[cfg(test)]
+mod refused;
+mod seed;
 mod server_exports;
 mod server_handle;
 mod status;

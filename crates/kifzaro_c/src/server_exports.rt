@@ -1,19 +1,21 @@
 //! What C calls of a server. Numbers go out through references, which are written only where the status is `OK` or the comment
 //! says so.
 
+use crate::seed::seed_of;
 use crate::server_handle::{ServerHandle, ServerSlot, boxed};
 use crate::status;
 use kifzaro::{Error, Moment, Server, SessionName};
 use std::alloc::Global;
 
-/// The 32 bytes of a seed.
-fn seed_of(seed: &[u8]) -> Option<[u8; 32]> {
-    if seed.len() != 32 {
-        return None;
+/// A server with the keys of a key file's text, with a seed of 32 bytes; else the status.
+pub(crate) fn server_with(alloc: Global, keys: &[u8], seed: &[u8]) -> Result<Server, u32> {
+    let Some(seed) = seed_of(seed) else {
+        return Err(status::BAD_SEED);
+    };
+    match Server::new(alloc, keys, &seed) {
+        Ok(server) => Ok(server),
+        Err(error) => Err(status::of(error)),
     }
-    let mut bytes = [0; 32];
-    bytes.copy_from_slice(seed);
-    Some(bytes)
 }
 
 /// A server with the keys of a key file's text, and a seed of 32 bytes. `out` becomes its handle.
@@ -24,10 +26,7 @@ pub extern "C" fn kfr_server_new(
     seed: &[u8],
     out: &mut *mut u8,
 ) -> u32 {
-    let Some(seed) = seed_of(seed) else {
-        return status::BAD_SEED;
-    };
-    match Server::new(alloc, keys, &seed) {
+    match server_with(alloc, keys, seed) {
         Ok(server) => match boxed(alloc, server) {
             Ok(at) => {
                 *out = at;
@@ -35,7 +34,7 @@ pub extern "C" fn kfr_server_new(
             }
             Err(_) => status::MEMORY,
         },
-        Err(error) => status::of(error),
+        Err(told) => told,
     }
 }
 
@@ -75,19 +74,25 @@ fn tell_out(
     let Some(name) = server.next_transmit() else {
         return status::OK;
     };
-    match server.take_transmit(alloc, room) {
-        Ok(Some(count)) => {
-            *key = name.key;
-            *session = name.session;
-            *len = count as u64;
-            status::OK
-        }
-        Ok(None) => status::OK,
-        Err(Error::TooShort { needed }) => {
-            *len = needed as u64;
-            status::TOO_SHORT
-        }
-        Err(error) => status::of(error),
+    let told = status::told_len(given(server.take_transmit(alloc, room)), len);
+    if told == status::OK {
+        *key = name.key;
+        *session = name.session;
+    }
+    told
+}
+
+// The length of what was handed out, which is 0 where nothing was.
+fn given(handed: Result<Option<usize>, Error>) -> Result<usize, Error> {
+    Ok(handed?.unwrap_or(0))
+}
+
+// The request that waits for its answer, or the next one, which waits from then on. Whether there is one.
+fn ask(alloc: Global, server: &mut Server) -> Result<bool, Error> {
+    if server.is_busy() {
+        Ok(true)
+    } else {
+        server.next_request(alloc)
     }
 }
 
@@ -98,7 +103,7 @@ fn tell_request(
     room: &mut [u8],
     len: &mut u64,
 ) -> u32 {
-    match server.next_request(alloc) {
+    match ask(alloc, server) {
         Ok(true) => {
             *there = 1;
             status::told_len(server.copy_request(room), len)
@@ -208,7 +213,8 @@ pub extern "C" fn kfr_server_ready(
     told
 }
 
-/// The next ready request goes into the room: `there` is 1 and `len` its length, or 0 where none is ready. `TOO_SHORT`: `len` is what it needs, and it may be asked for again.
+/// The next ready request, or the one that waits for its answer, goes into the room: `there` is 1 and `len` its length, or both are 0
+/// where none is ready. `TOO_SHORT`: `there` is 1, `len` is what it needs, and it waits for its answer.
 #[unsafe(no_mangle)]
 pub extern "C" fn kfr_server_next_request(
     alloc: Global,

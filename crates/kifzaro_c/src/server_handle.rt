@@ -1,10 +1,11 @@
 //! The handle of a server.
 
 ghost use Rattle.std.specs.Box.Ownership.{box_owns};
-ghost use Rattle.std.specs.Prelude.{◌≡◌};
+ghost use Rattle.std.specs.Prelude.{◌≡◌, IfOk, OnErr, OnOk};
 ghost use Rattle.std.specs.contracts.impls.GlobalAllocator.TheImpl.{ghosts};
 ghost use Rattle.kifzaro_c.specs.contracts.server_handle.ServerSlot.{the_row};
 ghost use Rattle.kifzaro_c.specs.declared.server_handle.ServerSlot.{ServerSlot as Inside};
+ghost use Rattle.kifzaro_c.specs.declared.server_handle.ServerSlot.TheVariants as slots;
 
 use crate::loose::Loose;
 use kifzaro::Server;
@@ -65,17 +66,24 @@ impl ServerHandle {
         self.into_loose().into_box()
     }
 
-    /// The box out of the handle: an empty one is in its place until `put`.
-    pub(crate) fn take(
-        &mut self,
-        alloc: Global,
-    ) -> Result<Box<ServerSlot>, AllocFailed<ServerSlot>> {
+    /// The box out of the handle: one with nothing is in its place until `put`.
+    ///
+    /// # Errors
+    ///
+    /// Where there is no memory, and the handle is as it was.
+    pub(crate) fn take(&mut self, alloc: Global) -> Result<Box<ServerSlot>, AllocFailed<ServerSlot>>
+        ensures taken { IfOk result (λ slot. slot.value ≡ self.old.value) }
+        ensures away { OnOk result (self.new.value ≡ slots.Away) }
+        ensures unchanged { OnErr result (self.new ≡ self.old) }
+    {
         let spare = Box::new(alloc, ServerSlot::Away)?;
         Ok(mem::replace(self, ServerHandle::of(spare)).into_box())
     }
 
-    /// It is back.
-    pub(crate) fn put(&mut self, slot: Box<ServerSlot>) {
+    /// The box is back in the handle.
+    pub(crate) fn put(&mut self, slot: Box<ServerSlot>)
+        ensures { self.new.value ≡ slot.value }
+    {
         let spare = mem::replace(self, ServerHandle::of(slot)).into_box();
         drop(spare);
     }

@@ -1,31 +1,32 @@
-//! A call from its submission to its reply, by the functions that C calls.
+//! Calls from their submission to their replies, by the functions that C calls.
 
 use crate::client_exports::{
-    kfr_client_ask_salts, kfr_client_attach, kfr_client_counts, kfr_client_drop_answer,
-    kfr_client_end, kfr_client_free, kfr_client_handle_packet, kfr_client_new, kfr_client_new_temp,
-    kfr_client_ping, kfr_client_poll_transmit, kfr_client_renew, kfr_client_state,
-    kfr_client_submit, kfr_client_take_reply, kfr_client_tick,
+    kfr_client_attach, kfr_client_counts, kfr_client_free, kfr_client_handle_packet,
+    kfr_client_poll_transmit, kfr_client_state, kfr_client_submit, kfr_client_take_reply,
 };
 use crate::client_handle::{ClientHandle, ClientSlot};
 use crate::server_exports::{
     kfr_server_answer, kfr_server_attach, kfr_server_free, kfr_server_handle_packet,
-    kfr_server_new, kfr_server_next_request, kfr_server_poll_transmit, kfr_server_ready,
-    kfr_server_restart, kfr_server_tick,
+    kfr_server_next_request, kfr_server_poll_transmit, kfr_server_ready, kfr_server_restart,
+    kfr_server_tick,
 };
 use crate::server_handle::{ServerHandle, ServerSlot};
 use kifzaro::{Client, Server};
 use std::alloc::Global;
-use std::ptr;
 use std::test::Fail;
+use test_asserts::{holds, same};
 use test_keys::{KEY_ID, line};
 
-/// Handles of a client and a server that share a key.
-struct Pair {
-    client: ClientHandle,
-    server: ServerHandle,
+/// A moment.
+pub(crate) const NOW: u64 = 1_000_000;
+
+/// Handles of a client and a server that share a key. They are freed before anything is asserted.
+pub(crate) struct Pair {
+    pub(crate) client: ClientHandle,
+    pub(crate) server: ServerHandle,
 }
 
-fn make_pair(alloc: Global) -> Result<Pair, Fail> {
+pub(crate) fn make_pair(alloc: Global) -> Result<Pair, Fail> {
     let keys = line(alloc, "perm")?;
     let client = Client::new(alloc, keys.as_bytes(), KEY_ID, &[1; 32])?;
     let server = Server::new(alloc, keys.as_bytes(), &[2; 32])?;
@@ -37,24 +38,30 @@ fn make_pair(alloc: Global) -> Result<Pair, Fail> {
     })
 }
 
-fn goes_up(alloc: Global, pair: &mut Pair, room: &mut [u8]) -> u32 {
-    let (mut len, mut key, mut session) = (0, 0, 0);
-    let told = kfr_client_poll_transmit(alloc, &mut pair.client, 1_000_000, room, &mut len);
-    if told != 0 || len == 0 || len > room.len() as u64 {
-        return told;
-    }
-    let packet = &room[..len as usize];
-    kfr_server_handle_packet(
-        alloc,
-        &mut pair.server,
-        1_000_000,
-        packet,
-        &mut key,
-        &mut session,
-    )
+pub(crate) fn free(pair: Pair) {
+    let Pair { client, server } = pair;
+    kfr_client_free(client);
+    kfr_server_free(server);
 }
 
-fn comes_down(alloc: Global, pair: &mut Pair, room: &mut [u8]) -> u32 {
+/// What the client sends next, and its status: nothing where that isn't 0.
+pub(crate) fn sent<'a>(alloc: Global, pair: &mut Pair, room: &'a mut [u8]) -> (u32, &'a [u8]) {
+    let mut len = 0;
+    let told = kfr_client_poll_transmit(alloc, &mut pair.client, NOW, room, &mut len);
+    if told != 0 || len > room.len() as u64 {
+        return (told, &[]);
+    }
+    (told, &room[..len as usize])
+}
+
+/// A packet reaches the server.
+pub(crate) fn goes_up(alloc: Global, pair: &mut Pair, packet: &[u8]) -> u32 {
+    let (mut key, mut session) = (0, 0);
+    kfr_server_handle_packet(alloc, &mut pair.server, NOW, packet, &mut key, &mut session)
+}
+
+// The next packet of the server reaches the client, if there is one.
+pub(crate) fn comes_down(alloc: Global, pair: &mut Pair, room: &mut [u8]) -> u32 {
     let (mut len, mut key, mut session) = (0, 0, 0);
     let told = kfr_server_poll_transmit(
         alloc,
@@ -67,84 +74,98 @@ fn comes_down(alloc: Global, pair: &mut Pair, room: &mut [u8]) -> u32 {
     if told != 0 || len == 0 || len > room.len() as u64 {
         return told;
     }
-    let packet = &room[..len as usize];
-    kfr_client_handle_packet(alloc, &mut pair.client, 1_000_000, packet)
+    kfr_client_handle_packet(alloc, &mut pair.client, NOW, &room[..len as usize])
 }
 
-fn turn(alloc: Global, pair: &mut Pair, room: &mut [u8]) -> u32 {
+// A request that is ready is answered; whether there was one, and 9 where something failed.
+fn answers(alloc: Global, pair: &mut Pair, room: &mut [u8]) -> u32 {
     let (mut there, mut len) = (0, 0);
-    let told = goes_up(alloc, pair, room);
-    if told != 0 {
-        return told;
-    }
     let told = kfr_server_next_request(alloc, &mut pair.server, &mut there, room, &mut len);
-    if told == 0 && there == 1 {
-        let answered = kfr_server_answer(alloc, &mut pair.server, 1_000_000, b"answered");
-        if answered != 0 {
-            return answered;
+    if told != 0 || there == 1 && len != 8 {
+        return 9;
+    }
+    if there == 1 && kfr_server_answer(alloc, &mut pair.server, NOW, b"answered") != 0 {
+        return 9;
+    }
+    there
+}
+
+/// The client's next packet reaches the server `times` times, what is ready is answered each time, and what the server sends
+/// reaches the client. How many requests there were, and 9 or more where something failed.
+fn turn(alloc: Global, pair: &mut Pair, times: u32, room: &mut [u8], more: &mut [u8]) -> u32 {
+    let mut asked = 0;
+    let (told, packet) = sent(alloc, pair, room);
+    if told != 0 {
+        return 9;
+    }
+    for _ in 0..times {
+        if !packet.is_empty() && goes_up(alloc, pair, packet) != 0 {
+            return 9;
+        }
+        asked = answers(alloc, pair, more).min(9) + asked % 100;
+        for _ in 0..3 {
+            if comes_down(alloc, pair, more) != 0 {
+                return 9;
+            }
         }
     }
-    for _ in 0..3 {
-        let told = comes_down(alloc, pair, room);
-        if told != 0 {
-            return told;
-        }
+    asked
+}
+
+/// A call is submitted and runs through turns in which each packet comes so many times; how many requests there were.
+fn talk(alloc: Global, pair: &mut Pair, times: u32, call: &mut u64) -> Result<u32, Fail> {
+    let mut room = Vec::from_elem(alloc, 0u8, 4096)?;
+    let mut more = Vec::from_elem(alloc, 0u8, 4096)?;
+    if kfr_client_submit(alloc, &mut pair.client, b"ask me!!", 0, call) != 0 {
+        return Ok(9);
     }
-    told
+    let mut asked = kfr_client_attach(alloc, &mut pair.client);
+    for _ in 0..5 {
+        asked = turn(alloc, pair, times, &mut room[..], &mut more[..]).min(9) + asked % 100;
+    }
+    Ok(asked)
+}
+
+/// What is known of a call, the higher status, and how long its reply is.
+fn known(alloc: Global, pair: &mut Pair, call: u64, room: &mut [u8]) -> (u32, u32, u64) {
+    let (mut state, mut code, mut len) = (9, 9, 9);
+    let stated = kfr_client_state(alloc, &mut pair.client, call, &mut state, &mut code);
+    let taken = kfr_client_take_reply(alloc, &mut pair.client, call, room, &mut len);
+    (state, stated.max(taken), len)
 }
 
 #[test]
 fn a_call_comes_to_its_reply(rt: HostRuntime) -> Result<(), Fail> {
     let alloc = rt.alloc();
-    let mut room = Vec::from_elem(alloc, 0u8, 4096)?;
+    let (mut call, mut room) = (0, [0; 8]);
     let mut pair = make_pair(alloc)?;
-    let (mut call, mut state, mut code, mut len, mut ready) = (0, 9, 9, 0, 9);
-    let submitted = kfr_client_submit(alloc, &mut pair.client, b"ask me!!", 0, &mut call);
-    let attached = kfr_client_attach(alloc, &mut pair.client);
-    let mut told = 0;
-    for _ in 0..5 {
-        told += turn(alloc, &mut pair, &mut room[..]).min(100);
-    }
-    let stated = kfr_client_state(alloc, &mut pair.client, call, &mut state, &mut code);
-    let taken = kfr_client_take_reply(alloc, &mut pair.client, call, &mut room[..], &mut len);
-    let counted = kfr_server_ready(alloc, &mut pair.server, &mut ready);
-    let Pair { client, server } = pair;
-    kfr_client_free(client);
-    kfr_server_free(server);
-    let statuses = [submitted, attached, told, stated, taken, counted];
-    assert_eq!(rt; statuses.as_slice(), [0, 0, 0, 0, 0, 0].as_slice());
-    assert_eq!(rt; (state, code, len, ready), (3, 0, 8, 0));
-    assert!(rt; room.starts_with(b"answered"));
-    Ok(())
+    let asked = talk(alloc, &mut pair, 1, &mut call);
+    let known = known(alloc, &mut pair, call, &mut room);
+    free(pair);
+    same(asked?, 1)?;
+    same(known, (3, 0, 8))?;
+    holds(call == 1 && room == *b"answered")
 }
 
 #[test]
-fn what_has_no_keys_is_refused(rt: HostRuntime) -> Result<(), Fail> {
+fn packets_that_come_twice_run_once(rt: HostRuntime) -> Result<(), Fail> {
     let alloc = rt.alloc();
-    let mut at = ptr::null_mut();
-    let statuses = [
-        kfr_client_new(alloc, b"no keys", 1, &[1; 32], &mut at),
-        kfr_client_new(alloc, b"", 1, &[1; 31], &mut at),
-        kfr_client_new(alloc, b"", 1, &[1; 32], &mut at),
-        kfr_client_new_temp(alloc, b"", 1, 2, 3, &[1; 32], &mut at),
-        kfr_server_new(alloc, b"no keys", &[1; 32], &mut at),
-    ];
-    assert_eq!(rt; statuses.as_slice(), [5, 7, 6, 6, 5].as_slice());
-    Ok(())
+    let (mut call, mut room) = (0, [0; 8]);
+    let mut pair = make_pair(alloc)?;
+    let asked = talk(alloc, &mut pair, 2, &mut call);
+    let known = known(alloc, &mut pair, call, &mut room);
+    free(pair);
+    same(asked?, 1)?;
+    same(known, (3, 0, 8))
 }
 
 #[test]
-fn a_client_that_is_not_open(rt: HostRuntime) -> Result<(), Fail> {
+fn what_is_counted(rt: HostRuntime) -> Result<(), Fail> {
     let alloc = rt.alloc();
+    let (mut call, mut session, mut calls, mut decided, mut ready) = (0, 0, 9, 9, 9);
     let mut pair = make_pair(alloc)?;
-    let (mut session, mut calls, mut decided) = (0, 9, 9);
+    let asked = talk(alloc, &mut pair, 1, &mut call);
     let statuses = [
-        kfr_client_renew(alloc, &mut pair.client),
-        kfr_client_end(alloc, &mut pair.client),
-        kfr_client_tick(alloc, &mut pair.client),
-        kfr_client_ping(alloc, &mut pair.client, 1),
-        kfr_client_ask_salts(alloc, &mut pair.client, 1),
-        kfr_client_drop_answer(alloc, &mut pair.client, 1),
         kfr_client_counts(
             alloc,
             &mut pair.client,
@@ -152,17 +173,13 @@ fn a_client_that_is_not_open(rt: HostRuntime) -> Result<(), Fail> {
             &mut calls,
             &mut decided,
         ),
-        kfr_server_tick(alloc, &mut pair.server, 1_000_000),
-        kfr_server_attach(alloc, &mut pair.server, KEY_ID, session, 1_000_000),
+        kfr_server_ready(alloc, &mut pair.server, &mut ready),
+        kfr_server_tick(alloc, &mut pair.server, NOW),
+        kfr_server_attach(alloc, &mut pair.server, KEY_ID, session, NOW),
         kfr_server_restart(alloc, &mut pair.server),
     ];
-    let Pair { client, server } = pair;
-    kfr_client_free(client);
-    kfr_server_free(server);
-    assert_eq!(rt;
-        statuses.as_slice(),
-        [12, 12, 12, 12, 12, 12, 0, 0, 0, 0].as_slice()
-    );
-    assert_eq!(rt; (calls, decided), (0, 1));
-    Ok(())
+    free(pair);
+    same(asked?, 1)?;
+    same(statuses, [0; 5])?;
+    same((calls, decided, ready), (1, 1, 0))
 }

@@ -23,7 +23,7 @@ use Rattle.std.proofs.alloc.Global.TheLaws as heap_laws
 use Rattle.std.specs.contracts.impls.GlobalAllocator.TheImpl.{ghosts}
 use Rattle.kifzaro_c.specs.contracts.client_handle.ClientSlot as inside
 use Rattle.kifzaro_c.proofs.Values.{both, Loose, loose_good, loose_out}
-use Rattle.kifzaro_c.proofs.ClientValues.{Hd, handle_in}
+use Rattle.kifzaro_c.proofs.ClientValues.{handle_in}
 use Rattle.kifzaro_c.specs.contracts.client_handle.ClientHandle.of_loose.{ended, clauses}
 use Rattle.kifzaro_c.specs.contracts.client_handle.ClientHandle.of_loose.Key.{name as #self}
 use Rattle.kifzaro_c.proofs.client_handle.ClientHandle.of_loose.Statement.{statement}

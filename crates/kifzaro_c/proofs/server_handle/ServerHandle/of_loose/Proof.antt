@@ -23,7 +23,7 @@ use Rattle.std.proofs.alloc.Global.TheLaws as heap_laws
 use Rattle.std.specs.contracts.impls.GlobalAllocator.TheImpl.{ghosts}
 use Rattle.kifzaro_c.specs.contracts.server_handle.ServerSlot as inside
 use Rattle.kifzaro_c.proofs.Values.{both, Loose, loose_good, loose_out}
-use Rattle.kifzaro_c.proofs.ServerValues.{Hd, handle_in}
+use Rattle.kifzaro_c.proofs.ServerValues.{handle_in}
 use Rattle.kifzaro_c.specs.contracts.server_handle.ServerHandle.of_loose.{ended, clauses}
 use Rattle.kifzaro_c.specs.contracts.server_handle.ServerHandle.of_loose.Key.{name as #self}
 use Rattle.kifzaro_c.proofs.server_handle.ServerHandle.of_loose.Statement.{statement}
