@@ -1,8 +1,12 @@
-/* What stands in front of the proved functions: it tests that no pointer is NULL and that a handle is of its kind, which no
- * contract of theirs can test. It keeps nothing. */
+/* What stands in front of the functions of crates/kifzaro_c. It tests what none of them can: that no pointer is NULL, that a length is one
+ * that bytes may have, and that a handle is of its kind. It writes for the caller where the comment of a function says so, and keeps
+ * nothing. */
 #include "kifzaro.h"
 
 #define VERSION "0.1"
+#ifndef KF_BUILD
+#define KF_BUILD "unknown"
+#endif
 
 /* The kinds of handles: what stands in `kind` of one that is alive. */
 static const uint64_t CLIENT = 0x6b66636c69656e74u, SERVER = 0x6b66736572766572u;
@@ -10,7 +14,7 @@ static const uint64_t CLIENT = 0x6b66636c69656e74u, SERVER = 0x6b66736572766572u
 /* A slice of no bytes has to point somewhere. */
 static uint8_t nothing[1];
 
-/* The proved functions (crates/kifzaro_c). A handle is passed by its address, which is that of the pointer in it. */
+/* The functions of crates/kifzaro_c. A handle is passed by its address, which is that of the pointer in it. */
 typedef struct { void *at; } raw;
 uint32_t kfr_client_new(const uint8_t *, size_t, uint64_t, const uint8_t *, size_t, void **);
 uint32_t kfr_client_new_temp(const uint8_t *, size_t, uint64_t, uint64_t, uint64_t, const uint8_t *, size_t, void **);
@@ -42,10 +46,11 @@ uint32_t kfr_server_poll_transmit(raw *, uint64_t *, uint64_t *, uint8_t *, size
 /* Leaves the function where a handle isn't one of this kind, or a pointer is NULL. */
 #define NEEDS(handle, its) do { if (!(handle)) return KF_NULL; if ((handle)->kind != (its) || !(handle)->at) return KF_NO_HANDLE; } while (0)
 #define THERE(pointer) do { if (!(pointer)) return KF_NULL; } while (0)
-#define BYTES(pointer, len) do { if (!(pointer) && (len)) return KF_NULL; if (!(pointer)) (pointer) = nothing; } while (0)
+#define BYTES(pointer, len) do { if (!(pointer) && (len)) return KF_NULL; if ((len) > PTRDIFF_MAX) return KF_BAD_LENGTH; if (!(pointer)) (pointer) = nothing; } while (0)
 #define RAW(handle) ((raw *)&(handle)->at)
 
 const char *kf_version(void) { return VERSION; }
+const char *kf_build(void) { return KF_BUILD; }
 
 const char *kf_status_text(kf_status status)
 {
@@ -56,6 +61,7 @@ const char *kf_status_text(kf_status status)
         "a request waits for its answer", "no request was handed out", "a reply is whole words and not too long",
         "the packet is refused: its size", "the packet is refused: no good key has its identifier",
         "the packet is refused: its message key", "the packet is refused: the length of its body", "the packet is refused: its padding",
+        "no bytes have such a length",
     };
     return (size_t)status < sizeof texts / sizeof *texts ? texts[status] : "no status";
 }
@@ -95,8 +101,11 @@ void kf_client_free(kf_client *client)
 
 kf_status kf_client_submit(kf_client *client, const uint8_t *body, size_t len, uint64_t after, uint64_t *call)
 {
+    uint64_t number = 0;
     NEEDS(client, CLIENT); THERE(call); BYTES(body, len);
-    return (kf_status)kfr_client_submit(RAW(client), body, len, after, call);
+    uint32_t told = kfr_client_submit(RAW(client), body, len, after, &number);
+    if (told == KF_OK) *call = number;
+    return (kf_status)told;
 }
 
 kf_status kf_client_attach(kf_client *client) { NEEDS(client, CLIENT); return (kf_status)kfr_client_attach(RAW(client)); }
@@ -125,8 +134,11 @@ kf_status kf_client_drop_answer(kf_client *client, uint64_t call) { NEEDS(client
 
 kf_status kf_client_state(kf_client *client, uint64_t call, uint32_t *state, uint32_t *code)
 {
+    uint32_t found = 0, its = 0;
     NEEDS(client, CLIENT); THERE(state); THERE(code);
-    return (kf_status)kfr_client_state(RAW(client), call, state, code);
+    uint32_t told = kfr_client_state(RAW(client), call, &found, &its);
+    if (told == KF_OK) { *state = found; *code = its; }
+    return (kf_status)told;
 }
 
 kf_status kf_client_take_reply(kf_client *client, uint64_t call, uint8_t *room, size_t room_len, size_t *len)
@@ -140,7 +152,7 @@ kf_status kf_client_take_reply(kf_client *client, uint64_t call, uint8_t *room, 
 
 kf_status kf_client_calls_decided(kf_client *client, int *decided)
 {
-    uint64_t session; uint32_t calls, all;
+    uint64_t session = 0; uint32_t calls = 0, all = 0;
     NEEDS(client, CLIENT); THERE(decided);
     uint32_t told = kfr_client_counts(RAW(client), &session, &calls, &all);
     if (told == KF_OK) *decided = (int)all;
@@ -149,9 +161,11 @@ kf_status kf_client_calls_decided(kf_client *client, int *decided)
 
 kf_status kf_client_session(kf_client *client, uint64_t *session)
 {
-    uint32_t calls, all;
+    uint64_t number = 0; uint32_t calls = 0, all = 0;
     NEEDS(client, CLIENT); THERE(session);
-    return (kf_status)kfr_client_counts(RAW(client), session, &calls, &all);
+    uint32_t told = kfr_client_counts(RAW(client), &number, &calls, &all);
+    if (told == KF_OK) *session = number;
+    return (kf_status)told;
 }
 
 /* ---- a server ---- */
@@ -175,8 +189,11 @@ void kf_server_free(kf_server *server)
 
 kf_status kf_server_handle_packet(kf_server *server, uint64_t now, const uint8_t *packet, size_t len, uint64_t *key, uint64_t *session)
 {
+    uint64_t its_key = 0, its_session = 0;
     NEEDS(server, SERVER); THERE(key); THERE(session); BYTES(packet, len);
-    return (kf_status)kfr_server_handle_packet(RAW(server), now, packet, len, key, session);
+    uint32_t told = kfr_server_handle_packet(RAW(server), now, packet, len, &its_key, &its_session);
+    if (told == KF_OK) { *key = its_key; *session = its_session; }
+    return (kf_status)told;
 }
 
 kf_status kf_server_tick(kf_server *server, uint64_t now) { NEEDS(server, SERVER); return (kf_status)kfr_server_tick(RAW(server), now); }
@@ -191,8 +208,11 @@ kf_status kf_server_restart(kf_server *server) { NEEDS(server, SERVER); return (
 
 kf_status kf_server_ready(kf_server *server, uint64_t *ready)
 {
+    uint64_t count = 0;
     NEEDS(server, SERVER); THERE(ready);
-    return (kf_status)kfr_server_ready(RAW(server), ready);
+    uint32_t told = kfr_server_ready(RAW(server), &count);
+    if (told == KF_OK) *ready = count;
+    return (kf_status)told;
 }
 
 kf_status kf_server_next_request(kf_server *server, int *there, uint8_t *room, size_t room_len, size_t *len)
@@ -212,9 +232,10 @@ kf_status kf_server_answer(kf_server *server, uint64_t now, const uint8_t *reply
 
 kf_status kf_server_poll_transmit(kf_server *server, uint64_t *key, uint64_t *session, uint8_t *room, size_t room_len, size_t *len)
 {
-    uint64_t count = 0;
+    uint64_t count = 0, its_key = 0, its_session = 0;
     NEEDS(server, SERVER); THERE(key); THERE(session); THERE(len); BYTES(room, room_len);
-    uint32_t told = kfr_server_poll_transmit(RAW(server), key, session, room, room_len, &count);
+    uint32_t told = kfr_server_poll_transmit(RAW(server), &its_key, &its_session, room, room_len, &count);
     if (told == KF_OK || told == KF_TOO_SHORT) *len = (size_t)count;
+    if (told == KF_OK && count) { *key = its_key; *session = its_session; }
     return (kf_status)told;
 }

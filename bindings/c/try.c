@@ -1,139 +1,264 @@
-/* Both ends in one program: a call from its submission to its reply, what is refused, and memory that runs out, one allocation after
- * another. It ends with status 0 where all is as it should be. */
-#define _GNU_SOURCE
+/* Both ends in one program, by the header alone: a call from its submission to its reply; what is refused; a call during which one
+ * allocation after another is refused; and `try N`, N calls whose packets come twice, among others that don't open. It ends with
+ * status 0 where all is as it should be. Linked with -Wl,--wrap=malloc,--wrap=realloc. */
 #include "kifzaro.h"
-#include <dlfcn.h>
 #include <stdio.h>
 #include <stdlib.h>
 #include <string.h>
 
 static long left = -1; /* so many allocations are given before one is refused; below 0 all are */
 
-static int given(void) { return left < 0 || left-- > 0; }
+static int is_given(void) { return left < 0 || left-- > 0; }
 
-void *malloc(size_t size)
-{
-    static void *(*real)(size_t);
-    if (!real) real = (void *(*)(size_t))dlsym(RTLD_NEXT, "malloc");
-    return given() ? real(size) : NULL;
-}
+void *__real_malloc(size_t size);
+void *__real_realloc(void *at, size_t size);
+void *__wrap_malloc(size_t size);
+void *__wrap_realloc(void *at, size_t size);
+void *__wrap_malloc(size_t size) { return is_given() ? __real_malloc(size) : NULL; }
+void *__wrap_realloc(void *at, size_t size) { return is_given() ? __real_realloc(at, size) : NULL; }
 
-void *realloc(void *at, size_t size)
-{
-    static void *(*real)(void *, size_t);
-    if (!real) real = (void *(*)(void *, size_t))dlsym(RTLD_NEXT, "realloc");
-    return given() ? real(at, size) : NULL;
-}
-
-#define MUST(what) do { if (!(what)) { left = -1; fprintf(stderr, "line %d: not so: %s\n", __LINE__, #what); exit(1); } } while (0)
-#define KEY_ID 0xc8df57a46e58d132u /* the 64 low bits of the SHA-1 of the bytes 00 to ff */
+#define MUST(what) do { if (!(what)) { left = -1; fprintf(stderr, "try.c, line %d: not so: %s\n", __LINE__, #what); exit(1); } } while (0)
+#define BYTES(text) ((const uint8_t *)(text))
+#define KEY_ID 0xc8df57a46e58d132u  /* of the key of the bytes 00 to ff */
+#define TEMP_ID 0x134a728f0eb1d196u /* of the key of the bytes ff to 00 */
 #define NOW 1000000u
 
-static char keys[5 + 512 + 1];
-static uint8_t seed[32], room[1 << 20];
+static char keys[5 + 512 + 1], both_keys[2000];
+static uint8_t seed[32], room[1 << 16], copy[1 << 16];
 
-/* What each call of a turn answered, memory apart, is KF_OK; whether memory ran out. */
+/* ---- turns ---- */
+
+/* Answers what is ready; memory may run out. How many requests there were. */
+static kf_status answer_all(kf_server *server, int *asked)
+{
+    size_t len; int there = 1; kf_status told;
+    while ((told = kf_server_next_request(server, &there, room, sizeof room, &len)) == KF_OK && there) {
+        MUST(len == 8 && !memcmp(room, "ask me!!", 8));
+        if ((told = kf_server_answer(server, NOW, BYTES("answered"), 8)) != KF_OK) break;
+        *asked += 1;
+    }
+    MUST(told == KF_OK || told == KF_MEMORY);
+    return told;
+}
+
+/* Each end's packets reach the other. Whether memory ran out. */
 static int turn(kf_client *client, kf_server *server)
 {
-    size_t len; uint64_t key, session; int there; kf_status told;
+    size_t len; uint64_t key, session; kf_status told; int asked = 0;
     do {
         if ((told = kf_client_poll_transmit(client, NOW, room, sizeof room, &len)) == KF_MEMORY) return 1;
         MUST(told == KF_OK);
-        if (len) {
-            if ((told = kf_server_handle_packet(server, NOW, room, len, &key, &session)) == KF_MEMORY) return 1;
-            MUST(told == KF_OK && key == KEY_ID);
-        }
+        if (!len) break;
+        while ((told = kf_server_handle_packet(server, NOW, room, len, &key, &session)) == KF_MEMORY) left = -1;
+        MUST(told == KF_OK && key == KEY_ID);
     } while (len);
-    for (;;) {
-        if ((told = kf_server_next_request(server, &there, room, sizeof room, &len)) == KF_MEMORY) return 1;
-        MUST(told == KF_OK);
-        if (!there) break;
-        MUST(len == 8 && !memcmp(room, "ask me!!", 8));
-        if ((told = kf_server_answer(server, NOW, (const uint8_t *)"answered", 8)) == KF_MEMORY) return 1;
-        MUST(told == KF_OK);
-    }
+    if (answer_all(server, &asked)) return 1;
     do {
         if ((told = kf_server_poll_transmit(server, &key, &session, room, sizeof room, &len)) == KF_MEMORY) return 1;
         MUST(told == KF_OK);
-        if (len) {
-            if ((told = kf_client_handle_packet(client, NOW, room, len)) == KF_MEMORY) return 1;
-            MUST(told == KF_OK);
-        }
+        if (!len) break;
+        while ((told = kf_client_handle_packet(client, NOW, room, len)) == KF_MEMORY) left = -1;
+        MUST(told == KF_OK);
     } while (len);
     return 0;
 }
 
-/* A call runs through, where from some point on one allocation is refused. How many allocations were asked for before it was done. */
+/* ---- an allocation is refused ---- */
+
+#define AGAIN(call) while ((told = (call)) == KF_MEMORY) { again++; left = -1; } MUST(told == KF_OK)
+
+/* A call runs through, where one allocation is refused after so many. No packet is lost by it, so no connection is opened anew. How often
+ * memory ran out. */
 static int talk(long refused)
 {
     kf_client client = KF_INIT; kf_server server = KF_INIT; uint64_t call; uint32_t state = 0, code; size_t len; kf_status told;
     int again = 0;
     memset(seed, 1, 32);
     left = refused;
-    while ((told = kf_client_new(&client, (const uint8_t *)keys, strlen(keys), KEY_ID, seed)) == KF_MEMORY) { again++; left = -1; }
-    MUST(told == KF_OK);
+    AGAIN(kf_client_new(&client, BYTES(keys), strlen(keys), KEY_ID, seed));
     memset(seed, 2, 32);
-    while ((told = kf_server_new(&server, (const uint8_t *)keys, strlen(keys), seed)) == KF_MEMORY) { again++; left = -1; }
-    MUST(told == KF_OK);
-    while ((told = kf_client_submit(&client, (const uint8_t *)"ask me!!", 8, 0, &call)) == KF_MEMORY) { again++; left = -1; }
-    MUST(told == KF_OK && call == 1);
+    AGAIN(kf_server_new(&server, BYTES(keys), strlen(keys), seed));
+    AGAIN(kf_client_submit(&client, BYTES("ask me!!"), 8, 0, &call));
+    MUST(call == 1);
     for (int k = 0; k < 20 && state != KF_DONE; k++) {
-        if (turn(&client, &server)) { again++; left = -1; kf_client_attach(&client); }
-        while ((told = kf_client_state(&client, call, &state, &code)) == KF_MEMORY) { again++; left = -1; }
-        MUST(told == KF_OK);
+        if (turn(&client, &server)) { again++; left = -1; }
+        AGAIN(kf_client_state(&client, call, &state, &code));
     }
     MUST(state == KF_DONE);
-    while ((told = kf_client_take_reply(&client, call, room, sizeof room, &len)) == KF_MEMORY) { again++; left = -1; }
-    MUST(told == KF_OK && len == 8 && !memcmp(room, "answered", 8));
+    AGAIN(kf_client_take_reply(&client, call, room, sizeof room, &len));
+    MUST(len == 8 && !memcmp(room, "answered", 8));
+    again += refused >= 0 && left < 0; /* it was refused, if to a call that could do without */
     left = -1;
     kf_client_free(&client);
     kf_server_free(&server);
     return again;
 }
 
-static void refusals(void)
+/* ---- what is refused ---- */
+
+static void refused_handles(void)
 {
-    kf_client client = KF_INIT, other = KF_INIT; kf_server server = KF_INIT; uint64_t call = 7, key, session; uint32_t state, code; size_t len; int decided;
-    MUST(kf_client_new(NULL, (const uint8_t *)keys, strlen(keys), KEY_ID, seed) == KF_NULL);
-    MUST(kf_client_new(&client, NULL, 3, KEY_ID, seed) == KF_NULL);
-    MUST(kf_client_new(&client, (const uint8_t *)"nothing", 7, KEY_ID, seed) == KF_BAD_KEYS);
-    MUST(kf_client_new(&client, (const uint8_t *)keys, strlen(keys), 1, seed) == KF_NO_KEY);
-    MUST(kf_client_attach(&client) == KF_NO_HANDLE);
-    MUST(kf_client_new(&client, (const uint8_t *)keys, strlen(keys), KEY_ID, seed) == KF_OK);
-    MUST(kf_client_new(&client, (const uint8_t *)keys, strlen(keys), KEY_ID, seed) == KF_NO_HANDLE);
-    MUST(kf_server_new(&server, (const uint8_t *)keys, strlen(keys), seed) == KF_OK);
-    MUST(kf_client_attach((kf_client *)&server) == KF_NO_HANDLE && kf_server_tick((kf_server *)&client, NOW) == KF_NO_HANDLE);
-    MUST(kf_client_submit(&client, (const uint8_t *)"odd", 3, 0, &call) == KF_BAD_BODY && call == 7);
-    MUST(kf_client_submit(&client, room, 262148, 0, &call) == KF_BAD_BODY);
-    MUST(kf_client_submit(&client, (const uint8_t *)"even", 4, 9, &call) == KF_NO_CALL);
-    MUST(kf_client_submit(&client, (const uint8_t *)"even", 4, 0, NULL) == KF_NULL);
-    MUST(kf_client_state(&client, 1, &state, &code) == KF_NO_CALL && kf_client_take_reply(&client, 1, room, sizeof room, &len) == KF_NO_CALL);
-    MUST(kf_client_tick(&client) == KF_NOT_OPEN && kf_client_renew(&client) == KF_NOT_OPEN && kf_client_end(&client) == KF_NOT_OPEN);
-    MUST(kf_client_submit(&client, (const uint8_t *)"even", 4, 0, &call) == KF_OK && call == 1);
-    MUST(kf_client_take_reply(&client, 1, room, sizeof room, &len) == KF_NO_REPLY);
-    MUST(kf_client_calls_decided(&client, &decided) == KF_OK && !decided);
-    MUST(kf_client_poll_transmit(&client, NOW, room, 3, &len) == KF_TOO_SHORT && len >= 72);
-    size_t needed = len;
-    MUST(kf_client_poll_transmit(&client, NOW, room, needed, &len) == KF_OK && len == needed);
-    MUST(kf_server_handle_packet(&server, NOW, room, 50, &key, &session) == KF_REFUSED_SIZE);
-    room[0] ^= 1;
-    MUST(kf_server_handle_packet(&server, NOW, room, len, &key, &session) == KF_REFUSED_KEY);
-    room[0] ^= 1; room[40] ^= 1;
-    MUST(kf_server_handle_packet(&server, NOW, room, len, &key, &session) == KF_REFUSED_MESSAGE_KEY);
-    MUST(kf_server_answer(&server, NOW, room, 4) == KF_NOT_ASKED);
-    kf_client_free(&client); kf_client_free(&client); kf_client_free(&other); kf_client_free(NULL); kf_server_free(&server);
-    MUST(!client.at && !client.kind);
+    kf_client client = KF_INIT, other = KF_INIT; kf_server server = KF_INIT; uint64_t call = 7;
+    MUST(kf_client_new(NULL, BYTES(keys), strlen(keys), KEY_ID, seed) == KF_NULL);
+    MUST(kf_client_new(&client, NULL, 3, KEY_ID, seed) == KF_NULL && kf_client_new(&client, BYTES(keys), strlen(keys), KEY_ID, NULL) == KF_NULL);
+    MUST(kf_client_new(&client, BYTES(keys), (size_t)-1, KEY_ID, seed) == KF_BAD_LENGTH);
+    MUST(kf_client_new(&client, BYTES("nothing"), 7, KEY_ID, seed) == KF_BAD_KEYS);
+    MUST(kf_client_new(&client, BYTES(keys), strlen(keys), 1, seed) == KF_NO_KEY && kf_client_new(&client, NULL, 0, KEY_ID, seed) == KF_NO_KEY);
+    MUST(kf_client_attach(&client) == KF_NO_HANDLE && !client.at && !client.kind);
+    MUST(kf_client_new(&client, BYTES(keys), strlen(keys), KEY_ID, seed) == KF_OK);
+    MUST(kf_client_new(&client, BYTES(keys), strlen(keys), KEY_ID, seed) == KF_NO_HANDLE);
+    MUST(kf_server_new(&server, BYTES(keys), strlen(keys), seed) == KF_OK);
+    MUST(kf_client_submit((kf_client *)&server, BYTES("even"), 4, 0, &call) == KF_NO_HANDLE && call == 7);
+    MUST(kf_server_tick((kf_server *)&client, NOW) == KF_NO_HANDLE);
+    kf_client_free((kf_client *)&server); kf_server_free((kf_server *)&client);
+    MUST(kf_server_tick(&server, NOW) == KF_OK && kf_client_submit(&client, BYTES("even"), 4, 0, &call) == KF_OK && call == 1);
+    kf_client_free(&client); kf_client_free(&client); kf_client_free(&other); kf_client_free(NULL);
+    kf_server_free(&server); kf_server_free(&server); kf_server_free(NULL);
+    MUST(!client.at && !client.kind && !server.at && !server.kind && kf_client_attach(&client) == KF_NO_HANDLE);
 }
 
-int main(void)
+static void refused_calls(kf_client *client)
 {
+    static const uint8_t long_body[KF_BODY_BYTES_MAX + 4];
+    uint64_t call = 7; uint32_t state = 7, code = 7; size_t len = 7; int decided;
+    MUST(kf_client_submit(client, BYTES("odd"), 3, 0, &call) == KF_BAD_BODY);
+    MUST(kf_client_submit(client, long_body, sizeof long_body, 0, &call) == KF_BAD_BODY && call == 7);
+    MUST(kf_client_submit(client, BYTES("even"), 4, 9, &call) == KF_NO_CALL);
+    MUST(kf_client_submit(client, BYTES("even"), 4, 0, NULL) == KF_NULL && kf_client_submit(client, NULL, 4, 0, &call) == KF_NULL);
+    MUST(kf_client_state(client, 2, &state, &code) == KF_NO_CALL && kf_client_take_reply(client, 2, room, sizeof room, &len) == KF_NO_CALL);
+    MUST(kf_client_state(client, 1, NULL, &code) == KF_NULL && kf_client_take_reply(client, 1, room, sizeof room, NULL) == KF_NULL);
+    MUST(state == 7 && code == 7 && len == 7);
+    MUST(kf_client_tick(client) == KF_NOT_OPEN && kf_client_renew(client) == KF_NOT_OPEN && kf_client_end(client) == KF_NOT_OPEN);
+    MUST(kf_client_ping(client, 1) == KF_NOT_OPEN && kf_client_ask_salts(client, 1) == KF_NOT_OPEN && kf_client_drop_answer(client, 1) == KF_NOT_OPEN);
+    MUST(kf_client_calls_decided(client, NULL) == KF_NULL && kf_client_session(client, NULL) == KF_NULL);
+    MUST(kf_client_calls_decided(client, &decided) == KF_OK);
+}
+
+static void refused_packets(kf_client *client, kf_server *server)
+{
+    uint64_t call, key = 7, session = 7; size_t len, needed; uint8_t short_room[3] = { 7, 7, 7 };
+    MUST(kf_client_submit(client, BYTES("even"), 4, 0, &call) == KF_OK);
+    MUST(kf_client_take_reply(client, call, room, sizeof room, &len) == KF_NO_REPLY);
+    MUST(kf_client_poll_transmit(client, NOW, short_room, 3, &needed) == KF_TOO_SHORT && needed >= 72 && short_room[0] == 7);
+    MUST(kf_client_poll_transmit(client, NOW, NULL, 0, &len) == KF_TOO_SHORT && len == needed);
+    MUST(kf_client_poll_transmit(client, NOW, NULL, 4, &len) == KF_NULL && kf_client_poll_transmit(client, NOW, room, sizeof room, NULL) == KF_NULL);
+    MUST(kf_client_poll_transmit(client, NOW, room, needed, &len) == KF_OK && len == needed);
+    MUST(kf_server_handle_packet(server, NOW, room, 50, &key, &session) == KF_REFUSED_SIZE);
+    MUST(kf_server_handle_packet(server, NOW, room, (size_t)-1, &key, &session) == KF_BAD_LENGTH);
+    room[0] ^= 1;
+    MUST(kf_server_handle_packet(server, NOW, room, len, &key, &session) == KF_REFUSED_KEY);
+    room[0] ^= 1; room[40] ^= 1;
+    MUST(kf_server_handle_packet(server, NOW, room, len, &key, &session) == KF_REFUSED_MESSAGE_KEY && key == 7 && session == 7);
+    room[40] ^= 1;
+    MUST(kf_server_answer(server, NOW, room, 4) == KF_NOT_ASKED);
+    MUST(kf_server_handle_packet(server, NOW, room, len, &key, &session) == KF_OK && key == KEY_ID);
+    MUST(kf_server_poll_transmit(server, &key, &session, short_room, 3, &needed) == KF_TOO_SHORT && needed >= 72 && short_room[0] == 7);
+    MUST(kf_server_poll_transmit(server, &key, &session, room, sizeof room, &len) == KF_OK && len == needed);
+}
+
+/* A server that handed out a request takes nothing else, and gives it again until it is answered. */
+static void busy(void)
+{
+    kf_client client = KF_INIT; kf_server server = KF_INIT; uint64_t call, key, session, ready = 0; size_t len; int there = 0;
+    MUST(kf_client_new(&client, BYTES(keys), strlen(keys), KEY_ID, seed) == KF_OK && kf_server_new(&server, BYTES(keys), strlen(keys), seed) == KF_OK);
+    MUST(kf_client_submit(&client, BYTES("ask me!!"), 8, 0, &call) == KF_OK);
+    for (int k = 0; k < 9 && !ready; k++) {
+        MUST(kf_client_poll_transmit(&client, NOW, room, sizeof room, &len) == KF_OK);
+        if (len) MUST(kf_server_handle_packet(&server, NOW, room, len, &key, &session) == KF_OK);
+        MUST(kf_server_ready(&server, &ready) == KF_OK && kf_server_poll_transmit(&server, &key, &session, copy, sizeof copy, &len) == KF_OK);
+        if (len) MUST(kf_client_handle_packet(&client, NOW, copy, len) == KF_OK);
+    }
+    MUST(ready == 1 && kf_server_next_request(&server, &there, room, 7, &len) == KF_TOO_SHORT && there == 1 && len == 8);
+    MUST(kf_server_handle_packet(&server, NOW, copy, 100, &key, &session) == KF_BUSY && kf_server_tick(&server, NOW) == KF_BUSY);
+    MUST(kf_server_attach(&server, key, session, NOW) == KF_BUSY && kf_server_restart(&server) == KF_BUSY);
+    for (int k = 0; k < 2; k++) MUST(kf_server_next_request(&server, &there, room, 8, &len) == KF_OK && there == 1 && len == 8 && !memcmp(room, "ask me!!", 8));
+    MUST(kf_server_answer(&server, NOW, BYTES("odd"), 3) == KF_BAD_REPLY && kf_server_answer(&server, NOW, NULL, 4) == KF_NULL);
+    MUST(kf_server_answer(&server, NOW, BYTES("answered"), 8) == KF_OK && kf_server_answer(&server, NOW, BYTES("answered"), 8) == KF_NOT_ASKED);
+    MUST(kf_server_next_request(&server, &there, room, 8, &len) == KF_OK && there == 0 && len == 0);
+    MUST(kf_server_attach(&server, KEY_ID, session, NOW) == KF_OK && kf_server_restart(&server) == KF_OK && kf_server_tick(&server, NOW) == KF_OK);
+    kf_client_free(&client);
+    kf_server_free(&server);
+}
+
+/* A client under a temporary key, which the server binds first; behind its moment no packet of it opens. */
+static void temporary(void)
+{
+    kf_client client = KF_INIT; kf_server server = KF_INIT; uint64_t call, key, session; uint32_t state = 0, code; size_t len;
+    MUST(kf_client_new_temp(&client, BYTES(keys), strlen(keys), TEMP_ID, KEY_ID, NOW + 9, seed) == KF_NO_KEY);
+    MUST(kf_client_new_temp(&client, BYTES(both_keys), strlen(both_keys), TEMP_ID, KEY_ID, NOW + 9, seed) == KF_OK);
+    MUST(kf_server_new(&server, BYTES(both_keys), strlen(both_keys), seed) == KF_OK);
+    MUST(kf_client_submit(&client, BYTES("ask me!!"), 8, 0, &call) == KF_OK);
+    for (int k = 0; k < 9 && state != KF_DONE; k++) {
+        int asked = 0;
+        while (kf_client_poll_transmit(&client, NOW, room, sizeof room, &len) == KF_OK && len) MUST(kf_server_handle_packet(&server, NOW, room, len, &key, &session) == KF_OK && key == TEMP_ID);
+        MUST(answer_all(&server, &asked) == KF_OK);
+        while (kf_server_poll_transmit(&server, &key, &session, room, sizeof room, &len) == KF_OK && len) MUST(kf_client_handle_packet(&client, NOW, room, len) == KF_OK);
+        MUST(kf_client_state(&client, call, &state, &code) == KF_OK);
+    }
+    MUST(state == KF_DONE && kf_client_submit(&client, BYTES("too late"), 8, 0, &call) == KF_OK);
+    MUST(kf_client_poll_transmit(&client, NOW, room, sizeof room, &len) == KF_OK && len);
+    MUST(kf_server_handle_packet(&server, NOW + 9, room, len, &key, &session) == KF_REFUSED_KEY);
+    kf_client_free(&client);
+    kf_server_free(&server);
+}
+
+/* ---- many calls ---- */
+
+/* A client's packet reaches the server twice, and once with a byte changed. */
+static void goes_up(kf_server *server, size_t len, int *asked)
+{
+    uint64_t key, session;
+    memcpy(copy, room, len);
+    copy[len - 1] ^= 1;
+    MUST(kf_server_handle_packet(server, NOW, copy, len, &key, &session) == KF_REFUSED_MESSAGE_KEY);
+    copy[len - 1] ^= 1;
+    for (int k = 0; k < 2; k++) {
+        MUST(kf_server_handle_packet(server, NOW, copy, len, &key, &session) == KF_OK);
+        MUST(answer_all(server, asked) == KF_OK);
+    }
+}
+
+static void many(int calls)
+{
+    kf_client client = KF_INIT; kf_server server = KF_INIT; uint64_t call, key, session; uint32_t state, code; size_t len; int asked = 0;
+    MUST(kf_client_new(&client, BYTES(keys), strlen(keys), KEY_ID, seed) == KF_OK && kf_server_new(&server, BYTES(keys), strlen(keys), seed) == KF_OK);
+    for (int done = 0; done < calls; done++) {
+        MUST(kf_client_submit(&client, BYTES("ask me!!"), 8, 0, &call) == KF_OK && kf_client_submit(&client, BYTES("odd"), 3, 0, &call) == KF_BAD_BODY);
+        for (int k = 0; k < 9; k++) {
+            while (kf_client_poll_transmit(&client, NOW, room, sizeof room, &len) == KF_OK && len) goes_up(&server, len, &asked);
+            while (kf_server_poll_transmit(&server, &key, &session, room, sizeof room, &len) == KF_OK && len)
+                for (int times = 0; times < 2; times++) MUST(kf_client_handle_packet(&client, NOW, room, len) == KF_OK);
+            MUST(kf_client_state(&client, call, &state, &code) == KF_OK);
+            if (state == KF_DONE) break;
+        }
+        MUST(state == KF_DONE && kf_client_take_reply(&client, call, room, sizeof room, &len) == KF_OK && len == 8 && !memcmp(room, "answered", 8));
+    }
+    MUST(asked == calls);
+    kf_client_free(&client);
+    kf_server_free(&server);
+    printf("%d calls ran once each\n", calls);
+}
+
+int main(int count, char **words)
+{
+    kf_client client = KF_INIT; kf_server server = KF_INIT; long n = 0; size_t len;
     strcpy(keys, "perm ");
-    for (int byte = 0; byte < 256; byte++) sprintf(keys + 5 + 2 * byte, "%02x", byte);
-    MUST(!strcmp(kf_status_text(KF_BUSY), "a request waits for its answer") && !strcmp(kf_status_text((kf_status)99), "no status"));
-    refusals();
+    for (int byte = 0; byte < 256; byte++) sprintf(keys + 5 + 2 * byte, "%02x", (unsigned)byte);
+    len = (size_t)sprintf(both_keys, "%s\ntemp %u ", keys, NOW + 9);
+    for (int byte = 0; byte < 256; byte++) sprintf(both_keys + len + 2 * byte, "%02x", 255u - (unsigned)byte);
+    MUST(!strcmp(kf_status_text(KF_BUSY), "a request waits for its answer") && !strcmp(kf_status_text(KF_BAD_LENGTH), "no bytes have such a length"));
+    MUST(!strcmp(kf_status_text((kf_status)25), "no status"));
+    refused_handles();
+    MUST(kf_client_new(&client, BYTES(keys), strlen(keys), KEY_ID, seed) == KF_OK && kf_server_new(&server, BYTES(keys), strlen(keys), seed) == KF_OK);
+    refused_calls(&client);
+    refused_packets(&client, &server);
+    kf_client_free(&client);
+    kf_server_free(&server);
+    busy();
+    temporary();
+    if (count > 1) { many(atoi(words[1])); return 0; }
     MUST(talk(-1) == 0);
-    long n = 0;
     while (talk(n)) n++;
-    printf("kifzaro %s: a call came to its reply, and %ld times with an allocation refused\n", kf_version(), n);
+    printf("kifzaro %s (%s): a call came to its reply, and with each of its %ld allocations refused\n", kf_version(), kf_build(), n);
     return 0;
 }

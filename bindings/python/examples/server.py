@@ -1,30 +1,30 @@
-"""A test server over TCP that answers each call with its own body: server.py PORT KEY_FILE."""
-import asyncio
-import sys
+"""A test server over TCP, of many connections at once, that answers each call with its own body: server.py PORT KEY_FILE."""
+import asyncio, sys
+from kifzaro import Refused, Server, Wire
 
-from kifzaro import Intermediate, Refused, Server
-
-
-async def serve(server, answer, reader, writer):
-    wire = Intermediate(server=True)
+async def serve(server, ends, reader, writer):
+    wire = Wire.server()
     while piece := await reader.read(65536):
         for packet in wire.feed(piece):
             try:
-                server.handle_packet(packet)
+                name = server.handle_packet(packet)
             except Refused as why:
                 print(why, file=sys.stderr)
+                continue
+            if ends.get(name) != (wire, writer):
+                ends[name] = wire, writer
+                server.attach(name)
+            server.tick()
             while (request := server.next_request()) is not None:
-                server.answer(answer(request))
-            writer.writelines(wire.frame(packet) for _name, packet in server.transmits())
+                server.answer(request)
+            for to, packet in server.transmits():
+                ends[to][1].write(ends[to][0].frame(packet))
     writer.close()
 
+async def main(port, keys):
+    server, ends = Server(keys), {}
+    listening = await asyncio.start_server(lambda *streams: serve(server, ends, *streams), "127.0.0.1", port)
+    print("listening", listening.sockets[0].getsockname()[1], flush=True)
+    await listening.serve_forever()
 
-async def main(port, keys, answer):
-    server = Server(keys)
-    listening = await asyncio.start_server(lambda *ends: serve(server, answer, *ends), "127.0.0.1", port)
-    async with listening:
-        await listening.serve_forever()
-
-
-if __name__ == "__main__":
-    asyncio.run(main(int(sys.argv[1]), open(sys.argv[2]).read(), lambda request: request))
+asyncio.run(main(int(sys.argv[1]), open(sys.argv[2]).read()))

@@ -1,4 +1,4 @@
-"""A client and a server."""
+"""A client and a server, over the functions of kifzaro.h."""
 
 from __future__ import annotations
 
@@ -9,11 +9,14 @@ import os
 import time
 from collections.abc import Callable, Iterator
 from ctypes import byref, c_int, c_size_t, c_uint32, c_uint64
-from typing import NamedTuple
+from typing import NamedTuple, TypeVar, Union
 
 from ._library import TOO_SHORT, Handle, library, must
 
 _ROOM_BYTES = 4096
+
+Key = Union[int, str]
+"""The identifier of a key: the number of kifzaro.h, or the 16 digits that examples/make_keys and ``mtp`` write."""
 
 
 class SessionName(NamedTuple):
@@ -39,9 +42,22 @@ def version() -> str:
     return library.kf_version().decode()
 
 
+def build() -> str:
+    """Of what the library was built: ``"proved"``, or ``"checked, not proved"``."""
+    return library.kf_build().decode()
+
+
 def key_id(key: bytes) -> int:
     """The identifier of a key of 256 bytes."""
     return int.from_bytes(hashlib.sha1(key).digest()[12:20], "little")
+
+
+def _number(key: Key) -> int:
+    if isinstance(key, int):
+        return key
+    if len(key) != 16:
+        raise ValueError("a key's identifier has 16 digits")
+    return int.from_bytes(bytes.fromhex(key), "little")
 
 
 def _moment(now: int | None) -> int:
@@ -59,6 +75,9 @@ def _seed(seed: bytes | None) -> bytes:
     return seed
 
 
+_Its = TypeVar("_Its", bound="_End")
+
+
 class _End:
     """A handle that is freed with its object."""
 
@@ -72,7 +91,7 @@ class _End:
         """Frees it now. Every later call fails."""
         self._free(byref(self._handle))
 
-    def __enter__(self):
+    def __enter__(self: _Its) -> _Its:
         return self
 
     def __exit__(self, *_found: object) -> None:
@@ -96,19 +115,19 @@ class _End:
 class Client(_End):
     """A client under the permanent key with the identifier ``key``, which the text ``keys`` of a key file has.
 
-    ``seed``, 32 bytes, is drawn from the system where none is given. ``bind_to`` makes the key a temporary one: the permanent key
-    and the moment up to which the server is to bind it.
+    ``seed``, 32 bytes, is drawn from the system where none is given. ``bind_to`` makes the key a temporary one: it is the permanent key
+    and the moment up to which the server is to bind the temporary one to it.
     """
 
     _free = staticmethod(library.kf_client_free)
 
-    def __init__(self, keys: str | bytes, key: int, *, seed: bytes | None = None, bind_to: tuple[int, int] | None = None) -> None:
+    def __init__(self, keys: str | bytes, key: Key, *, seed: bytes | None = None, bind_to: tuple[Key, int] | None = None) -> None:
         super().__init__()
-        text, seed = _text(keys), _seed(seed)
+        text, number, seed = _text(keys), _number(key), _seed(seed)
         if bind_to is None:
-            must(library.kf_client_new(byref(self._handle), text, len(text), key, seed))
+            must(library.kf_client_new(byref(self._handle), text, len(text), number, seed))
         else:
-            must(library.kf_client_new_temp(byref(self._handle), text, len(text), key, *bind_to, seed))
+            must(library.kf_client_new_temp(byref(self._handle), text, len(text), number, _number(bind_to[0]), bind_to[1], seed))
 
     def submit(self, body: bytes, after: int | None = None) -> int:
         """Submits a call, whole words of 4 bytes, that is to execute after an earlier one if one is given. Its number."""
@@ -117,15 +136,16 @@ class Client(_End):
         return call.value
 
     def attach(self) -> None:
-        """A connection was opened: what was sent and isn't answered is sent again."""
+        """A connection was opened after an earlier one: what was sent and isn't answered is sent again."""
         must(library.kf_client_attach(byref(self._handle)))
 
     def handle_packet(self, packet: bytes, now: int | None = None) -> None:
-        """A packet came. One that isn't for this client counts by its moment alone."""
+        """A packet came. It raises :class:`Refused` where the packet doesn't open; of that one, and of one that isn't of this session or
+        isn't lawful, only the moment counts."""
         must(library.kf_client_handle_packet(byref(self._handle), _moment(now), bytes(packet), len(packet)))
 
     def poll_transmit(self, now: int | None = None) -> bytes | None:
-        """The packet that is to be sent next. Each is handed out once."""
+        """The packet that is to be sent next, if there is one. Each is handed out once."""
         return self._put(library.kf_client_poll_transmit, _moment(now)) or None
 
     def transmits(self, now: int | None = None) -> Iterator[bytes]:
@@ -196,17 +216,18 @@ class Server(_End):
         must(library.kf_server_new(byref(self._handle), text, len(text), _seed(seed)))
 
     def handle_packet(self, packet: bytes, now: int | None = None) -> SessionName:
-        """A packet came: the name of its session."""
+        """A packet came: the name of its session, whose packets go where this one came from. It raises :class:`Refused` where the packet
+        doesn't open, and :class:`Busy` while a request waits for its answer, as ``tick``, ``attach`` and ``restart`` do."""
         key, session = c_uint64(), c_uint64()
         must(library.kf_server_handle_packet(byref(self._handle), _moment(now), bytes(packet), len(packet), byref(key), byref(session)))
         return SessionName(key.value, session.value)
 
     def tick(self, now: int | None = None) -> None:
-        """Time passed."""
+        """Time passed: calls that have waited too long for others are answered."""
         must(library.kf_server_tick(byref(self._handle), _moment(now)))
 
     def attach(self, name: SessionName, now: int | None = None) -> None:
-        """A connection was opened for a session: what the server keeps for it is said again."""
+        """A packet came for a session, the first one over this connection: what the server keeps for it is said again."""
         must(library.kf_server_attach(byref(self._handle), *name, _moment(now)))
 
     def restart(self) -> None:
@@ -220,17 +241,17 @@ class Server(_End):
         return ready.value
 
     def next_request(self) -> bytes | None:
-        """The next ready request. Until it is answered, the server takes nothing else."""
+        """The next ready request, if there is one. Until it is answered the server takes nothing else, and this gives it again."""
         there = c_int()
         request = self._put(library.kf_server_next_request, byref(there))
         return request if there.value else None
 
     def answer(self, reply: bytes, now: int | None = None) -> None:
-        """The request that was handed out has run, and this is its reply."""
+        """The request that was handed out has run, and this is its reply, whole words of 4 bytes."""
         must(library.kf_server_answer(byref(self._handle), _moment(now), bytes(reply), len(reply)))
 
     def poll_transmit(self) -> tuple[SessionName, bytes] | None:
-        """The packet that is to be sent next, with the session that it is for. Each is handed out once."""
+        """The packet that is to be sent next, if there is one, with the session that it is for. Each is handed out once."""
         key, session = c_uint64(), c_uint64()
         packet = self._put(library.kf_server_poll_transmit, byref(key), byref(session))
         return (SessionName(key.value, session.value), packet) if packet else None

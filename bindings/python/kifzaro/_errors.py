@@ -17,6 +17,10 @@ class OutOfMemory(KifzaroError, MemoryError):
     """Memory ran out."""
 
 
+class Closed(KifzaroError):
+    """The client or server was closed."""
+
+
 class Unfit(KifzaroError, ValueError):
     """What was given isn't taken: a key file, a key, a body, a call's number, a reply."""
 
@@ -41,8 +45,8 @@ class Refused(KifzaroError):
     """The packet doesn't open. Only the moment has changed."""
 
 
-_BY_STATUS = {1: OutOfMemory, 5: Unfit, 6: Unfit, 7: Unfit, 8: Unfit, 9: Unfit, 11: Ended, 12: NotOpen, 14: NoReply, 16: Busy,
-              18: Unfit, **{status: Refused for status in range(19, 24)}}
+_BY_STATUS = {1: OutOfMemory, 3: Closed, 5: Unfit, 6: Unfit, 7: Unfit, 8: Unfit, 9: Unfit, 11: Ended, 12: NotOpen, 14: NoReply,
+              16: Busy, 18: Unfit, **{status: Refused for status in range(19, 24)}}
 
 
 def error_of(status: int, text: str) -> KifzaroError:

@@ -22,7 +22,7 @@ def _found() -> str:
     for place in places:
         if place and os.path.exists(place):
             return os.fspath(place)
-    raise ImportError("libkifzaro.so isn't there: run bindings/build, or name it by KIFZARO_LIBRARY")
+    raise ImportError("libkifzaro.so isn't there: run bindings/build and install the package again, or name it by KIFZARO_LIBRARY")
 
 
 _H, _N, _P, _Z, _NUMBER, _WORD, _LEN, _FLAG = (POINTER(Handle), c_uint64, c_char_p, c_size_t, POINTER(c_uint64), POINTER(c_uint32),
@@ -42,6 +42,7 @@ _TAKES = {
 
 library = ctypes.CDLL(_found())
 library.kf_version.restype = c_char_p
+library.kf_build.restype = c_char_p
 library.kf_status_text.restype = c_char_p
 for _name, _words in _TAKES.items():
     getattr(library, _name).argtypes = _words

@@ -1,15 +1,18 @@
-"""Tests of the package, by the library's own shared object: python3 -m unittest discover -s tests"""
-import asyncio
+"""Tests of the package, by the library that bindings/build made: python3 -m unittest discover -s tests"""
+import os
 import pathlib
+import re
+import subprocess
 import sys
+import tempfile
 import unittest
+import zipfile
 
-sys.path.insert(0, str(pathlib.Path(__file__).parent.parent))
-sys.path.insert(0, str(pathlib.Path(__file__).parent.parent / "examples"))
+PACKAGE = pathlib.Path(__file__).parent.parent
+sys.path.insert(0, str(PACKAGE))
 
-import client as example_client
-import server as example_server
-from kifzaro import Busy, Client, KifzaroError, NoReply, NotOpen, Refused, Server, State, key_id, version
+import packing
+from kifzaro import Busy, Client, Closed, KifzaroError, NoReply, NotOpen, Refused, Server, State, Wire, build, key_id, version
 
 KEY = bytes(range(256))
 KEYS = "perm " + KEY.hex()
@@ -67,6 +70,18 @@ class Talks(unittest.TestCase):
         self.assertEqual(client.take_reply(call), b"1234")
         self.assertIn(client.state(later), (State.DONE, State.UNKNOWN))
 
+    def test_a_temporary_key(self):
+        temp, expires = KEY[::-1], NOW + 1000
+        keys = f"{KEYS}\ntemp {expires} {temp.hex()}\n"
+        client, server = Client(keys, key_id(temp), bind_to=(key_id(KEY), expires)), Server(keys)
+        call = client.submit(b"ask me!!")
+        for _ in range(8):
+            turn(client, server)
+        self.assertEqual(client.take_reply(call), b"ask me!!")
+        call = client.submit(b"too late")
+        self.assertRaises(Refused, turn, client, server, expires)
+        self.assertEqual(client.state(call), State.SENT)
+
     def test_a_reply_of_many_bytes(self):
         client, server = ends()
         call = client.submit(b"much")
@@ -93,10 +108,13 @@ class Refusals(unittest.TestCase):
             server.handle_packet(bytes(100), NOW)
         with self.assertRaises(NoReply):
             client.take_reply(client.submit(b"1234"))
+        with self.assertRaises(Refused):
+            client.handle_packet(bytes(100), NOW)
         client.close()
-        with self.assertRaises(KifzaroError) as found:
-            client.attach()
-        self.assertEqual(found.exception.status, 3)
+        client.close()
+        self.assertRaises(Closed, client.attach)
+        for unfit in (lambda: Client(KEYS, "32d1"), lambda: Client(KEYS, key_id(KEY), seed=b"short")):
+            self.assertRaises(ValueError, unfit)
 
     def test_a_busy_server(self):
         client, server = ends()
@@ -120,21 +138,57 @@ class Refusals(unittest.TestCase):
             server.answer(b"5678", NOW)
 
 
-class OverTcp(unittest.TestCase):
-    def test_the_examples(self):
-        async def both():
-            server = Server(KEYS)
-            listening = await asyncio.start_server(lambda *its: example_server.serve(server, lambda request: request[::-1], *its), "127.0.0.1", 0)
-            port = listening.sockets[0].getsockname()[1]
-            async with listening:
-                return await asyncio.wait_for(example_client.call("127.0.0.1", port, Client(KEYS, key_id(KEY)), [b"abcd", b"efgh"]), 20)
+class Framing(unittest.TestCase):
+    def test_any_cut_into_pieces(self):
+        packets = [b"", b"abcd", bytes(1000)]
+        for size in (1, 3, 4, 5, 2000):
+            client, server, found = Wire.client(), Wire.server(), []
+            stream = b"".join(client.frame(packet) for packet in packets)
+            for at in range(0, len(stream), size):
+                found += server.feed(stream[at : at + size])
+            self.assertEqual(found, packets)
 
-        self.assertEqual(asyncio.run(both()), [b"dcba", b"hgfe"])
+    def test_what_comes_back(self):
+        self.assertEqual(list(Wire.client().feed(Wire.server().frame(b"abcd"))), [b"abcd"])
+
+    def test_faults(self):
+        self.assertRaises(ValueError, list, Wire.server().feed(b"GET "))
+        self.assertRaises(ValueError, list, Wire.client().feed(b"\x01\x00\x10\x00"))
+        self.assertRaises(EOFError, Wire.client().feed, b"")
 
 
-class Version(unittest.TestCase):
-    def test_it(self):
+class Examples(unittest.TestCase):
+    def example(self, name, *words):
+        paths = os.pathsep.join([str(PACKAGE), os.environ.get("PYTHONPATH", "")])
+        return subprocess.Popen([sys.executable, str(PACKAGE / "examples" / name), *words], stdout=subprocess.PIPE, text=True, env={**os.environ, "PYTHONPATH": paths})
+
+    def test_two_clients_and_a_server(self):
+        with tempfile.TemporaryDirectory() as room:
+            keys = os.path.join(room, "keys")
+            pathlib.Path(keys).write_text(f"# A key that everybody knows.\n{KEYS}\n")
+            with self.example("server.py", "0", keys) as server:
+                try:
+                    port = re.fullmatch(r"listening (\d+)\n", server.stdout.readline())[1]
+                    clients = [self.example("client.py", port, keys, "32d1586ea457dfc8", *bodies) for bodies in (["abcd", "efghijkl"], ["1234"])]
+                    self.assertEqual([client.communicate(timeout=300)[0] for client in clients], ["abcd\nefghijkl\n", "1234\n"])
+                finally:
+                    server.kill()
+
+
+class Packing(unittest.TestCase):
+    def test_the_wheel_holds_the_package_and_the_library(self):
+        with tempfile.TemporaryDirectory() as room:
+            with zipfile.ZipFile(os.path.join(room, packing.build_wheel(room))) as wheel:
+                wheel.extractall(room)
+            tells = [sys.executable, "-c", "import kifzaro; print(kifzaro.version(), kifzaro.__file__)"]
+            told = subprocess.run(tells, cwd=room, env={**os.environ, "PYTHONPATH": room}, capture_output=True, text=True, check=True).stdout
+            self.assertEqual(told.split(), [version(), os.path.join(room, "kifzaro", "__init__.py")])
+
+
+class About(unittest.TestCase):
+    def test_version_and_build(self):
         self.assertRegex(version(), r"^\d+\.\d+$")
+        self.assertIn(build(), ("proved", "checked, not proved"))
 
 
 if __name__ == "__main__":

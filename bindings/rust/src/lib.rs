@@ -1,54 +1,51 @@
-//! Both ends of MTProto 2.0 sessions: a client and a server without sockets and clocks, over a proved library. Bytes come in by
-//! `handle_packet` and go out by `poll_transmit`. A moment `now` is Unix time in seconds.
+//! Both ends of MTProto 2.0 sessions: a client and a server without sockets and clocks. Packets come in by `handle_packet` and go out by
+//! `poll_transmit`. A moment `now` is Unix time in seconds. A method that answers an error leaves its object as if it hadn't been called,
+//! unless it says otherwise.
 
+#![warn(missing_docs)]
+
+mod error;
 mod framing;
 mod raw;
 
-pub use framing::Intermediate;
+pub use error::{Error, Refusal};
+use error::{must, TOO_SHORT};
+pub use framing::Wire;
 use raw::Handle;
+use std::{ffi::CStr, fs::File, io, io::Read, time::SystemTime};
 
-/// Why a call gave nothing: the number and the text of a status of kifzaro.h. Nothing has changed, unless the call says otherwise.
-#[derive(Clone, Copy, PartialEq, Eq)]
-pub struct Error(u32);
-
-impl Error {
-    pub const MEMORY: Error = Error(1);
-    pub const ENDED: Error = Error(11);
-    pub const NOT_OPEN: Error = Error(12);
-    pub const NO_REPLY: Error = Error(14);
-    pub const BUSY: Error = Error(16);
-
-    /// Its number in kifzaro.h.
-    pub fn status(self) -> u32 {
-        self.0
-    }
-
-    /// Whether a packet doesn't open.
-    pub fn is_refusal(self) -> bool {
-        (19..24).contains(&self.0)
-    }
+/// The library's version.
+pub fn version() -> String {
+    // It is a static text that ends in 0.
+    unsafe { CStr::from_ptr(raw::kf_version()) }.to_string_lossy().into_owned()
 }
 
-impl std::fmt::Display for Error {
-    fn fmt(&self, f: &mut std::fmt::Formatter<'_>) -> std::fmt::Result {
-        // It is a static text that ends in 0.
-        f.write_str(&unsafe { std::ffi::CStr::from_ptr(raw::kf_status_text(self.0)) }.to_string_lossy())
+/// Of what the library was built: `proved`, or `checked, not proved`.
+pub fn build() -> String {
+    // The same.
+    unsafe { CStr::from_ptr(raw::kf_build()) }.to_string_lossy().into_owned()
+}
+
+/// The present moment.
+pub fn now() -> u64 {
+    SystemTime::UNIX_EPOCH.elapsed().map_or(0, |since| since.as_secs())
+}
+
+/// A seed from the system's random source.
+pub fn seed() -> io::Result<[u8; 32]> {
+    let mut seed = [0; 32];
+    File::open("/dev/urandom")?.read_exact(&mut seed)?;
+    Ok(seed)
+}
+
+/// The identifier of a key, from the 16 digits that examples/make_keys and `mtp` write.
+pub fn key_id(digits: &str) -> Option<u64> {
+    let is_digits = digits.len() == 16 && digits.bytes().all(|byte| byte.is_ascii_hexdigit());
+    if !is_digits {
+        return None;
     }
+    u64::from_str_radix(digits, 16).ok().map(u64::swap_bytes)
 }
-
-impl std::fmt::Debug for Error {
-    fn fmt(&self, f: &mut std::fmt::Formatter<'_>) -> std::fmt::Result {
-        write!(f, "{} ({self})", self.0)
-    }
-}
-
-impl std::error::Error for Error {}
-
-fn must(status: u32) -> Result<(), Error> {
-    if status == 0 { Ok(()) } else { Err(Error(status)) }
-}
-
-const TOO_SHORT: u32 = 4;
 
 /// The bytes that a call puts into room, with more of it where it asks for more.
 fn bytes_of(mut call: impl FnMut(*mut u8, usize, *mut usize) -> u32) -> Result<Vec<u8>, Error> {
@@ -67,28 +64,36 @@ fn bytes_of(mut call: impl FnMut(*mut u8, usize, *mut usize) -> u32) -> Result<V
 #[derive(Clone, Copy, Debug, PartialEq, Eq)]
 pub struct CallId(u64);
 
-/// What became of a call. The numbers are those of kifzaro.h.
+/// What became of a call.
 #[derive(Clone, Copy, Debug, PartialEq, Eq)]
 pub enum State {
+    /// It waits to be sent.
     Queued,
+    /// It was sent, and isn't answered.
     Sent,
+    /// It waits for another session.
     Held,
+    /// It was answered.
     Done,
+    /// It never executes; the code is the server's, 0 where the client gave it up.
     Refused(u32),
+    /// It isn't known whether it executed; the code is 1 the server lost the session, 2 renewed, 3 ended, 4 forgotten.
     Unknown(u32),
 }
 
 /// What names a session: the identifier of its key, and its number.
 #[derive(Clone, Copy, Debug, PartialEq, Eq, Hash)]
 pub struct SessionName {
+    /// The identifier of its key.
     pub key: u64,
+    /// Its number under that key.
     pub session: u64,
 }
 
 /// A client. Its packets go to the server, and the server's come to `handle_packet`.
 pub struct Client(Handle);
 
-// A handle has no thread of its own, and `&mut` keeps it to one at a time.
+// A handle may go from thread to thread, and `&mut` keeps it to one at a time.
 unsafe impl Send for Client {}
 
 impl Client {
@@ -113,17 +118,17 @@ impl Client {
         Ok(CallId(call))
     }
 
-    /// A connection was opened: what was sent and isn't answered is sent again.
+    /// A connection was opened after an earlier one: what was sent and isn't answered is sent again.
     pub fn attach(&mut self) -> Result<(), Error> {
         must(unsafe { raw::kf_client_attach(&mut self.0) })
     }
 
-    /// A packet came. One that isn't for this client counts by its moment alone.
+    /// A packet came. Of one that doesn't open (`Error::Refused`), isn't of this session or isn't lawful only the moment counts.
     pub fn handle_packet(&mut self, now: u64, packet: &[u8]) -> Result<(), Error> {
         must(unsafe { raw::kf_client_handle_packet(&mut self.0, now, packet.as_ptr(), packet.len()) })
     }
 
-    /// The packet that is to be sent next. Each is handed out once.
+    /// The packet that is to be sent next, if there is one. Each is handed out once.
     pub fn poll_transmit(&mut self, now: u64) -> Result<Option<Vec<u8>>, Error> {
         let packet = bytes_of(|room, count, len| unsafe { raw::kf_client_poll_transmit(&mut self.0, now, room, count, len) })?;
         Ok(Some(packet).filter(|it| !it.is_empty()))
@@ -212,19 +217,20 @@ impl Server {
         Ok(server)
     }
 
-    /// A packet came: the name of its session.
+    /// A packet came: the name of its session, whose packets go where this one came from. Of one that doesn't open (`Error::Refused`) only
+    /// the moment counts. `Error::Busy` while a request waits for its answer, as of `tick`, `attach` and `restart`.
     pub fn handle_packet(&mut self, now: u64, packet: &[u8]) -> Result<SessionName, Error> {
         let mut name = SessionName { key: 0, session: 0 };
         must(unsafe { raw::kf_server_handle_packet(&mut self.0, now, packet.as_ptr(), packet.len(), &mut name.key, &mut name.session) })?;
         Ok(name)
     }
 
-    /// Time passed.
+    /// Time passed: calls that have waited too long for others are answered.
     pub fn tick(&mut self, now: u64) -> Result<(), Error> {
         must(unsafe { raw::kf_server_tick(&mut self.0, now) })
     }
 
-    /// A connection was opened for a session: what the server keeps for it is said again.
+    /// A packet came for a session, the first one over this connection: what the server keeps for it is said again.
     pub fn attach(&mut self, name: SessionName, now: u64) -> Result<(), Error> {
         must(unsafe { raw::kf_server_attach(&mut self.0, name.key, name.session, now) })
     }
@@ -241,19 +247,19 @@ impl Server {
         Ok(ready)
     }
 
-    /// The next ready request. Until it is answered, the server takes nothing else.
+    /// The next ready request, if there is one. Until it is answered the server takes nothing else, and this gives it again.
     pub fn next_request(&mut self) -> Result<Option<Vec<u8>>, Error> {
         let mut there = 0;
         let request = bytes_of(|room, count, len| unsafe { raw::kf_server_next_request(&mut self.0, &mut there, room, count, len) })?;
         Ok(if there != 0 { Some(request) } else { None })
     }
 
-    /// The request that was handed out has run, and this is its reply.
+    /// The request that was handed out has run, and this is its reply, whole words of 4 bytes.
     pub fn answer(&mut self, now: u64, reply: &[u8]) -> Result<(), Error> {
         must(unsafe { raw::kf_server_answer(&mut self.0, now, reply.as_ptr(), reply.len()) })
     }
 
-    /// The packet that is to be sent next, with the session that it is for. Each is handed out once.
+    /// The packet that is to be sent next, if there is one, with the session that it is for. Each is handed out once.
     pub fn poll_transmit(&mut self) -> Result<Option<(SessionName, Vec<u8>)>, Error> {
         let mut name = SessionName { key: 0, session: 0 };
         let packet = bytes_of(|room, count, len| unsafe { raw::kf_server_poll_transmit(&mut self.0, &mut name.key, &mut name.session, room, count, len) })?;

@@ -11,6 +11,8 @@ impl Handle {
 }
 
 extern "C" {
+    pub fn kf_version() -> *const std::ffi::c_char;
+    pub fn kf_build() -> *const std::ffi::c_char;
     pub fn kf_status_text(status: u32) -> *const std::ffi::c_char;
     pub fn kf_client_new(client: *mut Handle, keys: *const u8, keys_len: usize, key: u64, seed: *const u8) -> u32;
     pub fn kf_client_new_temp(client: *mut Handle, keys: *const u8, keys_len: usize, temp: u64, perm: u64, expires: u64, seed: *const u8) -> u32;

@@ -1,0 +1,3 @@
+module kifzaro
+
+go 1.18

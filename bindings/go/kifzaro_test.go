@@ -1,0 +1,137 @@
+package kifzaro
+
+import (
+	"bytes"
+	"errors"
+	"net"
+	"strings"
+	"testing"
+)
+
+const theKey, moment = 0xc8df57a46e58d132, 1_000_000
+
+func theKeys() []byte {
+	key := make([]byte, 256)
+	for place := range key {
+		key[place] = byte(place)
+	}
+	return []byte("# A key that everybody knows.\nperm " + hexOf(key) + "\n")
+}
+
+func hexOf(key []byte) string {
+	const digits = "0123456789abcdef"
+	var text strings.Builder
+	for _, each := range key {
+		text.WriteByte(digits[each>>4])
+		text.WriteByte(digits[each&15])
+	}
+	return text.String()
+}
+
+// Each packet of the client comes so many times; how many requests there were.
+func turn(client *Client, server *Server, times int) (asked int) {
+	for packet := Must(client.PollTransmit(moment)); packet != nil; packet = Must(client.PollTransmit(moment)) {
+		for k := 0; k < times; k++ {
+			Must(server.HandlePacket(moment, packet))
+			for request := Must(server.NextRequest()); request != nil; request = Must(server.NextRequest()) {
+				Must(true, server.Answer(moment, append([]byte("re: "), request...)))
+				asked++
+			}
+		}
+	}
+	for _, packet, err := server.PollTransmit(); Must(packet, err) != nil; _, packet, err = server.PollTransmit() {
+		Must(true, client.HandlePacket(moment, packet))
+	}
+	return asked
+}
+
+func TestPacketsThatComeTwiceRunOnce(t *testing.T) {
+	client, server := Must(NewClient(theKeys(), theKey)), Must(NewServer(theKeys()))
+	defer client.Close()
+	call, asked := Must(client.Submit([]byte("ask me!!"), 0)), 0
+	for k := 0; k < 5; k++ {
+		asked += turn(client, server, 2)
+	}
+	state, code, err := client.State(call)
+	reply := Must(client.TakeReply(call))
+	if asked != 1 || state != Done || code != 0 || err != nil || string(reply) != "re: ask me!!" || !Must(client.CallsDecided()) {
+		t.Fatal(asked, state, code, err, string(reply))
+	}
+}
+
+func TestWhatIsRefused(t *testing.T) {
+	client, server := Must(NewClient(theKeys(), theKey)), Must(NewServer(theKeys()))
+	_, noKeys := NewClient([]byte("no key file"), theKey)
+	_, noKey := NewClient(nil, theKey)
+	_, badBody := client.Submit([]byte("odd"), 0)
+	_, noReply := client.TakeReply(Must(client.Submit([]byte("even"), 0)))
+	_, refused := server.HandlePacket(moment, make([]byte, 104))
+	for place, row := range [][2]error{{noKeys, BadKeys}, {noKey, NoKey}, {badBody, BadBody}, {noReply, NoReply}, {client.Ping(1), NotOpen},
+		{client.HandlePacket(moment, nil), RefusedSize}, {refused, RefusedKey}, {server.Answer(moment, []byte("even")), NotAsked}} {
+		if !errors.Is(row[0], row[1]) || IsRefused(row[0]) != (place == 5 || place == 6) {
+			t.Error(place, row[0], row[1])
+		}
+	}
+	client.Close()
+	client.Close()
+	if err := client.Attach(); err != Closed {
+		t.Error(err)
+	}
+	if Busy.Error() != "a request waits for its answer" || !strings.Contains(Version(), ".") || !strings.Contains(Build(), "proved") {
+		t.Error(Busy, Version(), Build())
+	}
+}
+
+func TestALongReply(t *testing.T) {
+	client, server := Must(NewClient(theKeys(), theKey)), Must(NewServer(theKeys()))
+	call, long := Must(client.Submit([]byte("much"), 0)), bytes.Repeat([]byte("long"), 65536)
+	for Must(server.Ready()) == 0 {
+		for packet := Must(client.PollTransmit(moment)); packet != nil; packet = Must(client.PollTransmit(moment)) {
+			Must(server.HandlePacket(moment, packet))
+		}
+		for _, packet, _ := server.PollTransmit(); packet != nil; _, packet, _ = server.PollTransmit() {
+			Must(true, client.HandlePacket(moment, packet))
+		}
+	}
+	first, again := Must(server.NextRequest()), Must(server.NextRequest())
+	if string(first) != "much" || string(again) != "much" || server.Tick(moment) != Busy || server.Restart() != Busy || server.Answer(moment, []byte("odd")) != BadReply {
+		t.Fatal(string(first), string(again))
+	}
+	Must(true, server.Answer(moment, long))
+	for k := 0; k < 3; k++ {
+		turn(client, server, 1)
+	}
+	if !bytes.Equal(Must(client.TakeReply(call)), long) {
+		t.Fatal("the reply is another")
+	}
+}
+
+func TestKeyID(t *testing.T) {
+	if Must(KeyID("32d1586ea457dfc8")) != theKey {
+		t.Fatal(Must(KeyID("32d1586ea457dfc8")))
+	}
+	if _, err := KeyID("32d1"); err == nil {
+		t.Fatal("it is too short")
+	}
+}
+
+func TestOverTCP(t *testing.T) {
+	listener := Must(net.Listen("tcp", "127.0.0.1:0"))
+	server := Must(NewServer(theKeys()))
+	go Serve(listener, server, func(request []byte) []byte { return append([]byte("re: "), request...) })
+	clients := make(chan string)
+	for k := 0; k < 20; k++ {
+		go func() {
+			client := Must(NewClient(theKeys(), theKey))
+			call, other := Must(client.Submit([]byte("ask me!!"), 0)), Must(client.Submit([]byte("1234"), 0))
+			Must(true, client.Run(Must(net.Dial("tcp", listener.Addr().String()))))
+			clients <- string(Must(client.TakeReply(call))) + ", " + string(Must(client.TakeReply(other)))
+		}()
+	}
+	for k := 0; k < 20; k++ {
+		if told := <-clients; told != "re: ask me!!, re: 1234" {
+			t.Error(told)
+		}
+	}
+	listener.Close()
+}
