@@ -1,0 +1,7 @@
+mod Asking
+mod Drawing
+mod Lists
+mod OneRing
+mod QuietAttach
+mod QuietEnd
+mod QuietTick
