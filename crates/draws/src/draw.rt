@@ -38,9 +38,12 @@ pub trait Seeded: Draw + Sized {
     fn place(&self) -> u64
         ensures { result ≡ place_of self.now };
 
+    /// One step from a place below 2^64 gives the seed's word of that place, and the draw then stands at the next place,
+    /// modulo 2^64.
     ghost steps: { (seed : List ℕ) (place : ℕ) → place < 2 ^ 64
         → Self.step (standing_at seed place) ≡ (word_of seed place, standing_at seed ((place + 1) % 2 ^ 64)) };
 
+    /// A draw that stands at a place below 2^64 tells that place.
     ghost places: { (seed : List ℕ) (place : ℕ) → place < 2 ^ 64 → place_of (standing_at seed place) ≡ place };
 }
 

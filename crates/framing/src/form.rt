@@ -48,5 +48,6 @@ pub trait Framing {
         requires { IsOutline (form self.now) frame.now }
         ensures { MatchResult result (λ span. IsFrameAt (form self.now) number frame.now span) (λ fault. (form self.now).spoilt number fault frame.now) };
 
+    /// The form of every value meets the laws of a form.
     ghost lawful: { (self : Self) → IsForm (form self) };
 }

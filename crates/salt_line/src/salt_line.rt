@@ -30,6 +30,7 @@ pub struct SaltRow {
     pub since: u64,
     /// The first moment after that at which it isn't valid any more.
     pub until: u64,
+    /// The salt that is valid in that time.
     pub salt: u64,
 }
 

@@ -20,7 +20,7 @@ pub trait Clients {
     ghost use Rattle.world_rules.specs.World.{Seat};
     ghost use Rattle.sim_text.specs.Clients.{IsClientOf};
 
-    // They stand for these.
+    /// The clients stand for these seats.
     ghost stands: { Self → List Seat → Type 0 };
 
     /// How many there are.

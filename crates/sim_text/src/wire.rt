@@ -13,7 +13,7 @@ use std::alloc::Global;
 pub trait Wire {
     ghost use Rattle.std.specs.Prelude.{◌≡◌, ◌<◌, ℕ, List, Some, length, slice_get};
 
-    // The bytes of each.
+    /// The bytes of each packet, in order.
     ghost packets: { Self → List (List ℕ) };
 
     /// How many there are.
