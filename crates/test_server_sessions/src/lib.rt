@@ -9,6 +9,4 @@ mod fresh;
 #[cfg(test)]
 mod owed;
 #[cfg(test)]
-mod servers;
-#[cfg(test)]
 mod sessions;

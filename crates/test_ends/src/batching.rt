@@ -1,0 +1,126 @@
+//! Batches of calls over links in memory.
+
+ghost use Rattle.std.specs.Prelude.{◌≡◌};
+ghost use Rattle.client_core.specs.Holding.{kept_of};
+ghost use Rattle.client_core.specs.Keys.{HasKeys, keys_in};
+
+use crate::serving::Sent;
+use crate::talking::{call_told, joins, submits};
+use crate::telling::Text;
+use client_core::Holder;
+use client_node::{Batch, Plan, run_batch};
+use draws::StepDraw;
+use envelope::Seal;
+use msg_ids::Moment;
+use mt_edge::{ListClock, MemLink, MemNet, NetCall, Outcome};
+use octets::Octets;
+use std::alloc::Global;
+use std::test::Fail;
+use test_keys::KEY_ID;
+use test_lines::Line;
+use transport::Form;
+
+/// The body of the call `add x 5`.
+const ADD_X_5: &[u8] = b"\x01\x2c\x1b\x0a\x01x\0\0\x05\0\0\0\0\0\0\0";
+
+/// Room for what goes over a link, in bytes.
+const ROOM_BYTES: usize = 4_096;
+
+// Puts a packet's frame of the intermediate form behind what is there.
+fn framed(alloc: Global, into: &mut Octets, packet: &[u8]) -> Result<(), Fail> {
+    let Ok(size) = u32::try_from(packet.len()) else {
+        return Err(Fail::new("too long"));
+    };
+    into.push_all(alloc, &size.to_le_bytes())?;
+    into.push_all(alloc, packet)?;
+    Ok(())
+}
+
+// A link over which the frames come, at most so many bytes at a time, and whose call of this number fails.
+fn link(alloc: Global, frames: &[u8], line: &mut Line<'_>) -> Result<MemLink, Fail> {
+    let (piece, failing) = (line.number()?, line.number()?);
+    match usize::try_from(piece) {
+        Ok(piece) if piece > 0 => {
+            Ok(MemLink::new(alloc, frames, piece, &[failing], ROOM_BYTES, 16)?)
+        }
+        _ => Err(Fail::new("no piece")),
+    }
+}
+
+/// The frames and the links of a net that isn't used yet: whether the line told that.
+pub(crate) fn is_linked(
+    line: &mut Line<'_>,
+    sent: &mut Sent,
+    links: &mut Vec<MemLink>,
+) -> Result<bool, Fail> {
+    let alloc = line.alloc;
+    match line.verb {
+        "frame" => framed(alloc, &mut sent.frames, sent.down.as_slice())?,
+        "link" => links.push(link(alloc, sent.frames.as_slice(), line)?)?,
+        "bare" => links.push(link(alloc, &[], line)?)?,
+        _ => return Ok(false),
+    }
+    Ok(true)
+}
+
+// How the batch of a client ends over a net, with so many retries.
+fn ends<S: Seal>(
+    alloc: Global,
+    client: Holder,
+    seal: &S,
+    net: &mut MemNet,
+    retries: u32,
+    draw: &mut StepDraw,
+) -> Result<(Holder, Batch), Fail>
+    requires keys { HasKeys (S.keys seal.now) (keys_in (kept_of client)) }
+{
+    let mut clock = ListClock::new(alloc, &[Moment::new(0)])?;
+    let plan = Plan {
+        port: 1,
+        form: Form::Intermediate,
+        obfuscate: false,
+        retries,
+    };
+    Ok(run_batch(alloc, client, &plan, net, seal, &mut clock, draw))
+}
+
+// How many calls of the first link of a net have failed, where it was given back.
+fn failed(net: &MemNet) -> Option<u64> {
+    match net.calls().first() {
+        Some(
+            NetCall::Connect {
+                outcome: Outcome::Done { faults, .. },
+                ..
+            },
+        ) => Some(*faults),
+        _ => None,
+    }
+}
+
+/// The batch of a client that has done nothing yet, with the call `add x 5` or with none, over the links, the last one first: how
+/// it ends, how many calls of the net there were, how many of the first link failed, and what became of the first call. Whether
+/// the line told that.
+pub(crate) fn is_run<S: Seal>(
+    line: &mut Line<'_>,
+    seal: &S,
+    links: &mut Vec<MemLink>,
+    text: &mut Text,
+) -> Result<bool, Fail> {
+    let idles = line.verb == "idle";
+    if !idles && line.verb != "batch" {
+        return Ok(false);
+    }
+    let (alloc, mut draw) = (line.alloc, StepDraw::new());
+    let mut client = joins(alloc, seal, KEY_ID, &mut draw)?;
+    if !idles {
+        submits(&mut client, alloc, ADD_X_5, None)?;
+    }
+    let links = std::mem::replace(links, Vec::new(alloc));
+    let mut net = MemNet::new(alloc, links, &[], 8)?;
+    let (client, end) = ends(alloc, client, seal, &mut net, line.small()?, &mut draw)?;
+    let (calls, failed) = (net.calls().len(), failed(&net));
+    let first = call_told(alloc, &client, 1)?;
+    let told = format!(in alloc; "{end:?}, {calls} calls, {failed:?} failed, {first}\n")?;
+    text.push(told.as_str())?;
+    Ok(true)
+}
