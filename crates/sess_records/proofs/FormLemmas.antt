@@ -174,3 +174,16 @@ same_file (a ∷ es) (b ∷ bs) g h x y la lb sg sh e =
     let one = same_record a b (written es ++ g ∷ x) (written bs ++ h ∷ y) (All-head IsRecord a es la) (All-head IsRecord b bs lb) split in
     let more = same_file es bs g h x y (All-tail IsRecord a es la) (All-tail IsRecord b bs lb) sg sh one.rest in
     record { entries = ap₂ (λ (z : Record) (l : List Record). z ∷ l) one.entry more.entries; gate = more.gate; rest = more.rest }
+
+-- a list that is followed by a gate stands in front of the whole list
+pub in_front : (es bs : List Record) (g h : ℕ) (x y : List ℕ) → All IsRecord es → All IsRecord bs → (h ≡ open_gate → ⊥)
+    → written es ++ g ∷ x ≡ written bs ++ h ∷ y → (more : List Record) × (bs ≡ es ++ more)
+in_front [] bs g h x y la lb shut e = (bs, refl)
+in_front (a ∷ es) [] g h x y la lb shut e = absurd (shut (cc e))
+in_front (a ∷ es) (b ∷ bs) g h x y la lb shut e =
+    let bodies : (spelt a ++ written es) ++ g ∷ x ≡ (spelt b ++ written bs) ++ h ∷ y = cc e in
+    let split : spelt a ++ (written es ++ g ∷ x) ≡ spelt b ++ (written bs ++ h ∷ y) =
+    sym (append_assoc (spelt a) (written es) (g ∷ x)) ∙ bodies ∙ append_assoc (spelt b) (written bs) (h ∷ y) in
+    let one = same_record a b (written es ++ g ∷ x) (written bs ++ h ∷ y) (All-head IsRecord a es la) (All-head IsRecord b bs lb) split in
+    let more = in_front es bs g h x y (All-tail IsRecord a es la) (All-tail IsRecord b bs lb) shut one.rest in
+    (more.0, ap₂ (λ (z : Record) (l : List Record). z ∷ l) (sym one.entry) more.1)

@@ -3,7 +3,7 @@ use Rattle.std.proofs.Common.{◌≡◌, ◌≢◌, ◌≤◌, ◌+◌, ◌∙�
 use Rattle.sess_records.specs.declared.records.Record.{Record}
 use Rattle.sess_records.specs.declared.records.Event.TheVariants.{Begin, Ran}
 use Rattle.sess_records.specs.Format.{HasHeader, IsFault, IsReply, Reached, Spells, magic, open_gate, size_of, written}
-use Rattle.sess_records.proofs.FormLemmas.{SameFile, Stops, append_split, follows, same_file}
+use Rattle.sess_records.proofs.FormLemmas.{SameFile, Stops, append_split, follows, in_front, same_file}
 
 record SameReached (s t : List ℕ) (es bs : List Record) (g h a b : ℕ) : Type 0 where
   seed : s ≡ t
@@ -38,6 +38,13 @@ one_seed seed other entries others file p q = (spelt_both seed other entries oth
 
 pub one_list : (seed other : List ℕ) (entries others : List Record) (file : List ℕ) → Spells seed entries file → Spells other others file → entries ≡ others
 one_list seed other entries others file p q = (spelt_both seed other entries others file p q).entries
+
+pub fronts : (seed other : List ℕ) (entries others : List Record) (gate at : ℕ) (file : List ℕ) → Reached seed entries gate at file → Spells other others file
+    → (seed ≡ other) × ((more : List Record) × (others ≡ entries ++ more))
+fronts seed other entries others gate at file r q =
+    let behind = append_split magic magic (seed ++ (written entries ++ gate ∷ r.rest)) (other ++ (written others ++ q.gate ∷ q.reached.rest)) refl (sym r.split ∙ q.reached.split) in
+    let seeds = append_split seed other (written entries ++ gate ∷ r.rest) (written others ++ q.gate ∷ q.reached.rest) (r.seeded ∙ sym q.reached.seeded) behind.1 in
+    (seeds.0, in_front entries others gate q.gate r.rest q.reached.rest r.lawful q.reached.lawful q.closed seeds.1)
 
 reached_header : (seed : List ℕ) (entries : List Record) (gate at : ℕ) (file : List ℕ) → Reached seed entries gate at file → HasHeader file
 reached_header seed entries gate at file r =

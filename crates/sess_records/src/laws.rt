@@ -5,13 +5,16 @@ ghost use Rattle.disks.specs.Told.{DiskTold};
 ghost use Rattle.sess_records.specs.declared.records.Record.{Record};
 ghost use Rattle.sess_records.specs.declared.records.Event.TheVariants.{Begin, Ran};
 ghost use Rattle.sess_records.specs.Crashes.{LeavesOnly};
-ghost use Rattle.sess_records.specs.Format.{IsFault, IsReply, Spells, open_gate, size_of, spelt, work_bytes};
+ghost use Rattle.sess_records.specs.Format.{IsFault, IsReply, Reached, Spells, open_gate, size_of, spelt, work_bytes};
 ghost use Rattle.sess_records.specs.Standing.{Behind, Settled, SpellsOneOf, SpellsSome};
 
-/// A file spells one list or none, and is no journal from one place on.
+/// A file spells one list or none, and is no journal from one place on. What an opening has read of it is the front of
+/// that list.
 pub fn files_spell_one_list()
     ensures seed { (seed other : List ℕ) (entries others : List Record) (file : List ℕ) → Spells seed entries file → Spells other others file → seed ≡ other }
     ensures entries { (seed other : List ℕ) (entries others : List Record) (file : List ℕ) → Spells seed entries file → Spells other others file → entries ≡ others }
+    ensures front { (seed other : List ℕ) (entries others : List Record) (gate at : ℕ) (file : List ℕ) → Reached seed entries gate at file → Spells other others file
+        → (seed ≡ other) × ((more : List Record) × (others ≡ entries ++ more)) }
     ensures no_fault { (seed : List ℕ) (entries : List Record) (at : ℕ) (file : List ℕ) → Spells seed entries file → IsFault at file → ⊥ }
     ensures one_fault { (at other : ℕ) (file : List ℕ) → IsFault at file → IsFault other file → at ≡ other }
 {}

@@ -1,0 +1,239 @@
+//! A server that keeps a journal.
+
+ghost use Rattle.std.specs.Prelude.{◌≡◌, ◌≤◌, ◌<◌, ℕ, List, [], ◌++◌, None, Some, IfOk, IfErr, IfSome, OnOk};
+ghost use Rattle.mt_edge.specs.Faults.{Rose};
+ghost use Rattle.sess_records.specs.declared.records.Record.{Record};
+ghost use Rattle.sess_records.specs.Calls.{HasCause, IfNotJournal};
+ghost use Rattle.sess_records.specs.Standing.{HasNext, Holds};
+ghost use Rattle.server_rules.specs.Server.{fresh_server};
+ghost use Rattle.sess_journal.specs.Keeping.{KeepsFor, Opened, Resumed, disk_in, ending, ground_in};
+ghost use Rattle.sess_journal.specs.Playing.{Follows, IsNoJournalAt, IsReady, StandsAt};
+ghost use Rattle.sess_journal.specs.Replay.{Ground, Reached, Replays, at_first};
+
+use crate::book::Book;
+use crate::played::{PlayFault, Played, later};
+use disks::Disk;
+use draws::Seeded;
+use envelope::Seal;
+use msg_ids::Moment;
+use sess_records::{Event, Journal, JournalFault, Opening};
+use server_core::Server;
+use std::alloc::Global;
+use std::marker::Model;
+
+/// A server that keeps a journal of what it does on a disk, from which it comes back after a crash.
+#[derive(Drop)]
+pub struct Kept<K: Disk + Drop, S: Seal + Drop, D: Seeded + Drop> {
+    pub(crate) book: Book<K>,
+    pub(crate) server: Server<S>,
+    pub(crate) latest: Moment,
+    pub(crate) draw: D,
+}
+
+impl<K: Disk + Drop, S: Seal + Drop, D: Seeded + Drop> Model for Kept<K, S, D> {
+    ghost use Rattle.sess_journal.specs.Keeping.{Seen};
+
+    ghost Value = { Seen K S D };
+
+    ghost view = { λ kept. record {
+      outside = record { lock = S.lock; keys = S.keys kept.server.seal; step = D.step; standing_at = D.standing_at; place_of = D.place_of; told = K.told };
+      server = kept.server;
+      latest = kept.latest;
+      draw = kept.draw;
+      book = kept.book;
+    } };
+}
+
+impl<K: Disk + Drop, S: Seal + Drop, D: Seeded + Drop> Kept<K, S, D> {
+    /// A server without sessions, jobs and bindings, with a journal without records in the place of all that the disk holds.
+    ///
+    /// # Errors
+    ///
+    /// The disk and `Disk`, where a call of it failed; it may hold anything then.
+    pub fn create(
+        alloc: Global,
+        disk: K,
+        seal: S,
+        seed: &[u8; 32],
+    ) -> Result<Kept<K, S, D>, (K, JournalFault)>
+        ensures stands { IfOk result (λ kept. KeepsFor [] kept fresh_server) }
+        ensures seal { IfOk result (λ kept. kept.server.seal ≡ seal) }
+        ensures cause { IfErr result (λ back. (back.1 ≡ JournalFault.Disk) × Rose (K.faults disk) (K.faults back.0)) }
+    {
+        let journal = match Journal::create(disk, seed) {
+            Ok(journal) => journal,
+            Err(disk) => return Err((disk, JournalFault::Disk)),
+        };
+        let played = Played::new(alloc, seal, *seed);
+        Ok(kept_by(journal, played))
+    }
+
+    /// The server of the records that the disk spells. A run that began in the last of them and was cut off is answered, at
+    /// the later of this moment and the server's, by `rpc_error 500 RUN_INTERRUPTED`, and recorded so.
+    ///
+    /// # Errors
+    ///
+    /// The disk, and `Disk` where a call of it failed, `NotJournal` with the first place where neither a header nor a
+    /// lawful record stands, or `Memory`.
+    pub fn open(
+        alloc: Global,
+        disk: K,
+        seal: S,
+        now: Moment,
+    ) -> Result<Kept<K, S, D>, (K, JournalFault)>
+        // The server is the one that the records of the file lead to, and those of a run that was cut off.
+        ensures opened { IfOk result (Opened (K.told disk) now) }
+        ensures seal { IfOk result (λ kept. kept.server.seal ≡ seal) }
+        ensures refused { IfErr result (λ back. IfNotJournal back.1 (λ at. IfSome (K.told disk) (λ before.
+            IsNoJournalAt (λ seed. record { lock = S.lock; keys = S.keys seal; step = D.step; at = D.standing_at seed; place_of = D.place_of }) at before.contents))) }
+        ensures cause { IfErr result (λ back. HasCause back.1 (K.faults disk) (K.faults back.0)) }
+    {
+        let mut opening = match Opening::new(disk) {
+            Ok(opening) => opening,
+            Err(back) => return Err(back),
+        };
+        let mut played = Played::new(alloc, seal, opening.seed());
+        if let Err(fault) = play_all(alloc, &mut opening, &mut played) {
+            return Err((opening.into_disk(), fault));
+        }
+        match opening.finish() {
+            Ok(journal) => resume(alloc, journal, played, now),
+            Err(disk) => Err((disk, JournalFault::Disk)),
+        }
+    }
+
+    /// The disk, as it stands.
+    pub fn into_disk(self) -> K
+        ensures { Some result ≡ disk_in self.book }
+    {
+        let Kept { book, .. } = self;
+        book.into_disk()
+    }
+}
+
+/// A server with its journal.
+fn kept_by<K: Disk + Drop, S: Seal + Drop, D: Seeded + Drop>(
+    journal: Journal<K>,
+    played: Played<S, D>,
+) -> Kept<K, S, D>
+    ensures server { result.server ≡ played.server }
+    ensures latest { result.latest ≡ played.latest }
+    ensures draw { result.draw ≡ played.draw }
+    ensures book { result.book ≡ record { journal = Some journal; lost = None } }
+    ensures outside { (seed : List ℕ) → played.ground.at ≡ D.standing_at seed → ground_in result.outside seed ≡ played.ground }
+    ensures told { result.outside.told ≡ K.told }
+{
+    let Played {
+        server,
+        latest,
+        draw,
+        ..
+    } = played;
+    Kept {
+        book: Book::new(journal),
+        server,
+        latest,
+        draw,
+    }
+}
+
+/// Plays the next record.
+///
+/// # Errors
+///
+/// `Disk`, where a call of the disk failed. `NotJournal`, where no lawful record stands at this place. `Memory`.
+fn play_next<K: Disk, S: Seal + Drop, D: Seeded + Drop>(
+    alloc: Global,
+    opening: &mut Opening<K>,
+    played: &mut Played<S, D>,
+) -> Result<(), JournalFault>
+    requires next { HasNext opening.old }
+    requires ready { IsReady played.old }
+    requires follows { Follows K.told opening.old played.old }
+    ensures ready { OnOk result (IsReady played.new) }
+    ensures follows { OnOk result (Follows K.told opening.new played.new) }
+    ensures refused { (grounds : List ℕ → Ground D) → played.old.ground ≡ grounds opening.old.seed
+        → IfErr result (λ fault. IfNotJournal fault (λ at. IfSome (K.told opening.old.disk) (λ file. IsNoJournalAt grounds at file.contents))) }
+    ensures cause { IfErr result (λ fault. HasCause fault (K.faults opening.old.disk) (K.faults opening.new.disk)) }
+    ensures counted { OnOk result (K.faults opening.new.disk ≡ K.faults opening.old.disk) }
+    ensures nearer { OnOk result ((opening.old.at < opening.new.at) × (opening.new.at ≤ opening.new.len)) }
+    ensures told { K.told opening.new.disk ≡ K.told opening.old.disk }
+    ensures same { (opening.new.seed ≡ opening.old.seed) × (opening.new.len ≡ opening.old.len) }
+    ensures same_ground { played.new.ground ≡ played.old.ground }
+{
+    let at = opening.place();
+    let entry = opening.next(alloc)?;
+    match played.play(alloc, &entry) {
+        Ok(()) => Ok(()),
+        Err(PlayFault::Memory) => Err(JournalFault::Memory),
+        Err(PlayFault::Unlawful) => Err(JournalFault::NotJournal { at }),
+    }
+}
+
+/// Plays all records that follow.
+///
+/// # Errors
+///
+/// As for one.
+fn play_all<K: Disk, S: Seal + Drop, D: Seeded + Drop>(
+    alloc: Global,
+    opening: &mut Opening<K>,
+    played: &mut Played<S, D>,
+) -> Result<(), JournalFault>
+    requires ready { IsReady played.old }
+    requires follows { Follows K.told opening.old played.old }
+    ensures ready { OnOk result (IsReady played.new) }
+    ensures follows { OnOk result (Follows K.told opening.new played.new) }
+    ensures all { OnOk result (HasNext opening.new → ⊥) }
+    ensures refused { (grounds : List ℕ → Ground D) → played.old.ground ≡ grounds opening.old.seed
+        → IfErr result (λ fault. IfNotJournal fault (λ at. IfSome (K.told opening.old.disk) (λ file. IsNoJournalAt grounds at file.contents))) }
+    ensures cause { IfErr result (λ fault. HasCause fault (K.faults opening.old.disk) (K.faults opening.new.disk)) }
+    ensures counted { OnOk result (K.faults opening.new.disk ≡ K.faults opening.old.disk) }
+    ensures told { K.told opening.new.disk ≡ K.told opening.old.disk }
+    ensures same_seed { opening.new.seed ≡ opening.old.seed }
+    ensures same_ground { played.new.ground ≡ played.old.ground }
+{
+    'records: while opening.has_next() {
+        play_next(alloc, opening, played)?;
+    }
+    Ok(())
+}
+
+/// How many bytes the record of a run that was cut off has, with the gate behind it.
+const INTERRUPTED_BYTES: u64 = 22;
+
+/// Answers a run that was cut off, where one is, and records that.
+///
+/// # Errors
+///
+/// The disk, and `Disk` where a call of it failed, or `Memory`.
+fn resume<K: Disk + Drop, S: Seal + Drop, D: Seeded + Drop>(
+    alloc: Global,
+    journal: Journal<K>,
+    played: Played<S, D>,
+    now: Moment,
+) -> Result<Kept<K, S, D>, (K, JournalFault)>
+    requires ready { IsReady played }
+    ensures resumed { IfOk result (λ kept. (entries : List Record) (reached : Reached) → Holds K.told entries journal
+        → played.ground.at ≡ D.standing_at journal.seed → Replays played.ground entries at_first reached → StandsAt reached played
+        → Resumed now reached (entries ++ ending now reached) kept) }
+    ensures seal { IfOk result (λ kept. kept.server.seal ≡ played.server.seal) }
+    ensures cause { IfErr result (λ back. (IfNotJournal back.1 (λ at. ⊥)) × HasCause back.1 (K.faults journal.disk) (K.faults back.0)) }
+{
+    let Some(_job) = played.begun else {
+        return Ok(kept_by(journal, played));
+    };
+    if journal.len() > u64::MAX - INTERRUPTED_BYTES {
+        return Err((journal.into_disk(), JournalFault::Memory));
+    }
+    let mut played = played;
+    let place = played.draw.place();
+    let moment = later(played.latest, now).seconds();
+    if played.interrupted(alloc, moment, place).is_err() {
+        return Err((journal.into_disk(), JournalFault::Memory));
+    }
+    match journal.add(moment, place, Event::Interrupted) {
+        Ok(journal) => Ok(kept_by(journal, played)),
+        Err(disk) => Err((disk, JournalFault::Disk)),
+    }
+}
