@@ -1,2 +1,2 @@
-mod LawLemmas
+mod NextLemmas
 mod PlayLemmas

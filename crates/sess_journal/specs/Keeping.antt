@@ -1,8 +1,6 @@
 -- What contracts see of a server that keeps a journal, and what it stands for.
 use Rattle.std.specs.Prelude.{◌≡◌, ℕ, ◌≤◌, ◌<◌, ◌+◌, ◌^◌, max, Option, Some, None, List, [], ◌∷◌, ◌++◌, IfSome, IsSomeAnd}
-use Rattle.auth_keys.specs.declared.ring.RingKey.{RingKey}
 use Rattle.disks.specs.Told.{DiskTold}
-use Rattle.envelope.specs.Packet.{Lock}
 use Rattle.mt_edge.specs.Faults.{Rose}
 use Rattle.sess_records.specs.declared.records.Event.TheVariants.{Interrupted}
 use Rattle.sess_records.specs.declared.records.Record.{Record}
@@ -13,7 +11,7 @@ use Rattle.sess_records.specs.Standing.{Holds, SpellsSome}
 use Rattle.server_core.specs.Desks.{IsBetweenEvents}
 use Rattle.server_core.specs.Server.{Kept, Stands}
 use Rattle.server_rules.specs.Server.{Server}
-use Rattle.sess_journal.specs.Replay.{Ground, Reached, Replays, at_first}
+use Rattle.sess_replay.specs.Replay.{Bases, Reached, Replays, at_first}
 
 -- the journal, until a call of its disk fails, and the disk from then on
 pub record Book (K : Type 0) : Type 0 where
@@ -34,30 +32,8 @@ pub record Added {K : Type 0} (told : K → Option DiskTold) (before : File K) (
   pub len : after.len ≡ before.len + size_of entry.event
   pub holds : (entries : List Record) → Holds told entries before → Holds told (entries ++ entry ∷ []) after
 
--- what holds of all servers of one kind: the lock and the keys under which packets open, how words are drawn, the draw of a
--- seed at a place, the place of a draw, and what a disk tells
-pub record Outside (K D : Type 0) : Type 0 where
-  pub lock : Lock
-  pub keys : List RingKey
-  pub step : D → ℕ × D
-  pub standing_at : List ℕ → ℕ → D
-  pub place_of : D → ℕ
-  pub told : K → Option DiskTold
-
-abbrev pub ground_in : {K D : Type 0} → Outside K D → List ℕ → Ground D
-ground_in outside seed =
-    record {
-      lock = outside.lock;
-      keys = outside.keys;
-      step = outside.step;
-      at = outside.standing_at seed;
-      place_of = outside.place_of;
-    }
-
--- a server with its journal: what holds of its kind, the server, the greatest moment that it was given, its draw, and the
--- journal
+-- a server with its journal: the server, the greatest moment that it was given, its draw, and the journal
 pub record Seen (K S D : Type 0) : Type 0 where
-  pub outside : Outside K D
   pub server : Kept S
   pub latest : ℕ
   pub draw : D
@@ -65,26 +41,26 @@ pub record Seen (K S D : Type 0) : Type 0 where
 
 -- The journal is open and has these records; the server is the one that they lead to, but for a later moment, and so is the
 -- draw.
-pub record HasRecorded {K D : Type 0} (outside : Outside K D) (entries : List Record) (book : Book K) (latest : ℕ) (draw : D) (server : Server) : Type 0 where
+pub record HasRecorded {K S D : Type 0} (bases : Bases S D) (told : K → Option DiskTold) (seal : S) (entries : List Record) (book : Book K) (latest : ℕ) (draw : D) (server : Server) : Type 0 where
   pub file : File K
   pub opened : book.journal ≡ Some file
-  pub holds : Holds outside.told entries file
+  pub holds : Holds told entries file
   pub reached : Reached
-  pub replays : Replays (ground_in outside file.seed) entries at_first reached
+  pub replays : Replays (bases seal file.seed) entries at_first reached
   pub same : server ≡ record reached.server { now = server.now }
   pub later : reached.server.now ≤ server.now
   pub latest_is : latest ≡ server.now
   pub place : reached.place < 2 ^ 64
-  pub drawn : draw ≡ outside.standing_at file.seed reached.place
+  pub drawn : draw ≡ (bases seal file.seed).at reached.place
 
 -- With these records in its journal it stands for this server.
-pub record KeepsFor {K S D : Type 0} (entries : List Record) (desk : Seen K S D) (server : Server) : Type 0 where
+pub record KeepsFor {K S D : Type 0} (bases : Bases S D) (told : K → Option DiskTold) (entries : List Record) (desk : Seen K S D) (server : Server) : Type 0 where
   pub stands : Stands desk.server server
   pub between : IsBetweenEvents server
-  pub recorded : HasRecorded desk.outside entries desk.book desk.latest desk.draw server
+  pub recorded : HasRecorded bases told desk.server.seal entries desk.book desk.latest desk.draw server
 
-abbrev pub StandsFor : {K S D : Type 0} → Seen K S D → Server → Type 0
-StandsFor desk server = (entries : List Record) × KeepsFor entries desk server
+abbrev pub StandsFor : {K S D : Type 0} → Bases S D → (K → Option DiskTold) → Seen K S D → Server → Type 0
+StandsFor bases told desk server = (entries : List Record) × KeepsFor bases told entries desk server
 
 -- ---- a run that was cut off
 
@@ -97,21 +73,21 @@ abbrev pub ending : ℕ → Reached → List Record
 ending now reached = ending_by now reached.server.now reached.place reached.begun
 
 -- Behind what was reached, the run that was cut off is answered, and these records are all of the journal.
-pub record Resumed {K S D : Type 0} (now : ℕ) (reached : Reached) (entries : List Record) (desk : Seen K S D) : Type 0 where
+pub record Resumed {K S D : Type 0} (bases : Bases S D) (told : K → Option DiskTold) (now : ℕ) (reached : Reached) (entries : List Record) (desk : Seen K S D) : Type 0 where
   pub seed : List ℕ
   pub after : Reached
-  pub replays : Replays (ground_in desk.outside seed) (ending now reached) reached after
-  pub stands : KeepsFor entries desk after.server
+  pub replays : Replays (bases desk.server.seal seed) (ending now reached) reached after
+  pub stands : KeepsFor bases told entries desk after.server
 
 -- What is opened are records that the file spells, where the disk tells; they lead to some server, and what stands is that one
 -- after the end of a run that was cut off.
-pub record Opened {K S D : Type 0} (told : Option DiskTold) (now : ℕ) (desk : Seen K S D) : Type 0 where
+pub record Opened {K S D : Type 0} (bases : Bases S D) (told : K → Option DiskTold) (disk : K) (now : ℕ) (desk : Seen K S D) : Type 0 where
   pub seed : List ℕ
   pub entries : List Record
-  pub spells : IfSome told (λ before. Spells seed entries before.contents)
+  pub spells : IfSome (told disk) (λ before. Spells seed entries before.contents)
   pub reached : Reached
-  pub replays : Replays (ground_in desk.outside seed) entries at_first reached
-  pub resumed : Resumed now reached (entries ++ ending now reached) desk
+  pub replays : Replays (bases desk.server.seal seed) entries at_first reached
+  pub resumed : Resumed bases told now reached (entries ++ ending now reached) desk
 
 -- ---- calls
 
@@ -129,9 +105,9 @@ HasFailed faults before after = IsClosed after × IfSome before.journal (λ file
 
 -- These records are added behind the others, and are lawful there. A crash at any moment of the call leaves the records from
 -- before it, or these and the first ones of the added; and so does the call.
-pub record Adds {K S D : Type 0} (entries more : List Record) (before after : Seen K S D) : Type 0 where
+pub record Adds {K S D : Type 0} (bases : Bases S D) (told : K → Option DiskTold) (entries more : List Record) (before after : Seen K S D) : Type 0 where
   pub seed : List ℕ
   pub reached : Reached
-  pub replays : Replays (ground_in before.outside seed) (entries ++ more) at_first reached
-  pub leaves : IfSome before.book.journal (λ file. IfSome (disk_in after.book) (λ disk. IfSome (before.outside.told file.disk) (λ was. IsSomeAnd (before.outside.told disk)
+  pub replays : Replays (bases before.server.seal seed) (entries ++ more) at_first reached
+  pub leaves : IfSome before.book.journal (λ file. IfSome (disk_in after.book) (λ disk. IfSome (told file.disk) (λ was. IsSomeAnd (told disk)
       (λ is. LeavesOnly was is (SpellsSome file.seed entries more)))))

@@ -6,9 +6,10 @@ ghost use Rattle.sess_records.specs.declared.records.Record.{Record};
 ghost use Rattle.sess_records.specs.Calls.{HasCause, IfNotJournal};
 ghost use Rattle.sess_records.specs.Standing.{HasNext, Holds};
 ghost use Rattle.server_rules.specs.Server.{fresh_server};
-ghost use Rattle.sess_journal.specs.Keeping.{KeepsFor, Opened, Resumed, disk_in, ending, ground_in};
-ghost use Rattle.sess_journal.specs.Playing.{Follows, IsNoJournalAt, IsReady, StandsAt};
-ghost use Rattle.sess_journal.specs.Replay.{Ground, Reached, Replays, at_first};
+ghost use Rattle.sess_journal.specs.Keeping.{KeepsFor, Opened, Resumed, disk_in, ending};
+ghost use Rattle.sess_replay.specs.Files.{IsNoJournalAt};
+ghost use Rattle.sess_journal.specs.Playing.{Follows, IsReady, StandsAt, basis_for};
+ghost use Rattle.sess_replay.specs.Replay.{Reached, Replays, at_first, bases_of};
 
 use crate::book::Book;
 use crate::played::{PlayFault, Played, later};
@@ -16,8 +17,8 @@ use disks::Disk;
 use draws::Seeded;
 use envelope::Seal;
 use msg_ids::Moment;
-use sess_records::{Event, Journal, JournalFault, Opening};
 use server_core::Server;
+use sess_records::{Event, Journal, JournalFault, Opening};
 use std::alloc::Global;
 use std::marker::Model;
 
@@ -36,7 +37,6 @@ impl<K: Disk + Drop, S: Seal + Drop, D: Seeded + Drop> Model for Kept<K, S, D> {
     ghost Value = { Seen K S D };
 
     ghost view = { λ kept. record {
-      outside = record { lock = S.lock; keys = S.keys kept.server.seal; step = D.step; standing_at = D.standing_at; place_of = D.place_of; told = K.told };
       server = kept.server;
       latest = kept.latest;
       draw = kept.draw;
@@ -56,7 +56,7 @@ impl<K: Disk + Drop, S: Seal + Drop, D: Seeded + Drop> Kept<K, S, D> {
         seal: S,
         seed: &[u8; 32],
     ) -> Result<Kept<K, S, D>, (K, JournalFault)>
-        ensures stands { IfOk result (λ kept. KeepsFor [] kept fresh_server) }
+        ensures stands { IfOk result (λ kept. KeepsFor (bases_of S.lock S.keys D.step D.standing_at D.place_of) K.told [] kept fresh_server) }
         ensures seal { IfOk result (λ kept. kept.server.seal ≡ seal) }
         ensures cause { IfErr result (λ back. (back.1 ≡ JournalFault.Disk) × Rose (K.faults disk) (K.faults back.0)) }
     {
@@ -82,10 +82,10 @@ impl<K: Disk + Drop, S: Seal + Drop, D: Seeded + Drop> Kept<K, S, D> {
         now: Moment,
     ) -> Result<Kept<K, S, D>, (K, JournalFault)>
         // The server is the one that the records of the file lead to, and those of a run that was cut off.
-        ensures opened { IfOk result (Opened (K.told disk) now) }
+        ensures opened { IfOk result (Opened (bases_of S.lock S.keys D.step D.standing_at D.place_of) K.told disk now) }
         ensures seal { IfOk result (λ kept. kept.server.seal ≡ seal) }
         ensures refused { IfErr result (λ back. IfNotJournal back.1 (λ at. IfSome (K.told disk) (λ before.
-            IsNoJournalAt (λ seed. record { lock = S.lock; keys = S.keys seal; step = D.step; at = D.standing_at seed; place_of = D.place_of }) at before.contents))) }
+            IsNoJournalAt (bases_of S.lock S.keys D.step D.standing_at D.place_of seal) at before.contents))) }
         ensures cause { IfErr result (λ back. HasCause back.1 (K.faults disk) (K.faults back.0)) }
     {
         let mut opening = match Opening::new(disk) {
@@ -120,8 +120,6 @@ fn kept_by<K: Disk + Drop, S: Seal + Drop, D: Seeded + Drop>(
     ensures latest { result.latest ≡ played.latest }
     ensures draw { result.draw ≡ played.draw }
     ensures book { result.book ≡ record { journal = Some journal; lost = None } }
-    ensures outside { (seed : List ℕ) → played.ground.at ≡ D.standing_at seed → ground_in result.outside seed ≡ played.ground }
-    ensures told { result.outside.told ≡ K.told }
 {
     let Played {
         server,
@@ -149,17 +147,16 @@ fn play_next<K: Disk, S: Seal + Drop, D: Seeded + Drop>(
 ) -> Result<(), JournalFault>
     requires next { HasNext opening.old }
     requires ready { IsReady played.old }
-    requires follows { Follows K.told opening.old played.old }
+    requires follows { Follows (bases_of S.lock S.keys D.step D.standing_at D.place_of) K.told opening.old played.old }
     ensures ready { OnOk result (IsReady played.new) }
-    ensures follows { OnOk result (Follows K.told opening.new played.new) }
-    ensures refused { (grounds : List ℕ → Ground D) → played.old.ground ≡ grounds opening.old.seed
-        → IfErr result (λ fault. IfNotJournal fault (λ at. IfSome (K.told opening.old.disk) (λ file. IsNoJournalAt grounds at file.contents))) }
+    ensures follows { OnOk result (Follows (bases_of S.lock S.keys D.step D.standing_at D.place_of) K.told opening.new played.new) }
+    ensures refused { IfErr result (λ fault. IfNotJournal fault (λ at. IfSome (K.told opening.old.disk) (λ file. IsNoJournalAt (bases_of S.lock S.keys D.step D.standing_at D.place_of played.old.server.seal) at file.contents))) }
     ensures cause { IfErr result (λ fault. HasCause fault (K.faults opening.old.disk) (K.faults opening.new.disk)) }
     ensures counted { OnOk result (K.faults opening.new.disk ≡ K.faults opening.old.disk) }
     ensures nearer { OnOk result ((opening.old.at < opening.new.at) × (opening.new.at ≤ opening.new.len)) }
     ensures told { K.told opening.new.disk ≡ K.told opening.old.disk }
     ensures same { (opening.new.seed ≡ opening.old.seed) × (opening.new.len ≡ opening.old.len) }
-    ensures same_ground { played.new.ground ≡ played.old.ground }
+    ensures same_seal { played.new.server.seal ≡ played.old.server.seal }
 {
     let at = opening.place();
     let entry = opening.next(alloc)?;
@@ -181,17 +178,16 @@ fn play_all<K: Disk, S: Seal + Drop, D: Seeded + Drop>(
     played: &mut Played<S, D>,
 ) -> Result<(), JournalFault>
     requires ready { IsReady played.old }
-    requires follows { Follows K.told opening.old played.old }
+    requires follows { Follows (bases_of S.lock S.keys D.step D.standing_at D.place_of) K.told opening.old played.old }
     ensures ready { OnOk result (IsReady played.new) }
-    ensures follows { OnOk result (Follows K.told opening.new played.new) }
+    ensures follows { OnOk result (Follows (bases_of S.lock S.keys D.step D.standing_at D.place_of) K.told opening.new played.new) }
     ensures all { OnOk result (HasNext opening.new → ⊥) }
-    ensures refused { (grounds : List ℕ → Ground D) → played.old.ground ≡ grounds opening.old.seed
-        → IfErr result (λ fault. IfNotJournal fault (λ at. IfSome (K.told opening.old.disk) (λ file. IsNoJournalAt grounds at file.contents))) }
+    ensures refused { IfErr result (λ fault. IfNotJournal fault (λ at. IfSome (K.told opening.old.disk) (λ file. IsNoJournalAt (bases_of S.lock S.keys D.step D.standing_at D.place_of played.old.server.seal) at file.contents))) }
     ensures cause { IfErr result (λ fault. HasCause fault (K.faults opening.old.disk) (K.faults opening.new.disk)) }
     ensures counted { OnOk result (K.faults opening.new.disk ≡ K.faults opening.old.disk) }
     ensures told { K.told opening.new.disk ≡ K.told opening.old.disk }
     ensures same_seed { opening.new.seed ≡ opening.old.seed }
-    ensures same_ground { played.new.ground ≡ played.old.ground }
+    ensures same_seal { played.new.server.seal ≡ played.old.server.seal }
 {
     'records: while opening.has_next() {
         play_next(alloc, opening, played)?;
@@ -215,8 +211,8 @@ fn resume<K: Disk + Drop, S: Seal + Drop, D: Seeded + Drop>(
 ) -> Result<Kept<K, S, D>, (K, JournalFault)>
     requires ready { IsReady played }
     ensures resumed { IfOk result (λ kept. (entries : List Record) (reached : Reached) → Holds K.told entries journal
-        → played.ground.at ≡ D.standing_at journal.seed → Replays played.ground entries at_first reached → StandsAt reached played
-        → Resumed now reached (entries ++ ending now reached) kept) }
+        → played.seed ≡ journal.seed → Replays (basis_for (bases_of S.lock S.keys D.step D.standing_at D.place_of) played) entries at_first reached → StandsAt (bases_of S.lock S.keys D.step D.standing_at D.place_of) reached played
+        → Resumed (bases_of S.lock S.keys D.step D.standing_at D.place_of) K.told now reached (entries ++ ending now reached) kept) }
     ensures seal { IfOk result (λ kept. kept.server.seal ≡ played.server.seal) }
     ensures cause { IfErr result (λ back. (IfNotJournal back.1 (λ at. ⊥)) × HasCause back.1 (K.faults journal.disk) (K.faults back.0)) }
 {

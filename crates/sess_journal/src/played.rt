@@ -5,8 +5,8 @@ ghost use Rattle.regs_service.specs.Served.{IsReply};
 ghost use Rattle.sess_records.specs.declared.records.Event.TheVariants.{Packet, Tick, Attach, Begin, Ran, Interrupted};
 ghost use Rattle.sess_records.specs.Format.{IsRecord};
 ghost use Rattle.sess_journal.specs.declared.played.PlayFault.TheVariants as faults;
-ghost use Rattle.sess_journal.specs.Playing.{IsReady, Leads, StandsAt};
-ghost use Rattle.sess_journal.specs.Replay.{IsLawful, LeadsTo, Plays, Reached, after_reply, at_first, reached_by, setting_at};
+ghost use Rattle.sess_journal.specs.Playing.{IsReady, Leads, StandsAt, basis_for};
+ghost use Rattle.sess_replay.specs.Replay.{IsLawful, LeadsTo, Plays, Reached, after_reply, at_first, bases_of, reached_by, setting_at};
 
 use crate::recorded::Recorded;
 use draws::laws::seeded_draws_go_on;
@@ -16,9 +16,9 @@ use law_server_replay::laws::events_draw_words;
 use msg_ids::Moment;
 use octets::Memory;
 use ring_rules::laws::rings_have_keys;
-use sess_records::{Event, Record};
 use server_core::order_laws::{events_keep_order, runs_keep_order};
 use server_core::{Heard, Server};
+use sess_records::{Event, Record};
 use std::alloc::Global;
 use std::marker::Model;
 
@@ -60,7 +60,7 @@ impl<S: Seal + Drop, D: Seeded + Drop> Model for Played<S, D> {
     ghost Value = { Player S D };
 
     ghost view = { λ played. record {
-      ground = record { lock = S.lock; keys = S.keys played.server.seal; step = D.step; at = D.standing_at played.seed; place_of = D.place_of };
+      seed = played.seed;
       server = played.server;
       latest = played.latest;
       draw = played.draw;
@@ -71,9 +71,10 @@ impl<S: Seal + Drop, D: Seeded + Drop> Model for Played<S, D> {
 impl<S: Seal + Drop, D: Seeded + Drop> Played<S, D> {
     /// No record was played.
     pub(crate) fn new(alloc: Global, seal: S, seed: [u8; 32]) -> Played<S, D>
-        ensures stands { StandsAt at_first result }
+        ensures stands { StandsAt (bases_of S.lock S.keys D.step D.standing_at D.place_of) at_first result }
         ensures ready { IsReady result }
-        ensures ground { result.ground ≡ record { lock = S.lock; keys = S.keys seal; step = D.step; at = D.standing_at seed; place_of = D.place_of } }
+        ensures seed { result.seed ≡ seed }
+        ensures seal { result.server.seal ≡ seal }
     {
         events_keep_order::<D>();
         Played {
@@ -93,10 +94,11 @@ impl<S: Seal + Drop, D: Seeded + Drop> Played<S, D> {
     pub(crate) fn play(&mut self, alloc: Global, entry: &Record) -> Result<(), PlayFault>
         requires lawful { IsRecord entry.now }
         requires ready { IsReady self.old }
-        ensures played { (reached : Reached) → StandsAt reached self.old → OnOk result ((after : Reached) × Plays self.old.ground entry.now reached after × StandsAt after self.new) }
-        ensures unlawful { (reached : Reached) → StandsAt reached self.old → IfErr result (λ fault. fault ≡ faults.Unlawful → IsLawful self.old.ground entry.now reached → ⊥) }
+        ensures played { (reached : Reached) → StandsAt (bases_of S.lock S.keys D.step D.standing_at D.place_of) reached self.old → OnOk result ((after : Reached) × Plays (basis_for (bases_of S.lock S.keys D.step D.standing_at D.place_of) self.old) entry.now reached after × StandsAt (bases_of S.lock S.keys D.step D.standing_at D.place_of) after self.new) }
+        ensures unlawful { (reached : Reached) → StandsAt (bases_of S.lock S.keys D.step D.standing_at D.place_of) reached self.old → IfErr result (λ fault. fault ≡ faults.Unlawful → IsLawful (basis_for (bases_of S.lock S.keys D.step D.standing_at D.place_of) self.old) entry.now reached → ⊥) }
         ensures ready { OnOk result (IsReady self.new) }
-        ensures same { self.new.ground ≡ self.old.ground }
+        ensures same_seed { self.new.seed ≡ self.old.seed }
+        ensures same_seal { self.new.server.seal ≡ self.old.server.seal }
     {
         if entry.moment < self.latest.seconds() || entry.place < self.draw.place() {
             return Err(PlayFault::Unlawful);
@@ -124,11 +126,12 @@ impl<S: Seal + Drop, D: Seeded + Drop> Played<S, D> {
         place: u64,
         packet: &[u8],
     ) -> Result<(), PlayFault>
-        ensures led { (reached : Reached) → StandsAt reached self.old → reached.server.now ≤ moment → OnOk result (Leads moment place (Packet packet.now) reached self.new) }
-        ensures unlawful { (reached : Reached) → StandsAt reached self.old → reached.server.now ≤ moment
-            → IfErr result (λ fault. fault ≡ faults.Unlawful → (after : Reached) → LeadsTo self.old.ground moment place (Packet packet.now) reached after → ⊥) }
+        ensures led { (reached : Reached) → StandsAt (bases_of S.lock S.keys D.step D.standing_at D.place_of) reached self.old → reached.server.now ≤ moment → OnOk result (Leads (bases_of S.lock S.keys D.step D.standing_at D.place_of) moment place (Packet packet.now) reached self.new) }
+        ensures unlawful { (reached : Reached) → StandsAt (bases_of S.lock S.keys D.step D.standing_at D.place_of) reached self.old → reached.server.now ≤ moment
+            → IfErr result (λ fault. fault ≡ faults.Unlawful → (after : Reached) → LeadsTo (basis_for (bases_of S.lock S.keys D.step D.standing_at D.place_of) self.old) moment place (Packet packet.now) reached after → ⊥) }
         ensures none_begun { OnOk result (self.new.begun ≡ None) }
-        ensures same { self.new.ground ≡ self.old.ground }
+        ensures same_seed { self.new.seed ≡ self.old.seed }
+        ensures same_seal { self.new.server.seal ≡ self.old.server.seal }
     {
         S::opens_what_it_sealed();
         events_draw_words::<D, ()>();
@@ -152,10 +155,11 @@ impl<S: Seal + Drop, D: Seeded + Drop> Played<S, D> {
     ///
     /// `Memory`.
     fn ticks(&mut self, alloc: Global, moment: u64, place: u64) -> Result<(), PlayFault>
-        ensures led { (reached : Reached) → StandsAt reached self.old → reached.server.now ≤ moment → OnOk result (Leads moment place Tick reached self.new) }
+        ensures led { (reached : Reached) → StandsAt (bases_of S.lock S.keys D.step D.standing_at D.place_of) reached self.old → reached.server.now ≤ moment → OnOk result (Leads (bases_of S.lock S.keys D.step D.standing_at D.place_of) moment place Tick reached self.new) }
         ensures memory { IfErr result (λ fault. fault ≡ faults.Memory) }
         ensures none_begun { OnOk result (self.new.begun ≡ None) }
-        ensures same { self.new.ground ≡ self.old.ground }
+        ensures same_seed { self.new.seed ≡ self.old.seed }
+        ensures same_seal { self.new.server.seal ≡ self.old.server.seal }
     {
         events_draw_words::<D, ()>();
         seeded_draws_go_on::<D>();
@@ -181,10 +185,11 @@ impl<S: Seal + Drop, D: Seeded + Drop> Played<S, D> {
         key: u64,
         session: u64,
     ) -> Result<(), PlayFault>
-        ensures led { (reached : Reached) → StandsAt reached self.old → reached.server.now ≤ moment → OnOk result (Leads moment place (Attach key session) reached self.new) }
+        ensures led { (reached : Reached) → StandsAt (bases_of S.lock S.keys D.step D.standing_at D.place_of) reached self.old → reached.server.now ≤ moment → OnOk result (Leads (bases_of S.lock S.keys D.step D.standing_at D.place_of) moment place (Attach key session) reached self.new) }
         ensures memory { IfErr result (λ fault. fault ≡ faults.Memory) }
         ensures none_begun { OnOk result (self.new.begun ≡ None) }
-        ensures same { self.new.ground ≡ self.old.ground }
+        ensures same_seed { self.new.seed ≡ self.old.seed }
+        ensures same_seal { self.new.server.seal ≡ self.old.server.seal }
     {
         events_draw_words::<D, ()>();
         seeded_draws_go_on::<D>();
@@ -205,12 +210,13 @@ impl<S: Seal + Drop, D: Seeded + Drop> Played<S, D> {
     ///
     /// `Unlawful`, where there is no ready job of this place.
     fn begins(&mut self, job: u64) -> Result<(), PlayFault>
-        ensures led { (reached : Reached) (moment place : ℕ) → StandsAt reached self.old → OnOk result (Leads moment place (Begin job) reached self.new) }
-        ensures unlawful { (reached : Reached) (moment place : ℕ) → StandsAt reached self.old
-            → OnErr result ((after : Reached) → LeadsTo self.old.ground moment place (Begin job) reached after → ⊥) }
+        ensures led { (reached : Reached) (moment place : ℕ) → StandsAt (bases_of S.lock S.keys D.step D.standing_at D.place_of) reached self.old → OnOk result (Leads (bases_of S.lock S.keys D.step D.standing_at D.place_of) moment place (Begin job) reached self.new) }
+        ensures unlawful { (reached : Reached) (moment place : ℕ) → StandsAt (bases_of S.lock S.keys D.step D.standing_at D.place_of) reached self.old
+            → OnErr result ((after : Reached) → LeadsTo (basis_for (bases_of S.lock S.keys D.step D.standing_at D.place_of) self.old) moment place (Begin job) reached after → ⊥) }
         ensures ready { OnOk result (IsReady self.new) }
         ensures refused { IfErr result (λ fault. fault ≡ faults.Unlawful) }
-        ensures same { self.new.ground ≡ self.old.ground }
+        ensures same_seed { self.new.seed ≡ self.old.seed }
+        ensures same_seal { self.new.server.seal ≡ self.old.server.seal }
     {
         if job >= self.server.ready() as u64 {
             return Err(PlayFault::Unlawful);
@@ -224,20 +230,15 @@ impl<S: Seal + Drop, D: Seeded + Drop> Played<S, D> {
     /// # Errors
     ///
     /// `Unlawful`, where none began last. `Memory`.
-    fn ran(
-        &mut self,
-        alloc: Global,
-        moment: u64,
-        place: u64,
-        reply: &[u8],
-    ) -> Result<(), PlayFault>
+    fn ran(&mut self, alloc: Global, moment: u64, place: u64, reply: &[u8]) -> Result<(), PlayFault>
         requires reply { IsReply reply.now }
         requires ready { IsReady self.old }
-        ensures led { (reached : Reached) → StandsAt reached self.old → reached.server.now ≤ moment → OnOk result (Leads moment place (Ran reply.now) reached self.new) }
-        ensures unlawful { (reached : Reached) → StandsAt reached self.old
-            → IfErr result (λ fault. fault ≡ faults.Unlawful → (after : Reached) → LeadsTo self.old.ground moment place (Ran reply.now) reached after → ⊥) }
+        ensures led { (reached : Reached) → StandsAt (bases_of S.lock S.keys D.step D.standing_at D.place_of) reached self.old → reached.server.now ≤ moment → OnOk result (Leads (bases_of S.lock S.keys D.step D.standing_at D.place_of) moment place (Ran reply.now) reached self.new) }
+        ensures unlawful { (reached : Reached) → StandsAt (bases_of S.lock S.keys D.step D.standing_at D.place_of) reached self.old
+            → IfErr result (λ fault. fault ≡ faults.Unlawful → (after : Reached) → LeadsTo (basis_for (bases_of S.lock S.keys D.step D.standing_at D.place_of) self.old) moment place (Ran reply.now) reached after → ⊥) }
         ensures none_begun { OnOk result (self.new.begun ≡ None) }
-        ensures same { self.new.ground ≡ self.old.ground }
+        ensures same_seed { self.new.seed ≡ self.old.seed }
+        ensures same_seal { self.new.server.seal ≡ self.old.server.seal }
     {
         let recorded = Recorded::new(alloc, reply)?;
         self.ends(alloc, moment, place, recorded)
@@ -255,11 +256,12 @@ impl<S: Seal + Drop, D: Seeded + Drop> Played<S, D> {
         place: u64,
     ) -> Result<(), PlayFault>
         requires ready { IsReady self.old }
-        ensures led { (reached : Reached) → StandsAt reached self.old → reached.server.now ≤ moment → OnOk result (Leads moment place Interrupted reached self.new) }
-        ensures unlawful { (reached : Reached) → StandsAt reached self.old
-            → IfErr result (λ fault. fault ≡ faults.Unlawful → (after : Reached) → LeadsTo self.old.ground moment place Interrupted reached after → ⊥) }
+        ensures led { (reached : Reached) → StandsAt (bases_of S.lock S.keys D.step D.standing_at D.place_of) reached self.old → reached.server.now ≤ moment → OnOk result (Leads (bases_of S.lock S.keys D.step D.standing_at D.place_of) moment place Interrupted reached self.new) }
+        ensures unlawful { (reached : Reached) → StandsAt (bases_of S.lock S.keys D.step D.standing_at D.place_of) reached self.old
+            → IfErr result (λ fault. fault ≡ faults.Unlawful → (after : Reached) → LeadsTo (basis_for (bases_of S.lock S.keys D.step D.standing_at D.place_of) self.old) moment place Interrupted reached after → ⊥) }
         ensures none_begun { OnOk result (self.new.begun ≡ None) }
-        ensures same { self.new.ground ≡ self.old.ground }
+        ensures same_seed { self.new.seed ≡ self.old.seed }
+        ensures same_seal { self.new.server.seal ≡ self.old.server.seal }
     {
         let recorded = Recorded::interrupted(alloc)?;
         self.ends(alloc, moment, place, recorded)
@@ -278,12 +280,13 @@ impl<S: Seal + Drop, D: Seeded + Drop> Played<S, D> {
         recorded: Recorded,
     ) -> Result<(), PlayFault>
         requires ready { IsReady self.old }
-        ensures ended { (reached : Reached) → StandsAt reached self.old → reached.server.now ≤ moment
+        ensures ended { (reached : Reached) → StandsAt (bases_of S.lock S.keys D.step D.standing_at D.place_of) reached self.old → reached.server.now ≤ moment
             → OnOk result ((job : ℕ) × (reached.begun ≡ Some job)
-            × StandsAt (reached_by self.old.ground (after_reply (setting_at self.old.ground moment) job recorded reached.server (self.old.ground.at place))) self.new) }
+            × StandsAt (bases_of S.lock S.keys D.step D.standing_at D.place_of) (reached_by (basis_for (bases_of S.lock S.keys D.step D.standing_at D.place_of) self.old) (after_reply (setting_at (basis_for (bases_of S.lock S.keys D.step D.standing_at D.place_of) self.old) moment) job recorded reached.server ((basis_for (bases_of S.lock S.keys D.step D.standing_at D.place_of) self.old).at place))) self.new) }
         ensures unlawful { IfErr result (λ fault. fault ≡ faults.Unlawful → self.old.begun ≡ None) }
         ensures none_begun { OnOk result (self.new.begun ≡ None) }
-        ensures same { self.new.ground ≡ self.old.ground }
+        ensures same_seed { self.new.seed ≡ self.old.seed }
+        ensures same_seal { self.new.server.seal ≡ self.old.server.seal }
     {
         events_draw_words::<D, Recorded>();
         seeded_draws_go_on::<D>();

@@ -1,7 +1,6 @@
 -- What records say of a server: which of them are lawful in their places, and the server that they leave.
-use Rattle.std.specs.Prelude.{◌≡◌, ℕ, ◌≤◌, ◌<◌, ◌++◌, ◌+◌, codes, Option, Some, None, List, [], ◌∷◌, ⊤}
+use Rattle.std.specs.Prelude.{◌≡◌, ℕ, ◌≤◌, ◌<◌, codes, false, Option, Some, None, List, [], ◌∷◌}
 use Rattle.auth_keys.specs.declared.ring.RingKey.{RingKey}
-use Rattle.draws.specs.Draws.{draw_after}
 use Rattle.envelope.specs.declared.parts.Dir.TheVariants.{Up}
 use Rattle.envelope.specs.declared.parts.Envelope.{Envelope as Sealed}
 use Rattle.envelope.specs.Opening.{Opens}
@@ -24,12 +23,20 @@ use Rattle.waits.specs.Jobs.{ready_count}
 
 -- the lock and the keys under which packets open, how words are drawn, the draw of the journal's seed at a place, and the
 -- place of a draw
-pub record Ground (S : Type 0) : Type 0 where
+pub record Basis (S : Type 0) : Type 0 where
   pub lock : Lock
   pub keys : List RingKey
   pub step : S → ℕ × S
   pub at : ℕ → S
   pub place_of : S → ℕ
+
+-- the same for a server's seal and a journal's seed
+abbrev pub Bases : Type 0 → Type 0 → Type 0
+Bases K S = K → List ℕ → Basis S
+
+abbrev pub bases_of : {K S : Type 0} → Lock → (K → List RingKey) → (S → ℕ × S) → (List ℕ → ℕ → S) → (S → ℕ) → Bases K S
+bases_of lock keys step standing_at place_of seal seed =
+    record { lock = lock; keys = keys seal; step = step; at = standing_at seed; place_of = place_of }
 
 -- what records have come to: the server, the draw's place, and the job whose run began in the last of them
 pub record Reached : Type 0 where
@@ -44,12 +51,12 @@ at_first = record { server = fresh_server; place = 0; begun = None }
 -- ---- the event of a record
 
 -- It is one of this moment, where one past the latest counts as the latest, under the ring's keys.
-abbrev pub setting_at : {S : Type 0} → Ground S → ℕ → Setting S
-setting_at ground moment = setting_of (moment_of moment) ground.step (keys_of ground.keys)
+abbrev pub setting_at : {S : Type 0} → Basis S → ℕ → Setting S
+setting_at basis moment = setting_of (moment_of moment) basis.step (keys_of basis.keys)
 
 -- what it leaves: the server, and the place of the draw
-abbrev pub reached_by : {S : Type 0} → Ground S → Answer S → Reached
-reached_by ground answer = record { server = answer.server; place = ground.place_of answer.draw; begun = None }
+abbrev pub reached_by : {S : Type 0} → Basis S → Answer S → Reached
+reached_by basis answer = record { server = answer.server; place = basis.place_of answer.draw; begun = None }
 
 -- a service that gives one reply, whatever it is asked
 abbrev pub always : Step (List ℕ)
@@ -75,41 +82,41 @@ after_interruption setting job server draw =
     record answer { entries = unran answer.entries }
 
 -- What the event of a record, at its moment and with the words from its place on, gives to a server. A begin is none.
-abbrev pub Happens : {S : Type 0} → Ground S → ℕ → ℕ → Event (List ℕ) → Reached → Answer S → Type 0
-Happens ground moment place (Packet packet) reached answer =
-    (envelope : Sealed) × Opens ground.lock ground.keys (moment_of moment) Up packet envelope
-    × (answer ≡ after_packet (setting_at ground moment) (brought_in envelope) reached.server (ground.at place))
-Happens ground moment place Tick reached answer = answer ≡ after_tick (setting_at ground moment) reached.server (ground.at place)
-Happens ground moment place (Attach key session) reached answer =
-    answer ≡ after_attach (setting_at ground moment) (record { key = key; session = session }) reached.server (ground.at place)
-Happens ground moment place (Begin job) reached answer = ⊥
-Happens ground moment place (Ran reply) reached answer =
-    (job : ℕ) × (reached.begun ≡ Some job) × (answer ≡ after_reply (setting_at ground moment) job reply reached.server (ground.at place))
-Happens ground moment place Interrupted reached answer =
-    (job : ℕ) × (reached.begun ≡ Some job) × (answer ≡ after_interruption (setting_at ground moment) job reached.server (ground.at place))
+abbrev pub Happens : {S : Type 0} → Basis S → ℕ → ℕ → Event (List ℕ) → Reached → Answer S → Type 0
+Happens basis moment place (Packet packet) reached answer =
+    (envelope : Sealed) × Opens basis.lock basis.keys (moment_of moment) Up packet envelope
+    × (answer ≡ after_packet (setting_at basis moment) (brought_in envelope) reached.server (basis.at place))
+Happens basis moment place Tick reached answer = answer ≡ after_tick (setting_at basis moment) reached.server (basis.at place)
+Happens basis moment place (Attach key session) reached answer =
+    answer ≡ after_attach (setting_at basis moment) (record { key = key; session = session }) reached.server (basis.at place)
+Happens basis moment place (Begin job) reached answer = ⊥
+Happens basis moment place (Ran reply) reached answer =
+    (job : ℕ) × (reached.begun ≡ Some job) × (answer ≡ after_reply (setting_at basis moment) job reply reached.server (basis.at place))
+Happens basis moment place Interrupted reached answer =
+    (job : ℕ) × (reached.begun ≡ Some job) × (answer ≡ after_interruption (setting_at basis moment) job reached.server (basis.at place))
 
 -- ---- records
 
 -- What is reached by a record: by a begin, which has one of the ready jobs, nothing but that it stands last; else by its event.
-abbrev pub LeadsTo : {S : Type 0} → Ground S → ℕ → ℕ → Event (List ℕ) → Reached → Reached → Type 0
-LeadsTo ground moment place (Begin job) before after =
+abbrev pub LeadsTo : {S : Type 0} → Basis S → ℕ → ℕ → Event (List ℕ) → Reached → Reached → Type 0
+LeadsTo basis moment place (Begin job) before after =
     (job < ready_count before.server.jobs) × (after ≡ record before { begun = Some job })
-LeadsTo {S} ground moment place event before after =
-    (answer : Answer S) × Happens ground moment place event before answer × (after ≡ reached_by ground answer)
+LeadsTo {S} basis moment place event before after =
+    (answer : Answer S) × Happens basis moment place event before answer × (after ≡ reached_by basis answer)
 
 -- A record is lawful behind the records that came to the first of these, and comes to the second with them: its moment and
 -- its draw's place aren't below theirs, and its event may happen there.
-pub record Plays {S : Type 0} (ground : Ground S) (entry : Record) (before after : Reached) : Type 0 where
+pub record Plays {S : Type 0} (basis : Basis S) (entry : Record) (before after : Reached) : Type 0 where
   pub moment : before.server.now ≤ entry.moment
   pub place : before.place ≤ entry.place
-  pub leads : LeadsTo ground entry.moment entry.place entry.event before after
+  pub leads : LeadsTo basis entry.moment entry.place entry.event before after
 
 -- it is lawful there
-abbrev pub IsLawful : {S : Type 0} → Ground S → Record → Reached → Type 0
-IsLawful ground entry before = (after : Reached) × Plays ground entry before after
+abbrev pub IsLawful : {S : Type 0} → Basis S → Record → Reached → Type 0
+IsLawful basis entry before = (after : Reached) × Plays basis entry before after
 
 -- each of the records is lawful in its place, and they lead from the first of these to the second
-abbrev pub Replays : {S : Type 0} → Ground S → List Record → Reached → Reached → Type 0
-Replays ground [] before after = after ≡ before
-Replays ground (entry ∷ entries) before after =
-    (between : Reached) × Plays ground entry before between × Replays ground entries between after
+abbrev pub Replays : {S : Type 0} → Basis S → List Record → Reached → Reached → Type 0
+Replays basis [] before after = after ≡ before
+Replays basis (entry ∷ entries) before after =
+    (between : Reached) × Plays basis entry before between × Replays basis entries between after
