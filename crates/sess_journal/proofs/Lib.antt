@@ -1,2 +1,3 @@
 mod NextLemmas
 mod PlayLemmas
+mod ResumeLemmas

@@ -6,7 +6,20 @@ use Rattle.sess_records.specs.declared.records.Record.{Record}
 use Rattle.sess_records.specs.Format.{IsFault, Reached as Read, open_gate, written}
 use Rattle.sess_records.specs.Standing.{Behind}
 use Rattle.sess_replay.specs.Files.{IsNoJournalAt}
-use Rattle.sess_replay.specs.Replay.{Basis, IsLawful, Plays, Reached, Replays, at_first}
+use Rattle.sess_records.specs.Seen.{Reading}
+use Rattle.sess_records.specs.Standing.{HasTaken}
+use Rattle.sess_journal.specs.Playing.{Follows, Player, StandsAt, basis_for}
+use Rattle.sess_replay.specs.Replay.{Bases, Basis, IsLawful, Plays, Reached, Replays, at_first}
+
+some_map : {X : Type 0} {P Q : X → Type 0} → (o : Option X) → ((x : X) → P x → Q x) → IfSome o P → IfSome o Q
+some_map None f h = tt
+some_map (Some x) f h = f x h
+
+-- lists one behind the other
+pub whole : {D : Type 0} → (basis : Basis D) (entries more : List Record) (before between after : Reached) → Replays basis entries before between
+    → Replays basis more between after → Replays basis (entries ++ more) before after
+whole basis [] more before between after is h = subst (λ (b : Reached). Replays basis more b after) is h
+whole basis (entry ∷ entries) more before between after (next, plays, rest) h = (next, plays, whole basis entries more next between after rest h)
 
 -- one more record
 pub replays_more : {D : Type 0} → (basis : Basis D) (entries : List Record) (entry : Record) (reached after : Reached) → Replays basis entries at_first reached
@@ -49,3 +62,47 @@ not_lawful by_seed seed entries gate at len reached (Some file) entry later next
       replays = replays;
       stops = inr (entry, later, next, more.reached, none);
     })
+
+-- a record was taken and played
+pub follows_next : {K S D : Type 0} → (bases : Bases S D) (told : K → Option DiskTold) (opening next : Reading K) (player new : Player S D) (f : Follows bases told opening player) (entry : Record)
+    → HasTaken told (f.entries ++ entry ∷ []) next → next.seed ≡ opening.seed → new.seed ≡ player.seed → new.server.seal ≡ player.server.seal
+    → (after : Reached) × Plays (basis_for bases player) entry f.reached after × StandsAt bases after new → Follows bases told next new
+follows_next {K} {S} {D} bases told opening next player new f entry taken same_seed seed seal (after, plays, stands) =
+    let replays : Replays (basis_for bases player) (f.entries ++ entry ∷ []) at_first after = replays_more (basis_for bases player) f.entries entry f.reached after f.replays plays in
+    let sealed : Replays (bases new.server.seal player.seed) (f.entries ++ entry ∷ []) at_first after =
+    subst (λ (s : S). Replays (bases s player.seed) (f.entries ++ entry ∷ []) at_first after) (sym seal) replays in
+    record {
+      seed_is = seed ∙ f.seed_is ∙ sym same_seed;
+      entries = f.entries ++ entry ∷ [];
+      taken = taken;
+      reached = after;
+      replays = subst (λ (s : List ℕ). Replays (bases new.server.seal s) (f.entries ++ entry ∷ []) at_first after) (sym seed) sealed;
+      stands = stands;
+    }
+
+module _ {K S D : Type 0} (bases : Bases S D) (told : K → Option DiskTold) (opening : Reading K) (player : Player S D) (f : Follows bases told opening player) where
+  played_there : Replays (bases player.server.seal opening.seed) f.entries at_first f.reached
+  played_there = subst (λ (s : List ℕ). Replays (bases player.server.seal s) f.entries at_first f.reached) f.seed_is f.replays
+
+  -- a record that was read isn't lawful
+  pub stops_at : (next : Reading K) (entry : Record) (at : ℕ) → at ≡ opening.at → opening.gate ≡ open_gate → told next.disk ≡ told opening.disk → next.seed ≡ opening.seed
+      → HasTaken told (f.entries ++ entry ∷ []) next → (IsLawful (basis_for bases player) entry f.reached → ⊥)
+      → IfSome (told opening.disk) (λ file. IsNoJournalAt (bases player.server.seal) at file.contents)
+  stops_at next entry at place open same seed taken none =
+      let more : IfSome (told opening.disk) (λ file. Behind opening.seed (f.entries ++ entry ∷ []) next.gate next.at next.len file) =
+      subst (λ (s : List ℕ). IfSome (told opening.disk) (λ file. Behind s (f.entries ++ entry ∷ []) next.gate next.at next.len file)) seed
+      (subst (λ (t : Option DiskTold). IfSome t (λ file. Behind next.seed (f.entries ++ entry ∷ []) next.gate next.at next.len file)) same taken) in
+      let unlawful : IsLawful (bases player.server.seal opening.seed) entry f.reached → ⊥ =
+      subst (λ (s : List ℕ). IsLawful (bases player.server.seal s) entry f.reached → ⊥) f.seed_is none in
+      subst (λ (n : ℕ). IfSome (told opening.disk) (λ file. IsNoJournalAt (bases player.server.seal) n file.contents)) (sym place)
+      (not_lawful (bases player.server.seal) opening.seed f.entries opening.gate opening.at opening.len f.reached (told opening.disk) entry next.gate next.at next.len open f.taken more played_there unlawful)
+
+  -- no record is there
+  pub ends_at : (at : ℕ) → at ≡ opening.at → opening.gate ≡ open_gate
+      → IfSome (told opening.disk) (λ file. (entries : List Record) → HasTaken told entries opening → IsFault at file.contents)
+      → IfSome (told opening.disk) (λ file. IsNoJournalAt (bases player.server.seal) at file.contents)
+  ends_at at place open none =
+      let fault : IfSome (told opening.disk) (λ file. IsFault opening.at file.contents) =
+      subst (λ (n : ℕ). IfSome (told opening.disk) (λ file. IsFault n file.contents)) place (some_map (told opening.disk) (λ file h. h f.entries f.taken) none) in
+      subst (λ (n : ℕ). IfSome (told opening.disk) (λ file. IsNoJournalAt (bases player.server.seal) n file.contents)) (sym place)
+      (no_record (bases player.server.seal) opening.seed f.entries opening.gate opening.at opening.len f.reached (told opening.disk) open f.taken played_there fault)

@@ -225,9 +225,9 @@ fn resume<K: Disk + Drop, S: Seal + Drop, D: Seeded + Drop>(
     let mut played = played;
     let place = played.draw.place();
     let moment = later(played.latest, now).seconds();
-    if played.interrupted(alloc, moment, place).is_err() {
+    let Ok(_done) = played.interrupted(alloc, moment, place) else {
         return Err((journal.into_disk(), JournalFault::Memory));
-    }
+    };
     match journal.add(moment, place, Event::Interrupted) {
         Ok(journal) => Ok(kept_by(journal, played)),
         Err(disk) => Err((disk, JournalFault::Disk)),

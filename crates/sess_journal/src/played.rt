@@ -141,12 +141,14 @@ impl<S: Seal + Drop, D: Seeded + Drop> Played<S, D> {
         let now = Moment::new(moment);
         self.draw = D::at(&self.seed, place);
         let reply = self.server.on_packet(alloc, now, packet, &mut self.draw)?;
-        let Heard::Judged { .. } = reply.heard else {
-            return Err(PlayFault::Unlawful);
-        };
-        self.latest = now;
-        self.begun = None;
-        Ok(())
+        match reply.heard {
+            Heard::NotOpened(_) => Err(PlayFault::Unlawful),
+            Heard::Judged { .. } => {
+                self.latest = now;
+                self.begun = None;
+                Ok(())
+            }
+        }
     }
 
     /// Time went on.
@@ -282,7 +284,7 @@ impl<S: Seal + Drop, D: Seeded + Drop> Played<S, D> {
         requires ready { IsReady self.old }
         ensures ended { (reached : Reached) → StandsAt (bases_of S.lock S.keys D.step D.standing_at D.place_of) reached self.old → reached.server.now ≤ moment
             → OnOk result ((job : ℕ) × (reached.begun ≡ Some job)
-            × StandsAt (bases_of S.lock S.keys D.step D.standing_at D.place_of) (reached_by (basis_for (bases_of S.lock S.keys D.step D.standing_at D.place_of) self.old) (after_reply (setting_at (basis_for (bases_of S.lock S.keys D.step D.standing_at D.place_of) self.old) moment) job recorded reached.server ((basis_for (bases_of S.lock S.keys D.step D.standing_at D.place_of) self.old).at place))) self.new) }
+            × StandsAt (bases_of S.lock S.keys D.step D.standing_at D.place_of) (reached_by (basis_for (bases_of S.lock S.keys D.step D.standing_at D.place_of) self.new) (after_reply (setting_at (basis_for (bases_of S.lock S.keys D.step D.standing_at D.place_of) self.new) moment) job recorded reached.server ((basis_for (bases_of S.lock S.keys D.step D.standing_at D.place_of) self.new).at place))) self.new) }
         ensures unlawful { IfErr result (λ fault. fault ≡ faults.Unlawful → self.old.begun ≡ None) }
         ensures none_begun { OnOk result (self.new.begun ≡ None) }
         ensures same_seed { self.new.seed ≡ self.old.seed }

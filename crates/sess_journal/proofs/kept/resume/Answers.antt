@@ -1,0 +1,27 @@
+use Rattle.std.proofs.Common.{◌≡◌, ℕ, List, Option, None, Some, max, sym, ap, arith, ◌∙◌}
+use Rattle.sess_journal.specs.Playing.{Player}
+use Rattle.sess_replay.specs.Replay.{Bases, bases_of}
+use Rattle.sess_journal.proofs.ResumeLemmas.{resumed_none, resumed_some}
+use Rattle.sess_journal.proofs.kept.resume.Goals as goal
+
+pub returns-in_default-clause-resumed : goal.returns-in_default-clause-resumed
+returns-in_default-clause-resumed g c = λ entries reached holds seed replays stands.
+    let bases : Bases g.row.S.Denot g.row.D.Denot = bases_of g.S.Seal.lock g.S.Seal.keys g.D.Draw.step g.D.Seeded.standing_at g.D.Seeded.place_of in
+    resumed_none bases g.K.Disk.told c.args.now c.kept_by.result c.args.played c.args.journal entries reached
+    (ap (λ (p : Player g.row.S.Denot g.row.D.Denot). p.begun) (sym c.played.view_is) ∙ c.in_default.is)
+    c.kept_by.ensures.server c.kept_by.ensures.latest c.kept_by.ensures.draw c.kept_by.ensures.book holds seed replays stands
+
+pub returns-in-Ok-clause-resumed : goal.returns-in-Ok-clause-resumed
+returns-in-Ok-clause-resumed g c = λ entries reached holds seed replays stands.
+    let bases : Bases g.row.S.Denot g.row.D.Denot = bases_of g.S.Seal.lock g.S.Seal.keys g.D.Draw.step g.D.Seeded.standing_at g.D.Seeded.place_of in
+    let seeded_places = g.met.D.Seeded.places in
+    let is_moment = c.seconds-moment.ensures.value ∙ c.later.ensures
+    ∙ ap (λ (n : ℕ). max n c.args.now) (ap (λ (p : Player g.row.S.Denot g.row.D.Denot). p.latest) c.played-2.view_is ∙ stands.latest_is) in
+    let is_place = c.place-place.ensures
+    ∙ ap g.D.Seeded.place_of (ap (λ (p : Player g.row.S.Denot g.row.D.Denot). p.draw) c.played-2.view_is ∙ stands.drawn) ∙ seeded_places c.args.played.seed reached.place stands.place in
+    resumed_some bases g.K.Disk.told c.args.now c.in-Some._job c.kept_by-in-Ok.result c.args.played c.interrupted.new.self c.args.journal c.in-Ok.journal entries reached
+    c.seconds-moment.result c.place-place.result
+    (ap (λ (p : Player g.row.S.Denot g.row.D.Denot). p.begun) (sym c.played.view_is) ∙ c.in-Some.is)
+    c.kept_by-in-Ok.ensures.server c.kept_by-in-Ok.ensures.latest c.kept_by-in-Ok.ensures.draw c.kept_by-in-Ok.ensures.book c.in-Ok.ensures.seed
+    c.interrupted.ensures.same_seal c.interrupted.ensures.same_seed is_moment is_place (c.in-Ok.ensures.added entries holds) seed replays stands
+    (c.in-Ok-2.ensures.led reached stands (omega (arith, is_moment)))

@@ -1,0 +1,39 @@
+use Rattle.std.proofs.Common.{ℕ, None, refl, sym, subst}
+use Rattle.ring_rules.specs.Binding.{keys_of}
+use Rattle.msg_ids.specs.Moments.{moment_of}
+use Rattle.server_rules.specs.Answer.{after_attach}
+use Rattle.server_rules.specs.Server.{Name}
+use Rattle.server_session.specs.Says.{setting_of}
+use Rattle.sess_journal.specs.Playing.{Player, StandsAt, basis_for}
+use Rattle.sess_replay.specs.Replay.{Bases, bases_of, reached_by}
+use Rattle.sess_journal.proofs.PlayLemmas.{event_stands}
+use Rattle.sess_journal.proofs.played.Played.attaches.Goals as goal
+
+pub returns-clause-led : goal.returns-clause-led
+returns-clause-led g c = λ reached stands le.
+    let bases : Bases g.row.S.Denot g.row.D.Denot = bases_of g.S.Seal.lock g.S.Seal.keys g.D.Draw.step g.D.Seeded.standing_at g.D.Seeded.place_of in
+    let player : Player g.row.S.Denot g.row.D.Denot =
+    record { seed = c.self.inside.seed; server = c.attach.new.self; latest = c.new-now.result; draw = c.attach.new.draw; begun = None } in
+    let basis = basis_for bases player in
+    let old = c.self.inside.server in
+    let at : StandsAt bases reached (record { seed = c.self.inside.seed; server = c.self.inside.server; latest = c.self.inside.latest; draw = c.self.inside.draw; begun = c.self.inside.begun }) =
+    subst (λ (p : Player g.row.S.Denot g.row.D.Denot). StandsAt bases reached p) (sym c.self.view_is) stands in
+    let name : Name = record { key = c.args.key; session = c.args.session } in
+    let keys = keys_of basis.keys in
+    let draw = basis.at c.args.place in
+    let seeded_draws = c.seeded_draws_go_on.ensures.after in
+    let seeded_places = g.met.D.Seeded.places in
+    let answer = after_attach (setting_of (moment_of c.args.moment) g.D.Draw.step keys) name reached.server draw in
+    (
+      reached_by basis answer,
+      (answer, refl, refl),
+      event_stands bases player (λ n d. after_attach (setting_of n g.D.Draw.step keys) name reached.server d) g.S.Seal.lock (g.S.Seal.keys old.seal)
+      c.in_ok-attach.field-0 old.moment reached.server.now c.args.moment c.args.place c.new-now.result c.at.result
+      (λ place words below. seeded_draws c.self.inside.seed place words below)
+      (λ place below. seeded_places c.self.inside.seed place below)
+      c.ranges.place.fits at.stands.moment le at.between.at
+      (λ n early. c.events_keep_order.ensures.attach (setting_of n g.D.Draw.step keys) name reached.server draw early at.between)
+      (λ n. c.events_draw_words.ensures.attach (setting_of n g.D.Draw.step keys) name reached.server draw)
+      (λ n. refl) c.new-now.ensures c.at.ensures.standing
+      (c.in_ok-attach.ensures.given keys reached.server at.stands) refl refl,
+    )
