@@ -37,12 +37,12 @@ no_header by_seed at (Some file) none (inr h) = absurd (let place : at ≡ 41 + 
 pub no_record : {D : Type 0} → (by_seed : List ℕ → Basis D) (seed : List ℕ) (entries : List Record) (gate at len : ℕ) (reached : Reached) (told : Option DiskTold)
     → gate ≡ open_gate → IfSome told (λ file. Behind seed entries gate at len file) → Replays (by_seed seed) entries at_first reached
     → IfSome told (λ file. IsFault at file.contents) → IfSome told (λ file. IsNoJournalAt by_seed at file.contents)
-no_record by_seed seed entries gate at len reached None open behind replays fault = tt
-no_record by_seed seed entries gate at len reached (Some file) open behind replays fault =
+no_record by_seed seed entries gate at len reached None is_open behind replays fault = tt
+no_record by_seed seed entries gate at len reached (Some file) is_open behind replays fault =
     inr (record {
       seed = seed;
       entries = entries;
-      read = subst (λ (g : ℕ). Read seed entries g at file.contents) open behind.reached;
+      read = subst (λ (g : ℕ). Read seed entries g at file.contents) is_open behind.reached;
       reached = reached;
       replays = replays;
       stops = inl fault;
@@ -52,12 +52,12 @@ no_record by_seed seed entries gate at len reached (Some file) open behind repla
 pub not_lawful : {D : Type 0} → (by_seed : List ℕ → Basis D) (seed : List ℕ) (entries : List Record) (gate at len : ℕ) (reached : Reached) (told : Option DiskTold) (entry : Record) (later next all : ℕ) → gate ≡ open_gate → IfSome told (λ file. Behind seed entries gate at len file)
     → IfSome told (λ file. Behind seed (entries ++ entry ∷ []) later next all file) → Replays (by_seed seed) entries at_first reached
     → (IsLawful (by_seed seed) entry reached → ⊥) → IfSome told (λ file. IsNoJournalAt by_seed at file.contents)
-not_lawful by_seed seed entries gate at len reached None entry later next all open behind more replays none = tt
-not_lawful by_seed seed entries gate at len reached (Some file) entry later next all open behind more replays none =
+not_lawful by_seed seed entries gate at len reached None entry later next all is_open behind more replays none = tt
+not_lawful by_seed seed entries gate at len reached (Some file) entry later next all is_open behind more replays none =
     inr (record {
       seed = seed;
       entries = entries;
-      read = subst (λ (g : ℕ). Read seed entries g at file.contents) open behind.reached;
+      read = subst (λ (g : ℕ). Read seed entries g at file.contents) is_open behind.reached;
       reached = reached;
       replays = replays;
       stops = inr (entry, later, next, more.reached, none);
@@ -88,21 +88,21 @@ module _ {K S D : Type 0} (bases : Bases S D) (told : K → Option DiskTold) (op
   pub stops_at : (next : Reading K) (entry : Record) (at : ℕ) → at ≡ opening.at → opening.gate ≡ open_gate → told next.disk ≡ told opening.disk → next.seed ≡ opening.seed
       → HasTaken told (f.entries ++ entry ∷ []) next → (IsLawful (basis_for bases player) entry f.reached → ⊥)
       → IfSome (told opening.disk) (λ file. IsNoJournalAt (bases player.server.seal) at file.contents)
-  stops_at next entry at place open same seed taken none =
+  stops_at next entry at place is_open same seed taken none =
       let more : IfSome (told opening.disk) (λ file. Behind opening.seed (f.entries ++ entry ∷ []) next.gate next.at next.len file) =
       subst (λ (s : List ℕ). IfSome (told opening.disk) (λ file. Behind s (f.entries ++ entry ∷ []) next.gate next.at next.len file)) seed
       (subst (λ (t : Option DiskTold). IfSome t (λ file. Behind next.seed (f.entries ++ entry ∷ []) next.gate next.at next.len file)) same taken) in
       let unlawful : IsLawful (bases player.server.seal opening.seed) entry f.reached → ⊥ =
       subst (λ (s : List ℕ). IsLawful (bases player.server.seal s) entry f.reached → ⊥) f.seed_is none in
       subst (λ (n : ℕ). IfSome (told opening.disk) (λ file. IsNoJournalAt (bases player.server.seal) n file.contents)) (sym place)
-      (not_lawful (bases player.server.seal) opening.seed f.entries opening.gate opening.at opening.len f.reached (told opening.disk) entry next.gate next.at next.len open f.taken more played_there unlawful)
+      (not_lawful (bases player.server.seal) opening.seed f.entries opening.gate opening.at opening.len f.reached (told opening.disk) entry next.gate next.at next.len is_open f.taken more played_there unlawful)
 
   -- no record is there
   pub ends_at : (at : ℕ) → at ≡ opening.at → opening.gate ≡ open_gate
       → IfSome (told opening.disk) (λ file. (entries : List Record) → HasTaken told entries opening → IsFault at file.contents)
       → IfSome (told opening.disk) (λ file. IsNoJournalAt (bases player.server.seal) at file.contents)
-  ends_at at place open none =
+  ends_at at place is_open none =
       let fault : IfSome (told opening.disk) (λ file. IsFault opening.at file.contents) =
       subst (λ (n : ℕ). IfSome (told opening.disk) (λ file. IsFault n file.contents)) place (some_map (told opening.disk) (λ file h. h f.entries f.taken) none) in
       subst (λ (n : ℕ). IfSome (told opening.disk) (λ file. IsNoJournalAt (bases player.server.seal) n file.contents)) (sym place)
-      (no_record (bases player.server.seal) opening.seed f.entries opening.gate opening.at opening.len f.reached (told opening.disk) open f.taken played_there fault)
+      (no_record (bases player.server.seal) opening.seed f.entries opening.gate opening.at opening.len f.reached (told opening.disk) is_open f.taken played_there fault)

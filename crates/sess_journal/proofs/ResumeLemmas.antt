@@ -1,11 +1,13 @@
 -- A server with its journal, and the end of a run that was cut off.
-use Rattle.std.proofs.Common.{◌≡◌, ◌≤◌, ℕ, Option, None, Some, List, [], ◌∷◌, ◌++◌, max, refl, sym, ap, subst, ◌∙◌, arith}
+use Rattle.std.proofs.Common.{◌≡◌, ◌≤◌, ℕ, Option, None, Some, Result, Ok, Err, IfOk, List, [], ◌∷◌, ◌++◌, max, refl, sym, ap, subst, ◌∙◌, arith}
+use Rattle.std.specs.Prelude.{◌≢◌, IfSome, IsSomeAnd}
 use Rattle.disks.specs.Told.{DiskTold}
 use Rattle.sess_records.specs.declared.records.Event.{Event}
 use Rattle.sess_records.specs.declared.records.Event.TheVariants.{Interrupted}
 use Rattle.sess_records.specs.declared.records.Record.{Record}
 use Rattle.sess_records.specs.Seen.{File}
-use Rattle.sess_records.specs.Standing.{Holds}
+use Rattle.sess_records.specs.Format.{Spells, open_gate}
+use Rattle.sess_records.specs.Standing.{Behind, Holds}
 use Rattle.server_core.specs.Server.{Kept, Stands}
 use Rattle.sess_journal.specs.Keeping.{Book, KeepsFor, Resumed, Seen, ending, ending_by}
 use Rattle.sess_journal.specs.Playing.{Leads, Player, StandsAt, basis_for}
@@ -93,3 +95,18 @@ module _ {K S D : Type 0} (bases : Bases S D) (told : K → Option DiskTold) whe
             subst (λ (l : List Record). KeepsFor bases told (entries ++ l) desk after.server) (sym ends)
             (keeps_by desk new added (entries ++ entry ∷ []) after server latest draw book (seed ∙ from ∙ sym same_seed) holds all its.2);
       }
+
+-- ---- an opening
+
+-- what a file was read as up to a closed gate is what it spells
+pub spells_by : ((seed : List ℕ) (entries : List Record) (gate at len : ℕ) (told : DiskTold) → Behind seed entries gate at len told → gate ≢ open_gate → Spells seed entries told.contents)
+    → (seed : List ℕ) (entries : List Record) (gate at len : ℕ) (old new : Option DiskTold) → IfSome new (λ file. Behind seed entries gate at len file) → gate ≢ open_gate
+    → IfSome old (λ before. IsSomeAnd new (λ after. after.contents ≡ before.contents)) → IfSome old (λ before. Spells seed entries before.contents)
+spells_by read seed entries gate at len None new behind shut same = tt
+spells_by read seed entries gate at len (Some before) None behind shut same = absurd same
+spells_by read seed entries gate at len (Some before) (Some after) behind shut same =
+    subst (λ (l : List ℕ). Spells seed entries l) same (read seed entries gate at len after behind shut)
+
+pub ok_both : {A E : Type 0} {P Q R : A → Type 0} → (r : Result A E) → ((x : A) → P x → Q x → R x) → IfOk r P → IfOk r Q → IfOk r R
+ok_both (Ok value) f h k = f value h k
+ok_both (Err fault) f h k = tt

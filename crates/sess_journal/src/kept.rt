@@ -18,6 +18,7 @@ use draws::Seeded;
 use envelope::Seal;
 use msg_ids::Moment;
 use server_core::Server;
+use sess_records::laws::calls_in_a_row;
 use sess_records::{Event, Journal, JournalFault, Opening};
 use std::alloc::Global;
 use std::marker::Model;
@@ -88,6 +89,7 @@ impl<K: Disk + Drop, S: Seal + Drop, D: Seeded + Drop> Kept<K, S, D> {
             IsNoJournalAt (bases_of S.lock S.keys D.step D.standing_at D.place_of seal) at before.contents))) }
         ensures cause { IfErr result (λ back. HasCause back.1 (K.faults disk) (K.faults back.0)) }
     {
+        calls_in_a_row();
         let mut opening = match Opening::new(disk) {
             Ok(opening) => opening,
             Err(back) => return Err(back),

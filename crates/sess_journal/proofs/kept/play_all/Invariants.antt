@@ -16,4 +16,4 @@ invariant-records g l = record {
 
 -- what is left of the file
 abbrev pub decreases-records : goal.decreases-records
-decreases-records l = l.opening.len - l.opening.at
+decreases-records g l = l.opening.len - l.opening.at

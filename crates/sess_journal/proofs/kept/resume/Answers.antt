@@ -11,17 +11,17 @@ returns-in_default-clause-resumed g c = λ entries reached holds seed replays st
     (ap (λ (p : Player g.row.S.Denot g.row.D.Denot). p.begun) (sym c.played.view_is) ∙ c.in_default.is)
     c.kept_by.ensures.server c.kept_by.ensures.latest c.kept_by.ensures.draw c.kept_by.ensures.book holds seed replays stands
 
-pub returns-in-Ok-clause-resumed : goal.returns-in-Ok-clause-resumed
-returns-in-Ok-clause-resumed g c = λ entries reached holds seed replays stands.
+pub returns-in-Ok-add-clause-resumed : goal.returns-in-Ok-add-clause-resumed
+returns-in-Ok-add-clause-resumed g c = λ entries reached holds seed replays stands.
     let bases : Bases g.row.S.Denot g.row.D.Denot = bases_of g.S.Seal.lock g.S.Seal.keys g.D.Draw.step g.D.Seeded.standing_at g.D.Seeded.place_of in
     let seeded_places = g.met.D.Seeded.places in
     let is_moment = c.seconds-moment.ensures.value ∙ c.later.ensures
     ∙ ap (λ (n : ℕ). max n c.args.now) (ap (λ (p : Player g.row.S.Denot g.row.D.Denot). p.latest) c.played-2.view_is ∙ stands.latest_is) in
     let is_place = c.place-place.ensures
     ∙ ap g.D.Seeded.place_of (ap (λ (p : Player g.row.S.Denot g.row.D.Denot). p.draw) c.played-2.view_is ∙ stands.drawn) ∙ seeded_places c.args.played.seed reached.place stands.place in
-    resumed_some bases g.K.Disk.told c.args.now c.in-Some._job c.kept_by-in-Ok.result c.args.played c.interrupted.new.self c.args.journal c.in-Ok.journal entries reached
+    resumed_some bases g.K.Disk.told c.args.now c.in-Some._job c.kept_by-in-Ok-add.result c.args.played c.interrupted.new.self c.args.journal c.in-Ok-add.journal entries reached
     c.seconds-moment.result c.place-place.result
     (ap (λ (p : Player g.row.S.Denot g.row.D.Denot). p.begun) (sym c.played.view_is) ∙ c.in-Some.is)
-    c.kept_by-in-Ok.ensures.server c.kept_by-in-Ok.ensures.latest c.kept_by-in-Ok.ensures.draw c.kept_by-in-Ok.ensures.book c.in-Ok.ensures.seed
-    c.interrupted.ensures.same_seal c.interrupted.ensures.same_seed is_moment is_place (c.in-Ok.ensures.added entries holds) seed replays stands
-    (c.in-Ok-2.ensures.led reached stands (omega (arith, is_moment)))
+    c.kept_by-in-Ok-add.ensures.server c.kept_by-in-Ok-add.ensures.latest c.kept_by-in-Ok-add.ensures.draw c.kept_by-in-Ok-add.ensures.book c.in-Ok-add.ensures.seed
+    c.interrupted.ensures.same_seal c.interrupted.ensures.same_seed is_moment is_place (c.in-Ok-add.ensures.added entries holds) seed replays stands
+    (c.in-Ok.ensures.led reached stands (omega (arith, is_moment)))
