@@ -87,8 +87,7 @@ pub ran_leads : {S D : Type 0} → (bases : Bases S D) (player : Player S D) (re
     → Ended bases reached moment place recorded player → Leads bases moment place (Ran reply) reached player
 ran_leads bases player reached moment place recorded reply is (job, begun, stands) =
     let basis = basis_for bases player in
-    let answer = after_reply (setting_at basis moment) job reply reached.server (basis.at place) in
-    (
+    let answer = after_reply (setting_at basis moment) job reply reached.server (basis.at place) in (
       reached_by basis answer,
       (answer, (job, begun, refl), refl),
       subst (λ (r : List ℕ). StandsAt bases (reached_by basis (after_reply (setting_at basis moment) job r reached.server (basis.at place))) player) is stands,
@@ -98,8 +97,7 @@ pub cut_leads : {S D : Type 0} → (bases : Bases S D) (player : Player S D) (re
     → Ended bases reached moment place recorded player → Leads bases moment place Interrupted reached player
 cut_leads bases player reached moment place recorded is (job, begun, stands) =
     let basis = basis_for bases player in
-    let answer = after_interruption (setting_at basis moment) job reached.server (basis.at place) in
-    (
+    let answer = after_interruption (setting_at basis moment) job reached.server (basis.at place) in (
       reached_by basis answer,
       (answer, (job, begun, refl), refl),
       subst (λ (r : List ℕ). StandsAt bases (reached_by basis (after_reply (setting_at basis moment) job r reached.server (basis.at place))) player) is stands,
@@ -114,8 +112,7 @@ plays_of {S} {D} bases old new entry event reached seal seed is moment place (af
     let sealed : LeadsTo (bases old.server.seal new.seed) entry.moment entry.place event reached after =
     subst (λ (s : S). LeadsTo (bases s new.seed) entry.moment entry.place event reached after) seal leads in
     let seeded_so : LeadsTo (basis_for bases old) entry.moment entry.place event reached after =
-    subst (λ (s : List ℕ). LeadsTo (bases old.server.seal s) entry.moment entry.place event reached after) seed sealed in
-    (
+    subst (λ (s : List ℕ). LeadsTo (bases old.server.seal s) entry.moment entry.place event reached after) seed sealed in (
       after,
       record {
         moment = moment;

@@ -8,6 +8,7 @@
 #![tactic(auto)]
 
 mod book;
+mod desk;
 mod kept;
 mod played;
 mod recorded;

@@ -1,4 +1,4 @@
-use Rattle.std.proofs.Common.{ℕ, None, refl, sym, subst}
+use Rattle.std.proofs.Common.{None, refl, sym, subst}
 use Rattle.ring_rules.specs.Binding.{keys_of}
 use Rattle.msg_ids.specs.Moments.{moment_of}
 use Rattle.server_rules.specs.Answer.{after_attach}
@@ -23,17 +23,16 @@ returns-clause-led g c = λ reached stands le.
     let draw = basis.at c.args.place in
     let seeded_draws = c.seeded_draws_go_on.ensures.after in
     let seeded_places = g.met.D.Seeded.places in
-    let answer = after_attach (setting_of (moment_of c.args.moment) g.D.Draw.step keys) name reached.server draw in
-    (
+    let answer = after_attach (setting_of (moment_of c.args.moment) g.D.Draw.step keys) name reached.server draw in (
       reached_by basis answer,
       (answer, refl, refl),
       event_stands bases player (λ n d. after_attach (setting_of n g.D.Draw.step keys) name reached.server d) g.S.Seal.lock (g.S.Seal.keys old.seal)
-      c.in_ok-attach.field-0 old.moment reached.server.now c.args.moment c.args.place c.new-now.result c.at.result
-      (λ place words below. seeded_draws c.self.inside.seed place words below)
-      (λ place below. seeded_places c.self.inside.seed place below)
-      c.ranges.place.fits at.stands.moment le at.between.at
-      (λ n early. c.events_keep_order.ensures.attach (setting_of n g.D.Draw.step keys) name reached.server draw early at.between)
-      (λ n. c.events_draw_words.ensures.attach (setting_of n g.D.Draw.step keys) name reached.server draw)
-      (λ n. refl) c.new-now.ensures c.at.ensures.standing
-      (c.in_ok-attach.ensures.given keys reached.server at.stands) refl refl,
+          c.in_ok-attach.field-0 old.moment reached.server.now c.args.moment c.args.place c.new-now.result c.at.result
+          (λ place words below. seeded_draws c.self.inside.seed place words below)
+          (λ place below. seeded_places c.self.inside.seed place below)
+          c.ranges.place.fits at.stands.moment le at.between.at
+          (λ n early. c.events_keep_order.ensures.attach (setting_of n g.D.Draw.step keys) name reached.server draw early at.between)
+          (λ n. c.events_draw_words.ensures.attach (setting_of n g.D.Draw.step keys) name reached.server draw)
+          (λ n. refl) c.new-now.ensures c.at.ensures.standing
+          (c.in_ok-attach.ensures.given keys reached.server at.stands) refl refl,
     )

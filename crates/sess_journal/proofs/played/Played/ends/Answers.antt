@@ -1,9 +1,8 @@
-use Rattle.std.proofs.Common.{ℕ, List, None, refl, sym, subst, max, ◌∙◌}
-use Rattle.msg_ids.specs.Moments.{moment_of}
+use Rattle.std.proofs.Common.{None, refl, sym, subst, ◌∙◌}
 use Rattle.ring_rules.specs.Binding.{keys_of}
 use Rattle.server_session.specs.Says.{setting_of}
 use Rattle.sess_journal.specs.Playing.{Player, StandsAt, basis_for}
-use Rattle.sess_replay.specs.Replay.{Bases, after_reply, always, bases_of, reached_by}
+use Rattle.sess_replay.specs.Replay.{Bases, after_reply, always, bases_of}
 use Rattle.sess_journal.proofs.PlayLemmas.{event_stands, reply_now}
 use Rattle.sess_journal.proofs.played.Played.ends.Goals as goal
 
@@ -20,18 +19,17 @@ returns-clause-ended g c = λ reached stands le.
     let draw = basis.at c.args.place in
     let seeded_draws = c.seeded_draws_go_on.ensures.after in
     let seeded_places = g.met.D.Seeded.places in
-    let job = c.in-Some.job in
-    (
+    let job = c.in-Some.job in (
       job,
       sym at.begun_is ∙ c.in-Some.is,
       event_stands bases player (λ n d. after_reply (setting_of n g.D.Draw.step keys) job c.args.recorded reached.server d) g.S.Seal.lock (g.S.Seal.keys old.seal)
-      c.in_ok-work.field-0 old.moment reached.server.now c.args.moment c.args.place c.new-now.result c.at.result
-      (λ place words below. seeded_draws c.self.inside.seed place words below)
-      (λ place below. seeded_places c.self.inside.seed place below)
-      c.ranges.place.fits at.stands.moment le at.between.at
-      (λ n early. c.runs_keep_order.ensures (setting_of n g.D.Draw.step keys) job always c.args.recorded reached.server draw early
-      (c.in_ok-work.ensures.short reached.server at.stands at.between.order) at.between)
-      (λ n. c.events_draw_words.ensures.work (setting_of n g.D.Draw.step keys) job always c.args.recorded reached.server draw)
-      (λ n. reply_now (setting_of n g.D.Draw.step keys) job c.args.recorded reached.server draw) c.new-now.ensures c.at.ensures.standing
-      (c.in_ok-work.ensures.given keys reached.server at.stands at.between.order) refl refl,
+          c.in_ok-work.field-0 old.moment reached.server.now c.args.moment c.args.place c.new-now.result c.at.result
+          (λ place words below. seeded_draws c.self.inside.seed place words below)
+          (λ place below. seeded_places c.self.inside.seed place below)
+          c.ranges.place.fits at.stands.moment le at.between.at
+          (λ n early. c.runs_keep_order.ensures (setting_of n g.D.Draw.step keys) job always c.args.recorded reached.server draw early
+          (c.in_ok-work.ensures.short reached.server at.stands at.between.order) at.between)
+          (λ n. c.events_draw_words.ensures.work (setting_of n g.D.Draw.step keys) job always c.args.recorded reached.server draw)
+          (λ n. reply_now (setting_of n g.D.Draw.step keys) job c.args.recorded reached.server draw) c.new-now.ensures c.at.ensures.standing
+          (c.in_ok-work.ensures.given keys reached.server at.stands at.between.order) refl refl,
     )

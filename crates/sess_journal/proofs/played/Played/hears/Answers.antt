@@ -1,4 +1,4 @@
-use Rattle.std.proofs.Common.{ℕ, None, refl, sym, subst, max, ◌∙◌}
+use Rattle.std.proofs.Common.{ℕ, None, refl, sym, subst, max}
 use Rattle.envelope.specs.declared.parts.Dir.TheVariants.{Up}
 use Rattle.envelope.specs.Opening.{Opens}
 use Rattle.ring_rules.specs.Binding.{keys_of}
@@ -50,17 +50,16 @@ returns-clause-led g c = λ reached stands le.
     subst (λ (s : g.row.S.Denot). AreOf (g.S.Seal.keys s) keys) c.in_ok-reply.ensures.same_seal (c.rings_have_keys.ensures basis.keys) in
     let seeded_draws = c.seeded_draws_go_on.ensures.after in
     let seeded_places = g.met.D.Seeded.places in
-    let answer = after_packet (setting_of (moment_of c.args.moment) g.D.Draw.step keys) (brought_in envelope) reached.server draw in
-    (
+    let answer = after_packet (setting_of (moment_of c.args.moment) g.D.Draw.step keys) (brought_in envelope) reached.server draw in (
       reached_by basis answer,
       (answer, (envelope, opens, refl), refl),
       event_stands bases player (λ n d. after_packet (setting_of n g.D.Draw.step keys) (brought_in envelope) reached.server d) g.S.Seal.lock (g.S.Seal.keys old.seal)
-      (effects_in c.in_ok-reply.reply) old.moment reached.server.now c.args.moment c.args.place c.new-now.result c.at.result
-      (λ place words below. seeded_draws c.self.inside.seed place words below)
-      (λ place below. seeded_places c.self.inside.seed place below)
-      c.ranges.place.fits at.stands.moment le at.between.at
-      (λ n early. c.events_keep_order.ensures.packet (setting_of n g.D.Draw.step keys) (brought_in envelope) reached.server draw early at.between)
-      (λ n. c.events_draw_words.ensures.packet (setting_of n g.D.Draw.step keys) (brought_in envelope) reached.server draw)
-      (λ n. refl) c.new-now.ensures c.at.ensures.standing
-      (c.in_ok-reply.ensures.given keys reached.server envelope are at.stands at.between.order judged.1) refl refl,
+          (effects_in c.in_ok-reply.reply) old.moment reached.server.now c.args.moment c.args.place c.new-now.result c.at.result
+          (λ place words below. seeded_draws c.self.inside.seed place words below)
+          (λ place below. seeded_places c.self.inside.seed place below)
+          c.ranges.place.fits at.stands.moment le at.between.at
+          (λ n early. c.events_keep_order.ensures.packet (setting_of n g.D.Draw.step keys) (brought_in envelope) reached.server draw early at.between)
+          (λ n. c.events_draw_words.ensures.packet (setting_of n g.D.Draw.step keys) (brought_in envelope) reached.server draw)
+          (λ n. refl) c.new-now.ensures c.at.ensures.standing
+          (c.in_ok-reply.ensures.given keys reached.server envelope are at.stands at.between.order judged.1) refl refl,
     )
