@@ -6,7 +6,7 @@ abbrev pub invariant-loop-count : goal.invariant-loop-count
 invariant-loop-count g l = record {
   room : length l.text + l.room ≡ l.max_bytes;
   read : IfSome (g.S.Source.left l.fn.source) (λ left. (rest : List ℕ) × (left ≡ l.text ++ rest) × (g.S.Source.left l.source ≡ Some rest));
-  faults : g.S.Source.faults l.fn.source ≤ g.S.Source.faults l.source;
+  faults : g.S.Source.faults l.source ≡ g.S.Source.faults l.fn.source;
 }
 
 abbrev pub decreases-loop-count : goal.decreases-loop-count
