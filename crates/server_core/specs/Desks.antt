@@ -1,5 +1,5 @@
 -- What a desk does: the events of a server, with what it draws from.
-use Rattle.std.specs.Prelude.{◌≡◌, ◌≤◌, ℕ, ◌+◌, All, Some, List, [], length}
+use Rattle.std.specs.Prelude.{◌≡◌, ◌≤◌, ℕ, ◌+◌, All, Option, Some, option_map, List, [], length}
 use Rattle.auth_keys.specs.declared.ring.RingKey.{RingKey}
 use Rattle.envelope.specs.Packet.{Lock}
 use Rattle.msg_ids.specs.Moments.{latest_moment}
@@ -7,7 +7,7 @@ use Rattle.outbox.specs.Replies.{IsWithin}
 use Rattle.server_output.specs.Outs.{AreSent}
 use Rattle.regs_service.specs.Served.{Step, reply_bytes_max}
 use Rattle.waits.specs.declared.job.Job.{Job}
-use Rattle.waits.specs.Jobs.{AreWithinLimits, ready_job}
+use Rattle.waits.specs.Jobs.{AreWithinLimits, Queue, ready_job}
 use Rattle.server_rules.specs.Answer.{Answer}
 use Rattle.server_rules.specs.Server.{Server, kept_replies}
 use Rattle.law_server.specs.Order.{AreOrdered}
@@ -21,6 +21,10 @@ pub record IsBetweenEvents (server : Server) : Type 0 where
   pub order : AreOrdered server.sessions server.jobs
   pub replies : All (λ session. IsWithin (kept_replies session.replies)) server.sessions
   pub jobs : AreWithinLimits server.jobs
+
+-- the request of the ready job of this place among the ready ones, where there is one
+abbrev pub request_at : ℕ → Queue → Option (List ℕ)
+request_at place jobs = option_map (λ job. job.request) (ready_job place jobs)
 
 -- where this place among the ready jobs has one, the service's reply to it has no more bytes than a reply may have
 abbrev pub IsShortRunAt : {V : Type 0} → ℕ → Step V → V → Server → Type 0

@@ -1,6 +1,6 @@
 //! A server.
 
-ghost use Rattle.std.specs.Prelude.{◌≡◌, ◌<◌, ◌≤◌, ℕ, [], Some, is_some, length, max, nat_lt, slice_index_or, IfOk, OnErr, OnOk};
+ghost use Rattle.std.specs.Prelude.{◌≡◌, ◌<◌, ◌≤◌, ℕ, [], Some, is_some, length, max, nat_lt, option_copied, slice_index_or, IfNone, IfOk, IfSome, OnErr, OnOk};
 ghost use Rattle.std.specs.List.{position};
 ghost use Rattle.server_session.specs.declared.session.SessionState.{SessionState};
 ghost use Rattle.server_session.specs.SessionState.{numbers_left};
@@ -8,6 +8,7 @@ ghost use Rattle.server_session.specs.Says.{Keys, setting_of};
 ghost use Rattle.waits.specs.Jobs.{ready_count};
 ghost use Rattle.server_rules.specs.Server.{Server as Rules, fresh_server, session_named};
 ghost use Rattle.server_rules.specs.Answer.{after_attach, after_loss, after_restart, room_min};
+ghost use Rattle.server_core.specs.Desks.{request_at};
 ghost use Rattle.server_core.specs.Sessions.{is_kept_as};
 ghost use Rattle.server_core.specs.Server.{Stands, without_jobs_where, without_kept_where};
 ghost use Rattle.server_core.specs.Effects.{Gives};
@@ -80,6 +81,20 @@ impl<S: Seal> Server<S> {
         ensures stands { (server : Rules) → Stands self.now server → result ≡ ready_count server.jobs }
     {
         self.jobs.ready()
+    }
+
+    /// The request of the ready job of this place among the ready ones, from 0 in order of acceptance; none exactly where
+    /// there is no such job. Takes no memory.
+    pub fn ready_request(&self, k: usize) -> Option<&[u8]>
+        ensures request { option_copied result ≡ request_at k self.now.jobs }
+        ensures stands { (server : Rules) → Stands self.now server → option_copied result ≡ request_at k server.jobs }
+        ensures there { IfSome result (λ _. k < ready_count self.now.jobs) }
+        ensures none { IfNone result (ready_count self.now.jobs ≤ k) }
+    {
+        match self.jobs.ready_at(k) {
+            Some(job) => Some(job.request.as_slice()),
+            None => None,
+        }
     }
 
     /// How many jobs are unfinished, ready or not.
