@@ -111,19 +111,19 @@ module _ {S : Type 0} (setting : Setting S) where
   -- ---- what speaks and leaves the session as it is
 
   -- the same session with the same history, and what is owed only grows
-  record Same (x y : Speaker S) : Type 0 where
-    key : y.session.key ≡ x.session.key
-    number : y.session.number ≡ x.session.number
-    history : y.session.history ≡ x.session.history
-    owed : (later : List Owed) × (y.owed ≡ x.owed ++ later)
+  pub record Same (x y : Speaker S) : Type 0 where
+    pub key : y.session.key ≡ x.session.key
+    pub number : y.session.number ≡ x.session.number
+    pub history : y.session.history ≡ x.session.history
+    pub owed : (later : List Owed) × (y.owed ≡ x.owed ++ later)
 
   same-itself : (x y : Speaker S) → y.session.key ≡ x.session.key → y.session.number ≡ x.session.number → y.session.history ≡ x.session.history → y.owed ≡ x.owed → Same x y
   same-itself x y key number history owed = record { key = key; number = number; history = history; owed = ([], owed ∙ sym (append-nil x.owed)) }
 
-  for-itself : (x y : Speaker S) → SaidFor S x y → Same x y
+  pub for-itself : (x y : Speaker S) → SaidFor S x y → Same x y
   for-itself x y said = record { key = said.key; number = said.number; history = said.history; owed = (said.owed.0, said.owed.1) }
 
-  says-same : (item : Item) (x : Speaker S) → Same x (says setting item x)
+  pub says-same : (item : Item) (x : Speaker S) → Same x (says setting item x)
   says-same item x = record { key = refl; number = refl; history = refl; owed = (record { name = name_of x.session; message = numbered setting.now x.session.counters item } ∷ [], refl) }
 
   sealed-same : (salt : ℕ) (packets : List Message) (x y : Speaker S) → Same x y → Same x (fold (seals setting salt) y packets)
@@ -131,7 +131,7 @@ module _ {S : Type 0} (setting : Setting S) where
   sealed-same salt (packet ∷ packets) x y same =
       sealed-same salt packets x (seals setting salt y packet) (record { key = same.key; number = same.number; history = same.history; owed = same.owed })
 
-  sends-same : (messages : List Message) (x : Speaker S) → Same x (sends setting messages x)
+  pub sends-same : (messages : List Message) (x : Speaker S) → Same x (sends setting messages x)
   sends-same messages x =
       let ready = needs_salts setting 1 x in
       let counters = after_packets setting.now ready.session.counters messages in
@@ -146,7 +146,7 @@ module _ {S : Type 0} (setting : Setting S) where
   acked-history [] x = refl
   acked-history (number ∷ numbers) x = refl
 
-  opens-name : (history : History) (judged : List Judgement) (x : Speaker S) → name_of (opens setting history judged x).session ≡ name_of x.session
+  pub opens-name : (history : History) (judged : List Judgement) (x : Speaker S) → name_of (opens setting history judged x).session ≡ name_of x.session
   opens-name history judged x =
       let ready : Speaker S = record x { session = record x.session { history = history } } in
       cond_both (has_accepted ready.session) ready (says_it_is_new setting ready) (λ (y : Speaker S). name_of (acknowledges setting (acks_of judged) y).session ≡ name_of x.session)
