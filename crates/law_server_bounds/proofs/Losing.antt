@@ -1,7 +1,7 @@
 -- A session is lost for a cause.
-use Rattle.std.proofs.Common.{◌≡◌, ◌≢◌, ◌∙◌, ℕ, zero, suc, ◌≤◌, Bool, true, false, cond, Option, Some, None, List, [], ◌∷◌, ◌++◌, length, ap, sym, subst, refl, arith, inl, inr}
+use Rattle.std.proofs.Common.{◌≡◌, ◌≢◌, ◌∙◌, ℕ, zero, suc, ◌≤◌, true, Option, Some, None, List, [], ◌∷◌, ◌++◌, length, ap, sym, subst, refl, arith, inl, inr}
 use Rattle.std.specs.Prelude.{map, fold, not, is_some, nat_lt, ◌⊎◌, ◌&&◌, ◌==◌}
-use Rattle.std.specs.List.{All, Contains, filter, zip}
+use Rattle.std.specs.List.{Contains, filter, zip}
 use Rattle.std.proofs.lemmas.Bool.{cases_Bool, cond_both, cond-false, and_parts, eq-eqb, ltb-false, false≢true}
 use Rattle.std.proofs.lemmas.List.Elements.{All-contains, Contains-append_right}
 use Rattle.service_tl.specs.declared.item.Item.{Item}
@@ -20,15 +20,15 @@ use Rattle.server_rules.specs.Speaking.{says, msg_wait_failed, msg_wait_timeout}
 use Rattle.server_rules.specs.Waiting.{after_failures, after_timeouts, all_given_up, first_failed, first_given_up, first_overdue, given_up, gives_up, tells_of}
 use Rattle.server_rules.specs.Rows.{destroys, owes, row, settles}
 use Rattle.server_rules.specs.Sending.{all_sent, messages_by, names_in, sends}
-use Rattle.server_rules.specs.Answer.{after_run, attaches, begun, ended, finishes, hears, hears_by, is_spent, makes, message_in, messages_judged, name_in, opens, runs, session_for, takes, takes_by, ticks, with_place, without_first}
+use Rattle.server_rules.specs.Answer.{after_run, attaches, begun, ended, finishes, hears, hears_by, is_spent, message_in, messages_judged, name_in, opens, runs, session_for, takes, takes_by, ticks, without_first}
 use Rattle.server_rules.specs.Events.{Course, Event, Packet, Work, Tick, Attach, Loss, Restart, after_event, setting_at, worked}
 use Rattle.law_server.specs.Speech.{SaidFor}
 use Rattle.law_server_bounds.specs.Losing.{GivesPlace, IsDestroyed, IsLostIn, IsSpentAmong, runs_of}
 use Rattle.law_server_bounds.proofs.Lists.{filter-there, none-some}
-use Rattle.law_server_bounds.proofs.Names.{cases_name, found-named, lost-named, lost-none, named, names-same}
+use Rattle.law_server_bounds.proofs.Names.{cases_name, found-named, lost-named, named, names-same}
 use Rattle.law_server_bounds.proofs.Unsaid.{not-true}
 use Rattle.law_server_bounds.proofs.Counted.{Speak}
-use Rattle.law_server_bounds.proofs.Taking.{Same, for-itself, opens-name, says-same, sends-same}
+use Rattle.law_server_bounds.proofs.Taking.{Same, for-itself, opens-name, sends-same}
 
 -- ---- sessions of a name
 

@@ -1,5 +1,5 @@
 -- A packet's message that nothing refuses is recorded and acknowledged.
-use Rattle.std.proofs.Common.{◌≡◌, ◌≢◌, ◌∙◌, ℕ, zero, suc, ◌+◌, ◌<◌, Bool, true, false, cond, Option, Some, None, Result, Ok, Err, List, [], ◌∷◌, ◌++◌, length, ap, sym, subst, refl, arith, inl, inr}
+use Rattle.std.proofs.Common.{◌≡◌, ◌≢◌, ◌∙◌, ℕ, zero, suc, Bool, true, cond, Option, Some, None, Result, Ok, Err, List, [], ◌∷◌, ◌++◌, length, ap, sym, subst, refl, arith, inl, inr}
 use Rattle.std.specs.Prelude.{map, fold, not, is_some, ◌&&◌, ◌==◌}
 use Rattle.std.specs.List.{Contains, filter, zip}
 use Rattle.std.proofs.lemmas.Bool.{cases_Bool, cond_both, cond-true, and_parts, and_from, eq-eqb, false≢true}
@@ -7,7 +7,6 @@ use Rattle.std.proofs.lemmas.List.{append-nil, append_assoc}
 use Rattle.std.proofs.lemmas.List.Elements.{Contains-append_left, Contains-append_right}
 use Rattle.service_tl.specs.declared.item.Item.{Item}
 use Rattle.service_tl.specs.declared.item.Item.TheVariants.{DestroySession, DestroySessionOk, DestroySessionNone, MsgsAck}
-use Rattle.service_tl.specs.Items.{spelling_of}
 use Rattle.service_tl.specs.declared.lists.Message.{Message}
 use Rattle.salt_line.specs.Line.{Line, current_salt}
 use Rattle.packing.specs.Numbering.{numbered}
@@ -24,14 +23,14 @@ use Rattle.inbox.specs.Refusals.{InContainer, InEnvelope}
 use Rattle.inbox.specs.Judging.{Session as Remembered, inner_judgements, inner_session, judge, judged_session, judgement_on, judgements, outcome_of, recorded, remembered as remembered_so, session_after, unfolded}
 use Rattle.waits.specs.declared.job.Job.{Job}
 use Rattle.waits.specs.Jobs.{Queue}
-use Rattle.server_rules.specs.Server.{Name, Server, Session, has_accepted, is_named, name_of, remembered, session_named, without_session}
+use Rattle.server_rules.specs.Server.{Name, Server, Session, has_accepted, name_of, remembered, session_named, without_session}
 use Rattle.server_rules.specs.Event.{Setting, State, Speaker, Envelope, Owed, speaker_in, spoken_by, speaks, lost}
 use Rattle.server_rules.specs.Speaking.{says, says_it_is_new, needs_salts, msg_wait_failed}
 use Rattle.server_rules.specs.Waiting.{after_failures, all_given_up, first_failed, first_given_up, given_up, gives_up, tells_of}
 use Rattle.server_rules.specs.Rows.{acknowledges, acks_of, destroys, is_verdict_acked, owes, row, settles}
 use Rattle.server_rules.specs.Calls.{each_once}
 use Rattle.server_rules.specs.Sending.{all_sent, messages_by, names_in, seals, sends}
-use Rattle.server_rules.specs.Answer.{after_packet, begun, hears, is_spent, message_in, messages_judged, name_in, opens, takes, takes_by, without_spent}
+use Rattle.server_rules.specs.Answer.{begun, hears, is_spent, message_in, messages_judged, name_in, opens, takes, takes_by}
 use Rattle.law_server.specs.Order.{WasAccepted, is_for_service}
 use Rattle.law_server.specs.Speech.{SaidFor}
 use Rattle.law_server_bounds.specs.Taking.{IsAcknowledged, IsTaken}

@@ -1,4 +1,3 @@
-use Rattle.std.proofs.Common.{ℕ}
 use Rattle.server_rules.specs.Event.{Setting}
 use Rattle.law_server_bounds.proofs.Losing.{lost-why}
 use Rattle.law_server_bounds.proofs.laws.sessions_are_lost_for_a_cause.Goals as goal
