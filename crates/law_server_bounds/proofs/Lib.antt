@@ -20,3 +20,4 @@ pub mod Heard
 pub mod Sending
 pub mod Ending
 pub mod Events
+pub mod Losing

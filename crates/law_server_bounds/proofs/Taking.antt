@@ -1,5 +1,5 @@
 -- A packet's message that nothing refuses is recorded and acknowledged.
-use Rattle.std.proofs.Common.{◌≡◌, ◌≢◌, ◌∙◌, ℕ, zero, suc, ◌+◌, ◌<◌, Bool, true, false, cond, Option, Some, None, Result, Ok, Err, List, [], ◌∷◌, ◌++◌, length, ap, sym, subst, refl, arith, inl, inr}
+use Rattle.std.proofs.Common.{◌≡◌, ◌≢◌, ◌∙◌, ℕ, zero, suc, Bool, true, cond, Option, Some, None, Result, Ok, Err, List, [], ◌∷◌, ◌++◌, length, ap, sym, subst, refl, arith, inl, inr}
 use Rattle.std.specs.Prelude.{map, fold, not, is_some, ◌&&◌, ◌==◌}
 use Rattle.std.specs.List.{Contains, filter, zip}
 use Rattle.std.proofs.lemmas.Bool.{cases_Bool, cond_both, cond-true, and_parts, and_from, eq-eqb, false≢true}
@@ -7,7 +7,6 @@ use Rattle.std.proofs.lemmas.List.{append-nil, append_assoc}
 use Rattle.std.proofs.lemmas.List.Elements.{Contains-append_left, Contains-append_right}
 use Rattle.service_tl.specs.declared.item.Item.{Item}
 use Rattle.service_tl.specs.declared.item.Item.TheVariants.{DestroySession, DestroySessionOk, DestroySessionNone, MsgsAck}
-use Rattle.service_tl.specs.Items.{spelling_of}
 use Rattle.service_tl.specs.declared.lists.Message.{Message}
 use Rattle.salt_line.specs.Line.{Line, current_salt}
 use Rattle.packing.specs.Numbering.{numbered}
@@ -24,14 +23,14 @@ use Rattle.inbox.specs.Refusals.{InContainer, InEnvelope}
 use Rattle.inbox.specs.Judging.{Session as Remembered, inner_judgements, inner_session, judge, judged_session, judgement_on, judgements, outcome_of, recorded, remembered as remembered_so, session_after, unfolded}
 use Rattle.waits.specs.declared.job.Job.{Job}
 use Rattle.waits.specs.Jobs.{Queue}
-use Rattle.server_rules.specs.Server.{Name, Server, Session, has_accepted, is_named, name_of, remembered, session_named, without_session}
+use Rattle.server_rules.specs.Server.{Name, Server, Session, has_accepted, name_of, remembered, session_named, without_session}
 use Rattle.server_rules.specs.Event.{Setting, State, Speaker, Envelope, Owed, speaker_in, spoken_by, speaks, lost}
 use Rattle.server_rules.specs.Speaking.{says, says_it_is_new, needs_salts, msg_wait_failed}
 use Rattle.server_rules.specs.Waiting.{after_failures, all_given_up, first_failed, first_given_up, given_up, gives_up, tells_of}
 use Rattle.server_rules.specs.Rows.{acknowledges, acks_of, destroys, is_verdict_acked, owes, row, settles}
 use Rattle.server_rules.specs.Calls.{each_once}
 use Rattle.server_rules.specs.Sending.{all_sent, messages_by, names_in, seals, sends}
-use Rattle.server_rules.specs.Answer.{after_packet, begun, hears, is_spent, message_in, messages_judged, name_in, opens, takes, takes_by, without_spent}
+use Rattle.server_rules.specs.Answer.{begun, hears, is_spent, message_in, messages_judged, name_in, opens, takes, takes_by}
 use Rattle.law_server.specs.Order.{WasAccepted, is_for_service}
 use Rattle.law_server.specs.Speech.{SaidFor}
 use Rattle.law_server_bounds.specs.Taking.{IsAcknowledged, IsTaken}
@@ -111,19 +110,19 @@ module _ {S : Type 0} (setting : Setting S) where
   -- ---- what speaks and leaves the session as it is
 
   -- the same session with the same history, and what is owed only grows
-  record Same (x y : Speaker S) : Type 0 where
-    key : y.session.key ≡ x.session.key
-    number : y.session.number ≡ x.session.number
-    history : y.session.history ≡ x.session.history
-    owed : (later : List Owed) × (y.owed ≡ x.owed ++ later)
+  pub record Same (x y : Speaker S) : Type 0 where
+    pub key : y.session.key ≡ x.session.key
+    pub number : y.session.number ≡ x.session.number
+    pub history : y.session.history ≡ x.session.history
+    pub owed : (later : List Owed) × (y.owed ≡ x.owed ++ later)
 
   same-itself : (x y : Speaker S) → y.session.key ≡ x.session.key → y.session.number ≡ x.session.number → y.session.history ≡ x.session.history → y.owed ≡ x.owed → Same x y
   same-itself x y key number history owed = record { key = key; number = number; history = history; owed = ([], owed ∙ sym (append-nil x.owed)) }
 
-  for-itself : (x y : Speaker S) → SaidFor S x y → Same x y
+  pub for-itself : (x y : Speaker S) → SaidFor S x y → Same x y
   for-itself x y said = record { key = said.key; number = said.number; history = said.history; owed = (said.owed.0, said.owed.1) }
 
-  says-same : (item : Item) (x : Speaker S) → Same x (says setting item x)
+  pub says-same : (item : Item) (x : Speaker S) → Same x (says setting item x)
   says-same item x = record { key = refl; number = refl; history = refl; owed = (record { name = name_of x.session; message = numbered setting.now x.session.counters item } ∷ [], refl) }
 
   sealed-same : (salt : ℕ) (packets : List Message) (x y : Speaker S) → Same x y → Same x (fold (seals setting salt) y packets)
@@ -131,7 +130,7 @@ module _ {S : Type 0} (setting : Setting S) where
   sealed-same salt (packet ∷ packets) x y same =
       sealed-same salt packets x (seals setting salt y packet) (record { key = same.key; number = same.number; history = same.history; owed = same.owed })
 
-  sends-same : (messages : List Message) (x : Speaker S) → Same x (sends setting messages x)
+  pub sends-same : (messages : List Message) (x : Speaker S) → Same x (sends setting messages x)
   sends-same messages x =
       let ready = needs_salts setting 1 x in
       let counters = after_packets setting.now ready.session.counters messages in
@@ -146,7 +145,7 @@ module _ {S : Type 0} (setting : Setting S) where
   acked-history [] x = refl
   acked-history (number ∷ numbers) x = refl
 
-  opens-name : (history : History) (judged : List Judgement) (x : Speaker S) → name_of (opens setting history judged x).session ≡ name_of x.session
+  pub opens-name : (history : History) (judged : List Judgement) (x : Speaker S) → name_of (opens setting history judged x).session ≡ name_of x.session
   opens-name history judged x =
       let ready : Speaker S = record x { session = record x.session { history = history } } in
       cond_both (has_accepted ready.session) ready (says_it_is_new setting ready) (λ (y : Speaker S). name_of (acknowledges setting (acks_of judged) y).session ≡ name_of x.session)

@@ -1,13 +1,13 @@
 //! Laws on how much a server keeps, how much one event gives, and the packets that it makes, each the contract of a function
 //! that does nothing.
 
-ghost use Rattle.std.specs.Prelude.{◌≡◌, ℕ, Bool, All, List, Some};
+ghost use Rattle.std.specs.Prelude.{◌≡◌, ℕ, Bool, All, List, None, Some};
 ghost use Rattle.std.specs.List.{AllByRecursion};
 ghost use Rattle.inbox.specs.Acceptance.{IsAcceptable};
 ghost use Rattle.outbox.specs.Replies.{IsWithin};
 ghost use Rattle.regs_service.specs.Served.{Step};
 ghost use Rattle.waits.specs.Jobs.{AreWithinLimits};
-ghost use Rattle.server_rules.specs.Server.{Server, Session, kept_replies, remembered, session_named};
+ghost use Rattle.server_rules.specs.Server.{Name, Server, Session, kept_replies, remembered, session_named};
 ghost use Rattle.server_rules.specs.Event.{Envelope, Setting};
 ghost use Rattle.server_rules.specs.Answer.{begun, hears, message_in, name_in};
 ghost use Rattle.server_rules.specs.Events.{Course, Event, after_event, begun_course, course_of};
@@ -15,6 +15,7 @@ ghost use Rattle.law_server_bounds.specs.Giving.{GivesFew};
 ghost use Rattle.law_server_bounds.specs.Runs.{AreShortRuns, IsShortRun};
 ghost use Rattle.law_server_sizes.specs.Small.{DrawsWords};
 ghost use Rattle.law_server_bounds.specs.Taking.{IsTaken};
+ghost use Rattle.law_server_bounds.specs.Losing.{IsLostIn};
 ghost use Rattle.law_server_bounds.specs.Steady.{IsFair, IsSealable, IsSteady};
 
 use draws::Draw;
@@ -73,6 +74,19 @@ pub fn lawful_messages_are_taken<D: Draw>()
     law_server::laws::sessions_speak::<D>();
     law_server::laws::sessions_speak_for_themselves::<D>();
     inbox::laws::acceptable_messages_are_accepted();
+}
+
+/// Where a name has a session before an event and none after it, that session was lost for one of these causes: a loss of its
+/// name, a restart, a packet that makes a session where 256 stand and it was heard least recently, a packet in which another
+/// session of its key accepts a message that asks to destroy it, or want of room for further numbers when all is sent.
+pub fn sessions_are_lost_for_a_cause<D: Draw, V>()
+    ensures { (setting : Setting D) (serve : Step V) (service : V) (course : Course D V) (event : Event) (name : Name) (session : Session)
+        → session_named name course.server.sessions ≡ Some session
+        → session_named name (after_event setting serve service course event).server.sessions ≡ None
+        → IsLostIn setting serve course name event }
+{
+    law_server::laws::sessions_speak::<D>();
+    law_server::laws::sessions_speak_for_themselves::<D>();
 }
 
 /// Each event of a steady server leaves it steady, and each packet that it makes may be sealed: its number and its seq fit

@@ -17,9 +17,9 @@ use Rattle.server_rules.specs.Event.{Envelope, Owed, Sent, Setting, Speaker, Sta
 use Rattle.server_rules.specs.Speaking.{needs_salts}
 use Rattle.server_rules.specs.Sending.{all_sent, envelope_of, messages_by, names_in, padding_bytes, seals, sends}
 use Rattle.server_rules.specs.Answer.{after_packet, is_spent, name_in, without_spent}
-use Rattle.law_server_bounds.specs.Taking.{IsAcknowledged, IsTaken}
+use Rattle.law_server_bounds.specs.Taking.{IsAcknowledged}
 use Rattle.server_core.specs.declared.effects.Effects.{Effects}
-use Rattle.server_core.specs.Acceptance.{Acknowledges, WasTaken}
+use Rattle.server_core.specs.Acceptance.{Acknowledges, IsAcceptedBy, WasTaken}
 use Rattle.server_core.specs.Effects.{Gives}
 use Rattle.server_core.specs.Server.{Kept}
 use Rattle.server_core.proofs.Names.{found-named, names-same, none-some, same-names}
@@ -27,10 +27,10 @@ use Rattle.server_core.proofs.One.{sends-name}
 
 -- ---- lists
 
-in-nothing : {X : Type 0} (x : X) → Contains [] x → ⊥
+pub in-nothing : {X : Type 0} (x : X) → Contains [] x → ⊥
 in-nothing {X} x there = All-contains (λ (other : X). ⊥) [] x (All-nil (λ (other : X). ⊥)) there
 
-first-or-later : {X : Type 0} (x : X) (xs : List X) (y : X) → Contains (x ∷ xs) y → (x ≡ y) ⊎ Contains xs y
+pub first-or-later : {X : Type 0} (x : X) (xs : List X) (y : X) → Contains (x ∷ xs) y → (x ≡ y) ⊎ Contains xs y
 first-or-later x xs y there =
     elim (Contains-append_cases (x ∷ []) xs y there) [
       | inl here ↦
@@ -41,7 +41,7 @@ first-or-later x xs y there =
       | inr after ↦ inr after
     ]
 
-later : {X : Type 0} (x : X) (xs : List X) (y : X) → Contains xs y → Contains (x ∷ xs) y
+pub later : {X : Type 0} (x : X) (xs : List X) (y : X) → Contains xs y → Contains (x ∷ xs) y
 later x xs y there = Contains-append_right (x ∷ []) xs y there
 
 kept-in : {X : Type 0} (test : X → Bool) (xs : List X) (x : X) → test x ≡ true → Contains xs x → Contains (filter test xs) x
@@ -284,18 +284,18 @@ module _ {S : Type 0} (setting : Setting S) where
       (out.0, last_sent, (out.2.0, out.2.1, (carried.0, carried.1, (said.0.message, carried.2, said.3))))
 
 -- what an event gives in which a message was accepted
-pub was-taken : {S D : Type 0} (lock : Lock) (keys : List RingKey) (setting : Setting D) (envelope : Envelope) (server : Server) (draw : D) (kept : Kept S) (drawn : D) (effects : Effects)
-    → Gives lock keys kept drawn effects (after_packet setting envelope server draw) → IsTaken D setting envelope server draw
+pub was-taken : {S D : Type 0} (lock : Lock) (keys : List RingKey) (setting : Setting D) (envelope : Envelope) (server : Server) (draw : D) (session : Session) (kept : Kept S) (drawn : D) (effects : Effects)
+    → Gives lock keys kept drawn effects (after_packet setting envelope server draw)
+    → IsAcceptedBy setting envelope server draw session (after_packet setting envelope server draw).server
     → (is_odd envelope.seq ≡ true → (one : Sent) × Contains (after_packet setting envelope server draw).packets one × Acknowledges (name_in envelope) envelope.number one)
-    → WasTaken lock keys envelope kept effects
-was-taken lock keys setting envelope server draw kept drawn effects gives taken acknowledged =
+    → WasTaken lock keys setting envelope server draw session kept effects
+was-taken lock keys setting envelope server draw session kept drawn effects gives accepted acknowledged =
     let after = after_packet setting envelope server draw in
     record {
       server = after.server;
       stands = gives.stands;
+      accepted = accepted;
       packets = after.packets;
       sent = gives.sent;
-      recorded = taken.stays;
       acknowledged = acknowledged;
-      answered = taken.answered;
     }

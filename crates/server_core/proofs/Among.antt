@@ -23,7 +23,7 @@ use Rattle.server_rules.specs.Speaking.{msg_wait_failed, needs_salts, says, says
 use Rattle.server_rules.specs.Waiting.{after_failures, gives_up, tells_of}
 use Rattle.server_rules.specs.Rows.{acks_of, acknowledges, destroys, owes, row, settles}
 use Rattle.server_rules.specs.Sending.{all_sent}
-use Rattle.server_rules.specs.Answer.{after_packet, begun, ended, hears_by, is_spent, message_in, messages_judged, name_in, opens, takes_by, with_place, without_first as without_first_session, without_spent}
+use Rattle.server_rules.specs.Answer.{after_packet, begun, ended, hears_by, is_spent, message_in, messages_judged, name_in, opens, takes, takes_by, with_place, without_first as without_first_session, without_spent}
 use Rattle.law_server.specs.Speech.{SaidFor}
 use Rattle.server_core.specs.One.{AreOwnFailures, answer_of, fails_all, given_up_by, says_its_own}
 use Rattle.server_core.specs.Among.{Among, IsAlone, destroys_another, ended_among, heard_among, heard_by, left_where, loses_another, packet_among, row_among, settles_among, speaks_among, state_of, takes_among}
@@ -332,7 +332,7 @@ pairs_of setting envelope session =
     zip (judged_of setting envelope session)
     (map (λ one. one.body) (messages_judged (InEnvelope setting.now session.salts envelope.salt) session (message_in envelope)))
 
-taken-same : {S : Type 0} → OwesForItself S → GivesUpForItself S → (setting : Setting S) (envelope : Envelope) (name : Name) (among : Among S)
+pub taken-same : {S : Type 0} → OwesForItself S → GivesUpForItself S → (setting : Setting S) (envelope : Envelope) (name : Name) (among : Among S)
     → IsAlone name among → takes_by setting envelope (Some among.speaker.session) (state_of among) ≡ state_of (takes_among setting envelope among)
 taken-same {S} owed given setting envelope name among alone =
     let session = among.speaker.session in
@@ -346,7 +346,7 @@ taken-same {S} owed given setting envelope name among alone =
     (speaks-last own open_so among alone_own.apart refl opened.named)
     ∙ all_settled-same owed given setting own (pairs_of setting envelope session) (speaks_among open_so among) opened
 
-taken-alone : {S : Type 0} → OwesForItself S → GivesUpForItself S → (setting : Setting S) (envelope : Envelope) (name : Name) (among : Among S)
+pub taken-alone : {S : Type 0} → OwesForItself S → GivesUpForItself S → (setting : Setting S) (envelope : Envelope) (name : Name) (among : Among S)
     → IsAlone name among → IsAlone name (takes_among setting envelope among)
 taken-alone {S} owed given setting envelope name among alone =
     let session = among.speaker.session in
@@ -356,12 +356,12 @@ taken-alone {S} owed given setting envelope name among alone =
 
 -- ---- it is heard
 
-heard_by-same : {S : Type 0} (setting : Setting S) (envelope : Envelope) (found : Option Session) (state : State S)
+pub heard_by-same : {S : Type 0} (setting : Setting S) (envelope : Envelope) (found : Option Session) (state : State S)
     → hears_by setting envelope found state ≡ state_of (heard_by setting envelope found state)
 heard_by-same setting envelope None state = refl
 heard_by-same setting envelope (Some session) state = refl
 
-abbrev Unfailed : Queue → Type 0
+abbrev pub Unfailed : Queue → Type 0
 Unfailed jobs = All (λ one. one.failed ≡ false) jobs
 
 unfailed-own : (name : Name) (jobs : Queue) → Unfailed jobs → AreOwnFailures name jobs
@@ -418,7 +418,7 @@ heard_by-alone {S} setting envelope server draw None is room unfailed =
 
 -- ---- the end
 
-sent-same : {S : Type 0} (setting : Setting S) (name : Name) (among : Among S) → IsAlone name among
+pub sent-same : {S : Type 0} (setting : Setting S) (name : Name) (among : Among S) → IsAlone name among
     → all_sent setting (state_of among) ≡ state_of (speaks_among (says_its_own setting) among)
 sent-same {S} setting name among alone =
     let speaker = among.speaker in
@@ -444,6 +444,35 @@ ended-same {S} setting name among alone =
     ∙ (ap (λ (spent : List Session). answer_of setting (fold (λ (so_far : State S) (session : Session). lost (name_of session) so_far) (state_of done) spent))
     (last-spent among.others done.speaker.session alone.room)
     ∙ ap (answer_of setting) (lost-last done (is_spent done.speaker.session) (subst N (sym stays) alone.apart)))
+
+first-unfailed : {S : Type 0} (sessions : List Session) (state : State S) → Unfailed state.jobs → Unfailed (without_first_session sessions state).jobs
+first-unfailed [] state all = all
+first-unfailed (session ∷ sessions) state all =
+    All-filter (λ one. not (is_of session.key session.number one)) (λ one. one.failed ≡ false) state.jobs all
+
+-- what is heard, among the others
+pub takes-same : {S : Type 0} → OwesForItself S → GivesUpForItself S → (setting : Setting S) (envelope : Envelope) (server : Server) (draw : S)
+    → All HasRoom server.sessions → Unfailed server.jobs
+    → takes setting envelope (begun server draw) ≡ state_of (takes_among setting envelope (heard_among setting envelope (begun server draw)))
+takes-same {S} owed given setting envelope server draw room unfailed =
+    let name = name_in envelope in
+    let state : State S = begun server draw in
+    let heard : Among S = heard_among setting envelope state in
+    let alone : IsAlone name heard = heard_by-alone setting envelope server draw (session_named name server.sessions) refl room unfailed in
+    ap (λ (heard : State S). takes_by setting envelope (session_named name heard.sessions) heard)
+    (heard_by-same setting envelope (session_named name server.sessions) state)
+    ∙ (ap (λ (found : Option Session). takes_by setting envelope found (state_of heard))
+    (last-found name heard.others heard.speaker.session alone.apart alone.named)
+    ∙ taken-same owed given setting envelope name heard alone)
+
+-- no job has failed as it is heard
+pub heard-unfailed : {S : Type 0} (setting : Setting S) (envelope : Envelope) (server : Server) (draw : S) (found : Option Session) → Unfailed server.jobs
+    → Unfailed (heard_by setting envelope found (begun server draw)).speaker.jobs
+heard-unfailed setting envelope server draw (Some session) unfailed = unfailed
+heard-unfailed {S} setting envelope server draw None unfailed =
+    let state : State S = begun server draw in
+    cond_both (nat_lt (length state.sessions) sessions_max) state (without_first_session state.sessions state) (λ (placed : State S). Unfailed placed.jobs)
+    (λ is. unfailed) (λ is. first-unfailed state.sessions state unfailed)
 
 pub packet-same : {S : Type 0} → OwesForItself S → GivesUpForItself S → (setting : Setting S) (envelope : Envelope) (server : Server) (draw : S)
     → All HasRoom server.sessions → Unfailed server.jobs → after_packet setting envelope server draw ≡ packet_among setting envelope server draw

@@ -52,3 +52,4 @@ pub mod BetweenEvents
 pub mod Desked
 pub mod Outcomes
 pub mod Acked
+pub mod Accepted

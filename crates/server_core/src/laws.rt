@@ -9,20 +9,22 @@ ghost use Rattle.waits.specs.Jobs.{Queue, ready_job};
 ghost use Rattle.waits.specs.declared.job.Job.{Job};
 ghost use Rattle.law_server.specs.Order.{AreOrdered, IsMidway, IsSpeaking, IsTold, jobs_of, opens_of};
 ghost use Rattle.server_rules.specs.Event.{Entry, Envelope, Sent, Setting, Speaker, State, speaker_in, spoken};
-ghost use Rattle.server_rules.specs.Server.{Name, Server, Session, name_of, session_named};
+ghost use Rattle.server_rules.specs.Server.{Name, Server, Session, name_of, remembered, session_named};
 ghost use Rattle.server_rules.specs.Waiting.{after_failures};
-ghost use Rattle.server_rules.specs.Answer.{after_packet, after_work, begun, is_spent, name_in, opens, runs};
+ghost use Rattle.server_rules.specs.Answer.{after_packet, after_work, begun, hears, is_spent, message_in, name_in, opens, runs};
 ghost use Rattle.law_server_bounds.specs.Taking.{IsTaken};
-ghost use Rattle.server_core.specs.Acceptance.{Acknowledges};
+ghost use Rattle.server_core.specs.Acceptance.{Acknowledges, IsAcceptedBy};
+ghost use Rattle.inbox.specs.Acceptance.{IsAcceptable};
 ghost use Rattle.server_core.specs.Working.{run_entry};
 ghost use Rattle.server_core.specs.One.{AreOwnFailures, fails_all, finishes_all};
 ghost use Rattle.server_core.specs.Among.{Among, IsAlone, IsInOrder, IsOrderlySpeaker, heard_among, packet_among, settles_among, speaks_among};
 
 use draws::Draw;
 use law_server::laws::{
-    rows_keep_order, sessions_speak, sessions_speak_for_themselves, speech_keeps_order,
-    taken_jobs_are_open,
+    noticed_numbers_are_over, packets_are_judged, rows_keep_order, sessions_speak,
+    sessions_speak_for_themselves, speech_keeps_order, taken_jobs_are_open,
 };
+use law_server_bounds::laws::lawful_messages_are_taken;
 use packing::laws::packets_have_all_messages;
 
 /// Where all jobs that have failed are those of the session that speaks, that session answers them all.
@@ -86,6 +88,23 @@ pub fn one_session_stays_in_order<D: Draw>()
     speech_keeps_order::<D>();
     rows_keep_order::<D>();
     taken_jobs_are_open::<D>();
+}
+
+/// A packet's message that nothing refuses is accepted by its session, and a call is a job then or answered, unless the session
+/// has no room for a further event when all is sent and is lost.
+pub fn acceptable_messages_are_accepted<D: Draw>()
+    ensures { (setting : Setting D) (envelope : Envelope) (server : Server) (draw : D) (session : Session)
+        → All (λ session. is_spent session ≡ false) server.sessions → AreOrdered server.sessions server.jobs
+        → session_named (name_in envelope) (hears setting envelope (begun server draw)).sessions ≡ Some session
+        → IsAcceptable setting.now session.salts envelope.salt (remembered session) (message_in envelope)
+        → IsAcceptedBy setting envelope server draw session (after_packet setting envelope server draw).server }
+{
+    sessions_speak_for_themselves::<D>();
+    one_session_stays_in_order::<D>();
+    packets_are_judged();
+    noticed_numbers_are_over();
+    lawful_messages_are_taken::<D>();
+    inbox::laws::acceptable_messages_are_accepted();
 }
 
 /// A packet whose message is accepted in an event and has an odd seq is acknowledged by one of the packets of that event.

@@ -24,7 +24,8 @@ use crate::desk::{Heard, Reply};
 use crate::effects::Effects;
 use crate::hearing::{hears_known, makes_place};
 use crate::laws::{
-    acknowledgements_go_out, one_session_stays_alone, one_session_stays_in_order, one_session_takes,
+    acceptable_messages_are_accepted, acknowledgements_go_out, one_session_stays_alone,
+    one_session_stays_in_order, one_session_takes,
 };
 use crate::packet_answers::answers_packet;
 use crate::room::judges_in_room;
@@ -63,19 +64,22 @@ impl<S: Seal> Server<S> {
             → AreOrdered server.sessions server.jobs → Opens S.lock (S.keys self.old.seal) (max self.old.moment now) Up packet.now envelope
             → IfOk result (λ reply. Gives S.lock (S.keys self.old.seal) self.new draw.new (effects_in reply)
             (after_packet (setting_of (max self.old.moment now) D.step keys) (brought_in envelope) server draw.old)) }
-        // The message of an envelope that nothing refuses is accepted in this event: what is kept of its session has its number as
-        // an accepted one, where its seq is odd a packet that goes out acknowledges it, and a call is an unfinished job or has its
-        // answer. Which of these, and with which answer, is as `given` says.
+        // The message of an envelope that nothing refuses is accepted in this event: where its seq is odd a packet that goes out
+        // acknowledges it, and its session, where that has room for a further event, is kept and has its number as an accepted one,
+        // and its call as a job, or with the answer that the table or the rules on waiting say.
         ensures accepted { (keys : Keys) (server : Rules) (envelope : Sealed) (session : Session) → AreOf (S.keys self.old.seal) keys → Stands self.old server
             → AreOrdered server.sessions server.jobs → Opens S.lock (S.keys self.old.seal) (max self.old.moment now) Up packet.now envelope
             → session_named (name_in (brought_in envelope))
             (heard_in (setting_of (max self.old.moment now) D.step keys) (brought_in envelope) (begun server draw.old)).sessions ≡ Some session
             → IsAcceptable (max self.old.moment now) session.salts envelope.salt (remembered session) (message_in (brought_in envelope))
-            → IfOk result (λ reply. WasTaken S.lock (S.keys self.old.seal) (brought_in envelope) self.new (effects_in reply)) }
+            → IfOk result (λ reply. WasTaken S.lock (S.keys self.old.seal) (setting_of (max self.old.moment now) D.step keys) (brought_in envelope)
+            server draw.old session self.new (effects_in reply)) }
         ensures unchanged_on_memory { OnErr result (self.new ≡ self.old) }
         ensures same_seal { self.new.seal ≡ self.old.seal }
     {
         S::opens_what_it_sealed();
+        sessions_stand_later();
+        acceptable_messages_are_accepted::<D>();
         lawful_messages_are_taken::<D>();
         acknowledgements_go_out::<D>();
         let moment = later(self.moment, now);

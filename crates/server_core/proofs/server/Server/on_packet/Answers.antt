@@ -1,4 +1,4 @@
-use Rattle.std.proofs.Common.{◌≡◌, ◌∙◌, ℕ, List, max, ap, subst}
+use Rattle.std.proofs.Common.{◌≡◌, ◌∙◌, ℕ, List, max, ap, subst, sym}
 use Rattle.std.specs.Prelude.{IfOk}
 use Rattle.std.proofs.lemmas.Result.{IfOk-weaker}
 use Rattle.auth_keys.specs.declared.ring.RingKey.{RingKey}
@@ -9,9 +9,10 @@ use Rattle.server_rules.specs.Answer.{after_packet}
 use Rattle.server_session.specs.Says.{setting_of}
 use Rattle.server_core.specs.Effects.{Gives}
 use Rattle.server_core.specs.Packets.{brought_in, effects_in}
-use Rattle.server_core.specs.Server.{Kept}
+use Rattle.server_core.specs.Server.{Kept, Stands}
 use Rattle.server_core.specs.Acceptance.{WasTaken}
 use Rattle.server_core.proofs.Acked.{was-taken}
+use Rattle.server_core.proofs.Speaking.{sessions-have_room}
 use Rattle.server_core.proofs.server.Server.on_packet.Goals as goal
 
 pub returns-in-Envelope-clause-given : goal.returns-in-Envelope-clause-given
@@ -59,10 +60,14 @@ returns-in-Envelope-clause-accepted g c = λ keys server envelope session of sta
     let ring = g.S.Seal.keys c.args.self.now.seal in
     let brought = brought_in envelope in
     let taken = c.lawful_messages_are_taken.ensures setting brought server c.args.draw.now session found acceptable in
+    let inside = subst (λ (kept : Kept V). Stands kept server) (sym c.self.view_is) stands in
+    let room = sessions-have_room c.sessions_stand_later.ensures.room (g.S.Seal.keys c.self.inside.seal) c.self.inside.moment c.self.inside.moment c.self.inside.sessions
+    server.sessions inside.sessions c.self.invariant.speaking in
+    let accepted = c.acceptable_messages_are_accepted.ensures setting brought server c.args.draw.now session room order found acceptable in
     IfOk-weaker c.hears.result
     (λ reply. Gives {S = V} {D = D} lock ring c.hears.new.self c.hears.new.draw (effects_in reply) (after_packet setting brought server c.args.draw.now))
-    (λ reply. WasTaken {S = V} lock ring brought c.hears.new.self (effects_in reply))
-    (λ reply gives. was-taken lock ring setting brought server c.args.draw.now c.hears.new.self c.hears.new.draw (effects_in reply) gives taken
+    (λ reply. WasTaken {S = V} lock ring setting brought server c.args.draw.now session c.hears.new.self (effects_in reply))
+    (λ reply gives. was-taken lock ring setting brought server c.args.draw.now session c.hears.new.self c.hears.new.draw (effects_in reply) gives accepted
     (c.acknowledgements_go_out.ensures setting brought server c.args.draw.now taken))
     (returns-in-Envelope-clause-given g c keys server envelope of stands order opens)
 
