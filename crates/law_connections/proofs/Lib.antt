@@ -1,3 +1,4 @@
 pub mod Worlds
 pub mod Steps
 pub mod Shown
+pub mod Toy

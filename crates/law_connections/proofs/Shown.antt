@@ -21,7 +21,7 @@ abbrev pub are_new : List ℕ → Bool
 are_new [] = true
 are_new (word ∷ words) = not (word == 0) && (not (list_any (λ other. word == other) words) && are_new words)
 
-both : (one other : Bool) → (one && other) ≡ true → (one ≡ true) × (other ≡ true)
+pub both : (one other : Bool) → (one && other) ≡ true → (one ≡ true) × (other ≡ true)
 both true other is = (refl, is)
 both false other is = absurd (let e : false ≡ true = is in cc)
 

@@ -1,8 +1,6 @@
 -- Each step of a joint run keeps what is kept of its world.
 use Rattle.std.proofs.Common.{◌≡◌, ℕ, Option, Some, None, List, [], ◌∷◌, true}
 use Rattle.std.specs.Prelude.{IfSome}
-use Rattle.std.specs.List.{All}
-use Rattle.std.proofs.lemmas.List.Elements.{All-head, All-tail}
 use Rattle.auth_keys.specs.declared.ring.RingKey.{RingKey}
 use Rattle.envelope.specs.Packet.{Lock}
 use Rattle.draws.specs.Draws.{draw_after}
@@ -17,7 +15,7 @@ use Rattle.law_packets.specs.Lawful.{is_held}
 use Rattle.law_once.specs.Served.{IsServed}
 use Rattle.law_connections.specs.Joint.{Deed, Joint, Step, Attaches, Begins, Does, Draws, Flushes, Hears, Renews, Serves, Starts, Submits, at_client_moment, at_moment, begun, did, does, drawing, joint_from, served, started, steps_on, temporary_in}
 use Rattle.law_connections.specs.Keeping.{Keeps}
-use Rattle.law_connections.specs.Premises.{IsByNoChanceDown, IsByNoChanceUp, IsOf, IsOfBytes, IsStepByNoChance, NoChance}
+use Rattle.law_connections.specs.Premises.{AreOf, IsByNoChanceDown, IsByNoChanceUp, IsOfBytes, IsStepByNoChance, IsStepOf, NoChance}
 use Rattle.law_connections.proofs.Worlds.{Laws, attach_kept, clock_kept, drawn_kept, event_kept, keys_back, keys_kept, sealed_with, sound_with, started_kept}
 
 -- the keys of a world that a client comes with
@@ -189,7 +187,7 @@ module _ {S V : Type 0} (lock : Lock) (ring : List RingKey) (laws : Laws S V loc
         event_kept lock ring laws setting so sound here (line.ForeignClient number packet) tt chance fresh
         (timed_kept number now world (laws.words setting here (line.ForeignClient number packet) timed.ordered fresh) k)
 
-    kept_does : (number : ℕ) (deed : Deed) (found : Option S) (joint : Joint S V) → IsOfBytes deed → IsByNoChanceDown setting joint.world number deed
+    kept_does : (number : ℕ) (deed : Deed) (found : Option S) (joint : Joint S V) → IfSome found (λ draw. IsOfBytes deed) → IsByNoChanceDown setting joint.world number deed
         → Fresh (does setting number deed found joint).world → Kept joint.world → Kept (does setting number deed found joint).world
     kept_does number deed None joint bytes chance fresh k = k
     kept_does number deed (Some draw) joint bytes chance fresh k =
@@ -199,7 +197,7 @@ module _ {S V : Type 0} (lock : Lock) (ring : List RingKey) (laws : Laws S V loc
         (kept_did number deed here bytes (only_drawing number deed joint.world draw chance) (fresh_again there joint.world.draw there.clock fresh)
         (drawn_kept lock ring laws setting joint.world draw k))
 
-    pub kept_on : (step : Step S) (joint : Joint S V) → IsOf ring step → IsStepByNoChance setting joint step → Fresh (steps_on setting joint step).world
+    pub kept_on : (step : Step S) (joint : Joint S V) → IsStepOf ring joint step → IsStepByNoChance setting joint step → Fresh (steps_on setting joint step).world
         → Kept joint.world → Kept (steps_on setting joint step).world
     kept_on (Serves act) joint of chance fresh k = kept_served act joint.world chance fresh k
     kept_on (Starts draw) joint of chance fresh k =
@@ -219,10 +217,10 @@ module _ {S V : Type 0} (lock : Lock) (ring : List RingKey) (laws : Laws S V loc
     fresh_from joint (step ∷ steps) h fresh =
         fresh_on step joint h (fresh_from (steps_on setting joint step) steps (served_on step joint h) fresh)
 
-    pub kept_from : (joint : Joint S V) (steps : List (Step S)) → All (IsOf ring) steps → NoChance setting joint steps → Fresh (joint_from setting joint steps).world
+    pub kept_from : (joint : Joint S V) (steps : List (Step S)) → AreOf ring setting joint steps → NoChance setting joint steps → Fresh (joint_from setting joint steps).world
         → Kept joint.world → Kept (joint_from setting joint steps).world
     kept_from joint [] of chance fresh k = k
     kept_from joint (step ∷ steps) of chance fresh k =
         let later = steps_on setting joint step in
-        kept_from later steps (All-tail (IsOf ring) step steps of) chance.1 fresh
-        (kept_on step joint (All-head (IsOf ring) step steps of) chance.0 (fresh_from later steps (served_on step joint k.served) fresh) k)
+        kept_from later steps of.1 chance.1 fresh
+        (kept_on step joint of.0 chance.0 (fresh_from later steps (served_on step joint k.served) fresh) k)

@@ -6,7 +6,7 @@ use Rattle.sched_text.specs.declared.event.Event.TheVariants as line
 use Rattle.server_node.specs.Trace.{Act, Hear}
 use Rattle.client_core.specs.Keys.{Keys}
 use Rattle.world_rules.specs.Setting.{Setting}
-use Rattle.world_rules.specs.World.{World}
+use Rattle.world_rules.specs.World.{World, counted}
 use Rattle.world_rules.specs.Premises.{IsByNoChance}
 use Rattle.law_packets.specs.Lawful.{is_held}
 use Rattle.law_connections.specs.Joint.{Deed, Joint, Step, Begins, Does, Hears, Serves, Starts, Submits, at_client_moment, at_moment, steps_on}
@@ -23,12 +23,17 @@ abbrev pub IsOfBytes : Deed → Type 0
 IsOfBytes (Submits body earlier) = IsBytes body
 IsOfBytes _ = Unit {0}
 
--- keys are those of a ring, and bodies of calls are bytes
-abbrev pub IsOf : {S : Type 0} → List RingKey → Step S → Type 0
-IsOf ring (Serves act) = Unit {0}
-IsOf ring (Starts draw) = Unit {0}
-IsOf ring (Begins keys draw) = AreHeld ring keys
-IsOf ring (Does number deed) = IsOfBytes deed
+-- keys are those of a ring, and the body of a call is bytes where its client is there
+abbrev pub IsStepOf : {S V : Type 0} → List RingKey → Joint S V → Step S → Type 0
+IsStepOf ring joint (Serves act) = Unit {0}
+IsStepOf ring joint (Starts draw) = Unit {0}
+IsStepOf ring joint (Begins keys draw) = AreHeld ring keys
+IsStepOf ring joint (Does number deed) = IfSome (counted number joint.draws) (λ draw. IsOfBytes deed)
+
+-- so it is over all steps
+abbrev pub AreOf : {S V : Type 0} → List RingKey → Setting S V → Joint S V → List (Step S) → Type 0
+AreOf ring setting joint [] = Unit {0}
+AreOf ring setting joint (step ∷ steps) = IsStepOf ring joint step × AreOf ring setting (steps_on setting joint step) steps
 
 -- ---- chance
 

@@ -1,13 +1,14 @@
 -- The clients of a joint run are those that the runs of `call` left.
 use Rattle.std.proofs.Common.{◌≡◌, ◌∙◌, ℕ, ◌+◌, false, Option, Some, None, List, [], ◌∷◌, ◌++◌, map, length, length-append, refl, sym, ap, subst, arith}
-use Rattle.std.specs.Prelude.{is_none, if◌then◌else◌}
+use Rattle.std.specs.Prelude.{is_none, option_map, if◌then◌else◌}
 use Rattle.std.specs.List.{AllByRecursion}
 use Rattle.std.proofs.lemmas.List.Sums.{fold-append}
 use Rattle.auth_keys.specs.declared.ring.RingKey.{RingKey}
 use Rattle.call_script.specs.declared.script.ScriptCall.{ScriptCall}
 use Rattle.call_table.specs.Table.{new_call}
 use Rattle.client_rules.specs.Asking.{Fault, fault_at, submit_fault, submitted}
-use Rattle.client_rules.specs.Client.{Client, calls_of}
+use Rattle.client_core.specs.Keys.{BoundTo, Keys}
+use Rattle.client_rules.specs.Client.{Client, calls_of, temporary_of}
 use Rattle.client_rules.specs.Events.{Run, unless_fault}
 use Rattle.client_node.specs.Course.{Course}
 use Rattle.cmd_call.specs.Keys.{client_under}
@@ -17,12 +18,14 @@ use Rattle.draws.specs.Draws.{draw_after, word_after}
 use Rattle.world_rules.specs.Setting.{Setting}
 use Rattle.world_rules.specs.World.{Seat}
 use Rattle.law_connections.specs.Joint.{Step, joint_of, nobody_yet}
-use Rattle.law_runs.specs.Deeds.{attempts_deeds, given_deeds}
-use Rattle.law_runs.specs.Joining.{AreJoint, AreLeft, Called, Served, batch_begins, client_rules_under, left_by, part_by, setting_under}
+use Rattle.law_runs.specs.Deeds.{batches_deeds, given_deeds}
+use Rattle.law_runs.specs.Joining.{AreJoint, AreLeft, AreTimely, AreWhole, Called, Served, Shares, batch_begins, client_rules_under, left_by, part_by, setting_under}
 use Rattle.law_runs.specs.Parts.{Part}
 use Rattle.law_runs.proofs.Owns.{done, done_all}
-use Rattle.law_runs.proofs.Batches.{AreTimely, Lives, timely-back}
-use Rattle.law_runs.proofs.Attempts.{batch-tied}
+use Rattle.law_runs.proofs.Living.{perm_of, sign_of}
+use Rattle.law_runs.proofs.Rings.{sign_under}
+use Rattle.law_runs.proofs.Batches.{AreTimely as AreTimelyDeeds, Lives, timely-back}
+use Rattle.law_runs.proofs.Attempts.{batches-tied}
 use Rattle.law_runs.proofs.Places.{AreDone, all_done, run_by}
 
 -- ---- the calls of a script are taken
@@ -35,6 +38,12 @@ taken-so : (body : List ℕ) (call : ScriptCall) (client : Client) → submit_fa
     → unless_fault call.body (earlier_of call.after) client ≡ given client call
 taken-so body call client none =
     ap (λ (found : Option Fault). if is_none found then submitted call.body (earlier_of call.after) client else client) none
+
+fresh-sign : (keys : Keys) (session : ℕ) → sign_of (client_under keys session) ≡ sign_under keys
+fresh-sign keys session = ap (λ (perm : Option ℕ). (keys.key, perm)) (bound keys.bound_to) where
+  bound : (one : Option BoundTo) → perm_of (option_map (λ (one : BoundTo). temporary_of one.perm one.expires) one) ≡ option_map (λ (one : BoundTo). one.perm) one
+  bound None = refl
+  bound (Some one) = refl
 
 module _ {D : Type 0} (step : D → ℕ × D) (ring : List RingKey) where
   abbrev setting : Setting D Registers
@@ -52,41 +61,52 @@ module _ {D : Type 0} (step : D → ℕ × D) (ring : List RingKey) where
       ap (λ (c : Client). done_all setting (record { client = c; draw = draw }) (given_deeds calls)) (taken-so call.body call client fine)
       ∙ given-tied calls (place + 1) (given client call) draw more parts.1
 
+  given-sign : (calls : List ScriptCall) (client : Client) → sign_of (given_all calls client) ≡ sign_of client
+  given-sign [] client = refl
+  given-sign (call ∷ calls) client = given-sign calls (given client call)
+
   given-lives : (calls : List ScriptCall) (client : Client) → client.has_ended ≡ false → (given_all calls client).has_ended ≡ false
   given-lives [] client lives = lives
   given-lives (call ∷ calls) client lives = given-lives calls (given client call) lives
 
-  -- ---- a run of `call`
+  -- ---- a run of `call`, or of `pair`
 
-  pub left-tied : (run : Called step ring) → AreTimely (part_by run).deeds → (run_by setting (part_by run)).client ≡ left_by run
-  left-tied run timely =
-      let rules = client_rules_under step ring in
+  pub left-tied : (run : Called step) → Shares ring run.ring run.keys → AreTimelyDeeds (part_by run).deeds → (run_by setting (part_by run)).client ≡ left_by run
+  left-tied run shares timely =
+      let rules = client_rules_under step run.ring in
       let draw = draw_after step 1 run.draw in
       let fresh : Client = client_under run.keys (word_after step 0 run.draw) in
       let course : Course D = batch_begins step run.keys run.calls run.draw in
-      let deeds = attempts_deeds rules run.plan course run.attempts in
+      let deeds = batches_deeds rules course run.batches in
       let given = given-tied run.calls 0 fresh draw refl run.taken in
-      let lives : Lives course = record { phase = tt; client = given-lives run.calls fresh refl } in
-      let batch = batch-tied step ring run.plan course run.end run.attempts run.ended run.in_turn (timely-back (given_deeds run.calls) deeds timely) lives in
+      let lives : Lives run.keys course = record {
+        phase = tt;
+        client = given-lives run.calls fresh refl;
+        sign = given-sign run.calls fresh ∙ fresh-sign run.keys (word_after step 0 run.draw);
+      } in
+      let batch = batches-tied step ring run.ring run.keys shares course run.batches run.are (timely-back (given_deeds run.calls) deeds timely) lives in
       ap (λ (r : Run D). r.client)
       (fold-append (done setting) (record { client = fresh; draw = draw }) (given_deeds run.calls) deeds
       ∙ (ap (λ (r : Run D). done_all setting r deeds) given ∙ sym batch))
 
   -- ---- all of them
 
-  all-left : (called : List (Called step ring)) (seats : List Seat) (draws : List D) → AreDone setting (map (λ (run : Called step ring). part_by run) called) seats draws
-      → AllByRecursion (λ (run : Called step ring). AreTimely (part_by run).deeds) called → AreLeft called seats
-  all-left [] [] [] are timely = tt
-  all-left [] (seat ∷ seats) [] are timely = absurd are
-  all-left [] [] (draw ∷ draws) are timely = absurd are
-  all-left [] (seat ∷ seats) (draw ∷ draws) are timely = absurd are
-  all-left (run ∷ called) [] draws are timely = absurd are
-  all-left (run ∷ called) (seat ∷ seats) [] are timely = absurd are
-  all-left (run ∷ called) (seat ∷ seats) (draw ∷ draws) are timely = (are.0 ∙ left-tied run timely.0, all-left called seats draws are.2 timely.1)
+  abbrev AllShare : List (Called step) → Type 0
+  AllShare called = AllByRecursion (λ (run : Called step). Shares ring run.ring run.keys) called
 
-  pub clients-left : (draw : D) (served : List (Served step ring)) (called : List (Called step ring)) (steps : List (Step D)) → AreJoint step ring draw served called steps
-      → AreLeft called (joint_of setting draw steps).world.seats
-  clients-left draw served called steps joint =
+  all-left : (called : List (Called step)) (seats : List Seat) (draws : List D) → AreDone setting (map (λ (run : Called step). part_by run) called) seats draws
+      → AllShare called → AllByRecursion (λ (run : Called step). AreTimelyDeeds (part_by run).deeds) called → AreLeft called seats
+  all-left [] [] [] are keyed timely = tt
+  all-left [] (seat ∷ seats) [] are keyed timely = absurd are
+  all-left [] [] (draw ∷ draws) are keyed timely = absurd are
+  all-left [] (seat ∷ seats) (draw ∷ draws) are keyed timely = absurd are
+  all-left (run ∷ called) [] draws are keyed timely = absurd are
+  all-left (run ∷ called) (seat ∷ seats) [] are keyed timely = absurd are
+  all-left (run ∷ called) (seat ∷ seats) (draw ∷ draws) are keyed timely = (are.0 ∙ left-tied run keyed.0 timely.0, all-left called seats draws are.2 keyed.1 timely.1)
+
+  pub clients-left : (draw : D) (served : List (Served step ring)) (called : List (Called step)) (steps : List (Step D)) → AreJoint step ring draw served called steps
+      → AreWhole draw served called steps → AreTimely served called → AreLeft called (joint_of setting draw steps).world.seats
+  clients-left draw served called steps joint whole timely =
       let all = all_done setting steps [] (nobody_yet setting draw) tt in
       all-left called (joint_of setting draw steps).world.seats (joint_of setting draw steps).draws
-      (subst (λ (parts : List (Part D)). AreDone setting parts (joint_of setting draw steps).world.seats (joint_of setting draw steps).draws) joint.clients all) joint.timely
+      (subst (λ (parts : List (Part D)). AreDone setting parts (joint_of setting draw steps).world.seats (joint_of setting draw steps).draws) whole.clients all) joint.keyed timely.clients

@@ -1,8 +1,12 @@
 pub mod Living
 pub mod Owns
+pub mod InTurn
+pub mod Turns
+pub mod Rings
 pub mod Batches
 pub mod Attempts
 pub mod Places
 pub mod Clients
 pub mod Servers
-pub mod Turns
+pub mod Bodies
+pub mod Sound

@@ -1,6 +1,6 @@
--- A client ends only by what it learns, and then each of its calls is decided.
-use Rattle.std.proofs.Common.{inl, inr, map, ◌≡◌, ℕ, ◌==◌, ◌||◌, Bool, true, false, Option, None, Some, List, [], ◌∷◌, ◌++◌, length, fold, refl, ◌∙◌}
-use Rattle.std.specs.Prelude.{◌⊎◌, ◌&&◌, is_some, nat_le, nat_lt}
+-- A client keeps its keys. It ends only by what it learns, and then each of its calls is decided.
+use Rattle.std.proofs.Common.{inl, inr, map, ap, ◌≡◌, ℕ, ◌==◌, ◌||◌, Bool, true, false, Option, None, Some, List, [], ◌∷◌, ◌++◌, length, fold, refl, ◌∙◌}
+use Rattle.std.specs.Prelude.{◌⊎◌, ◌&&◌, is_some, nat_le, nat_lt, option_map}
 use Rattle.std.specs.List.{list_any, zip}
 use Rattle.std.proofs.lemmas.Bool.{cond_both}
 use Rattle.msg_ids.specs.Counters.{room}
@@ -15,17 +15,49 @@ use Rattle.call_table.specs.declared.call.CallNo.{CallNo}
 use Rattle.call_table.specs.declared.call.Group.TheVariants as group
 use Rattle.call_table.specs.Table.{Call, State, at, group_of, inner_of, owner}
 use Rattle.call_table.specs.Table as table
-use Rattle.client_rules.specs.Client.{Client, Temporary, States, StateRequest, after_message, at_moment, calls_of, is_open, numbered, with_call}
+use Rattle.client_rules.specs.Client.{Asked, Binding, Client, Needed, Temporary, States, StateRequest, after_message, at_moment, bound_so, calls_of, is_open, numbered, with_binding, with_call}
 use Rattle.client_rules.specs.Learning.{ended, fate_at_end, settled_if, learn, learnt_max, learns, with_clock}
 use Rattle.client_rules.specs.Sending.{Setting, binding_body}
 use Rattle.client_rules.specs.Filling.{Filling, Goes, Never, Turn, Waits, asks_binding, asks_states, body_behind, changes, empty, fills, goes, is_needed, number_of, outstanding, says, says_acks, says_binding, says_call, says_call_at, says_destroyed, says_drop, says_drop_of, says_ping, says_resent, says_salts, says_states, says_told, sends_call, takes_turn, turn_of, undropped}
 use Rattle.client_rules.specs.Flush.{Flushed, Marked, Spent, binding_alone, filled, first_marked, flush, has_any, remembers, remembers_lone, room_min, sends, unless_binding, unless_call}
-use Rattle.client_rules.specs.Taking.{Notice, acknowledges, alone_call, alone_number, answered_by, asks_answer, goes_again, has_asked, is_for, is_odd, message_in, messages_of, noticed_by, packet_noticed, row, take, takes_message, takes_over, told_of, told_state, told_states, with_notice_clock, with_notice_salt, without_idle_wish}
-use Rattle.client_rules.specs.Events.{takes}
+use Rattle.client_rules.specs.Taking.{Notice, acknowledges, alone_among, alone_call, alone_number, answered_by, asks_answer, binding_answered, binding_noticed, goes_again, has_asked, is_asked_by, is_for, is_odd, message_in, messages_of, noticed_by, packet_noticed, row, take, takes_message, takes_over, told_of, told_state, told_states, with_notice_clock, with_notice_salt, without_idle_wish}
+use Rattle.client_rules.specs.Asking.{alone_if_asked, attached, is_asked}
+use Rattle.client_rules.specs.Events.{renewed, takes}
 
--- it has ended exactly where the other has
+-- the permanent key that its key is to be bound to
+abbrev pub perm_of : Option Temporary → Option ℕ
+perm_of temporary = option_map (λ (one : Temporary). one.perm) temporary
+
+-- its key, and that one
+abbrev pub Sign : Type 0
+Sign = ℕ × Option ℕ
+
+abbrev pub sign_of : Client → Sign
+sign_of c = (c.key, perm_of c.temporary)
+
+abbrev tag : Client → Bool × Sign
+tag c = (c.has_ended, sign_of c)
+
+-- it has ended exactly where the other has, and has the other's keys
 abbrev pub IsAlike : Client → Client → Type 0
-IsAlike one other = other.has_ended ≡ one.has_ended
+IsAlike one other = tag other ≡ tag one
+
+-- whatever else becomes of a temporary key
+perm_kept : (change : Temporary → Temporary) → ((one : Temporary) → (change one).perm ≡ one.perm) → (temporary : Option Temporary) → perm_of (option_map change temporary) ≡ perm_of temporary
+perm_kept change so None = refl
+perm_kept change so (Some one) = ap (λ (perm : ℕ). Some perm) (so one)
+
+changed_alike : (change : Temporary → Temporary) → ((one : Temporary) → (change one).perm ≡ one.perm) → (c : Client) → IsAlike c (record c { temporary = option_map change c.temporary })
+changed_alike change so c = ap (λ (perm : Option ℕ). (c.has_ended, (c.key, perm))) (perm_kept change so c.temporary)
+
+bound_alike : (binding : Binding) (c : Client) → IsAlike c (with_binding binding c)
+bound_alike binding c = changed_alike (bound_so binding) (λ one. refl) c
+
+pub ended_as : (c d : Client) → IsAlike c d → d.has_ended ≡ c.has_ended
+ended_as c d alike = ap (λ (t : Bool × Sign). t.0) alike
+
+pub sign_as : (c d : Client) → IsAlike c d → sign_of d ≡ sign_of c
+sign_as c d alike = ap (λ (t : Bool × Sign). t.1) alike
 
 alike_then : (a b c : Client) → IsAlike a b → IsAlike b c → IsAlike a c
 alike_then a b c one two = two ∙ one
@@ -34,7 +66,7 @@ alike_then a b c one two = two ∙ one
 
 answered_alike : (call : Option CallNo) (is_binding : Bool) (result : List ℕ) (c : Client) → IsAlike c (answered_by call is_binding result c)
 answered_alike (Some call) is_binding result c = refl
-answered_alike None true result c = refl
+answered_alike None true result c = bound_alike (binding_answered result) c
 answered_alike None false result c = refl
 
 clock_alike : (outer code : ℕ) (c : Client) → IsAlike c (with_notice_clock outer code c)
@@ -58,11 +90,18 @@ all_alone_alike (number ∷ numbers) c =
     alike_then c (alone_number c number) (fold alone_number (alone_number c number) numbers) (alone_alike (owner number (calls_of c)) c) (all_alone_alike numbers (alone_number c number))
 
 packet_alike : (numbers : List ℕ) (c : Client) → IsAlike c (packet_noticed numbers c)
-packet_alike numbers c = all_alone_alike numbers _
+packet_alike numbers c =
+    let marked : Client = record c { temporary = option_map (alone_among numbers) c.temporary } in
+    alike_then c marked (packet_noticed numbers c)
+    (changed_alike (alone_among numbers)
+    (λ one. cond_both (list_any (λ number. is_asked_by number one.binding) numbers) (record one { is_alone = true }) one (λ (t : Temporary). t.perm ≡ one.perm) (λ is. refl) (λ is. refl)) c)
+    (all_alone_alike numbers marked)
 
 noticed_alike : (call : Option CallNo) (is_binding : Bool) (packet : Option (List ℕ)) (outer : ℕ) (notice : Notice) (c : Client) → IsAlike c (noticed_by call is_binding packet outer notice c)
 noticed_alike (Some call) is_binding packet outer notice c = over_alike outer notice c
-noticed_alike None true packet outer notice c = over_alike outer notice c
+noticed_alike None true packet outer notice c =
+    alike_then c (takes_over outer notice c) (with_binding (binding_noticed notice.code) (takes_over outer notice c)) (over_alike outer notice c)
+    (bound_alike (binding_noticed notice.code) (takes_over outer notice c))
 noticed_alike None false (Some numbers) outer notice c =
     alike_then c (takes_over outer notice c) (packet_noticed numbers (takes_over outer notice c)) (over_alike outer notice c) (packet_alike numbers (takes_over outer notice c))
 noticed_alike None false None outer notice c = refl
@@ -90,8 +129,12 @@ asks_alike number c = cond_both _ _ c (IsAlike c) (λ is. refl) (λ is. refl)
 abbrev pub EndsDecided : Client → Type 0
 EndsDecided c = (c.has_ended ≡ false) ⊎ (list_any (λ (call : Call). table.is_open call.state) (calls_of c) ≡ false)
 
-goes_on : (c d : Client) → IsAlike c d → c.has_ended ≡ false → EndsDecided d
-goes_on c d alike lives = inl (alike ∙ lives)
+-- and it has the other's keys
+abbrev pub KeepsOn : Client → Client → Type 0
+KeepsOn c d = EndsDecided d × (sign_of d ≡ sign_of c)
+
+goes_on : (c d : Client) → IsAlike c d → c.has_ended ≡ false → KeepsOn c d
+goes_on c d alike lives = (inl (ended_as c d alike ∙ lives), sign_as c d alike)
 
 state_ended : (state : State) (call : Call) → table.is_open (settled_if (fate_at_end state) (record call { state = state })).state ≡ false
 state_ended table.Queued call = refl
@@ -105,12 +148,13 @@ all_ended : (calls : List Call) → list_any (λ (call : Call). table.is_open ca
 all_ended [] = refl
 all_ended (call ∷ calls) = rw (state_ended call.state call) (all_ended calls)
 
-learns_so : (outer unique salt : ℕ) (c : Client) → c.has_ended ≡ false → EndsDecided (learn outer unique salt c)
+learns_so : (outer unique salt : ℕ) (c : Client) → c.has_ended ≡ false → KeepsOn c (learn outer unique salt c)
 learns_so outer unique salt c lives =
-    cond_both (list_any (λ learnt. learnt == unique) c.learnt) c _ EndsDecided (λ is. inl lives)
-    (λ is. cond_both (nat_le learnt_max (length c.learnt)) (ended c) (with_clock outer (learns unique salt c)) EndsDecided (λ is. inr (all_ended (calls_of c))) (λ is. inl lives))
+    cond_both (list_any (λ learnt. learnt == unique) c.learnt) c _ (KeepsOn c) (λ is. (inl lives, refl))
+    (λ is. cond_both (nat_le learnt_max (length c.learnt)) (ended c) (with_clock outer (learns unique salt c)) (KeepsOn c) (λ is. (inr (all_ended (calls_of c)), refl))
+    (λ is. (inl lives, ap (λ (perm : Option ℕ). (c.key, perm)) (perm_kept (bound_so Needed) (λ one. refl) c.temporary))))
 
-row_so : (outer number : ℕ) (item : Item) (c : Client) → c.has_ended ≡ false → EndsDecided (row outer number item c)
+row_so : (outer number : ℕ) (item : Item) (c : Client) → c.has_ended ≡ false → KeepsOn c (row outer number item c)
 row_so outer number (NewSessionCreated first unique salt) c lives = learns_so outer unique salt c lives
 row_so outer number (RpcResult about result) c lives = goes_on c (row outer number (RpcResult about result) c) (answered_alike (owner about (calls_of c)) (has_asked about c.temporary) result c) lives
 row_so outer number (BadMsgNotification about seq code) c lives = goes_on c (row outer number (BadMsgNotification about seq code) c) (noticed_alike (owner about (calls_of c)) (has_asked about c.temporary) (inner_of about c.table.packets) outer (record { about = about; code = code; salt = None }) c) lives
@@ -126,23 +170,27 @@ row_so outer number _ c lives = goes_on c c refl lives
 acks_alike : (message : Message) (c : Client) → IsAlike c (acknowledges message c)
 acks_alike message c = cond_both (is_odd message.seq) _ c (IsAlike c) (λ is. refl) (λ is. refl)
 
-message_so : (outer : ℕ) (c : Client) (message : Message) → EndsDecided c → EndsDecided (takes_message outer c message)
-message_so outer c message h =
-    cond_both c.has_ended c (row outer message.number (item_of message.body) (acknowledges message c)) EndsDecided (λ is. h)
-    (λ is. row_so outer message.number (item_of message.body) (acknowledges message c) (acks_alike message c ∙ is))
+message_so : (outer : ℕ) (first c : Client) (message : Message) → KeepsOn first c → KeepsOn first (takes_message outer c message)
+message_so outer first c message h =
+    let acked : Client = acknowledges message c in
+    let alike = acks_alike message c in
+    cond_both c.has_ended c (row outer message.number (item_of message.body) acked) (KeepsOn first) (λ is. h)
+    (λ is.
+    let on = row_so outer message.number (item_of message.body) acked (ended_as c acked alike ∙ is) in
+    (on.0, on.1 ∙ (sign_as c acked alike ∙ h.1)))
 
-messages_so : (outer : ℕ) (messages : List Message) (c : Client) → EndsDecided c → EndsDecided (fold (takes_message outer) c messages)
-messages_so outer [] c h = h
-messages_so outer (message ∷ messages) c h = messages_so outer messages (takes_message outer c message) (message_so outer c message h)
+messages_so : (outer : ℕ) (messages : List Message) (first c : Client) → KeepsOn first c → KeepsOn first (fold (takes_message outer) c messages)
+messages_so outer [] first c h = h
+messages_so outer (message ∷ messages) first c h = messages_so outer messages first (takes_message outer c message) (message_so outer first c message h)
 
-take_so : (now : ℕ) (envelope : Envelope) (c : Client) → c.has_ended ≡ false → EndsDecided (take now envelope c)
+take_so : (now : ℕ) (envelope : Envelope) (c : Client) → c.has_ended ≡ false → KeepsOn c (take now envelope c)
 take_so now envelope c lives =
     let ready : Client = at_moment now c in
-    cond_both (is_for c envelope) (without_idle_wish (fold (takes_message envelope.number) ready (messages_of (message_in envelope)))) ready EndsDecided
-    (λ is. messages_so envelope.number (messages_of (message_in envelope)) ready (inl lives)) (λ is. inl lives)
+    cond_both (is_for c envelope) (without_idle_wish (fold (takes_message envelope.number) ready (messages_of (message_in envelope)))) ready (KeepsOn c)
+    (λ is. messages_so envelope.number (messages_of (message_in envelope)) c ready (inl lives, refl)) (λ is. (inl lives, refl))
 
-pub takes_so : (now : ℕ) (opened : Option Envelope) (c : Client) → c.has_ended ≡ false → EndsDecided (takes now opened c)
-takes_so now None c lives = inl lives
+pub takes_so : (now : ℕ) (opened : Option Envelope) (c : Client) → c.has_ended ≡ false → KeepsOn c (takes now opened c)
+takes_so now None c lives = (inl lives, refl)
 takes_so now (Some envelope) c lives = take_so now envelope c lives
 
 -- ---- what it sends
@@ -195,7 +243,8 @@ module _ {S : Type 0} (setting : Setting S) (c : Client) where
       cond_both (is_needed temporary.binding && is_open filling.client) _ filling In (λ is.
       let unsaid : Message = numbered true [] filling.client in
       let message : Message = record unsaid { body = binding_body setting filling.client temporary unsaid.number filling.draw } in
-      goes_in message (asks_binding setting message) filling (λ f k. k) h) (λ is. h)
+      goes_in message (asks_binding setting message) filling
+      (λ f k. alike_then c f.client (with_binding (Asked message) (after_message true f.client)) k (bound_alike (Asked message) (after_message true f.client))) h) (λ is. h)
 
   drop_of_in : (call : CallNo) (number : Option ℕ) (filling : Filling S) → In filling → In (says_drop_of call number filling)
   drop_of_in call None filling h = h
@@ -235,7 +284,7 @@ module _ {S : Type 0} (setting : Setting S) (c : Client) where
   call_in None d draw h = fills_in d draw h
 
   alone_in : (message : Option Message) (d : Client) (draw : S) → IsAlike c d → In (unless_binding setting message d draw)
-  alone_in (Some message) d draw h = h
+  alone_in (Some message) d draw h = alike_then c d (with_binding (Asked message) d) h (bound_alike (Asked message) d)
   alone_in None d draw h = call_in (first_marked (calls_of d) (group_of group.Alone (calls_of d))) d draw h
 
   abbrev IsFlushed : Flushed S → Type 0
@@ -258,3 +307,14 @@ module _ {S : Type 0} (setting : Setting S) (c : Client) where
       (λ is. cond_both (nat_lt (room c.counters) room_min) (record { answer = Spent; client = c; draw = draw }) (sends setting filling.messages filling) IsFlushed
       (λ is. refl) (λ is. sends_in filling.messages filling h))
       (λ is. sends_in [] filling h)
+
+-- ---- the other wishes
+
+asked_perm : (one : Temporary) → (alone_if_asked one).perm ≡ one.perm
+asked_perm one = cond_both (is_asked one.binding) (record one { is_alone = true }) one (λ (t : Temporary). t.perm ≡ one.perm) (λ is. refl) (λ is. refl)
+
+pub attached_alike : (c : Client) → IsAlike c (attached c)
+attached_alike c = changed_alike alone_if_asked asked_perm c
+
+pub renewed_alike : (session : ℕ) (c : Client) → IsAlike c (renewed session c)
+renewed_alike session c = bound_alike Needed c

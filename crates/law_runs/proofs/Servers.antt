@@ -32,8 +32,10 @@ use Rattle.world_rules.specs.World.{Seat, World, counted, seat_now}
 use Rattle.world_rules.specs.Ends.{acts, comes_down, flushes, seated}
 use Rattle.law_connections.specs.Joint.{Deed, Joint, Step, Attaches, Begins, Does, Draws, Flushes, Hears, Renews, Serves as Acts, Starts, Submits, at_client_moment, did, does, drawing, joint_from, joint_of, nobody_yet, served, steps_on}
 use Rattle.law_runs.specs.Acts.{close_acts, connection_acts, run_acts, trace_acts, turn_acts, turns_acts}
-use Rattle.law_runs.specs.Joining.{AreInTurn, AreJoint, Called, IsServerLeft, IsTimelyAct, Served, setting_under, start_by}
+use Rattle.law_runs.specs.Joining.{AreTimely, AreWhole, Called, IsServerLeft, IsTimelyAct, Served, setting_under, start_by}
 use Rattle.law_runs.specs.Parts.{Start, start_on}
+use Rattle.law_runs.proofs.InTurn.{AreInTurn}
+use Rattle.law_runs.proofs.Turns.{connections-in-turn}
 
 -- ---- what a server's events make of it
 
@@ -308,16 +310,16 @@ module _ {D : Type 0} (step : D → ℕ × D) (ring : List RingKey) where
       → AllByRecursion (λ (run : Served step ring). AreTimelyActs (start_by run).acts) serves → IsServerLeft serves world
   left-so world [] is timely = absurd is
   left-so world (run ∷ earlier) is timely =
-      let left = run-host run.first run.connections run.are run.in_turn timely.0 in
+      let left = run-host run.first run.connections run.are (connections-in-turn run.conns run.ending run.connections run.ended) timely.0 in
       let begun : of_between run.first ≡ record { server = fresh_server; service = registers.fresh; draw = run.first.draw } =
       ap (λ (s : Server). record { server = s; service = run.first.service; draw = run.first.draw }) run.server
       ∙ ap (λ (v : Registers). record { server = fresh_server; service = v; draw = run.first.draw }) run.service in
       let all = is ∙ ap (λ (h : Held). fold (host_on setting) h (start_by run).acts) (sym begun) in
       (ap (λ (h : Held). h.server) all ∙ sym left.0, ap (λ (h : Held). h.service) all ∙ sym left.1)
 
-  pub server-left : (draw : D) (serves : List (Served step ring)) (called : List (Called step ring)) (steps : List (Step D)) → AreJoint step ring draw serves called steps
-      → IsServerLeft serves (joint_of setting draw steps).world
-  server-left draw serves called steps joint =
+  pub server-left : (draw : D) (serves : List (Served step ring)) (called : List (Called step)) (steps : List (Step D)) → AreWhole draw serves called steps
+      → AreTimely serves called → IsServerLeft serves (joint_of setting draw steps).world
+  server-left draw serves called steps whole timely =
       let last = all-last setting steps (record { draw = draw; acts = [] } ∷ []) (nobody_yet setting draw) refl in
       left-so (joint_of setting draw steps).world serves
-      (subst (λ (starts : List (Start D)). IsLast setting starts (joint_of setting draw steps).world) joint.servers last) joint.timely_acts
+      (subst (λ (starts : List (Start D)). IsLast setting starts (joint_of setting draw steps).world) whole.servers last) timely.servers

@@ -9,8 +9,7 @@ use Rattle.client_node.specs.declared.plan.Plan.{Plan}
 use Rattle.client_node.specs.Took.{NoneDecides}
 use Rattle.cmd_serve.specs.Connections.{Connection, EndsBy}
 use Rattle.cmd_serve.specs.Runs.{Registers}
-use Rattle.law_runs.specs.Deeds.{AllInTurn, AreHeardInTurn, ClosesInTurn, ConnectsInTurn, TriesInTurn}
-use Rattle.law_runs.specs.Joining.{AreInTurn}
+use Rattle.law_runs.proofs.InTurn.{AllInTurn, AreHeardInTurn, AreInTurn, ClosesInTurn, ConnectsInTurn, TriesInTurn}
 
 none-so : {S : Type 0} (rules : Rules S) (now : ℕ) (course : Course S) (heard : List (List ℕ)) → NoneDecides rules.setting.step rules.reading now course heard
     → AreHeardInTurn rules.setting.step rules.reading now course heard

@@ -1,13 +1,13 @@
--- What a client does that the trace of its batch tells of, in order.
-use Rattle.std.specs.Prelude.{◌≡◌, ◌⊎◌, ℕ, Bool, true, false, List, [], ◌∷◌, ◌++◌, map}
+-- What a client does that the trace of its batches tells of, in order.
+use Rattle.std.specs.Prelude.{ℕ, Bool, true, false, List, [], ◌∷◌, ◌++◌, map}
 use Rattle.call_script.specs.declared.script.ScriptCall.{ScriptCall}
 use Rattle.transport.specs.Starts.{words_drawn}
 use Rattle.client_node.specs.Course.{Course, Reading, attaches, hears, is_decided, must_renew, takes_packet}
 use Rattle.client_node.specs.Talks.{Began, Close, Connection, Heard, Place, Refused, Rules, Said, Stopped, Talk, Turn, TurnsDone, Unread, Unstarted, begun, drawn, says, turns_from}
-use Rattle.client_node.specs.Took.{NoneDecides}
 use Rattle.client_node.specs.Trace.{Attempt, Made, NoLink, after_all}
 use Rattle.client_node.specs.declared.plan.Plan.{Plan}
 use Rattle.law_connections.specs.Joint.{Deed, Attaches, Draws, Flushes, Hears, Renews, Submits}
+use Rattle.law_runs.specs.Batches.{OneBatch, behind_batches}
 
 -- a flush for each packet that was sent, and a last one that found nothing due, where there was one
 abbrev pub flushes_of : ℕ → List (List ℕ) → List Deed
@@ -82,35 +82,12 @@ attempts_deeds rules plan course [] = []
 attempts_deeds rules plan course (last ∷ earlier) =
     attempts_deeds rules plan course earlier ++ attempt_deeds rules plan (after_all rules plan course earlier) last
 
+-- of all batches, the last one first
+abbrev pub batches_deeds : {S : Type 0} → Rules S → Course S → List OneBatch → List Deed
+batches_deeds rules course [] = []
+batches_deeds rules course (last ∷ earlier) =
+    batches_deeds rules course earlier ++ attempts_deeds rules last.plan (behind_batches rules course earlier) last.attempts
+
 -- it is given the calls of a script
 abbrev pub given_deeds : List ScriptCall → List Deed
 given_deeds calls = map (λ call. Submits call.body call.after) calls
-
--- ---- in which packets decide
-
--- of packets that are heard none decides each call, or the last one alone does
-abbrev pub AreHeardInTurn : {S : Type 0} → (S → ℕ × S) → Reading → ℕ → Course S → List (List ℕ) → Type 0
-AreHeardInTurn step reading now course heard =
-    NoneDecides step reading now course heard
-    ⊎ ((front : List (List ℕ)) × (last : List ℕ) × (heard ≡ front ++ last ∷ []) × NoneDecides step reading now course front)
-
--- so it is with the packets by which a connection closes, and so with each attempt, the last one first
-abbrev pub ClosesInTurn : {S : Type 0} → Rules S → Said → Close → Place S → Type 0
-ClosesInTurn rules said (Heard piece moment heard end) place = AreHeardInTurn rules.setting.step rules.reading moment (says rules said place).course heard
-ClosesInTurn rules said (Stopped end) place = Unit {0}
-ClosesInTurn rules said (Unread answer) place = Unit {0}
-ClosesInTurn rules said TurnsDone place = Unit {0}
-
-abbrev pub ConnectsInTurn : {S : Type 0} → Rules S → Plan → Course S → Connection → Type 0
-ConnectsInTurn rules plan course (Refused first) = Unit {0}
-ConnectsInTurn rules plan course (Unstarted first start) = Unit {0}
-ConnectsInTurn rules plan course (Began first start opening talk) =
-    ClosesInTurn rules talk.said talk.close (turns_from rules (begun rules plan course first) talk.turns)
-
-abbrev pub TriesInTurn : {S : Type 0} → Rules S → Plan → Course S → Attempt → Type 0
-TriesInTurn rules plan course NoLink = Unit {0}
-TriesInTurn rules plan course (Made connection) = ConnectsInTurn rules plan course connection
-
-abbrev pub AllInTurn : {S : Type 0} → Rules S → Plan → Course S → List Attempt → Type 0
-AllInTurn rules plan course [] = Unit {0}
-AllInTurn rules plan course (last ∷ earlier) = AllInTurn rules plan course earlier × TriesInTurn rules plan (after_all rules plan course earlier) last

@@ -1,4 +1,6 @@
 pub mod Acts
+pub mod Batches
 pub mod Deeds
 pub mod Parts
 pub mod Joining
+pub mod Told

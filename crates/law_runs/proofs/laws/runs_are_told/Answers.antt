@@ -1,9 +1,10 @@
-use Rattle.std.proofs.Common.{◌≡◌, ℕ, refl, sym}
+use Rattle.std.proofs.Common.{◌≡◌, ◌+◌, ℕ, None, [], ◌∷◌, refl, sym}
 use Rattle.commands.specs.declared.command.ServeOptions.{ServeOptions}
 use Rattle.cmd_call.specs.Owed.{plan_of}
+use Rattle.cmd_pair.specs.Batches.{plan_at}
 use Rattle.cmd_serve.specs.Runs.{Course, Deaf, Draws, Moments, Mute, Refused, Serves, ServesBy, Unbegun, Unread, first_of}
-use Rattle.law_runs.specs.Joining.{IsServing, Served, batch_begins, client_rules_under, connections_in, ring_in}
-use Rattle.law_runs.proofs.Turns.{connections-in-turn, tries-in-turn}
+use Rattle.client_node.specs.declared.plan.Batch.TheVariants as batch
+use Rattle.law_runs.specs.Joining.{IsServing, Served, connections_in, ring_in}
 use Rattle.law_runs.proofs.laws.runs_are_told.Goals as goal
 
 served-so : {D : Type 0} (step : D → ℕ × D) (options : ServeOptions) (moments : Moments) (draws : Draws D) (course : Course D) → ServesBy step options moments draws course → IsServing course
@@ -12,8 +13,10 @@ served-so step options moments draws (Serves ring connections ending) served is 
   record {
     first = first_of options moments draws.before;
     connections = connections;
+    conns = options.conns;
+    ending = ending;
     are = served.are;
-    in_turn = connections-in-turn options.conns ending connections served.ended;
+    ended = served.ended;
     server = refl;
     service = refl;
   },
@@ -30,38 +33,81 @@ pub returns-clause-serves : goal.returns-clause-serves
 returns-clause-serves g c = λ step options moments draws course served is. served-so step options moments draws course served is
 
 pub returns-clause-calls : goal.returns-clause-calls
-returns-clause-calls g c = λ options calls ring keys around one due ran. (
+returns-clause-calls g c = λ options text calls ring keys around one due spelt found ran. (
   record {
-    plan = plan_of options;
-    keys = keys;
+    text = text;
     calls = calls;
-    draw = around.draw;
-    end = ran.end;
-    attempts = ran.trace.attempts;
+    spelt = spelt;
     taken = ran.taken;
-    ended = ran.trace.ended;
-    in_turn = tries-in-turn (client_rules_under around.step ring) (plan_of options) (batch_begins around.step keys calls around.draw) ran.end ran.trace.attempts ran.trace.ended;
+    ring = ring;
+    key = options.key;
+    perm = options.perm;
+    keys = keys;
+    found = found;
+    draw = around.draw;
+    batches = record { plan = plan_of options; end = ran.end; attempts = ran.trace.attempts } ∷ [];
+    are = (tt, ran.trace.ended);
   },
-  refl,
-  refl,
-  refl,
+  record { calls_are = refl; ring_is = refl; keys_are = refl; draw_is = refl },
   sym ran.its,
 )
 
 pub returns-clause-left : goal.returns-clause-left
-returns-clause-left g c = λ options calls ring keys around left. (
+returns-clause-left g c = λ options text calls ring keys around spelt found left. (
   record {
-    plan = plan_of options;
-    keys = keys;
+    text = text;
     calls = calls;
-    draw = around.draw;
-    end = left.end;
-    attempts = left.trace.attempts;
+    spelt = spelt;
     taken = left.taken;
-    ended = left.trace.ended;
-    in_turn = tries-in-turn (client_rules_under around.step ring) (plan_of options) (batch_begins around.step keys calls around.draw) left.end left.trace.attempts left.trace.ended;
+    ring = ring;
+    key = options.key;
+    perm = options.perm;
+    keys = keys;
+    found = found;
+    draw = around.draw;
+    batches = record { plan = plan_of options; end = left.end; attempts = left.trace.attempts } ∷ [];
+    are = (tt, left.trace.ended);
   },
-  refl,
-  refl,
-  refl,
+  record { calls_are = refl; ring_is = refl; keys_are = refl; draw_is = refl },
+)
+
+pub returns-clause-over_one : goal.returns-clause-over_one
+returns-clause-over_one g c = λ options input files calls ring keys around kids one due ready over. (
+  record {
+    text = ready.script.text;
+    calls = calls;
+    spelt = ready.script.spelt;
+    taken = ready.taken;
+    ring = ring;
+    key = options.key;
+    perm = None;
+    keys = keys;
+    found = ready.found;
+    draw = around.draw;
+    batches = record { plan = plan_at options.port; end = over.last.end; attempts = over.last.trace.attempts } ∷ [];
+    are = (tt, over.last.trace.ended);
+  },
+  record { calls_are = refl; ring_is = refl; keys_are = refl; draw_is = refl },
+  sym over.last.its,
+)
+
+pub returns-clause-over_both : goal.returns-clause-over_both
+returns-clause-over_both g c = λ options input files calls ring keys around kids one due ready over. (
+  record {
+    text = ready.script.text;
+    calls = calls;
+    spelt = ready.script.spelt;
+    taken = ready.taken;
+    ring = ring;
+    key = options.key;
+    perm = None;
+    keys = keys;
+    found = ready.found;
+    draw = around.draw;
+    batches = record { plan = plan_at (options.port + 1); end = over.last.end; attempts = over.last.trace.attempts }
+        ∷ record { plan = plan_at options.port; end = batch.LinkLost; attempts = over.first.trace.attempts } ∷ [];
+    are = ((tt, over.first.trace.ended, refl), over.last.trace.ended);
+  },
+  record { calls_are = refl; ring_is = refl; keys_are = refl; draw_is = refl },
+  sym over.last.its,
 )
