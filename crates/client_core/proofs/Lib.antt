@@ -20,8 +20,10 @@ pub mod ResultLemmas
 pub mod SettledLemmas
 pub mod TakingLemmas
 pub mod WalkLemmas
+pub mod RoomLemmas
 pub mod RuleLemmas
 pub mod NumberLemmas
+pub mod OwedLemmas
 pub mod OwnLemmas
 pub mod PacketLemmas
 pub mod QueueLemmas

@@ -18,3 +18,4 @@ pub mod Took
 pub mod Sound
 pub mod Results
 pub mod Sealing
+pub mod Owed

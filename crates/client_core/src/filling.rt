@@ -11,7 +11,7 @@ ghost use Rattle.packing.specs.Packing.{packed};
 ghost use Rattle.client_rules.specs.Asking.{body_bytes_max};
 ghost use Rattle.client_rules.specs.Filling.{body_behind};
 ghost use Rattle.client_core.specs.Calling.{call_message, wrap_bytes};
-ghost use Rattle.client_core.specs.Draft.{CanBeSaid, Holds, enters, filled_up, item_of, needs_answer, nothing_yet, said_bytes, said_message};
+ghost use Rattle.client_core.specs.Draft.{CanBeSaid, HasRoomFor, Holds, TakesUp, enters, filled_up, item_of, needs_answer, nothing_yet, said_bytes, said_message};
 
 use crate::calling::{put_call, sizes_of_calls, wrap_size};
 use crate::saying::{Outgoing, needs_answer, said_size, sizes_of_said, spell};
@@ -37,7 +37,8 @@ pub(crate) struct Filled {
 }
 
 /// A packet that is filled: its messages so far, as they stand in a container, how many, the numbers of the calls among
-/// them and of the binding, and whether an item didn't fit. No further item takes memory.
+/// them and of the binding, and whether an item didn't fit. There is room for what it is to have, so no further item takes
+/// memory.
 #[derive(Drop)]
 pub(crate) struct Draft {
     rows: Buffer,
@@ -62,22 +63,23 @@ impl Model for Draft {
       is_full = draft.is_full;
       number = draft.number;
       seq = draft.seq;
+      room = draft.rows.room;
     } };
 
-    ghost invariant = { λ draft. (container_head + length draft.rows.bytes ≤ bytes_max) × (container_head + length draft.rows.bytes + draft.rows.room ≡ bytes_max)
+    ghost invariant = { λ draft. (container_head + length draft.rows.bytes ≤ bytes_max)
         × (draft.count ≤ messages_max) × (length draft.rows.bytes % 4 ≡ 0)
         × (message_head * draft.count ≤ length draft.rows.bytes) × (vec_len draft.inner ≤ draft.count) × (messages_max ≤ vec_capacity draft.inner) };
 }
 
 impl Draft {
-    /// No message yet, and room for a whole packet.
-    pub(crate) fn new(alloc: Global) -> Result<Draft, Memory>
-        ensures empty { IfOk result (λ draft. draft ≡ nothing_yet) }
+    /// No message yet, and room for so many bytes of messages.
+    pub(crate) fn new(alloc: Global, bytes: usize) -> Result<Draft, Memory>
+        ensures empty { IfOk result (λ draft. draft ≡ record nothing_yet { room = bytes }) }
         ensures holds { IfOk result (λ draft. Holds draft []) }
     {
         container_sizes();
         Ok(Draft {
-            rows: Buffer::new(alloc, CONTAINER_BYTES_MAX - CONTAINER_HEAD_BYTES)?,
+            rows: Buffer::new(alloc, bytes)?,
             count: 0,
             inner: Vec::with_capacity(alloc, CONTAINER_MESSAGES_MAX)?,
             is_full: false,
@@ -105,6 +107,7 @@ impl Draft {
     pub(crate) fn say(&mut self, at: Moment, numbers: &mut Numbers, said: &Outgoing<'_>) -> bool
         requires lawful { CanBeSaid said.now }
         requires numbers { messages_max < self.old.count + room numbers.old }
+        requires room { HasRoomFor (message_head + said_bytes said.now) self.old }
         ensures told { result ≡ enters (said_bytes said.now) self.old }
         ensures size { length (spelling_of (item_of said.now)) ≡ said_bytes said.now }
         ensures number { IsTrue result → self.new.number ≡ numbers.new.last }
@@ -113,6 +116,7 @@ impl Draft {
         ensures inner { IsTrue result → self.new.inner ≡ self.old.inner }
         ensures open { IsTrue result → self.new.is_full ≡ self.old.is_full }
         ensures full { IsFalse result → self.new ≡ filled_up self.old }
+        ensures takes { TakesUp (message_head + said_bytes said.now) self.old self.new }
         ensures uncounted { IsFalse result → numbers.new ≡ numbers.old }
         ensures room_lasts { self.old.count + room numbers.old ≤ self.new.count + room numbers.new }
     {
@@ -141,6 +145,7 @@ impl Draft {
         requires words { length body.now % 4 ≡ 0 }
         requires short { length body.now ≤ body_bytes_max }
         requires numbers { messages_max < self.old.count + room numbers.old }
+        requires room { HasRoomFor (message_head + (wrap_bytes wrap + length body.now)) self.old }
         ensures told { is_some result ≡ enters (wrap_bytes wrap + length body.now) self.old }
         ensures given { IfSome result (λ given. given ≡ (next_number numbers.old.last at, seq_of numbers.old.content_messages true)) }
         ensures counted { OnSome result (numbers.new ≡ after_next numbers.old at true) }
@@ -151,6 +156,7 @@ impl Draft {
         ensures size { length (body_behind wrap body.now) ≡ wrap_bytes wrap + length body.now }
         ensures few { OnSome result (self.old.count < messages_max) }
         ensures full { IfNone result (self.new ≡ filled_up self.old) }
+        ensures takes { TakesUp (message_head + (wrap_bytes wrap + length body.now)) self.old self.new }
         ensures uncounted { IfNone result (numbers.new ≡ numbers.old) }
         ensures room_lasts { self.old.count + room numbers.old ≤ self.new.count + room numbers.new }
     {
@@ -174,6 +180,8 @@ impl Draft {
         requires fits { enters (length body.now) self.old ≡ true }
         requires words { length body.now % 4 ≡ 0 }
         requires short { length body.now ≤ body_bytes_max }
+        requires room { HasRoomFor (message_head + length body.now) self.old }
+        ensures takes { TakesUp (message_head + length body.now) self.old self.new }
         ensures holds { (messages : List Message) → Holds self.old messages
             → Holds self.new (messages ++ record { number = number; seq = seq; body = body.now } ∷ []) }
         ensures inner { self.new.inner ≡ self.old.inner ++ number ∷ [] }
@@ -198,7 +206,8 @@ impl Draft {
     /// The packet's body, in room that was taken before.
     pub(crate) fn finish(self, mut body: Buffer) -> Filled
         requires empty { body.bytes ≡ [] }
-        requires room { bytes_max ≤ body.room }
+        requires room { container_head + length self.rows ≤ body.room }
+        ensures fits { length result.body ≤ container_head + length self.rows }
         ensures count { result.count ≡ self.count }
         ensures body { (messages : List Message) → Holds self messages → result.body ≡ packed messages }
         ensures number { result.number ≡ self.number }

@@ -1,22 +1,23 @@
 //! What a client sends next.
 
-ghost use Rattle.std.specs.Prelude.{◌≡◌, ◌≤◌, [], None, IfOk, IfSome, IsSome, min, nat_lt, false, true, OnOk, vec_len, vec_capacity, length};
+ghost use Rattle.std.specs.Prelude.{◌≡◌, ◌≤◌, ◌+◌, [], None, IfOk, IfSome, IsSome, min, nat_lt, false, true, OnOk, vec_len, vec_capacity, length};
 ghost use Rattle.auth_keys.specs.Rings.{entry_of};
 ghost use Rattle.call_table.specs.Table.{group_of};
 ghost use Rattle.call_table.specs.Kept.{numbers_in};
 ghost use Rattle.call_table.specs.declared.call.Group.TheVariants.{Alone};
-ghost use Rattle.containers.specs.Container.{bytes_max, messages_max};
+ghost use Rattle.containers.specs.Container.{bytes_max, container_head, messages_max};
 ghost use Rattle.envelope.specs.Packet.{sealed_size};
 ghost use Rattle.msg_ids.specs.Counters.{room as numbers_left};
 ghost use Rattle.client_rules.specs.Client.{Client, at_moment, calls_of};
 ghost use Rattle.client_rules.specs.Filling.{fills, numbers_max};
 ghost use Rattle.client_rules.specs.Flush.{binding_alone, first_marked, has_any, room_min, sends};
 ghost use Rattle.client_core.specs.Asked.{HasRoom};
-ghost use Rattle.client_core.specs.Draft.{nothing_yet};
+ghost use Rattle.client_core.specs.Draft.{HasRoomFor, nothing_yet};
 ghost use Rattle.client_core.specs.Due.{is_due_beside};
 ghost use Rattle.client_core.specs.Flushed.{Flushes, Sent, setting_of};
 ghost use Rattle.client_core.specs.Keys.{HasKeys, keys_in};
 ghost use Rattle.client_core.specs.Kept.{Stands};
+ghost use Rattle.client_core.specs.Owed.{asked_count, owed_bytes};
 ghost use Rattle.client_core.specs.Sealing.{TellsSealed};
 
 use crate::asking::BindRoom;
@@ -26,9 +27,8 @@ use crate::filling::Draft;
 use crate::lone::binding_alone;
 use crate::open::OpenClient;
 use crate::opening::OpeningClient;
-use crate::says::NUMBERS_MAX;
 use containers::laws::container_sizes;
-use containers::{CONTAINER_BYTES_MAX, CONTAINER_MESSAGES_MAX};
+use containers::{CONTAINER_HEAD_BYTES, CONTAINER_MESSAGES_MAX};
 use draws::Draw;
 use envelope::{Seal, packet_bytes};
 use msg_ids::Moment;
@@ -61,27 +61,28 @@ pub(crate) struct PacketRoom {
 }
 
 impl PacketRoom {
-    /// Room for a packet, and for so many acknowledgements.
-    fn new(alloc: Global, acks: usize) -> Result<PacketRoom, Memory>
+    /// Room for a packet of so many bytes of messages, for so many acknowledgements, and for so many numbers of calls.
+    fn new(alloc: Global, acks: usize, states: usize, bytes: usize) -> Result<PacketRoom, Memory>
+        requires { container_head + bytes ≤ bytes_max }
         ensures no_acks { IfOk result (λ room. (room.acks.items ≡ []) × (vec_len room.acks ≡ 0)) }
         ensures acks { IfOk result (λ room. acks ≤ vec_capacity room.acks) }
         ensures no_states { IfOk result (λ room. (room.states.items ≡ []) × (vec_len room.states ≡ 0)) }
-        ensures states { IfOk result (λ room. numbers_max ≤ vec_capacity room.states) }
+        ensures states { IfOk result (λ room. states ≤ vec_capacity room.states) }
         ensures binding { IfOk result (λ room. HasRoom room.binding) }
-        ensures draft { IfOk result (λ room. room.draft ≡ nothing_yet) }
+        ensures draft { IfOk result (λ room. room.draft ≡ record nothing_yet { room = bytes }) }
         ensures no_body { IfOk result (λ room. room.body.bytes ≡ []) }
-        ensures body { IfOk result (λ room. bytes_max ≤ room.body.room) }
+        ensures body { IfOk result (λ room. container_head + bytes ≤ room.body.room) }
         ensures no_packet { IfOk result (λ room. room.packet.bytes ≡ []) }
-        ensures packet { IfOk result (λ room. sealed_size bytes_max ≤ room.packet.room) }
+        ensures packet { IfOk result (λ room. sealed_size (container_head + bytes) ≤ room.packet.room) }
     {
         container_sizes();
         Ok(PacketRoom {
             acks: Vec::with_capacity(alloc, acks)?,
-            states: Vec::with_capacity(alloc, NUMBERS_MAX)?,
+            states: Vec::with_capacity(alloc, states)?,
             binding: BindRoom::new(alloc)?,
-            draft: Draft::new(alloc)?,
-            body: Buffer::new(alloc, CONTAINER_BYTES_MAX)?,
-            packet: Buffer::new(alloc, packet_bytes(CONTAINER_BYTES_MAX))?,
+            draft: Draft::new(alloc, bytes)?,
+            body: Buffer::new(alloc, CONTAINER_HEAD_BYTES + bytes)?,
+            packet: Buffer::new(alloc, packet_bytes(CONTAINER_HEAD_BYTES + bytes))?,
         })
     }
 }
@@ -102,13 +103,14 @@ impl Core {
         requires no_acks { (room.acks.items ≡ []) × (vec_len room.acks ≡ 0) }
         requires acks { length self.old.calls.acks ≤ vec_capacity room.acks }
         requires no_states { (room.states.items ≡ []) × (vec_len room.states ≡ 0) }
-        requires states { numbers_max ≤ vec_capacity room.states }
+        requires states { asked_count self.old.rest.waiting.states self.old.calls.rows ≤ vec_capacity room.states }
         requires binding { HasRoom room.binding }
-        requires draft { room.draft ≡ nothing_yet }
+        requires draft { room.draft ≡ record nothing_yet { room = room.draft.room } }
+        requires owed { HasRoomFor (owed_bytes self.old) room.draft }
         requires no_body { room.body.bytes ≡ [] }
-        requires body { bytes_max ≤ room.body.room }
+        requires body { container_head + room.draft.room ≤ room.body.room }
         requires no_packet { room.packet.bytes ≡ [] }
-        requires packet { sealed_size bytes_max ≤ room.packet.room }
+        requires packet { sealed_size (container_head + room.draft.room) ≤ room.packet.room }
         ensures sent { (client : Client) → Stands self.old client
             → has_any (fills (setting_of D.step (S.keys seal.now)) (at_moment now client) draw.old).messages ≡ true
             → Sent S.lock (S.keys seal.now) (sends (setting_of D.step (S.keys seal.now)) (fills (setting_of D.step (S.keys seal.now)) (at_moment now client) draw.old).messages
@@ -128,7 +130,7 @@ impl Core {
         self.send_draft(draft, body, packet, seal, draw)
     }
 
-    /// Takes room for a packet and sends it, where it has a message.
+    /// Takes room for what waits and sends a packet of it, where it has a message.
     fn flush_due<S: Seal, D: Draw>(
         &mut self,
         alloc: Global,
@@ -146,7 +148,8 @@ impl Core {
             → Flushes (setting_of D.step (S.keys seal.now)) S.lock (S.keys seal.now) now client draw.old result self.new draw.new }
         ensures learnt { self.new.rest.learnt ≡ self.old.rest.learnt }
     {
-        match PacketRoom::new(alloc, self.calls.acks()) {
+        let bytes = self.owed_bytes();
+        match PacketRoom::new(alloc, self.calls.acks(), self.asked_count(), bytes) {
             Err(Memory) => Flush::Memory,
             Ok(room) => match self.reserve_calls(alloc) {
                 Err(Memory) => Flush::Memory,
@@ -165,6 +168,7 @@ impl Core {
         ensures stands { (client : Client) → Stands self.old client → Stands self.new client }
         ensures rest { self.new.rest ≡ self.old.rest }
         ensures acks { self.new.calls.acks ≡ self.old.calls.acks }
+        ensures rows { self.new.calls.rows ≡ self.old.calls.rows }
     {
         container_sizes();
         self.calls.reserve(alloc, CONTAINER_MESSAGES_MAX)

@@ -1,9 +1,9 @@
 //! A client's next packet: what waits and the queued calls, in order, and how it is sent.
 
-ghost use Rattle.std.specs.Prelude.{◌≡◌, ◌≤◌, ◌<◌, ◌%◌, ℕ, [], List, IfSome, IsSome, false, true, length, min, vec_len, vec_capacity};
+ghost use Rattle.std.specs.Prelude.{◌≡◌, ◌≤◌, ◌<◌, ◌+◌, ◌%◌, ℕ, [], List, IfSome, IsSome, false, true, length, min, vec_len, vec_capacity};
 ghost use Rattle.auth_keys.specs.Rings.{entry_of};
 ghost use Rattle.call_table.specs.Kept.{numbers_in};
-ghost use Rattle.containers.specs.Container.{bytes_max, messages_max};
+ghost use Rattle.containers.specs.Container.{bytes_max, container_head, messages_max};
 ghost use Rattle.envelope.specs.Packet.{sealed_size};
 ghost use Rattle.msg_ids.specs.Counters.{after_next, next_number, room, seq_of};
 ghost use Rattle.client_rules.specs.Client.{Client, after_message, numbered};
@@ -11,10 +11,11 @@ ghost use Rattle.client_rules.specs.Filling.{Filling, empty, fills, numbers_max}
 ghost use Rattle.client_rules.specs.Flush.{has_any, remembers, remembers_lone, sends};
 ghost use Rattle.client_rules.specs.Sending.{draw_after_packet, packet_of};
 ghost use Rattle.client_core.specs.Asked.{HasRoom};
-ghost use Rattle.client_core.specs.Draft.{Goes, HasNumbers};
+ghost use Rattle.client_core.specs.Draft.{Goes, HasNumbers, HasRoomFor, TakesUp};
 ghost use Rattle.client_core.specs.Filled.{IsPacked, lone_of, waiting_said};
 ghost use Rattle.client_core.specs.Flushed.{IsSealed, Sent, setting_of};
 ghost use Rattle.client_core.specs.Kept.{Stands};
+ghost use Rattle.client_core.specs.Owed.{asked_count, owed_bytes, waiting_bytes};
 
 use crate::asking::BindRoom;
 use crate::core_client::Core;
@@ -30,12 +31,15 @@ impl Core {
     /// and for the numbers of calls.
     fn says_waiting<D: Draw>(&mut self, draft: &mut Draft, acks: Vec<u64>, states: Vec<u64>)
         requires numbers { HasNumbers self.old draft.old }
+        requires bytes { HasRoomFor (waiting_bytes self.old) draft.old }
         requires no_acks { (acks.items ≡ []) × (vec_len acks ≡ 0) }
         requires no_states { (states.items ≡ []) × (vec_len states ≡ 0) }
         requires acks { length self.old.calls.acks ≤ vec_capacity acks }
-        requires states { min (length (numbers_in self.old.calls.rows)) numbers_max ≤ vec_capacity states }
+        requires states { asked_count self.old.rest.waiting.states self.old.calls.rows ≤ vec_capacity states }
         ensures goes { (filling : Filling D) → Goes self.old draft.old filling → Goes self.new draft.new (waiting_said filling) }
         ensures numbers { HasNumbers self.new draft.new }
+        ensures takes { TakesUp (waiting_bytes self.old) draft.old draft.new }
+        ensures rows { self.new.calls.rows ≡ self.old.calls.rows }
         ensures temporary { self.new.rest.temporary ≡ self.old.rest.temporary }
         ensures key { self.new.rest.key ≡ self.old.rest.key }
         ensures learnt { self.new.rest.learnt ≡ self.old.rest.learnt }
@@ -61,16 +65,18 @@ impl Core {
         draw: &mut D,
     )
         requires numbers { HasNumbers self.old draft.old }
+        requires bytes { HasRoomFor (owed_bytes self.old) draft.old }
         requires no_acks { (acks.items ≡ []) × (vec_len acks ≡ 0) }
         requires no_states { (states.items ≡ []) × (vec_len states ≡ 0) }
         requires acks { length self.old.calls.acks ≤ vec_capacity acks }
-        requires states { min (length (numbers_in self.old.calls.rows)) numbers_max ≤ vec_capacity states }
+        requires states { asked_count self.old.rest.waiting.states self.old.calls.rows ≤ vec_capacity states }
         requires binding { HasRoom binding }
         requires reserved { messages_max ≤ self.old.calls.room }
         requires perm { IfSome self.old.rest.temporary (λ temporary. IsSome (entry_of temporary.perm (S.keys seal.now))) }
         ensures goes { (client : Client) → Goes self.old draft.old (empty client draw.old) → Goes self.new draft.new (fills (setting_of D.step (S.keys seal.now)) client draw.old) }
         ensures drawn { (client : Client) → Goes self.old draft.old (empty client draw.old) → draw.new ≡ (fills (setting_of D.step (S.keys seal.now)) client draw.old).draw }
         ensures numbers { HasNumbers self.new draft.new }
+        ensures same_room { length draft.new.rows + draft.new.room ≡ length draft.old.rows + draft.old.room }
         ensures key { self.new.rest.key ≡ self.old.rest.key }
         ensures learnt { self.new.rest.learnt ≡ self.old.rest.learnt }
     {
@@ -92,7 +98,7 @@ impl Core {
         requires words { length filled.body % 4 ≡ 0 }
         requires short { length filled.body ≤ bytes_max }
         requires empty { packet.bytes ≡ [] }
-        requires room { sealed_size bytes_max ≤ packet.room }
+        requires room { sealed_size (length filled.body) ≤ packet.room }
         ensures stands { (client : Client) → Stands self.old client → Stands self.new (remembers_lone filled.number filled.inner client) }
         ensures sealed { (client : Client) → Stands self.new client
             → IsSealed S.lock (S.keys seal.now) (packet_of (setting_of D.step (S.keys seal.now)) client draw.old (lone_of filled)) result }
@@ -123,7 +129,7 @@ impl Core {
         requires words { length filled.body % 4 ≡ 0 }
         requires short { length filled.body ≤ bytes_max }
         requires empty { packet.bytes ≡ [] }
-        requires room { sealed_size bytes_max ≤ packet.room }
+        requires room { sealed_size (length filled.body) ≤ packet.room }
         requires numbers { 0 < room self.old.rest.counters }
         ensures stands { (client : Client) → Stands self.old client
             → Stands self.new (remembers (numbered false filled.body client).number filled.inner (after_message false client)) }
@@ -158,7 +164,7 @@ impl Core {
         requires words { length filled.body % 4 ≡ 0 }
         requires short { length filled.body ≤ bytes_max }
         requires empty { packet.bytes ≡ [] }
-        requires room { sealed_size bytes_max ≤ packet.room }
+        requires room { sealed_size (length filled.body) ≤ packet.room }
         requires numbers { 0 < room self.old.rest.counters }
         ensures sent { (filling : Filling D) → Stands self.old filling.client → IsPacked filled filling → filling.draw ≡ draw.old → has_any filling.messages ≡ true
             → Sent S.lock (S.keys seal.now) (sends (setting_of D.step (S.keys seal.now)) filling.messages filling) result self.new draw.new }
@@ -183,9 +189,9 @@ impl Core {
     ) -> Octets
         requires key { IsSome (entry_of self.old.rest.key (S.keys seal.now)) }
         requires no_body { body.bytes ≡ [] }
-        requires body_room { bytes_max ≤ body.room }
+        requires body_room { container_head + length draft.rows ≤ body.room }
         requires empty { packet.bytes ≡ [] }
-        requires room { sealed_size bytes_max ≤ packet.room }
+        requires room { sealed_size (container_head + length draft.rows) ≤ packet.room }
         requires numbers { HasNumbers self.old draft }
         ensures sent { (filling : Filling D) → Goes self.old draft filling → filling.draw ≡ draw.old → has_any filling.messages ≡ true
             → Sent S.lock (S.keys seal.now) (sends (setting_of D.step (S.keys seal.now)) filling.messages filling) result self.new draw.new }

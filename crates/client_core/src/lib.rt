@@ -25,6 +25,7 @@ mod number_list;
 mod on_packet;
 mod open;
 mod opening;
+mod owed;
 mod rebinding;
 mod receiving;
 mod renewing;

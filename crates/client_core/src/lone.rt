@@ -96,6 +96,7 @@ impl Core {
         ensures temporary { self.new.rest.temporary ≡ self.old.rest.temporary }
         ensures learnt { self.new.rest.learnt ≡ self.old.rest.learnt }
         ensures counters { self.new.rest.counters ≡ self.old.rest.counters }
+        ensures waiting { self.new.rest.waiting ≡ self.old.rest.waiting }
         ensures calls { self.new.calls ≡ self.old.calls }
     {
         self.moment = self.moment.max(now);

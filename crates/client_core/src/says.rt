@@ -11,7 +11,9 @@ ghost use Rattle.client_rules.specs.Client as rules;
 ghost use Rattle.service_tl.specs.declared.lists.Message.{Message};
 ghost use Rattle.draws.specs.Draws.{draw_after};
 ghost use Rattle.client_rules.specs.Filling.{Filling, changes, says, says_acks, says_binding, says_destroyed, says_drop, says_ping, says_resent, says_salts, says_states, says_told, numbers_max};
-ghost use Rattle.client_core.specs.Draft.{CanBeSaid, DropsSoFar, Goes, HasNumbers, Holds, drops, enters, item_of, needs_answer, said_bytes};
+ghost use Rattle.containers.specs.Container.{message_head};
+ghost use Rattle.client_core.specs.Draft.{CanBeSaid, DropsSoFar, Goes, HasNumbers, HasRoomFor, Holds, TakesUp, drops, enters, item_of, needs_answer, said_bytes};
+ghost use Rattle.client_core.specs.Owed.{asked_count, binding_bytes, drops_bytes, list_bytes, one_bytes, queued_bytes, salts_bytes, told_bytes};
 ghost use Rattle.client_core.specs.Asked.{HasRoom, asked_message, bind_body_bytes};
 ghost use Rattle.client_core.specs.Flushed.{setting_of};
 ghost use Rattle.client_core.specs.Kept.{Stands, asked_in, waiting_in};
@@ -51,6 +53,7 @@ impl Core {
     pub(crate) fn say<D: Draw>(&mut self, draft: &mut Draft, said: &Outgoing<'_>) -> bool
         requires lawful { CanBeSaid said.now }
         requires numbers { HasNumbers self.old draft.old }
+        requires bytes { HasRoomFor (message_head + said_bytes said.now) draft.old }
         ensures goes { IsTrue result → (filling : Filling D) → Goes self.old draft.old filling
             → Goes self.new draft.new (says (needs_answer said.now) (item_of said.now) (λ client. client) filling) }
         ensures then { IsTrue result → (filling : Filling D) (change : Client → Client) → Goes self.old draft.old filling
@@ -62,6 +65,7 @@ impl Core {
         ensures size { length (spelling_of (item_of said.now)) ≡ said_bytes said.now }
         ensures number { IsTrue result → draft.new.number ≡ self.new.rest.counters.last }
         ensures numbers { HasNumbers self.new draft.new }
+        ensures takes { TakesUp (message_head + said_bytes said.now) draft.old draft.new }
         ensures rest { record self.new.rest { counters = self.old.rest.counters } ≡ self.old.rest }
         ensures calls { self.new.calls ≡ self.old.calls }
     {
@@ -70,10 +74,13 @@ impl Core {
     }
 
     /// A ping goes, where one waits.
+    #[tactic(auto, using(crate::proofs::RoomLemmas::takes_none))]
     pub(crate) fn says_ping<D: Draw>(&mut self, draft: &mut Draft)
         requires numbers { HasNumbers self.old draft.old }
+        requires bytes { HasRoomFor one_bytes draft.old }
         ensures goes { (filling : Filling D) → Goes self.old draft.old filling → Goes self.new draft.new (says_ping filling.client.waiting.ping filling) }
         ensures numbers { HasNumbers self.new draft.new }
+        ensures takes { TakesUp one_bytes draft.old draft.new }
         ensures waiting { record self.new.rest.waiting { ping = None } ≡ record self.old.rest.waiting { ping = None } }
         ensures rest { record self.new.rest { counters = self.old.rest.counters; waiting = self.old.rest.waiting } ≡ self.old.rest }
         ensures calls { self.new.calls ≡ self.old.calls }
@@ -86,10 +93,13 @@ impl Core {
     }
 
     /// A request for salts goes, where one waits.
+    #[tactic(auto, using(crate::proofs::RoomLemmas::takes_none))]
     pub(crate) fn says_salts<D: Draw>(&mut self, draft: &mut Draft)
         requires numbers { HasNumbers self.old draft.old }
+        requires bytes { HasRoomFor salts_bytes draft.old }
         ensures goes { (filling : Filling D) → Goes self.old draft.old filling → Goes self.new draft.new (says_salts filling.client.waiting.salts filling) }
         ensures numbers { HasNumbers self.new draft.new }
+        ensures takes { TakesUp salts_bytes draft.old draft.new }
         ensures waiting { record self.new.rest.waiting { salts = None } ≡ record self.old.rest.waiting { salts = None } }
         ensures rest { record self.new.rest { counters = self.old.rest.counters; waiting = self.old.rest.waiting } ≡ self.old.rest }
         ensures calls { self.new.calls ≡ self.old.calls }
@@ -102,10 +112,13 @@ impl Core {
     }
 
     /// A request to destroy a former session goes, where one waits and the client is open.
+    #[tactic(auto, using(crate::proofs::RoomLemmas::takes_none))]
     pub(crate) fn says_destroyed<D: Draw>(&mut self, draft: &mut Draft)
         requires numbers { HasNumbers self.old draft.old }
+        requires bytes { HasRoomFor one_bytes draft.old }
         ensures goes { (filling : Filling D) → Goes self.old draft.old filling → Goes self.new draft.new (says_destroyed filling.client.waiting.destroyed filling) }
         ensures numbers { HasNumbers self.new draft.new }
+        ensures takes { TakesUp one_bytes draft.old draft.new }
         ensures waiting { record self.new.rest.waiting { destroyed = None } ≡ record self.old.rest.waiting { destroyed = None } }
         ensures rest { record self.new.rest { counters = self.old.rest.counters; waiting = self.old.rest.waiting } ≡ self.old.rest }
         ensures calls { self.new.calls ≡ self.old.calls }
@@ -121,10 +134,13 @@ impl Core {
     }
 
     /// The states that the server asked for go, where they wait.
+    #[tactic(auto, using(crate::proofs::RoomLemmas::takes_none))]
     pub(crate) fn says_told<D: Draw>(&mut self, draft: &mut Draft)
         requires numbers { HasNumbers self.old draft.old }
+        requires bytes { HasRoomFor (told_bytes self.old.rest.waiting.told) draft.old }
         ensures goes { (filling : Filling D) → Goes self.old draft.old filling → Goes self.new draft.new (says_told filling.client.waiting.told filling) }
         ensures numbers { HasNumbers self.new draft.new }
+        ensures takes { TakesUp (told_bytes self.old.rest.waiting.told) draft.old draft.new }
         ensures waiting { record self.new.rest.waiting { told = None } ≡ record self.old.rest.waiting { told = None } }
         ensures rest { record self.new.rest { counters = self.old.rest.counters; waiting = self.old.rest.waiting } ≡ self.old.rest }
         ensures calls { self.new.calls ≡ self.old.calls }
@@ -142,10 +158,13 @@ impl Core {
     }
 
     /// Answers are asked for that are there, where some are to be.
+    #[tactic(auto, using(crate::proofs::RoomLemmas::takes_none))]
     pub(crate) fn says_resent<D: Draw>(&mut self, draft: &mut Draft)
         requires numbers { HasNumbers self.old draft.old }
+        requires bytes { HasRoomFor (list_bytes (length self.old.rest.waiting.resent)) draft.old }
         ensures goes { (filling : Filling D) → Goes self.old draft.old filling → Goes self.new draft.new (says_resent filling.client.waiting.resent filling) }
         ensures numbers { HasNumbers self.new draft.new }
+        ensures takes { TakesUp (list_bytes (length self.old.rest.waiting.resent)) draft.old draft.new }
         ensures waiting { record self.new.rest.waiting { resent = [] } ≡ record self.old.rest.waiting { resent = [] } }
         ensures rest { record self.new.rest { counters = self.old.rest.counters; waiting = self.old.rest.waiting } ≡ self.old.rest }
         ensures calls { self.new.calls ≡ self.old.calls }
@@ -161,12 +180,15 @@ impl Core {
     }
 
     /// The acknowledgements go that wait. The list has room for them.
+    #[tactic(auto, using(crate::proofs::RoomLemmas::takes_none))]
     pub(crate) fn says_acks<D: Draw>(&mut self, draft: &mut Draft, list: Vec<u64>)
         requires numbers { HasNumbers self.old draft.old }
+        requires bytes { HasRoomFor (list_bytes (length self.old.calls.acks)) draft.old }
         requires empty { (list.items ≡ []) × (vec_len list ≡ 0) }
         requires room { length self.old.calls.acks ≤ vec_capacity list }
         ensures goes { (filling : Filling D) → Goes self.old draft.old filling → Goes self.new draft.new (says_acks filling.client.table.acks filling) }
         ensures numbers { HasNumbers self.new draft.new }
+        ensures takes { TakesUp (list_bytes (length self.old.calls.acks)) draft.old draft.new }
         ensures rest { record self.new.rest { counters = self.old.rest.counters } ≡ self.old.rest }
         ensures rows { self.new.calls.rows ≡ self.old.calls.rows }
         ensures room { self.new.calls.room ≡ self.old.calls.room }
@@ -181,12 +203,15 @@ impl Core {
     }
 
     /// The states of calls are asked for, where there is a wish to. The list has room for their numbers.
+    #[tactic(auto, using(crate::proofs::RoomLemmas::takes_none))]
     pub(crate) fn says_states<D: Draw>(&mut self, draft: &mut Draft, list: Vec<u64>)
         requires numbers { HasNumbers self.old draft.old }
+        requires bytes { HasRoomFor (list_bytes (asked_count self.old.rest.waiting.states self.old.calls.rows)) draft.old }
         requires empty { (list.items ≡ []) × (vec_len list ≡ 0) }
-        requires room { min (length (numbers_in self.old.calls.rows)) numbers_max ≤ vec_capacity list }
+        requires room { asked_count self.old.rest.waiting.states self.old.calls.rows ≤ vec_capacity list }
         ensures goes { (filling : Filling D) → Goes self.old draft.old filling → Goes self.new draft.new (says_states filling.client.waiting.states filling) }
         ensures numbers { HasNumbers self.new draft.new }
+        ensures takes { TakesUp (list_bytes (asked_count self.old.rest.waiting.states self.old.calls.rows)) draft.old draft.new }
         ensures waiting { record self.new.rest.waiting { states = false } ≡ record self.old.rest.waiting { states = false } }
         ensures rest { record self.new.rest { counters = self.old.rest.counters; waiting = self.old.rest.waiting; asked = self.old.rest.asked } ≡ self.old.rest }
         ensures calls { self.new.calls ≡ self.old.calls }
@@ -210,6 +235,7 @@ impl Core {
         draw: &mut D,
     )
         requires numbers { HasNumbers self.old draft.old }
+        requires bytes { HasRoomFor binding_bytes draft.old }
         requires room { HasRoom room }
         requires perm { IfSome self.old.rest.temporary (λ temporary. IsSome (entry_of temporary.perm (S.keys seal.now))) }
         ensures goes { (filling : Filling D) → Goes self.old draft.old filling → filling.draw ≡ draw.old
@@ -217,6 +243,7 @@ impl Core {
         ensures drawn { (filling : Filling D) → Goes self.old draft.old filling → filling.draw ≡ draw.old
             → (says_binding (setting_of D.step (S.keys seal.now)) filling.client.temporary filling).draw ≡ draw.new }
         ensures numbers { HasNumbers self.new draft.new }
+        ensures takes { TakesUp binding_bytes draft.old draft.new }
         ensures rest { record self.new.rest { counters = self.old.rest.counters; temporary = self.old.rest.temporary } ≡ self.old.rest }
         ensures calls { self.new.calls ≡ self.old.calls }
     {
@@ -248,6 +275,7 @@ impl Core {
         draw: &mut D,
     )
         requires numbers { HasNumbers self.old draft.old }
+        requires bytes { HasRoomFor binding_bytes draft.old }
         requires room { HasRoom room }
         requires fits { enters bind_body_bytes draft.old ≡ true }
         ensures holds { (messages : List Message) → Holds draft.old messages
@@ -257,6 +285,7 @@ impl Core {
         ensures asked { self.new.rest ≡ with_binding (rules.Asked (asked_message D.step key.now at self.old.rest needed draw.old)) (record self.old.rest { counters = after_next self.old.rest.counters at true }) }
         ensures drawn { draw.new ≡ draw_after D.step 4 draw.old }
         ensures numbers { HasNumbers self.new draft.new }
+        ensures takes { TakesUp binding_bytes draft.old draft.new }
         ensures calls { self.new.calls ≡ self.old.calls }
     {
         let (number, seq) = given(&mut self.numbers, at, true);
@@ -277,11 +306,14 @@ impl Core {
         requires given { IsGiven call self.old.calls.rows }
         requires sent { state_in call self.old.calls.rows ≡ Some Sent }
         requires numbers { HasNumbers self.old draft.old }
+        requires bytes { HasRoomFor one_bytes draft.old }
         ensures goes { (filling : Filling D) → Goes self.old draft.old filling → Goes self.new draft.new (says_drop filling call) }
         ensures left { IsTrue result → (filling : Filling D) → Goes self.old draft.old filling → slice_get (drops filling) 0 ≡ Some call → drops (says_drop filling call) ≡ drop 1 (drops filling) }
         ensures full { IsFalse result → draft.new.is_full ≡ true }
         ensures room { self.new.calls.room ≡ self.old.calls.room }
         ensures numbers { HasNumbers self.new draft.new }
+        ensures takes { TakesUp one_bytes draft.old draft.new }
+        ensures queued { queued_bytes self.new.calls.rows ≡ queued_bytes self.old.calls.rows }
         ensures rest { record self.new.rest { counters = self.old.rest.counters } ≡ self.old.rest }
     {
         let Some(living) = self.calls.living(call) else {
@@ -306,8 +338,11 @@ impl Core {
     fn says_next_drop<D: Draw>(&mut self, draft: &mut Draft)
         requires room { draft.old.is_full ≡ false }
         requires numbers { HasNumbers self.old draft.old }
+        requires bytes { HasRoomFor one_bytes draft.old }
         ensures so_far { (first : Filling D) (k count : ℕ) → k < count → DropsSoFar first self.old draft.old k count → DropsSoFar first self.new draft.new (k + 1) count }
         ensures numbers { HasNumbers self.new draft.new }
+        ensures takes { TakesUp one_bytes draft.old draft.new }
+        ensures queued { queued_bytes self.new.calls.rows ≡ queued_bytes self.old.calls.rows }
         ensures rest { record self.new.rest { counters = self.old.rest.counters } ≡ self.old.rest }
         ensures room { self.new.calls.room ≡ self.old.calls.room }
     {
@@ -319,8 +354,11 @@ impl Core {
     /// The wishes to drop answers go, in call order, as far as they fit.
     pub(crate) fn says_drops<D: Draw>(&mut self, draft: &mut Draft)
         requires numbers { HasNumbers self.old draft.old }
+        requires bytes { HasRoomFor (drops_bytes self.old.calls.rows) draft.old }
         ensures goes { (filling : Filling D) → Goes self.old draft.old filling → Goes self.new draft.new (fold says_drop filling (drops filling)) }
         ensures numbers { HasNumbers self.new draft.new }
+        ensures takes { TakesUp (drops_bytes self.old.calls.rows) draft.old draft.new }
+        ensures queued { queued_bytes self.new.calls.rows ≡ queued_bytes self.old.calls.rows }
         ensures rest { record self.new.rest { counters = self.old.rest.counters } ≡ self.old.rest }
         ensures room { self.new.calls.room ≡ self.old.calls.room }
     {

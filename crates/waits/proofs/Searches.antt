@@ -3,6 +3,7 @@ use Rattle.std.proofs.Common.{◌≡◌, ◌∙◌, ℕ, Bool, true, false, not,
 use Rattle.std.specs.List.{list_any}
 use Rattle.waits.specs.declared.job.Unfinished.{Unfinished}
 use Rattle.waits.specs.Jobs.{Queue, is_of, is_call, is_empty, is_waiting, is_ready, has_failed, one_if, total, waits_for, after_answer, settled, without_session, job_count, waiting_count, blocked_count, failed_count}
+use Rattle.waits.specs.Tallies.{awaiting_count}
 use Rattle.waits.proofs.Places.{IsNone}
 
 none_so : (so : Bool) → one_if so ≡ 0 → so ≡ false
@@ -65,6 +66,12 @@ told_nothing key session number ok x none =
 pub settles_none : (key session number : ℕ) (ok : Bool) (xs : Queue) → waiting_count key session xs ≡ 0 → settled key session number ok xs ≡ xs
 settles_none key session number ok xs none =
     changes_none (λ x. is_of key session x && is_waiting x) (after_answer key session number ok) (told_nothing key session number ok) xs none
+
+-- ---- a call for which none waits
+
+pub settles_unawaited : (key session number : ℕ) (ok : Bool) (xs : Queue) → awaiting_count key session number xs ≡ 0 → settled key session number ok xs ≡ xs
+settles_unawaited key session number ok xs none =
+    changes_none (waits_for key session number) (after_answer key session number ok) (λ x other. rw other refl) xs none
 
 -- ---- none has failed, and none is overdue
 

@@ -1,5 +1,5 @@
 -- Tallies stay right where a job comes, goes or is told.
-use Rattle.std.proofs.Common.{◌≡◌, ◌∙◌, ℕ, ◌+◌, ◌<◌, ◌≤◌, Bool, true, false, not, ◌&&◌, ◌||◌, ◌==◌, cond, nat_lt, if◌then◌else◌, List, [], ◌∷◌, ◌++◌, length, map, ap, sym, refl, subst, arith}
+use Rattle.std.proofs.Common.{◌≡◌, ◌∙◌, ℕ, ◌+◌, ◌<◌, ◌≤◌, max, Bool, true, false, not, ◌&&◌, ◌||◌, ◌==◌, cond, nat_lt, if◌then◌else◌, List, [], ◌∷◌, ◌++◌, length, map, fold, ap, sym, refl, subst, arith}
 use Rattle.std.specs.List.{filter, list_any}
 use Rattle.std.proofs.lemmas.Bool.{eqb-true, eqb-false, eq-eqb, ne_eqb, ltb-false, and_parts}
 use Rattle.std.proofs.lemmas.List.Folds.{list_any-append}
@@ -7,7 +7,7 @@ use Rattle.std.proofs.lemmas.Map.Views.{any-filter_same}
 use Rattle.waits.specs.declared.job.Unfinished.{Unfinished}
 use Rattle.waits.specs.declared.tally.Tally.{Tally}
 use Rattle.waits.specs.Jobs.{Queue, is_of, is_waiting, is_ready, one_if, load_of, total, told, waits_for, after_answer, settled, without_session, job_count, job_bytes, waiting_count, blocked_count_of}
-use Rattle.waits.specs.Tallies.{is_tally_of, no_tally, tally_of, tally_if_any, without_tally, stored, with_one, without_one, Counted, IsRight, AreRight, Covers, IsTallied}
+use Rattle.waits.specs.Tallies.{is_tally_of, no_tally, tally_of, tally_if_any, without_tally, stored, with_one, without_one, greatest_of, awaiting_count, Counted, IsRight, AreRight, Covers, IsTallied}
 use Rattle.waits.proofs.Limits.{counts, weighs, same_owner}
 
 -- how a job counts among those of a session that wait
@@ -17,6 +17,10 @@ awaits key session one = one_if (is_of key session one && is_waiting one)
 -- how a job counts among those of a session that aren't ready
 abbrev pub blocks : ℕ → ℕ → Unfinished → ℕ
 blocks key session one = one_if (is_of key session one && not (is_ready one))
+
+-- how a job counts among those of a session that wait for the call of a number
+abbrev pub looks : ℕ → ℕ → ℕ → Unfinished → ℕ
+looks key session number one = one_if (waits_for key session number one)
 
 -- ---- a session with no job
 
@@ -31,6 +35,13 @@ nothing_there key session (x ∷ xs) none =
     let later = nothing_there key session xs (omega arith) in
     (omega arith, omega arith, omega arith)
 
+none_awaits : (key session number : ℕ) (xs : Queue) → job_count key session xs ≡ 0 → awaiting_count key session number xs ≡ 0
+none_awaits key session number [] none = refl
+none_awaits key session number (x ∷ xs) none =
+    let here = zero_if (is_of key session x) (list_any (λ awaited. awaited == number) x.job.after) true 0 (omega arith) in
+    let later = none_awaits key session number xs (omega arith) in
+    omega (arith, here.1)
+
 -- ---- the tally that is found
 
 pub record Found (queue : Queue) (key session : ℕ) (tally : Tally) : Type 0 where
@@ -40,6 +51,7 @@ pub record Found (queue : Queue) (key session : ℕ) (tally : Tally) : Type 0 wh
   pub bytes : tally.bytes ≡ job_bytes key session queue
   pub waiting : tally.waiting ≡ waiting_count key session queue
   pub blocked : tally.blocked ≡ blocked_count_of key session queue
+  pub greatest : (number : ℕ) → tally.greatest < number → awaiting_count key session number queue ≡ 0
 
 right_found : (queue : Queue) (key session : ℕ) (tally : Tally) → is_tally_of key session tally ≡ true → IsRight queue tally → Found queue key session tally
 right_found queue key session tally is right =
@@ -53,12 +65,21 @@ right_found queue key session tally is right =
       bytes = right.bytes ∙ (ap (λ (k : ℕ). job_bytes k tally.session queue) same_key ∙ ap (λ (s : ℕ). job_bytes key s queue) same_session);
       waiting = right.waiting ∙ (ap (λ (k : ℕ). waiting_count k tally.session queue) same_key ∙ ap (λ (s : ℕ). waiting_count key s queue) same_session);
       blocked = right.blocked ∙ (ap (λ (k : ℕ). blocked_count_of k tally.session queue) same_key ∙ ap (λ (s : ℕ). blocked_count_of key s queue) same_session);
+      greatest = λ number above. sym (ap (λ (k : ℕ). awaiting_count k tally.session number queue) same_key ∙ ap (λ (s : ℕ). awaiting_count key s number queue) same_session) ∙ right.greatest number above;
     }
 
 none_found : (queue : Queue) (key session : ℕ) → job_count key session queue ≡ 0 → Found queue key session (no_tally key session)
 none_found queue key session none =
     let rest = nothing_there key session queue none in
-    record { of_key = refl; of_session = refl; count = sym none; bytes = sym rest.0; waiting = sym rest.1; blocked = sym rest.2 }
+    record {
+      of_key = refl;
+      of_session = refl;
+      count = sym none;
+      bytes = sym rest.0;
+      waiting = sym rest.1;
+      blocked = sym rest.2;
+      greatest = λ number above. none_awaits key session number queue none;
+    }
 
 found_by : (queue : Queue) (key session : ℕ) (tally : Tally) (tallies : List Tally) (is : Bool) → is_tally_of key session tally ≡ is → IsRight queue tally → ((list_any (is_tally_of key session) tallies ≡ false → job_count key session queue ≡ 0) → Found queue key session (tally_of key session tallies)) → ((is || list_any (is_tally_of key session) tallies) ≡ false → job_count key session queue ≡ 0) → Found queue key session (tally_of key session (tally ∷ tallies))
 found_by queue key session tally tallies true is right later covers = rw is (right_found queue key session tally is right)
@@ -102,12 +123,18 @@ abbrev pub Apart : ℕ → ℕ → ℕ → ℕ → Type 0
 Apart key session other other_session = ((key == other) && (session == other_session)) ≡ false
 
 pub record SameElsewhere (key session : ℕ) (old new : Queue) : Type 0 where
-  pub same : (other other_session : ℕ) → Apart key session other other_session → (job_count other other_session new ≡ job_count other other_session old) × (job_bytes other other_session new ≡ job_bytes other other_session old) × (waiting_count other other_session new ≡ waiting_count other other_session old) × (blocked_count_of other other_session new ≡ blocked_count_of other other_session old)
+  pub same : (other other_session : ℕ) → Apart key session other other_session → (job_count other other_session new ≡ job_count other other_session old) × (job_bytes other other_session new ≡ job_bytes other other_session old) × (waiting_count other other_session new ≡ waiting_count other other_session old) × (blocked_count_of other other_session new ≡ blocked_count_of other other_session old) × ((number : ℕ) → awaiting_count other other_session number new ≡ awaiting_count other other_session number old)
 
 still_right : (key session : ℕ) (old new : Queue) (tally : Tally) → SameElsewhere key session old new → Apart key session tally.key tally.session → IsRight old tally → IsRight new tally
 still_right key session old new tally elsewhere apart right =
     let same = elsewhere.same tally.key tally.session apart in
-    record { count = right.count ∙ sym same.0; bytes = right.bytes ∙ sym same.1; waiting = right.waiting ∙ sym same.2; blocked = right.blocked ∙ sym same.3 }
+    record {
+      count = right.count ∙ sym same.0;
+      bytes = right.bytes ∙ sym same.1;
+      waiting = right.waiting ∙ sym same.2;
+      blocked = right.blocked ∙ sym same.3;
+      greatest = λ number above. same.4 number ∙ right.greatest number above;
+    }
 
 eqb_turned : (a b : ℕ) (is : Bool) → (a == b) ≡ is → (b == a) ≡ is
 eqb_turned a b true here = eq-eqb b a (sym (eqb-true a b here))
@@ -238,11 +265,51 @@ found_right queue key session tally there =
       bytes = there.bytes ∙ sym (ap (λ (k : ℕ). job_bytes k tally.session queue) there.of_key ∙ ap (λ (s : ℕ). job_bytes key s queue) there.of_session);
       waiting = there.waiting ∙ sym (ap (λ (k : ℕ). waiting_count k tally.session queue) there.of_key ∙ ap (λ (s : ℕ). waiting_count key s queue) there.of_session);
       blocked = there.blocked ∙ sym (ap (λ (k : ℕ). blocked_count_of k tally.session queue) there.of_key ∙ ap (λ (s : ℕ). blocked_count_of key s queue) there.of_session);
+      greatest = λ number above. (ap (λ (k : ℕ). awaiting_count k tally.session number queue) there.of_key ∙ ap (λ (s : ℕ). awaiting_count key s number queue) there.of_session) ∙ there.greatest number above;
     }
 
 -- ys has all of xs, and x
 abbrev pub Gains : Queue → Queue → Unfinished → Type 0
 Gains xs ys x = (measure : Unfinished → ℕ) → total measure ys ≡ total measure xs + measure x
+
+-- a job waits for none above the greatest of its numbers
+or_none : (a b : Bool) → a ≡ false → b ≡ false → (a || b) ≡ false
+or_none true b one two = let clash : true ≡ false = one in cc
+or_none false b one two = two
+
+max_less : (a b n : ℕ) → max a b < n → (a < n) × (b < n)
+max_less a b n less = (omega arith, omega arith)
+
+none_above : (number most : ℕ) (numbers : List ℕ) → fold max most numbers < number → (most < number) × (list_any (λ awaited. awaited == number) numbers ≡ false)
+none_above number most [] less = (less, refl)
+none_above number most (x ∷ xs) less =
+    let later = none_above number (max most x) xs less in
+    let both = max_less most x number later.0 in
+    (both.0, or_none (x == number) _ (ne_eqb x number (λ same. absurd (omega (arith, same, both.1)))) later.1)
+
+not_looked : (own any : Bool) → any ≡ false → one_if (own && any) ≡ 0
+not_looked true any none = ap one_if none
+not_looked false any none = refl
+
+looks_below : (key session number : ℕ) (x : Unfinished) → greatest_of x.job.after < number → looks key session number x ≡ 0
+looks_below key session number x above = not_looked (is_of key session x) _ (none_above number 0 x.job.after above).1
+
+looks_none : (key session number : ℕ) (x : Unfinished) → is_of key session x ≡ false → looks key session number x ≡ 0
+looks_none key session number x other = ap (λ (b : Bool). one_if (b && list_any (λ awaited. awaited == number) x.job.after)) other
+
+more_awaits : (xs ys : Queue) (x : Unfinished) (tally : Tally) (number : ℕ) → Gains xs ys x → IsRight xs tally → max tally.greatest (greatest_of x.job.after) < number → awaiting_count tally.key tally.session number ys ≡ 0
+more_awaits xs ys x tally number gains right above =
+    let both = max_less tally.greatest (greatest_of x.job.after) number above in
+    let before = right.greatest number both.0 in
+    let here = looks_below tally.key tally.session number x both.1 in
+    let all = gains (looks tally.key tally.session number) in
+    omega arith
+
+less_awaits : (xs ys : Queue) (x : Unfinished) (tally : Tally) (number : ℕ) → Gains xs ys x → IsRight ys tally → tally.greatest < number → awaiting_count tally.key tally.session number xs ≡ 0
+less_awaits xs ys x tally number gains right above =
+    let before = right.greatest number above in
+    let all = gains (looks tally.key tally.session number) in
+    omega arith
 
 pub right_more : (xs ys : Queue) (x : Unfinished) (tally : Tally) → is_of tally.key tally.session x ≡ true → Gains xs ys x → IsRight xs tally → IsRight ys (with_one x tally)
 right_more xs ys x tally is gains right =
@@ -251,7 +318,13 @@ right_more xs ys x tally is gains right =
     let heavier = gains (weighs tally.key tally.session) in
     let longer = gains (awaits tally.key tally.session) in
     let slower = gains (blocks tally.key tally.session) in
-    record { count = omega (arith, right.count, own.one); bytes = omega (arith, right.bytes, own.load); waiting = omega (arith, right.waiting, own.waits); blocked = omega (arith, right.blocked, own.blocked) }
+    record {
+      count = omega (arith, right.count, own.one);
+      bytes = omega (arith, right.bytes, own.load);
+      waiting = omega (arith, right.waiting, own.waits);
+      blocked = omega (arith, right.blocked, own.blocked);
+      greatest = λ number above. more_awaits xs ys x tally number gains right above;
+    }
 
 pub right_less : (xs ys : Queue) (x : Unfinished) (tally : Tally) → is_of tally.key tally.session x ≡ true → Gains xs ys x → IsRight ys tally → IsRight xs (without_one x tally)
 right_less xs ys x tally is gains right =
@@ -260,7 +333,13 @@ right_less xs ys x tally is gains right =
     let heavier = gains (weighs tally.key tally.session) in
     let longer = gains (awaits tally.key tally.session) in
     let slower = gains (blocks tally.key tally.session) in
-    record { count = omega (arith, right.count, own.one); bytes = omega (arith, right.bytes, own.load); waiting = omega (arith, right.waiting, own.waits); blocked = omega (arith, right.blocked, own.blocked) }
+    record {
+      count = omega (arith, right.count, own.one);
+      bytes = omega (arith, right.bytes, own.load);
+      waiting = omega (arith, right.waiting, own.waits);
+      blocked = omega (arith, right.blocked, own.blocked);
+      greatest = λ number above. less_awaits xs ys x tally number gains right above;
+    }
 
 pub counted_by : (xs ys : Queue) (x : Unfinished) (tally : Tally) → is_of tally.key tally.session x ≡ true → Gains xs ys x → IsRight ys tally → Counted x tally
 counted_by xs ys x tally is gains right =
@@ -273,6 +352,12 @@ counted_by xs ys x tally is gains right =
 
 -- other sessions have what they had
 
+none_gained : (key session number : ℕ) (xs ys : Queue) (x : Unfinished) → Gains xs ys x → is_of key session x ≡ false → awaiting_count key session number ys ≡ awaiting_count key session number xs
+none_gained key session number xs ys x gains other =
+    let all = gains (looks key session number) in
+    let here = looks_none key session number x other in
+    omega arith
+
 pub gains_elsewhere : (xs ys : Queue) (x : Unfinished) → Gains xs ys x → SameElsewhere x.job.key x.job.session xs ys
 gains_elsewhere xs ys x gains = record {
   same = λ other other_session apart.
@@ -281,12 +366,12 @@ gains_elsewhere xs ys x gains = record {
       let same_bytes = gains (weighs other other_session) in
       let same_waiting = gains (awaits other other_session) in
       let same_blocked = gains (blocks other other_session) in
-      (omega (arith, none.one), omega (arith, none.load), omega (arith, none.waits), omega (arith, none.blocked)));
+      (omega (arith, none.one), omega (arith, none.load), omega (arith, none.waits), omega (arith, none.blocked), λ number. none_gained other other_session number xs ys x gains apart));
 }
 
 pub elsewhere_back : (key session : ℕ) (xs ys : Queue) → SameElsewhere key session xs ys → SameElsewhere key session ys xs
 elsewhere_back key session xs ys there = record {
-  same = λ other other_session apart. (let same = there.same other other_session apart in (sym same.0, sym same.1, sym same.2, sym same.3));
+  same = λ other other_session apart. (let same = there.same other other_session apart in (sym same.0, sym same.1, sym same.2, sym same.3, λ number. sym (same.4 number)));
 }
 
 pub tallied_by : (old new : Queue) (tallies : List Tally) (x : Unfinished) (tally : Tally) → IsTallied old tallies → tally.key ≡ x.job.key → tally.session ≡ x.job.session → IsRight new tally → SameElsewhere x.job.key x.job.session old new → IsTallied new (stored tally tallies)
@@ -311,6 +396,16 @@ measures_told key session number other other_session ok x true is apart =
     (after.one ∙ sym before.one, after.load ∙ sym before.load, after.waits ∙ sym before.waits, after.blocked ∙ sym before.blocked)
 measures_told key session number other other_session ok x false is apart = (refl, refl, refl, refl)
 
+looks_told : (key session number other other_session awaited : ℕ) (ok : Bool) (x : Unfinished) (waits : Bool) → waits_for key session number x ≡ waits → Apart key session other other_session → looks other other_session awaited (if waits then told number ok x else x) ≡ looks other other_session awaited x
+looks_told key session number other other_session awaited ok x true is apart =
+    let own = (and_parts (is_of key session x) _ is).0 in
+    let both = and_parts (x.job.key == key) (x.job.session == session) own in
+    let same_key : x.job.key ≡ key = eqb-true x.job.key key both.0 in
+    let same_session : x.job.session ≡ session = eqb-true x.job.session session both.1 in
+    let there : is_of other other_session x ≡ false = rw (same_key, same_session) apart in
+    looks_none other other_session awaited (told number ok x) (same_owner other other_session number true ok x ∙ there) ∙ sym (looks_none other other_session awaited x there)
+looks_told key session number other other_session awaited ok x false is apart = refl
+
 total_same : (measure : Unfinished → ℕ) (f : Unfinished → Unfinished) → ((x : Unfinished) → measure (f x) ≡ measure x) → (xs : Queue) → total measure (map f xs) ≡ total measure xs
 total_same measure f same [] = refl
 total_same measure f same (x ∷ xs) = let here = same x in let later = total_same measure f same xs in omega arith
@@ -320,7 +415,7 @@ settled_elsewhere key session number ok xs = record {
   same = λ other other_session apart.
       (let told_by = λ (x : Unfinished). measures_told key session number other other_session ok x (waits_for key session number x) refl apart in
       let f = after_answer key session number ok in
-      (total_same (counts other other_session) f (λ x. (told_by x).0) xs, total_same (weighs other other_session) f (λ x. (told_by x).1) xs, total_same (awaits other other_session) f (λ x. (told_by x).2) xs, total_same (blocks other other_session) f (λ x. (told_by x).3) xs));
+      (total_same (counts other other_session) f (λ x. (told_by x).0) xs, total_same (weighs other other_session) f (λ x. (told_by x).1) xs, total_same (awaits other other_session) f (λ x. (told_by x).2) xs, total_same (blocks other other_session) f (λ x. (told_by x).3) xs, λ awaited. total_same (looks other other_session awaited) f (λ x. looks_told key session number other other_session awaited ok x (waits_for key session number x) refl apart) xs));
 }
 
 -- ---- a session is forgotten
@@ -349,7 +444,7 @@ forgotten_elsewhere key session xs = record {
   same = λ other other_session apart.
       (let keeps = λ (x : Unfinished). not (is_of key session x) in
       let none = λ (x : Unfinished) (own : keeps x ≡ false). measures_by other other_session x false (apart_of key session other other_session x apart own) in
-      (total_filtered (counts other other_session) keeps (λ x own. (none x own).one) xs, total_filtered (weighs other other_session) keeps (λ x own. (none x own).load) xs, total_filtered (awaits other other_session) keeps (λ x own. (none x own).waits) xs, total_filtered (blocks other other_session) keeps (λ x own. (none x own).blocked) xs));
+      (total_filtered (counts other other_session) keeps (λ x own. (none x own).one) xs, total_filtered (weighs other other_session) keeps (λ x own. (none x own).load) xs, total_filtered (awaits other other_session) keeps (λ x own. (none x own).waits) xs, total_filtered (blocks other other_session) keeps (λ x own. (none x own).blocked) xs, λ number. total_filtered (looks other other_session number) keeps (λ x own. looks_none other other_session number x (apart_of key session other other_session x apart own)) xs));
 }
 
 none_kept : (key session : ℕ) (x : Unfinished) (own : Bool) (ys : Queue) → is_of key session x ≡ own → job_count key session ys ≡ 0 → job_count key session (cond (not own) (x ∷ ys) ys) ≡ 0
@@ -369,5 +464,5 @@ tallied_without xs tallies key session tallied =
     let ys = without_session key session xs in
     let none = none_left key session xs in
     let rest = nothing_there key session ys none in
-    let kept = tallied_stored xs ys tallies (no_tally key session) tallied (record { count = sym none; bytes = sym rest.0; waiting = sym rest.1; blocked = sym rest.2 }) (forgotten_elsewhere key session xs) in
+    let kept = tallied_stored xs ys tallies (no_tally key session) tallied (record { count = sym none; bytes = sym rest.0; waiting = sym rest.1; blocked = sym rest.2; greatest = λ number above. none_awaits key session number ys none }) (forgotten_elsewhere key session xs) in
     subst (λ (ts : List Tally). IsTallied ys ts) (append_none (without_tally key session tallies)) kept

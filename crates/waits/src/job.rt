@@ -2,6 +2,7 @@
 
 ghost use Rattle.std.specs.Prelude.{◌≡◌, IfOk};
 ghost use Rattle.waits.specs.Jobs.{is_of, is_ready, is_waiting, is_overdue, load_of, waits_for, after_answer};
+ghost use Rattle.waits.specs.Tallies.{greatest_of};
 
 use crate::jobs::WAIT_SECONDS;
 use bytes::Bytes;
@@ -35,6 +36,16 @@ impl Job {
         ensures { result ≡ load_of self.now }
     {
         self.request.len() + NUMBER_BYTES * self.after.ids().len()
+    }
+
+    /// The greatest number that it waits for, and 0 where it waits for none.
+    pub(crate) fn greatest(&self) -> u64
+        ensures { result ≡ greatest_of self.now.after }
+    {
+        self.after
+            .ids()
+            .iter()
+            .fold(0, |most, number| most.max(*number))
     }
 
     /// A copy that shares the bytes of the request.

@@ -142,11 +142,16 @@ impl Jobs {
     }
 
     /// Tells the jobs of this session that wait for the call of this number that it was answered. Where it was
-    /// answered well they wait for it no more; else they have failed. Takes no memory.
+    /// answered well they wait for it no more; else they have failed. Takes no memory. Looks at no job where none of the
+    /// session's has waited for a number as great.
     pub fn settle(&mut self, key: u64, session: u64, number: u64, ok: bool)
         ensures { self.new ≡ record self.old { jobs = settled key session number ok self.old.jobs } }
     {
-        if tally::find(&self.tallies, key, session).waiting == 0 {
+        let counted = tally::find(&self.tallies, key, session);
+        if counted.waiting == 0 {
+            return;
+        }
+        if counted.greatest < number {
             return;
         }
         queue::settle(&mut self.line, &mut self.tallies, key, session, number, ok);

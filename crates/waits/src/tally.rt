@@ -10,7 +10,8 @@ ghost use Rattle.waits.specs.Tallies.{is_tally_of, no_tally, tally_of, without_t
 use crate::job::Unfinished;
 use crate::line::one_if;
 
-/// How many jobs a session has, the bytes of their loads, how many of them wait for a call, and how many aren't ready.
+/// How many jobs a session has, the bytes of their loads, how many of them wait for a call, how many aren't ready, and a
+/// number above which none of them waits for any.
 #[derive(Clone, Copy, Debug)]
 pub(crate) struct Tally {
     pub key: u64,
@@ -19,6 +20,8 @@ pub(crate) struct Tally {
     pub bytes: usize,
     pub waiting: usize,
     pub blocked: usize,
+    /// None of its jobs waits for a number above this one.
+    pub greatest: u64,
     /// 1 and the last place in which it has had a job.
     pub last: usize,
 }
@@ -35,6 +38,7 @@ impl Tally {
             bytes: 0,
             waiting: 0,
             blocked: 0,
+            greatest: 0,
             last: 0,
         }
     }
@@ -54,6 +58,7 @@ impl Tally {
             bytes: self.bytes + one.job.load(),
             waiting: self.waiting + one_if(one.is_waiting()),
             blocked: self.blocked + one_if(!one.is_ready()),
+            greatest: self.greatest.max(one.job.greatest()),
             last: self.last,
         }
     }
@@ -70,6 +75,7 @@ impl Tally {
             bytes: self.bytes - one.job.load(),
             waiting: self.waiting - one_if(one.is_waiting()),
             blocked: self.blocked - one_if(!one.is_ready()),
+            greatest: self.greatest,
             last: self.last,
         }
     }

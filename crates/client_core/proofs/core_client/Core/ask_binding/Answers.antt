@@ -1,4 +1,4 @@
-use Rattle.std.proofs.Common.{◌≡◌, ◌∙◌, ℕ, [], ◌∷◌, ◌++◌, ap, subst, arith}
+use Rattle.std.proofs.Common.{◌≡◌, ◌∙◌, ℕ, [], ◌∷◌, ◌++◌, length, ap, subst, arith}
 use Rattle.draws.specs.Draws.{draw_after, next_bytes}
 use Rattle.msg_ids.specs.Counters.{Counters}
 use Rattle.service_tl.specs.declared.lists.Message.{Message}
@@ -9,6 +9,7 @@ use Rattle.client_core.specs.Asked.{asked_inner, asked_message}
 use Rattle.client_core.specs.Draft.{Holds}
 use Rattle.client_core.specs.Kept.{Contents}
 use Rattle.client_core.proofs.SoundLemmas.{next_behind, sound_later}
+use Rattle.client_core.proofs.RoomLemmas.{room_less, takes_more}
 use Rattle.client_core.proofs.core_client.Core.ask_binding.Goals as goal
 
 pub invariant_of-self : goal.invariant_of-self
@@ -37,3 +38,9 @@ returns-clause-holds g c messages holds =
     ∙ (ap (λ own. record { number = whole.number; seq = whole.seq; body = own }) body
     ∙ ap (λ (core : Contents). asked_message step c.args.key.now c.args.at core.rest needed draw) c.self.view_is) in
     subst (λ (one : Message). Holds c.put.new.self (messages ++ one ∷ [])) same (c.put.ensures.holds messages holds)
+
+pub put-requires-clause-room : goal.put-requires-clause-room
+put-requires-clause-room g c = room_less _ _ _ (omega (arith, ap length c.as_slice.ensures.value, c.body-body.ensures.size)) c.requires.bytes
+
+pub returns-clause-takes : goal.returns-clause-takes
+returns-clause-takes g c = takes_more _ _ _ _ (omega (arith, ap length c.as_slice.ensures.value, c.body-body.ensures.size)) c.put.ensures.takes

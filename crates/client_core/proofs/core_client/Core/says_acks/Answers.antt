@@ -1,9 +1,10 @@
-use Rattle.std.proofs.Common.{◌≡◌, ◌∙◌, ℕ, List, [], length, ap, sym}
+use Rattle.std.proofs.Common.{◌≡◌, ◌∙◌, ℕ, List, [], length, ap, sym, arith}
 use Rattle.std.specs.Prelude.{◌≢◌}
 use Rattle.client_rules.specs.Client.{Client}
 use Rattle.client_rules.specs.Filling.{says_acks}
 use Rattle.client_core.specs.Kept.{Contents}
 use Rattle.client_core.proofs.GoesLemmas.{acks_go, goes_so, moved, same_goes}
+use Rattle.client_core.proofs.RoomLemmas.{room_less, takes_more}
 use Rattle.client_core.proofs.core_client.Core.says_acks.Goals as goal
 
 abbrev change : Client → Client
@@ -28,3 +29,18 @@ returns-clause-goes g c filling is =
     let some : length acks ≢ 0 = λ none. c.if-acks-eq0.false (c.acks.ensures.kept ∙ (ap length (sym own) ∙ none)) in
     moved _ _ (λ (other : List ℕ). says_acks other filling) filling.client.table.acks acks waits
     (same_goes _ _ _ _ (acks_go acks filling some) (c.say.ensures.stays c.if-say.false filling change is))
+
+pub say-requires-clause-bytes : goal.say-requires-clause-bytes
+say-requires-clause-bytes g c =
+    let own = ap length (c.deref.ensures.value ∙ c.acks_in-acks.ensures) in
+    room_less _ _ _ (omega (arith, own, ap (λ (core : Contents). length core.calls.acks) c.self.view_is)) c.requires.bytes
+
+pub returns-then-say-clause-takes : goal.returns-then-say-clause-takes
+returns-then-say-clause-takes g c =
+    let own = ap length (c.deref.ensures.value ∙ c.acks_in-acks.ensures) in
+    takes_more _ _ _ _ (omega (arith, own, ap (λ (core : Contents). length core.calls.acks) c.self.view_is)) c.say.ensures.takes
+
+pub returns-clause-takes : goal.returns-clause-takes
+returns-clause-takes g c =
+    let own = ap length (c.deref.ensures.value ∙ c.acks_in-acks.ensures) in
+    takes_more _ _ _ _ (omega (arith, own, ap (λ (core : Contents). length core.calls.acks) c.self.view_is)) c.say.ensures.takes

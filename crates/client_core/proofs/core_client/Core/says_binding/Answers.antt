@@ -9,6 +9,7 @@ use Rattle.client_core.specs.Asked.{asking_message, needed_of}
 use Rattle.client_core.specs.Flushed.{setting_of}
 use Rattle.client_core.proofs.BoundLemmas.{asked_draw, asked_goes, asked_kept, needed_goes, unasked_draw, under_key}
 use Rattle.client_core.proofs.GoesLemmas.{goes_out, same_goes, told}
+use Rattle.client_core.proofs.RoomLemmas.{takes_full}
 use Rattle.client_core.proofs.core_client.Core.says_binding.Goals as goal
 
 pub returns-then-not-takes-clause-goes : goal.returns-then-not-takes-clause-goes
@@ -81,3 +82,12 @@ returns-clause-drawn g c filling is drawn =
     ap (λ own. own.draw) (needed_goes setting client.temporary filling needed own learns)
     ∙ (asked_draw c.args.self.now c.args.draft.now filling setting message 132 is sized (sym c.takes.ensures.told ∙ c.if-not-takes.false)
     ∙ (ap (draw_after_binding setting) drawn ∙ sym c.ask_binding.ensures.drawn))
+
+pub ask_binding-requires-clause-bytes : goal.ask_binding-requires-clause-bytes
+ask_binding-requires-clause-bytes g c = rw (c.takes.ensures.kept c.if-not-takes.false) c.requires.bytes
+
+pub returns-then-not-takes-clause-takes : goal.returns-then-not-takes-clause-takes
+returns-then-not-takes-clause-takes g c = takes_full _ _ _ (c.takes.ensures.full c.if-not-takes.true)
+
+pub returns-clause-takes : goal.returns-clause-takes
+returns-clause-takes g c = rw (sym (c.takes.ensures.kept c.if-not-takes.false)) c.ask_binding.ensures.takes

@@ -1,11 +1,16 @@
-use Rattle.std.proofs.Common.{◌≡◌, ◌∙◌, refl, sym}
+use Rattle.std.proofs.Common.{◌≡◌, ◌∙◌, ◌-◌, ap, refl, sym, arith}
 use Rattle.std.proofs.lemmas.Bool.{true≢false}
 use Rattle.call_table.specs.declared.call.Group.TheVariants as group
 use Rattle.call_table.specs.declared.call.Fate.TheVariants as fate
 use Rattle.call_table.specs.Table.{Call, Queued, at, settled}
 use Rattle.client_rules.specs.Client.{calls_of, with_call}
 use Rattle.client_rules.specs.Filling.{Never, Waits, Goes as Going}
+use Rattle.call_table.specs.Kept.{Contents as Calls, settled_row}
 use Rattle.client_core.specs.Draft.{LeavesQueue}
+use Rattle.client_core.specs.Kept.{Contents}
+use Rattle.client_core.specs.Owed.{queued_bytes}
+use Rattle.client_core.proofs.OwedLemmas.{queued_fewer}
+use Rattle.client_core.proofs.RoomLemmas.{room_less}
 use Rattle.client_core.proofs.GoesLemmas.{goes_so, if_any, is_there, turn_any, turn_comes}
 use Rattle.client_core.proofs.QueueLemmas.{left_group}
 use Rattle.client_core.proofs.SoundLemmas.{sound_settled}
@@ -52,3 +57,8 @@ returns-in-Never-clause-left g c went filling is =
     left_group group.Queued (settled (fate.Refused 0)) (λ own. refl) (calls_of filling.client) c.args.call place there))
     (c.in-Never.ensures filling.client is.client)
     (is_there _ Queued (sym (c.tables_tell.ensures.states _ _ is.client.calls c.args.call) ∙ c.requires.queued))
+
+pub returns-in-Never-clause-bytes_left : goal.returns-in-Never-clause-bytes_left
+returns-in-Never-clause-bytes_left g c =
+    let fewer = queued_fewer (settled_row (fate.Refused 0)) (λ row. refl) (c.args.call.n - 1) c.self.inside.calls.rows in
+    room_less _ _ _ (omega (arith, fewer, ap (λ (calls : Calls). queued_bytes calls.rows) c.settle.ensures.kept, ap (λ (core : Contents). queued_bytes core.calls.rows) c.self.view_is)) c.requires.bytes

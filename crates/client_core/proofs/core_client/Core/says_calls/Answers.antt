@@ -10,6 +10,8 @@ loop-k-init g c = record {
   few = omega arith;
   numbers = c.requires.numbers;
   reserved = c.requires.reserved;
+  bytes = c.requires.bytes;
+  same_room = refl;
   rest = refl;
 }
 
@@ -19,6 +21,8 @@ loop-k-preserved g c = record {
   few = omega (arith, c.says_next-place.ensures.few, c.loop-k.invariant.few);
   numbers = c.says_next-place.ensures.numbers;
   reserved = c.says_next-place.ensures.reserved;
+  bytes = c.says_next-place.ensures.bytes_left;
+  same_room = c.says_next-place.ensures.same_room ∙ c.loop-k.invariant.same_room;
   rest = ap (λ (rest : Client). record rest { counters = c.args.self.now.rest.counters }) c.says_next-place.ensures.rest ∙ c.loop-k.invariant.rest;
 }
 

@@ -1,7 +1,13 @@
-use Rattle.std.proofs.Common.{◌∙◌, ap, refl, sym, arith}
+use Rattle.std.proofs.Common.{◌∙◌, ◌*◌, length, ap, refl, sym, arith}
+use Rattle.call_table.specs.declared.call.Group.TheVariants as group
+use Rattle.call_table.specs.Table.{places_from}
+use Rattle.call_table.specs.Kept.{is_row_in}
 use Rattle.client_rules.specs.Client.{Client}
 use Rattle.client_core.proofs.DropLemmas.{drops_all, drops_full, drops_none}
+use Rattle.client_core.specs.Kept.{Contents}
+use Rattle.client_core.specs.Owed.{one_bytes}
 use Rattle.client_core.proofs.GoesLemmas.{kept_calls}
+use Rattle.client_core.proofs.RoomLemmas.{room_left, room_less, takes_both, takes_more, takes_none}
 use Rattle.client_core.proofs.core_client.Core.says_drops.Goals as goal
 
 pub loop-k-init : goal.loop-k-init
@@ -10,6 +16,10 @@ loop-k-init g c = record {
   numbers = c.requires.numbers;
   rest = refl;
   room = refl;
+  upto = omega arith;
+  bytes = room_less _ _ _ (omega (arith, c.members-count.ensures.kept, ap (λ (core : Contents). length (places_from (is_row_in group.Dropping) 0 core.calls.rows)) c.self.view_is)) c.requires.bytes;
+  takes = takes_none _ _;
+  queued = refl;
 }
 
 pub loop-k-preserved : goal.loop-k-preserved
@@ -18,7 +28,22 @@ loop-k-preserved g c = record {
   numbers = c.says_next_drop.ensures.numbers;
   rest = ap (λ (rest : Client). record rest { counters = c.args.self.now.rest.counters }) c.says_next_drop.ensures.rest ∙ c.loop-k.invariant.rest;
   room = c.says_next_drop.ensures.room ∙ c.loop-k.invariant.room;
+  upto = omega (arith, c.loop-k-test.true);
+  bytes = room_left one_bytes _ _ _ _ (omega (arith, c.loop-k-test.true)) c.loop-k.invariant.bytes c.says_next_drop.ensures.takes;
+  takes = takes_both (one_bytes * c.loop-k.k) one_bytes _ _ _ _ (omega arith) c.loop-k.invariant.takes c.says_next_drop.ensures.takes;
+  queued = c.says_next_drop.ensures.queued ∙ c.loop-k.invariant.queued;
 }
+
+pub says_next_drop-requires-clause-bytes : goal.says_next_drop-requires-clause-bytes
+says_next_drop-requires-clause-bytes g c = room_less _ _ _ (omega (arith, c.loop-k-test.true)) c.loop-k.invariant.bytes
+
+pub returns-then-is_full-clause-takes : goal.returns-then-is_full-clause-takes
+returns-then-is_full-clause-takes g c =
+    takes_more _ _ _ _ (omega (arith, c.loop-k.invariant.upto, c.members-count.ensures.kept, ap (λ (core : Contents). length (places_from (is_row_in group.Dropping) 0 core.calls.rows)) c.self.view_is)) c.loop-k.invariant.takes
+
+pub returns-clause-takes : goal.returns-clause-takes
+returns-clause-takes g c =
+    takes_more _ _ _ _ (omega (arith, c.loop-k.invariant.upto, c.members-count.ensures.kept, ap (λ (core : Contents). length (places_from (is_row_in group.Dropping) 0 core.calls.rows)) c.self.view_is)) c.loop-k.invariant.takes
 
 pub returns-then-is_full-clause-goes : goal.returns-then-is_full-clause-goes
 returns-then-is_full-clause-goes g c filling is =

@@ -1,6 +1,7 @@
-use Rattle.std.proofs.Common.{◌≡◌}
+use Rattle.std.proofs.Common.{◌≡◌, ◌-◌, ◌*◌, ◌≤◌}
 use Rattle.client_rules.specs.Filling.{Filling}
-use Rattle.client_core.specs.Draft.{DropsSoFar, Goes, HasNumbers}
+use Rattle.client_core.specs.Draft.{DropsSoFar, Goes, HasNumbers, HasRoomFor, TakesUp}
+use Rattle.client_core.specs.Owed.{one_bytes, queued_bytes}
 use Rattle.client_core.proofs.core_client.Core.says_drops.Given as goal
 
 abbrev pub invariant-loop-k : goal.invariant-loop-k
@@ -9,4 +10,8 @@ invariant-loop-k g l = record {
   numbers : HasNumbers l.self l.draft;
   rest : record l.self.rest { counters = l.fn.self.rest.counters } ≡ l.fn.self.rest;
   room : l.self.calls.room ≡ l.fn.self.calls.room;
+  upto : l.k ≤ l.count;
+  bytes : HasRoomFor (one_bytes * (l.count - l.k)) l.draft;
+  takes : TakesUp (one_bytes * l.k) l.fn.draft l.draft;
+  queued : queued_bytes l.self.calls.rows ≡ queued_bytes l.fn.self.calls.rows;
 }

@@ -1,4 +1,4 @@
-use Rattle.std.proofs.Common.{◌∙◌, ℕ, List, [], ap, sym}
+use Rattle.std.proofs.Common.{◌∙◌, ℕ, List, [], length, ap, sym, arith}
 use Rattle.msg_ids.specs.Counters.{Counters, after_next}
 use Rattle.client_rules.specs.Client.{Client, after_message, numbered}
 use Rattle.client_rules.specs.Filling.{changes, says_resent}
@@ -8,6 +8,8 @@ use Rattle.service_tl.specs.Items.{spelling_of}
 use Rattle.client_core.specs.declared.saying.Outgoing.{Outgoing}
 use Rattle.client_core.specs.declared.saying.Outgoing.TheVariants as said
 use Rattle.client_core.proofs.GoesLemmas.{goes_out, moved, none_of, resent_go, resent_not, said_in, same_goes, some_of, told}
+use Rattle.client_core.specs.Kept.{Contents}
+use Rattle.client_core.proofs.RoomLemmas.{room_less, takes_more}
 use Rattle.client_core.proofs.core_client.Core.says_resent.Goals as goal
 
 abbrev change : Client → Client
@@ -49,3 +51,15 @@ returns-else-say-clause-goes g c filling is =
     (same_goes _ _ _ _ (resent_go numbers filling some)
     (goes_out _ c.args.draft.now filling (numbered (needs_answer one) (spelling_of (item_of one)) filling.client) (changes (λ (client : Client). change (after_message (needs_answer one) client))) (said_bytes one) inside
     c.say.ensures.size (sym c.say.ensures.told ∙ c.if-say.false))))
+
+pub say-requires-clause-room : goal.say-requires-clause-room
+say-requires-clause-room g c =
+    room_less _ _ _ (omega (arith, ap length c.ids-numbers.ensures.value, ap (λ (core : Contents). length core.rest.waiting.resent) c.self.view_is)) c.requires.bytes
+
+pub returns-then-say-clause-takes : goal.returns-then-say-clause-takes
+returns-then-say-clause-takes g c =
+    takes_more _ _ _ _ (omega (arith, ap length c.ids-numbers.ensures.value, ap (λ (core : Contents). length core.rest.waiting.resent) c.self.view_is)) c.say.ensures.takes
+
+pub returns-else-say-clause-takes : goal.returns-else-say-clause-takes
+returns-else-say-clause-takes g c =
+    takes_more _ _ _ _ (omega (arith, ap length c.ids-numbers.ensures.value, ap (λ (core : Contents). length core.rest.waiting.resent) c.self.view_is)) c.say.ensures.takes

@@ -8,6 +8,9 @@ use Rattle.client_core.specs.Kept.{Contents, asked_in}
 use Rattle.client_core.proofs.GoesLemmas.{goes_so, kept_calls, moved, same_goes, told}
 use Rattle.client_core.proofs.ListLemmas.{take_few}
 use Rattle.client_core.proofs.NumberLemmas.{kept_numbers, outstanding_is}
+use Rattle.client_core.specs.Owed.{asked_count}
+use Rattle.client_core.proofs.RoomLemmas.{room_less, takes_more}
+use Rattle.client_core.proofs.OwedLemmas.{asked_all, take_least}
 use Rattle.client_core.proofs.core_client.Core.says_states.Goals as goal
 
 pub say-requires-clause-lawful : goal.say-requires-clause-lawful
@@ -40,3 +43,33 @@ returns-else-say-clause-goes g c filling is =
     moved _ _ (λ (wish : Bool). says_states wish filling) filling.client.waiting.states true waits
     (moved _ _ (λ (numbers : List ℕ). says false (MsgsStateReq numbers) (asks_states numbers) filling) (outstanding filling.client) list (sym own)
     (c.say.ensures.stays c.if-say.false filling (asks_states list) is))
+
+pub living_in-numbers-requires-clause-room : goal.living_in-numbers-requires-clause-room
+living_in-numbers-requires-clause-room g c =
+    let rows = c.self.inside.calls.rows in
+    let own = ap (λ (core : Contents). asked_count core.rest.waiting.states core.calls.rows) c.self.view_is in
+    omega (arith, own, asked_all c.self.inside.waiting.states rows c.if-not-self.false, c.requires.room)
+
+pub say-requires-clause-bytes : goal.say-requires-clause-bytes
+say-requires-clause-bytes g c =
+    let rows = c.self.inside.calls.rows in
+    let own = ap (λ (core : Contents). asked_count core.rest.waiting.states core.calls.rows) c.self.view_is in
+    let few = asked_all c.self.inside.waiting.states rows c.if-not-self.false in
+    let size = ap length (c.deref.ensures.value ∙ c.living_in-numbers.ensures) in
+    room_less _ _ _ (omega (arith, own, few, size, take_least numbers_max (numbers_in rows))) c.requires.bytes
+
+pub returns-then-say-clause-takes : goal.returns-then-say-clause-takes
+returns-then-say-clause-takes g c =
+    let rows = c.self.inside.calls.rows in
+    let own = ap (λ (core : Contents). asked_count core.rest.waiting.states core.calls.rows) c.self.view_is in
+    let few = asked_all c.self.inside.waiting.states rows c.if-not-self.false in
+    let size = ap length (c.deref.ensures.value ∙ c.living_in-numbers.ensures) in
+    takes_more _ _ _ _ (omega (arith, own, few, size, take_least numbers_max (numbers_in rows))) c.say.ensures.takes
+
+pub returns-else-say-clause-takes : goal.returns-else-say-clause-takes
+returns-else-say-clause-takes g c =
+    let rows = c.self.inside.calls.rows in
+    let own = ap (λ (core : Contents). asked_count core.rest.waiting.states core.calls.rows) c.self.view_is in
+    let few = asked_all c.self.inside.waiting.states rows c.if-not-self.false in
+    let size = ap length (c.deref.ensures.value ∙ c.living_in-numbers.ensures) in
+    takes_more _ _ _ _ (omega (arith, own, few, size, take_least numbers_max (numbers_in rows))) c.say.ensures.takes

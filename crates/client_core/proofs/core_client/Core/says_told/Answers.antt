@@ -1,4 +1,4 @@
-use Rattle.std.proofs.Common.{◌∙◌, ℕ, List, Option, Some, None, ap, sym}
+use Rattle.std.proofs.Common.{◌≡◌, ◌∙◌, ◌+◌, ℕ, List, Option, Some, None, length, ap, sym, arith}
 use Rattle.std.specs.Prelude.{option_map}
 use Rattle.msg_ids.specs.Counters.{Counters, after_next}
 use Rattle.client_rules.specs.Client.{Client, States, Waiting, after_message, numbered}
@@ -9,6 +9,11 @@ use Rattle.service_tl.specs.Items.{spelling_of}
 use Rattle.client_core.specs.declared.saying.Outgoing.{Outgoing}
 use Rattle.client_core.specs.declared.saying.Outgoing.TheVariants as said
 use Rattle.client_core.proofs.GoesLemmas.{goes_out, moved, said_in, told}
+use Rattle.client_core.specs.Kept.{Contents}
+use Rattle.client_core.specs.Owed.{told_bytes}
+use Rattle.tl_codec.specs.Spelling.{string_size}
+use Rattle.containers.specs.Container.{message_head}
+use Rattle.client_core.proofs.RoomLemmas.{room_less, takes_more}
 use Rattle.client_core.proofs.core_client.Core.says_told.Goals as goal
 
 abbrev change : Client → Client
@@ -41,3 +46,27 @@ returns-else-say-clause-goes g c filling is =
     (moved _ _ (λ (own : Option States). says_told own filling) filling.client.waiting.told (Some (record { request = states.request; info = c.as_slice.result.now })) waits
     (goes_out _ c.args.draft.now filling (numbered (needs_answer one) (spelling_of (item_of one)) filling.client) (changes (λ (client : Client). change (after_message (needs_answer one) client))) (said_bytes one) inside
     c.say.ensures.size (sym c.say.ensures.told ∙ c.if-say.false)))
+
+pub say-requires-clause-room : goal.say-requires-clause-room
+say-requires-clause-room g c =
+    let states = c.in-Some.states in
+    let own : told_bytes c.args.self.now.rest.waiting.told ≡ message_head + (12 + string_size (length states.info)) =
+    ap (λ (core : Contents). told_bytes core.rest.waiting.told) (sym c.self.view_is) ∙ ap (λ own. told_bytes (option_map states_in own)) c.in-Some.is in
+    let size = ap (λ (info : List ℕ). string_size (length info)) c.as_slice.ensures.value in
+    room_less _ _ _ (omega (arith, own, size)) c.requires.bytes
+
+pub returns-then-say-clause-takes : goal.returns-then-say-clause-takes
+returns-then-say-clause-takes g c =
+    let states = c.in-Some.states in
+    let own : told_bytes c.args.self.now.rest.waiting.told ≡ message_head + (12 + string_size (length states.info)) =
+    ap (λ (core : Contents). told_bytes core.rest.waiting.told) (sym c.self.view_is) ∙ ap (λ own. told_bytes (option_map states_in own)) c.in-Some.is in
+    let size = ap (λ (info : List ℕ). string_size (length info)) c.as_slice.ensures.value in
+    takes_more _ _ _ _ (omega (arith, own, size)) c.say.ensures.takes
+
+pub returns-else-say-clause-takes : goal.returns-else-say-clause-takes
+returns-else-say-clause-takes g c =
+    let states = c.in-Some.states in
+    let own : told_bytes c.args.self.now.rest.waiting.told ≡ message_head + (12 + string_size (length states.info)) =
+    ap (λ (core : Contents). told_bytes core.rest.waiting.told) (sym c.self.view_is) ∙ ap (λ own. told_bytes (option_map states_in own)) c.in-Some.is in
+    let size = ap (λ (info : List ℕ). string_size (length info)) c.as_slice.ensures.value in
+    takes_more _ _ _ _ (omega (arith, own, size)) c.say.ensures.takes
