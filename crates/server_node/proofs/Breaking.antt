@@ -3,13 +3,11 @@ use Rattle.std.proofs.Common.{◌≡◌, ℕ, List, ◌++◌, Option, Some, None
 use Rattle.auth_keys.specs.declared.ring.RingKey.{RingKey}
 use Rattle.cipher_modes.specs.CounterMode.{CtrState}
 use Rattle.envelope.specs.Packet.{Lock}
-use Rattle.framing.specs.Streams.{Frames}
 use Rattle.mt_edge.specs.Links.{Told}
 use Rattle.regs_service.specs.Served.{Step}
-use Rattle.transport.specs.Directions.{through}
-use Rattle.transport.specs.Forms.{framing_of}
 use Rattle.server_node.specs.Connection.{BreaksIn, IsText, Passed, PassedFront, Place}
 use Rattle.server_node.specs.Doing.{CutBy, Due, Side, Stands}
+use Rattle.server_node.specs.Frames.{AreFramesOf}
 use Rattle.server_node.specs.Steps.{LineFrames, LineTells}
 use Rattle.server_node.specs.Trace.{Act, IsOutside, Outside, Rules, Talk, after_acts, rules_of}
 use Rattle.server_node.specs.Turns.{IsLine}
@@ -32,7 +30,7 @@ frames_then (Framed wire) (Framed other) came packets sent sent_then bytes bytes
   opening = framed.opening;
   rest = framed.rest;
   starts = framed.starts;
-  frames = subst (λ form. Frames (framing_of form) 0 sent_then (through framed.opening.down bytes_then)) (same ∙ framed.form) (sends framed.opening.down framed.tells);
+  frames = subst (λ form. AreFramesOf form framed.opening.down sent_then bytes_then) (same ∙ framed.form) (sends framed.opening.down framed.tells);
 })
 
 passed_front : {S V : Type 0} (bytes whole rest : List ℕ) (place : Place S V) (first middle last : Told) → Passed bytes place first middle → WroteFront whole rest middle last → PassedFront (bytes ++ whole) rest place first last

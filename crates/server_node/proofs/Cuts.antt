@@ -3,12 +3,10 @@ use Rattle.std.proofs.Common.{◌≡◌, ℕ, List, [], ◌∷◌, ◌++◌, Opt
 use Rattle.auth_keys.specs.declared.ring.RingKey.{RingKey}
 use Rattle.cipher_modes.specs.CounterMode.{CtrState}
 use Rattle.envelope.specs.Packet.{Lock}
-use Rattle.framing.specs.Streams as streams
 use Rattle.mt_edge.specs.Links.{Told}
 use Rattle.regs_service.specs.Served.{Step}
-use Rattle.transport.specs.Directions.{through}
-use Rattle.transport.specs.Forms.{framing_of}
 use Rattle.server_node.specs.Doing.{CutBy, Side, Stands, at_once}
+use Rattle.server_node.specs.Frames.{AreFramesOf}
 use Rattle.server_node.specs.Steps.{HearsAlike, LineFrames, LineTells}
 use Rattle.server_node.specs.Trace.{Act, Talk}
 use Rattle.server_node.specs.Writes.{WrittenBy, WroteFront}
@@ -16,14 +14,15 @@ use Rattle.server_node.specs.declared.conn.ConnEnd.{ConnEnd}
 use Rattle.server_node.specs.declared.conn.ConnEnd.TheVariants as ends
 use Rattle.server_node.specs.declared.line.Line.{Line}
 use Rattle.server_node.specs.declared.line.Line.TheVariants.{Raw, Framed}
+use Rattle.server_node.proofs.Spelling.{frames_in}
 
 -- what was sent before reads as it did
 frames_still : (line after : Line) (to : Option CtrState) (packets : List (List ℕ)) (text : List ℕ) → HearsAlike line after → LineTells line to packets text → LineFrames after to packets (text ++ [])
 frames_still (Raw wire) after to packets text same tells = subst (λ (some : Line). LineFrames some to packets (text ++ [])) (sym same) (tells.0, append-nil text ∙ tells.1)
 frames_still (Framed wire) (Raw other) to packets text same tells = absurd same
 frames_still (Framed wire) (Framed other) to packets text same tells =
-    subst (λ bytes. streams.Frames (framing_of other.form) 0 packets (through to bytes)) (sym (append-nil text))
-    (subst (λ form. streams.Frames (framing_of form) 0 packets (through to text)) (sym same.0) tells.frames)
+    subst (λ bytes. AreFramesOf other.form to packets bytes) (sym (append-nil text))
+    (subst (λ form. AreFramesOf form to packets text) (sym same.0) (frames_in wire to packets text tells))
 
 -- it is the first event's
 pub cut_one : {S V : Type 0} (end : Option ConnEnd) (step : S → ℕ × S) (serve : Step V) (lock : Lock) (ring : List RingKey) (side : Side S V) (line : Line) (told : Option Told) (act : Act) (bytes : List ℕ)

@@ -17,11 +17,9 @@ use Rattle.server_rules.specs.Server.{Server}
 use Rattle.server_core.specs.declared.desk.DeskFault.{DeskFault}
 use Rattle.server_core.specs.declared.desk.DeskFault.TheVariants as faults
 use Rattle.cipher_modes.specs.CounterMode.{CtrState}
-use Rattle.framing.specs.Streams as streams
-use Rattle.transport.specs.Directions.{through}
-use Rattle.transport.specs.Forms.{framing_of}
 use Rattle.server_node.specs.Doing.{Did, Due, IsEventEnd, IsPacketEnd, IsPart, Side, Stands, StandsBy, end_by}
 use Rattle.server_node.specs.Names.{was_heard}
+use Rattle.server_node.specs.Frames.{AreFramesOf}
 use Rattle.server_node.specs.Steps.{HearsAlike, IsQuiet, IsSendEnd, LineFront, LineTells, Said, SentBy, goes_out, going_out, is_sendable}
 use Rattle.server_node.specs.Trace.{Act, Attach, IsOutside, Outside, Rules, Run, Talk, Tick, after_act, gives, going, name_to, rules_of}
 use Rattle.server_node.specs.Writes.{WrittenBy}
@@ -32,6 +30,7 @@ use Rattle.server_node.specs.declared.line.Line.{Line}
 use Rattle.server_node.specs.declared.line.Line.TheVariants as lines
 use Rattle.server_node.proofs.Cuts.{cut_one}
 use Rattle.server_node.proofs.Goings.{event_is_packet_end}
+use Rattle.server_node.proofs.Spelling.{frames_in}
 use Rattle.server_node.proofs.Writing.{wrote_nothing}
 
 -- ---- sealed packets go out
@@ -144,7 +143,7 @@ front_all (lines.Framed wire) to packets text tells = record {
   front = packets;
   rest = [];
   whole = sym (append-nil packets);
-  frames = subst (λ bytes. streams.Frames (framing_of wire.form) 0 packets (through to bytes)) (sym (append-nil text)) tells.frames;
+  frames = subst (λ bytes. AreFramesOf wire.form to packets bytes) (sym (append-nil text)) (frames_in wire to packets text tells);
 }
 
 pub same_tells : (line : Line) (to : Option CtrState) (packets : List (List ℕ)) (text : List ℕ) → LineTells line to packets text → LineTells line to packets (text ++ [])

@@ -3,17 +3,16 @@ use Rattle.std.proofs.Common.{◌≡◌, ◌+◌, ◌<◌, ℕ, zero, suc, List,
 use Rattle.std.proofs.lemmas.List.{map-append}
 use Rattle.std.proofs.lemmas.List.Elements.{filter-append}
 use Rattle.std.specs.List.{filter}
-use Rattle.framing.specs.Streams as streams
 use Rattle.mt_edge.specs.Links.{Told}
 use Rattle.server_output.specs.declared.outs.Out.{Out}
-use Rattle.transport.specs.Directions.{through}
-use Rattle.transport.specs.Forms.{framing_of}
-use Rattle.transport.specs.Wires.{Line, Tells}
+use Rattle.transport.specs.Wires.{Line}
+use Rattle.server_node.specs.Frames.{AreFramesOf, Spells}
 use Rattle.server_node.specs.Steps.{Framings, IsSameIn, Said, goes_out, going_out}
 use Rattle.server_node.specs.Writes.{WrittenBy}
 use Rattle.server_node.specs.declared.conn.ConnEnd.TheVariants as ends
 use Rattle.server_node.specs.declared.heard.SessionName.{SessionName}
 use Rattle.server_node.specs.declared.line.Line.TheVariants.{Raw, Framed}
+use Rattle.server_node.proofs.Spelling.{frames_in}
 use Rattle.server_node.proofs.Writing.{wrote_nothing}
 
 pub going_both : (heard : List SessionName) (front back : List Out) → going_out heard (front ++ back) ≡ going_out heard front ++ going_out heard back
@@ -28,7 +27,7 @@ pub framed_none : (wire : Line) (text : List ℕ) → Framings wire text [] wire
 framed_none wire text = record {
   bytes = [];
   behind = sym (append-nil text);
-  tells = λ to before sent tells. subst (λ (packets : List (List ℕ)). Tells wire to packets (sent ++ [])) (sym (append-nil before)) (subst (λ (bytes : List ℕ). Tells wire to before bytes) (sym (append-nil sent)) tells);
+  tells = λ to before sent tells. subst (λ (packets : List (List ℕ)). Spells wire to packets (sent ++ [])) (sym (append-nil before)) (subst (λ (bytes : List ℕ). Spells wire to before bytes) (sym (append-nil sent)) tells);
 }
 
 pub framed_both : (first middle last : Line) (text between after : List ℕ) (one other : List (List ℕ))
@@ -37,8 +36,8 @@ framed_both first middle last text between after one other before next = record 
   bytes = before.bytes ++ next.bytes;
   behind = next.behind ∙ ap (λ bytes. bytes ++ next.bytes) before.behind ∙ append_assoc text before.bytes next.bytes;
   tells = λ to packets sent tells.
-      subst (λ (all : List (List ℕ)). Tells last to all (sent ++ (before.bytes ++ next.bytes))) (append_assoc packets one other)
-      (subst (λ (bytes : List ℕ). Tells last to ((packets ++ one) ++ other) bytes) (append_assoc sent before.bytes next.bytes)
+      subst (λ (all : List (List ℕ)). Spells last to all (sent ++ (before.bytes ++ next.bytes))) (append_assoc packets one other)
+      (subst (λ (bytes : List ℕ). Spells last to ((packets ++ one) ++ other) bytes) (append_assoc sent before.bytes next.bytes)
       (next.tells to (packets ++ one) (sent ++ before.bytes) (before.tells to packets sent tells)));
 }
 
@@ -74,8 +73,8 @@ said_memory wire wire_then heard packets told same = record {
     front = before;
     rest = packets;
     whole = refl;
-    frames = subst (λ bytes. streams.Frames (framing_of wire_then.form) 0 before (through to bytes)) (sym (append-nil sent))
-        (subst (λ form. streams.Frames (framing_of form) 0 before (through to sent)) (sym same.0) tells.frames);
+    frames = subst (λ bytes. AreFramesOf wire_then.form to before bytes) (sym (append-nil sent))
+        (subst (λ form. AreFramesOf form to before sent) (sym same.0) (frames_in wire to before sent tells));
   };
   written = wrote_nothing told;
 }

@@ -19,11 +19,12 @@ use Rattle.server_core.specs.declared.desk.Heard.TheVariants.{Judged, NotOpened}
 use Rattle.server_core.specs.declared.desk.Reply.{Reply}
 use Rattle.server_rules.specs.Answer.{after_packet}
 use Rattle.server_session.specs.Says.{setting_of}
-use Rattle.transport.specs.Wires.{Line, Tells}
+use Rattle.transport.specs.Wires.{Line}
 use Rattle.server_node.specs.Coming.{SameOut}
 use Rattle.server_node.specs.Coming as coming
 use Rattle.server_node.specs.Doing.{Did, IsPart, Serves, Side, Stands, StandsBy}
 use Rattle.server_node.specs.Names.{was_heard, with_name}
+use Rattle.server_node.specs.Frames.{Spells}
 use Rattle.server_node.specs.Steps.{HearsAlike, IsQuiet, IsSendEnd, LineTells, Said, SentBy}
 use Rattle.server_node.specs.Trace.{Act, Attach, Hear, IsOutside, IsRead, Outside, Rules, Talk, after_act, first_acts, hears_as, moment_at, name_in, rules_of}
 use Rattle.server_node.specs.Writes.{WrittenBy, unknown_key}
@@ -36,11 +37,14 @@ use Rattle.server_node.proofs.Cuts.{cut_one}
 use Rattle.server_node.proofs.Events.{Answers, same_tells}
 use Rattle.server_node.proofs.Writing.{wrote_nothing}
 
-pub tells_same : (wire wire_then : Line) (to : Option CtrState) (packets : List (List ℕ)) (bytes : List ℕ) → SameOut wire wire_then → Tells wire to packets bytes → Tells wire_then to packets bytes
-tells_same wire wire_then to packets bytes same tells = record {
-  frames = rw (same.0) tells.frames;
-  number = rw (same.0, same.2) tells.number;
-  place = same.1 ∙ tells.place;
+pub tells_same : (wire wire_then : Line) (to : Option CtrState) (packets : List (List ℕ)) (bytes : List ℕ) → SameOut wire wire_then → Spells wire to packets bytes → Spells wire_then to packets bytes
+tells_same wire wire_then to packets bytes same spells = record {
+  tells = record {
+    frames = rw (same.0) spells.tells.frames;
+    number = rw (same.0, same.2) spells.tells.number;
+    place = same.1 ∙ spells.tells.place;
+  };
+  spelt = rw (same.0) spells.spelt;
 }
 
 pub said_from : (wire between : Line) (line : lines.Line) (heard : List SessionName) (told told_then : Option Told) (packets : List (List ℕ)) (end : Option ConnEnd) → SameOut wire between

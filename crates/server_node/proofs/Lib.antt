@@ -12,6 +12,7 @@ pub mod Packets
 pub mod Pieces
 pub mod Reading
 pub mod Serving
+pub mod Spelling
 pub mod Starting
 pub mod Turning
 pub mod Writing

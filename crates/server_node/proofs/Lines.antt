@@ -1,14 +1,15 @@
 -- A line that takes pieces, gives packets and sends others.
 use Rattle.std.proofs.Common.{◌≡◌, ◌≤◌, ℕ, List, [], ◌++◌, length, Option, Some, None, ◌⊎◌, inl, inr, refl, sym, ap, subst, ◌∙◌, append-nil, length-append, arith}
 use Rattle.cipher_modes.specs.CounterMode.{CtrState}
-use Rattle.framing.specs.Streams.{Begins, Faulty, Frames, Stream}
+use Rattle.framing.specs.Streams.{Begins, Faulty, Stream}
 use Rattle.tl_codec.specs.declared.fault.FrameFault.{FrameFault}
 use Rattle.transport.specs.Directions.{through}
 use Rattle.transport.specs.Forms.{framing_of}
 use Rattle.transport.specs.Starts.{IsAwaited, Opening, Starts}
-use Rattle.transport.specs.Wires.{Hears, Line, Tells}
+use Rattle.transport.specs.Wires.{Hears, Line}
 use Rattle.server_node.specs.Coming.{Fed, HeardAll, packets_max}
 use Rattle.server_node.specs.Connection.{AreFirst, AreWhole, IsFaulty, IsStream, IsText, IsTextOfFront, OwesBy}
+use Rattle.server_node.specs.Frames.{AreFramesOf, Spells}
 use Rattle.server_node.specs.Steps.{HearsAlike, LineFront, LineTells, SentBy}
 use Rattle.server_node.specs.Turns.{IsFramed, IsLine, IsRaw, came_max}
 use Rattle.server_node.specs.declared.conn.ConnEnd.{ConnEnd}
@@ -17,6 +18,7 @@ use Rattle.server_node.specs.declared.line.Line.{Line as Ends}
 use Rattle.server_node.specs.declared.line.Line.TheVariants.{Raw, Framed}
 use Rattle.server_node.proofs.Answering.{hears_same}
 use Rattle.server_node.proofs.Hearing.{tells_same}
+use Rattle.server_node.proofs.Spelling.{frames_in, none_spelt}
 use Rattle.server_node.proofs.Starting.{begins_heard, packets_fit, rest_fits, starts_on}
 
 -- ---- a piece
@@ -39,7 +41,8 @@ fed_line (Raw wire) (Framed other) came piece packets sent bytes fed raw = recor
   starts = subst (λ (some : List ℕ). Starts (some ++ piece) fed.opening fed.rest) raw.wire_is fed.starts;
   form = fed.form;
   hears = subst (λ (some : List (List ℕ)). Hears other fed.opening.up some fed.rest) (sym raw.none) fed.hears;
-  tells = subst (λ (some : List (List ℕ)). Tells other fed.opening.down some bytes) (sym raw.unsent) (subst (λ (some : List ℕ). Tells other fed.opening.down [] some) (sym raw.unwritten) fed.tells);
+  tells = subst (λ (some : List (List ℕ)). Spells other fed.opening.down some bytes) (sym raw.unsent)
+      (subst (λ (some : List ℕ). Spells other fed.opening.down [] some) (sym raw.unwritten) (none_spelt other fed.opening.down fed.tells));
 }
 fed_line (Framed wire) (Raw other) came piece packets sent bytes fed framed = absurd fed
 fed_line (Framed wire) (Framed other) came piece packets sent bytes fed framed = record {
@@ -59,7 +62,7 @@ text_of (Framed wire) came packets sent bytes framed = inr (record {
   opening = framed.opening;
   rest = framed.rest;
   starts = framed.starts;
-  frames = subst (λ form. Frames (framing_of form) 0 sent (through framed.opening.down bytes)) framed.form framed.tells.frames;
+  frames = subst (λ form. AreFramesOf form framed.opening.down sent bytes) framed.form (frames_in wire framed.opening.down sent bytes framed.tells);
 })
 
 -- the form of a line that is known stays
@@ -88,7 +91,8 @@ text_then (Framed wire) (Framed other) came packets sent sent_then bytes bytes_t
   opening = framed.opening;
   rest = framed.rest;
   starts = framed.starts;
-  frames = subst (λ form. Frames (framing_of form) 0 sent_then (through framed.opening.down bytes_then)) (same ∙ framed.form) (sends framed.opening.down framed.tells).frames;
+  frames = subst (λ form. AreFramesOf form framed.opening.down sent_then bytes_then) (same ∙ framed.form)
+      (frames_in other framed.opening.down sent_then bytes_then (sends framed.opening.down framed.tells));
 })
 
 raw_front : (wire came : List ℕ) (packets sent sent_then : List (List ℕ)) (bytes bytes_then : List ℕ) (after : Ends) → after ≡ Raw wire → IsRaw wire came packets sent bytes
@@ -113,7 +117,7 @@ front_then (Framed wire) (Framed other) came packets sent sent_then bytes bytes_
         opening = framed.opening;
         rest = framed.rest;
         starts = framed.starts;
-        frames = subst (λ form. Frames (framing_of form) 0 front.front (through framed.opening.down bytes_then)) (same ∙ framed.form) front.frames;
+        frames = subst (λ form. AreFramesOf form framed.opening.down front.front bytes_then) (same ∙ framed.form) front.frames;
       });
     }
 

@@ -1,7 +1,7 @@
 -- A connection to a server, worked out from all that was read over it, the moments that the clock gave and how it ended: the
 -- packets that came, the events, and the bytes that they owe (core.telegram.org/mtproto/mtproto-transports).
 use Rattle.std.specs.Prelude.{◌≡◌, ◌≢◌, ◌<◌, ◌≤◌, ◌⊎◌, ℕ, List, [], ◌∷◌, ◌++◌, length, Option, IfSome, IsSomeAnd, ⊤}
-use Rattle.framing.specs.Streams.{Begins, Faulty, Frames, Stream}
+use Rattle.framing.specs.Streams.{Begins, Faulty, Stream}
 use Rattle.mt_edge.specs.Links.{Told}
 use Rattle.mt_edge.specs.declared.link_read.LinkRead.{LinkRead}
 use Rattle.mt_edge.specs.declared.source.Got.{Got}
@@ -12,6 +12,7 @@ use Rattle.transport.specs.Forms.{framing_of}
 use Rattle.transport.specs.Starts.{IsAwaited, IsRefused, Opening, Starts}
 use Rattle.server_rules.specs.Server.{Server}
 use Rattle.waits.specs.Jobs.{ready_count}
+use Rattle.server_node.specs.Frames.{AreFramesOf}
 use Rattle.server_node.specs.Record.{BringsToZero, MayAnswerMore, piece_bytes, turns_max, with_answered}
 use Rattle.server_node.specs.Served.{LeavesBy}
 use Rattle.server_node.specs.Trace.{Act, Rules, Talk, after_acts, packet_acts, packets_acts, work_acts}
@@ -51,12 +52,12 @@ pub record IsUnnamed (came : List ℕ) : Type 0 where
   pub first : List ℕ
   pub refused : IsRefused came first
 
--- the bytes that answer these ones are the frames of these packets, in the form that the start names
+-- the bytes that answer these ones are the writer's frames of these packets, in the form that the start names
 pub record AreFrames (came : List ℕ) (packets : List (List ℕ)) (bytes : List ℕ) : Type 0 where
   pub opening : Opening
   pub rest : List ℕ
   pub starts : Starts came opening rest
-  pub frames : Frames (framing_of opening.form) 0 packets (through opening.down bytes)
+  pub frames : AreFramesOf opening.form opening.down packets bytes
 
 -- and no packet goes out before that
 abbrev pub IsText : List ℕ → List (List ℕ) → List ℕ → Type 0

@@ -1,6 +1,7 @@
 pub mod Names
 pub mod Writes
 pub mod Record
+pub mod Frames
 pub mod Steps
 pub mod Trace
 pub mod Served

@@ -2,13 +2,10 @@
 use Rattle.std.specs.Prelude.{◌≡◌, ℕ, nat_le, ◌==◌, ◌%◌, ◌&&◌, Bool, List, [], ◌++◌, length, map, Option, Some, None, ⊤}
 use Rattle.std.specs.List.{filter}
 use Rattle.cipher_modes.specs.CounterMode.{CtrState}
-use Rattle.framing.specs.Streams.{Frames}
 use Rattle.mt_edge.specs.Links.{Told}
 use Rattle.server_output.specs.declared.outs.Out.{Out}
-use Rattle.transport.specs.Directions.{through}
-use Rattle.transport.specs.Forms.{framing_of}
 use Rattle.transport.specs.Wires as wires
-use Rattle.transport.specs.Wires.{Tells}
+use Rattle.server_node.specs.Frames.{AreFramesOf, Spells}
 use Rattle.server_node.specs.Names.{was_heard}
 use Rattle.server_node.specs.Writes.{WrittenBy}
 use Rattle.server_node.specs.declared.conn.ConnEnd.{ConnEnd}
@@ -43,19 +40,19 @@ HearsAlike (Framed wire) (Framed other) = IsSameIn wire other
 -- no packet goes out before the form is known
 abbrev pub LineTells : Line → Option CtrState → List (List ℕ) → List ℕ → Type 0
 LineTells (Raw wire) to packets bytes = (packets ≡ []) × (bytes ≡ [])
-LineTells (Framed wire) to packets bytes = Tells wire to packets bytes
+LineTells (Framed wire) to packets bytes = Spells wire to packets bytes
 
--- they read as frames of these packets in its form
+-- they are the frames of these packets in its form
 abbrev pub LineFrames : Line → Option CtrState → List (List ℕ) → List ℕ → Type 0
 LineFrames (Raw wire) to packets bytes = (packets ≡ []) × (bytes ≡ [])
-LineFrames (Framed wire) to packets bytes = Frames (framing_of wire.form) 0 packets (through to bytes)
+LineFrames (Framed wire) to packets bytes = AreFramesOf wire.form to packets bytes
 
 -- of these packets, a front went out
 pub record IsFront (wire : wires.Line) (to : Option CtrState) (packets : List (List ℕ)) (bytes : List ℕ) : Type 0 where
   pub front : List (List ℕ)
   pub rest : List (List ℕ)
   pub whole : packets ≡ front ++ rest
-  pub frames : Frames (framing_of wire.form) 0 front (through to bytes)
+  pub frames : AreFramesOf wire.form to front bytes
 
 abbrev pub LineFront : Line → Option CtrState → List (List ℕ) → List ℕ → Type 0
 LineFront (Raw wire) to packets bytes = bytes ≡ []
@@ -100,4 +97,4 @@ pub record Said (line : Line) (heard : List SessionName) (told : Option Told) (p
 pub record Framings (wire : wires.Line) (text : List ℕ) (packets : List (List ℕ)) (wire_then : wires.Line) (text_then : List ℕ) : Type 0 where
   pub bytes : List ℕ
   pub behind : text_then ≡ text ++ bytes
-  pub tells : (to : Option CtrState) (before : List (List ℕ)) (sent : List ℕ) → Tells wire to before sent → Tells wire_then to (before ++ packets) (sent ++ bytes)
+  pub tells : (to : Option CtrState) (before : List (List ℕ)) (sent : List ℕ) → Spells wire to before sent → Spells wire_then to (before ++ packets) (sent ++ bytes)

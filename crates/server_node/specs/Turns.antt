@@ -5,9 +5,10 @@ use Rattle.envelope.specs.Packet.{Lock}
 use Rattle.mt_edge.specs.Links.{Told}
 use Rattle.regs_service.specs.Served.{Step}
 use Rattle.transport.specs.Starts.{IsAwaited, Opening, Starts}
-use Rattle.transport.specs.Wires.{Hears, Line, Tells}
+use Rattle.transport.specs.Wires.{Hears, Line}
 use Rattle.server_node.specs.Connection.{AreTurns, BreaksBy, Close, ClosesBehind, ClosesSo, Gave, IsPieceSize, IsTurn, OwesBy, Passed, PassedBy, Place, ShowsClose, Sight, Turn, began, closes, end_by, gets, turned, turns_from}
 use Rattle.server_node.specs.Doing.{Side, Stands, StandsBy}
+use Rattle.server_node.specs.Frames.{Spells}
 use Rattle.server_node.specs.Record.{piece_bytes, turns_max, with_answered}
 use Rattle.server_node.specs.Trace.{IsOutside, Outside, Rules, Talk, rules_of}
 use Rattle.server_node.specs.Writes.{WrittenBy}
@@ -23,7 +24,7 @@ pub record IsFramed (wire : Line) (came : List ℕ) (packets sent : List (List �
   pub starts : Starts came opening rest
   pub form : wire.form ≡ opening.form
   pub hears : Hears wire opening.up packets rest
-  pub tells : Tells wire opening.down sent bytes
+  pub tells : Spells wire opening.down sent bytes
 
 pub record IsRaw (wire came : List ℕ) (packets sent : List (List ℕ)) (bytes : List ℕ) : Type 0 where
   pub wire_is : wire ≡ came

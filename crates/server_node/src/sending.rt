@@ -1,6 +1,7 @@
 //! What is written over a connection.
 
 ghost use Rattle.std.specs.Prelude.{◌≡◌, ◌∷◌, [], List, IfErr, OnOk};
+ghost use Rattle.transport.specs.Forms.{IsSent};
 ghost use Rattle.server_node.specs.Steps.{Framings, HearsAlike, IsSameIn, IsSendEnd, Said, going_out, is_sendable};
 ghost use Rattle.server_node.specs.Writes.{Goes, WrittenBy, end_in, unknown_key};
 ghost use Rattle.server_node.specs.declared.heard.SessionName.{SessionName as Name};
@@ -8,6 +9,7 @@ ghost use Rattle.server_node.specs.declared.heard.SessionName.{SessionName as Na
 use crate::conn::ConnEnd;
 use crate::heard::{HeardSessions, SessionName};
 use crate::line::Line;
+use cipher_modes::laws::{ctr_pieces_equal_the_whole, ctr_undoes_itself};
 use mt_edge::{Link, Put};
 use octets::{Memory, Octets};
 use server_output::{Out, Outs};
@@ -41,6 +43,23 @@ fn is_sendable(packet: &[u8]) -> bool
     packet.len() >= 72 && packet.len() <= 1_048_576 && packet.len() % 16 == 8
 }
 
+// Puts the frame of a packet at the end.
+fn put_one(
+    alloc: Global,
+    wire: &mut Wire<Framed>,
+    packet: &[u8],
+    text: &mut Octets,
+) -> Result<(), Memory>
+    requires fits { IsSent wire.old.form packet.now }
+    ensures framed { OnOk result (Framings wire.old text.old (packet.now ∷ []) wire.new text.new) }
+    ensures same_in { IsSameIn wire.old wire.new }
+{
+    ctr_pieces_equal_the_whole();
+    ctr_undoes_itself();
+    wire.put(alloc, packet, text)?;
+    Ok(())
+}
+
 // Puts the frame of a packet at the end where its session was heard on the connection.
 fn put_heard(
     alloc: Global,
@@ -57,7 +76,7 @@ fn put_heard(
         session: out.session,
     };
     if heard.has(name) && is_sendable(out.packet.as_slice()) {
-        wire.put(alloc, out.packet.as_slice(), text)?;
+        put_one(alloc, wire, out.packet.as_slice(), text)?;
     }
     Ok(())
 }
@@ -137,6 +156,7 @@ const UNKNOWN_KEY: [u8; 4] = [0x6c, 0xfe, 0xff, 0xff];
 /// # Errors
 ///
 /// `LinkFault`: a write failed, and what is written is a front of the frame. `Memory`: nothing is written.
+#[tactic(auto, using(crate::proofs::Going::said_all, crate::proofs::Going::said_front))]
 pub(crate) fn say_unknown<L: Link>(
     alloc: Global,
     wire: &mut Wire<Framed>,
@@ -149,7 +169,7 @@ pub(crate) fn say_unknown<L: Link>(
     ensures same_in { IsSameIn wire.old wire.new }
 {
     text.truncate(0);
-    match wire.put(alloc, &UNKNOWN_KEY, text) {
+    match put_one(alloc, wire, &UNKNOWN_KEY, text) {
         Ok(()) => send(link, text.as_slice()),
         Err(Memory) => Err(ConnEnd::Memory),
     }

@@ -5,4 +5,4 @@ use Rattle.server_node.proofs.sending.say_unknown.Goals as goal
 
 pub returns-in-Err-clause-said : goal.returns-in-Err-clause-said
 returns-in-Err-clause-said g c heard =
-    said_memory c.args.wire.now c.put.new.self heard (unknown_key ∷ []) (g.L.Link.told c.args.link.now) c.in-Err.ensures.same_in
+    said_memory c.args.wire.now c.put_one.new.wire heard (unknown_key ∷ []) (g.L.Link.told c.args.link.now) c.in-Err.ensures.same_in
