@@ -1,15 +1,8 @@
 -- What a client that is there is, and what it sends.
-use Rattle.std.proofs.Common.{◌≡◌, ℕ, Bool, true, false, if◌then◌else◌, Option, Some, None, List, refl, sym, ap, subst, ◌∙◌}
+use Rattle.std.proofs.Common.{◌≡◌, ℕ, Option, Some, List, sym, ap, ◌∙◌}
 use Rattle.auth_keys.specs.declared.ring.RingKey.{RingKey}
-use Rattle.client_core.specs.Flushed.{Flushes}
-use Rattle.client_core.specs.Kept.{Contents, Stands}
-use Rattle.client_core.specs.declared.flush.Flush.{Flush}
-use Rattle.client_core.specs.declared.flush.Flush.TheVariants as flushed
 use Rattle.client_core.specs.declared.holder.Holder.{Holder}
-use Rattle.client_rules.specs.Client.{Client}
-use Rattle.client_rules.specs.Sending.{Setting}
 use Rattle.draws.specs.ChaChaWords.{ChaChaPlace}
-use Rattle.envelope.specs.Packet.{Lock}
 use Rattle.kifzaro.specs.Clients.{Kept, held}
 
 -- the client, while it is there

@@ -1,18 +1,16 @@
 -- What is told of a packet, by what it opens to.
-use Rattle.std.proofs.Common.{◌≡◌, ℕ, max, List, sym, subst}
+use Rattle.std.proofs.Common.{◌≡◌, ℕ, List, sym, subst}
 use Rattle.std.specs.Prelude.{Result, Ok, Err}
 use Rattle.auth_keys.specs.declared.ring.RingKey.{RingKey}
 use Rattle.client_core.specs.declared.holder.Holder.{Holder}
 use Rattle.client_rules.specs.Client.{Client}
 use Rattle.envelope.specs.declared.parts.Dir.TheVariants.{Down}
-use Rattle.envelope.specs.declared.parts.Envelope.{Envelope}
 use Rattle.envelope.specs.declared.refusal.Refusal.{Refusal}
-use Rattle.envelope.specs.Opening.{IsRefused, Opens}
+use Rattle.envelope.specs.Opening.{IsRefused}
 use Rattle.envelope.specs.Packet.{Lock}
 use Rattle.kifzaro.specs.Clients.{Comes, TellsHeard}
 use Rattle.kifzaro.specs.Holding.{IsDoneOrMemory, refused_for}
 use Rattle.kifzaro.specs.declared.error.Error.{Error}
-use Rattle.kifzaro.specs.declared.error.Error.TheVariants as errors
 
 -- one that doesn't
 pub heard_refused : (lock : Lock) (ring : List RingKey) (at : ℕ) (packet : List ℕ) (why : Refusal) (taken : Result Unit Error)

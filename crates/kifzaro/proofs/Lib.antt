@@ -1,7 +1,6 @@
 pub mod ClientLemmas
 pub mod DecidedLemmas
 pub mod HearingLemmas
-pub mod KeyLemmas
 pub mod PollLemmas
 pub mod QueueLemmas
 pub mod RequestLemmas

@@ -12,7 +12,7 @@ use Rattle.client_rules.specs.Flush.{Answer, Flushed, Nothing, Spent, Sends, flu
 use Rattle.client_rules.specs.Sending.{Setting}
 use Rattle.envelope.specs.Lock.{mt_lock}
 use Rattle.envelope.specs.Packet.{Lock}
-use Rattle.kifzaro.specs.Clients.{Is, Kept, LeavesPoll, Polls, TellsPoll, next_flush}
+use Rattle.kifzaro.specs.Clients.{Is, Kept, LeavesPoll, Polls, TellsPoll}
 use Rattle.kifzaro.specs.Drawing.{drawing}
 use Rattle.kifzaro.specs.declared.error.Error.{Error}
 use Rattle.kifzaro.specs.declared.error.Error.TheVariants as errors

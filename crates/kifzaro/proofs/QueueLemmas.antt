@@ -1,5 +1,5 @@
 -- The first of the packets that wait.
-use Rattle.std.proofs.Common.{◌≡◌, ◌<◌, ℕ, List, [], ◌∷◌, ◌++◌, length, get_or, ap, sym, arith}
+use Rattle.std.proofs.Common.{◌≡◌, ◌<◌, List, [], ◌∷◌, ◌++◌, length, get_or, ap, sym, arith}
 use Rattle.server_output.specs.declared.outs.Out.{Out}
 use Rattle.kifzaro.specs.Queues.{IsFirst}
 

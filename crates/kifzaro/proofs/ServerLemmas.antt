@@ -1,5 +1,5 @@
 -- What an event leaves of a server with its draw and its packets.
-use Rattle.std.proofs.Common.{◌≡◌, ◌≤◌, ℕ, Bool, true, false, Option, Some, None, List, [], ◌∷◌, ◌++◌, max, refl, sym, subst, arith}
+use Rattle.std.proofs.Common.{◌≡◌, ◌≤◌, ℕ, false, Option, Some, None, List, [], ◌∷◌, ◌++◌, max, refl, sym, subst, arith}
 use Rattle.std.specs.Prelude.{is_some}
 use Rattle.std.proofs.lemmas.Bool.{true≢false}
 use Rattle.auth_keys.specs.declared.ring.RingKey.{RingKey}
@@ -11,7 +11,6 @@ use Rattle.server_core.specs.Effects.{Gives}
 use Rattle.server_core.specs.Server as core
 use Rattle.server_core.specs.Sessions.{AreKept}
 use Rattle.server_core.specs.declared.effects.Effects.{Effects}
-use Rattle.server_output.specs.declared.outs.Out.{Out}
 use Rattle.server_rules.specs.Answer.{Answer}
 use Rattle.server_rules.specs.Server.{Server, Session}
 use Rattle.server_session.specs.SessionState.{Stands}

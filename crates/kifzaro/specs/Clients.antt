@@ -1,13 +1,16 @@
 -- A client with its ring and its draw, and the client of the rules that it is.
-use Rattle.std.specs.Prelude.{◌≡◌, ◌<◌, ℕ, if◌then◌else◌, Bool, true, false, Option, Some, None, is_some, IfSome, List, [], ◌∷◌, length, Result, Ok, Err, ⊤}
+use Rattle.std.specs.Prelude.{◌≡◌, ◌<◌, ◌⊎◌, ℕ, if◌then◌else◌, Bool, true, false, Option, Some, None, IfSome, List, [], length, Result, Ok, Err, ⊤}
+use Rattle.std.specs.Option.{option_or}
+use Rattle.auth_keys.specs.declared.key.KeyKind.{KeyKind}
+use Rattle.auth_keys.specs.declared.key.KeyKind.TheVariants.{Perm, Temp}
 use Rattle.auth_keys.specs.declared.ring.RingKey.{RingKey}
 use Rattle.auth_keys.specs.KeyFile.{IsRingOf}
-use Rattle.auth_keys.specs.Rings.{entry_of}
+use Rattle.auth_keys.specs.Rings.{entry_of, kind_in}
 use Rattle.call_table.specs.declared.call.CallNo.{CallNo}
 use Rattle.call_table.specs.Table.{Call, State, Done, call_no, is_open, state_at}
-use Rattle.client_rules.specs.Asking.{Fault, has_call, pinged, salts_asked, submit_fault, ticked}
+use Rattle.client_rules.specs.Asking.{Fault, has_call, pinged, salts_asked, ticked}
 use Rattle.client_rules.specs.Client.{Client, calls_of, fresh_client}
-use Rattle.client_rules.specs.Flush.{Answer, Flushed, Nothing, Spent, Sends, flush}
+use Rattle.client_rules.specs.Flush.{Answer, Flushed, Nothing, Spent, flush}
 use Rattle.client_rules.specs.Sending.{Setting}
 use Rattle.client_core.specs.Flushed.{TellsFlush}
 use Rattle.client_core.specs.Holding.{kept_of}
@@ -56,15 +59,31 @@ held (Some holder) = holder
 
 -- ---- what is answered
 
--- the first of these keys that a ring hasn't
-abbrev pub first_missing : List ℕ → List RingKey → Option ℕ
-first_missing [] ring = None
-first_missing (key ∷ keys) ring = if is_some (entry_of key ring) then first_missing keys ring else Some key
+-- what is wrong with a key of this kind where a permanent one is due
 
--- why there is no client under these keys: the text is no key file, or it is one that hasn't all of them
-abbrev pub IsNoClient : List ℕ → List ℕ → Error → Type 0
-IsNoClient text keys (errors.NoKey key) = (ring : List RingKey) × IsRingOf text ring × (first_missing keys ring ≡ Some key)
-IsNoClient text keys other = IsKeysError text other
+abbrev pub fault_as_perm : ℕ → Option KeyKind → Option Error
+fault_as_perm key None = Some (errors.NoKey key)
+fault_as_perm key (Some Perm) = None
+fault_as_perm key (Some (Temp expires)) = Some (errors.NotPermanent key)
+
+-- and where a temporary one is
+abbrev pub fault_as_temp : ℕ → Option KeyKind → Option Error
+fault_as_temp key None = Some (errors.NoKey key)
+fault_as_temp key (Some Perm) = Some (errors.NotTemporary key)
+fault_as_temp key (Some (Temp expires)) = None
+
+-- what is wrong with the keys of a client in this ring: its permanent key, or else its temporary one and then the one to
+-- which that is to be bound
+
+abbrev pub perm_fault : ℕ → List RingKey → Option Error
+perm_fault key ring = fault_as_perm key (kind_in (entry_of key ring))
+
+abbrev pub temp_fault : ℕ → ℕ → List RingKey → Option Error
+temp_fault temp perm ring = option_or (fault_as_temp temp (kind_in (entry_of temp ring))) (perm_fault perm ring)
+
+-- why there is no client: the text is no key file, or this is wrong with the keys in its ring
+abbrev pub IsNoClient : List ℕ → (List RingKey → Option Error) → Error → Type 0
+IsNoClient text fault error = IsKeysError text error ⊎ ((ring : List RingKey) × IsRingOf text ring × (fault ring ≡ Some error))
 
 -- a call is taken by a client that hasn't ended, where nothing refuses it; or the refusal is told
 abbrev pub TellsSubmit : {X : Type 0} → Bool → Option Fault → Result X Error → Type 0

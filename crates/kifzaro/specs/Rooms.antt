@@ -1,5 +1,5 @@
 -- Bytes in room that the caller lends.
-use Rattle.std.specs.Prelude.{◌≡◌, ◌≤◌, ◌<◌, ℕ, List, ◌++◌, drop, length, Result, Ok, Err}
+use Rattle.std.specs.Prelude.{◌≡◌, ◌<◌, ℕ, List, ◌++◌, drop, length, Result, Ok, Err}
 use Rattle.kifzaro.specs.declared.error.Error.{Error}
 use Rattle.kifzaro.specs.declared.error.Error.TheVariants as errors
 

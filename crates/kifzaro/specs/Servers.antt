@@ -1,6 +1,5 @@
 -- A server with its draw and what it has to hand out, and the server of the rules that it is.
-use Rattle.std.specs.Prelude.{◌≡◌, ℕ, Bool, true, not, Option, None, is_some, List, ◌++◌, length, max, Result, Ok, Err, ⊤}
-use Rattle.std.specs.Str.{bytes_eq}
+use Rattle.std.specs.Prelude.{◌≡◌, ℕ, true, Option, None, is_some, List, ◌++◌, length, max, Result, Ok, Err, ⊤}
 use Rattle.auth_keys.specs.declared.ring.RingKey.{RingKey}
 use Rattle.draws.specs.ChaChaWords.{ChaChaPlace}
 use Rattle.envelope.specs.Lock.{mt_lock}
@@ -8,7 +7,8 @@ use Rattle.envelope.specs.Packet.{Lock}
 use Rattle.regs_service.specs.Served.{IsReply, Step}
 use Rattle.server_output.specs.Outs.{AreSent}
 use Rattle.server_output.specs.declared.outs.Out.{Out}
-use Rattle.server_rules.specs.Answer.{Answer}
+use Rattle.server_rules.specs.Answer.{Answer, after_work}
+use Rattle.server_rules.specs.Event.{Setting}
 use Rattle.server_rules.specs.Server.{Server}
 use Rattle.server_core.specs.declared.desk.Heard.TheVariants.{Judged, NotOpened}
 use Rattle.server_core.specs.Desks.{IsBetweenEvents}
@@ -87,14 +87,13 @@ StaysAt now server after (Ok done) = ⊤
 StaysAt now server after (Err (errors.Refused why)) = Is after (record server { now = now })
 StaysAt now server after (Err other) = Is after server
 
--- ---- a service that is asked from outside
+-- ---- a request that is answered from outside
 
--- a request, the reply that it was given, and whether another request was run with it
-pub record Exchange : Type 0 where
-  pub asked : List ℕ
-  pub reply : List ℕ
-  pub strayed : Bool
+-- the service that gives this reply to whatever it is asked
+abbrev pub giving : Step (List ℕ)
+giving reply request = (reply, reply)
 
--- the service that gives this reply
-abbrev pub answering : Step Exchange
-answering exchange request = (exchange.reply, record exchange { strayed = not (bytes_eq request exchange.asked) })
+-- The first ready job has run with this reply. It is the run by any service that gives this reply to the job's request
+-- (`laws::replies_are_runs`).
+abbrev pub after_reply : {S : Type 0} → Setting S → List ℕ → Server → S → Answer S
+after_reply setting reply server draw = (after_work setting 0 giving reply server draw).0

@@ -1,6 +1,6 @@
 //! A client.
 
-ghost use Rattle.std.specs.Prelude.{◌≡◌, ◌∷◌, [], None, Some, Ok, IfErr, IfOk, IfSome, MatchBool, MatchOption, OnErr, OnOk, false, length, max, true};
+ghost use Rattle.std.specs.Prelude.{◌≡◌, None, Some, Ok, IfErr, IfOk, IfSome, MatchBool, MatchOption, OnErr, OnOk, false, length, max, true};
 ghost use Rattle.auth_keys.specs.KeyFile.{IsRingOf};
 ghost use Rattle.call_table.specs.Kept.{shown};
 ghost use Rattle.call_table.specs.Table.{call_no, is_open};
@@ -17,16 +17,16 @@ ghost use Rattle.client_rules.specs.Taking.{take};
 ghost use Rattle.client_core.specs.Flushed.{Flushes, setting_of};
 ghost use Rattle.client_core.specs.declared.flush.Flush.TheVariants as flushed;
 ghost use Rattle.client_core.specs.Holding.{is_open_now, kept_of};
-ghost use Rattle.kifzaro.specs.Clients.{AreDecided, Becomes, Is, IsNoClient, Polls, TellsDropped, TellsEnded, TellsHeard, TellsNoCall, TellsOpen, TellsReply, TellsSubmit, TellsTaken, first_missing, outcome, state_of};
+ghost use Rattle.kifzaro.specs.Clients.{AreDecided, Becomes, Is, IsNoClient, Polls, TellsDropped, TellsEnded, TellsHeard, TellsNoCall, TellsOpen, TellsReply, TellsSubmit, TellsTaken, outcome, perm_fault, state_of, temp_fault};
 ghost use Rattle.kifzaro.specs.Drawing.{drawing, drawn_from};
 
 use crate::error::Error;
 use crate::holding::{self, Wish};
-use crate::rings::seal_of;
+use crate::rings::{seal_with_perm, seal_with_temp};
 use crate::telling::put;
 use client_core::{CallNo, CallState, Flush, Holder, OpeningClient};
 use draws::{ChaChaDraw, Seeded};
-use envelope::{MtSeal, Seal};
+use envelope::MtSeal;
 use msg_ids::Moment;
 use octets::{Memory, Octets};
 use std::alloc::Global;
@@ -62,20 +62,17 @@ impl Client {
     ///
     /// # Errors
     ///
-    /// `Keys` or `LongKeys`, the text is no key file; `NoKey`, it hasn't that key; `Memory`.
-    #[tactic(auto, using(crate::proofs::KeyLemmas::keys_error, crate::proofs::KeyLemmas::memory_error, crate::proofs::KeyLemmas::is_there, crate::proofs::KeyLemmas::is_missing))]
+    /// `Keys` or `LongKeys`, the text is no key file; `NoKey`, it hasn't that key; `NotPermanent`, it has it as a temporary
+    /// one; `Memory`.
     pub fn new(alloc: Global, keys: &[u8], key: u64, seed: &[u8; 32]) -> Result<Client, Error>
         ensures is { IfOk result (λ client. Is client (fresh_client key None (word_after drawing 0 (drawn_from seed.now)))) }
         ensures ring { IfOk result (λ client. IsRingOf keys.now client.ring) }
         ensures drawn { IfOk result (λ client. client.draw ≡ draw_after drawing 1 (drawn_from seed.now)) }
         ensures nothing_waits { IfOk result (λ client. client.waiting ≡ None) }
-        ensures has_key { IfOk result (λ client. first_missing (key ∷ []) client.ring ≡ None) }
-        ensures refused { IfErr result (IsNoClient keys.now (key ∷ [])) }
+        ensures kind { IfOk result (λ client. perm_fault key client.ring ≡ None) }
+        ensures refused { IfErr result (IsNoClient keys.now (perm_fault key)) }
     {
-        let seal = seal_of(alloc, keys)?;
-        if !seal.has(key) {
-            return Err(Error::NoKey { key });
-        }
+        let seal = seal_with_perm(alloc, keys, key)?;
         let mut draw = ChaChaDraw::at(seed, 0);
         let client = OpeningClient::new(alloc, key, &mut draw)?;
         Ok(Client {
@@ -91,8 +88,8 @@ impl Client {
     ///
     /// # Errors
     ///
-    /// As of [`Client::new`]; `NoKey` names the first of the two keys that isn't there.
-    #[tactic(auto, using(crate::proofs::KeyLemmas::keys_error, crate::proofs::KeyLemmas::memory_error, crate::proofs::KeyLemmas::is_there, crate::proofs::KeyLemmas::is_missing))]
+    /// `Keys` or `LongKeys`, the text is no key file; `NoKey` or `NotTemporary`, it hasn't the temporary key, or has it as a
+    /// permanent one; `NoKey` or `NotPermanent` of the permanent one, where the other is good; `Memory`.
     pub fn new_temp(
         alloc: Global,
         keys: &[u8],
@@ -105,16 +102,10 @@ impl Client {
         ensures ring { IfOk result (λ client. IsRingOf keys.now client.ring) }
         ensures drawn { IfOk result (λ client. client.draw ≡ draw_after drawing 1 (drawn_from seed.now)) }
         ensures nothing_waits { IfOk result (λ client. client.waiting ≡ None) }
-        ensures has_keys { IfOk result (λ client. first_missing (temp ∷ perm ∷ []) client.ring ≡ None) }
-        ensures refused { IfErr result (IsNoClient keys.now (temp ∷ perm ∷ [])) }
+        ensures kinds { IfOk result (λ client. temp_fault temp perm client.ring ≡ None) }
+        ensures refused { IfErr result (IsNoClient keys.now (temp_fault temp perm)) }
     {
-        let seal = seal_of(alloc, keys)?;
-        if !seal.has(temp) {
-            return Err(Error::NoKey { key: temp });
-        }
-        if !seal.has(perm) {
-            return Err(Error::NoKey { key: perm });
-        }
+        let seal = seal_with_temp(alloc, keys, temp, perm)?;
         let mut draw = ChaChaDraw::at(seed, 0);
         let client = OpeningClient::new_temp(alloc, temp, perm, expires, &mut draw)?;
         Ok(Client {

@@ -31,6 +31,18 @@ pub enum Error {
         /// Its identifier.
         key: u64,
     },
+    /// The key has to be permanent, and isn't.
+    #[error("the key {key:016x} isn't permanent")]
+    NotPermanent {
+        /// Its identifier.
+        key: u64,
+    },
+    /// The key has to be temporary, and isn't.
+    #[error("the key {key:016x} isn't temporary")]
+    NotTemporary {
+        /// Its identifier.
+        key: u64,
+    },
     /// The call isn't taken: why.
     #[error("{0}")]
     Submit(SubmitFault),

@@ -1,31 +1,30 @@
 //! A server.
 
-ghost use Rattle.std.specs.Prelude.{◌≡◌, ◌<◌, ◌≤◌, ◌↔◌, ◌∷◌, ℕ, List, None, Some, Ok, [], Err, IfErr, IfOk, IfSome, IsTrue, MatchOption, OnErr, OnOk, false, is_some, max, option_map, true};
+ghost use Rattle.std.specs.Prelude.{◌≡◌, ◌<◌, ◌≤◌, ◌↔◌, ◌∷◌, ℕ, List, None, Some, Ok, [], Err, IfErr, IfOk, IfSome, IsTrue, MatchOption, OnErr, OnOk, is_some, max, true};
 ghost use Rattle.auth_keys.specs.KeyFile.{IsRingOf};
 ghost use Rattle.envelope.specs.declared.parts.Dir.TheVariants.{Up};
 ghost use Rattle.envelope.specs.declared.parts.Envelope.{Envelope as Sealed};
 ghost use Rattle.envelope.specs.Lock.{mt_lock};
 ghost use Rattle.envelope.specs.Opening.{Opens};
 ghost use Rattle.msg_ids.specs.Moments.{latest_moment};
-ghost use Rattle.server_core.specs.Desks.{IsBetweenEvents};
+ghost use Rattle.server_core.specs.Desks.{request_at};
 ghost use Rattle.server_core.specs.Packets.{brought_in};
-ghost use Rattle.server_core.specs.Server.{Stands};
 ghost use Rattle.server_dispatch.specs.Rings.{AreOf};
 ghost use Rattle.server_output.specs.declared.outs.Out.{Out as Going};
-ghost use Rattle.server_rules.specs.Answer.{after_attach, after_packet, after_restart, after_tick, after_work};
+ghost use Rattle.server_rules.specs.Answer.{after_attach, after_packet, after_restart, after_tick};
 ghost use Rattle.server_rules.specs.Server.{Server as Rules, fresh_server};
 ghost use Rattle.server_session.specs.Says.{Keys, setting_of};
-ghost use Rattle.waits.specs.Jobs.{ready_count, ready_job};
+ghost use Rattle.waits.specs.Jobs.{ready_count};
 ghost use Rattle.kifzaro.specs.Clients.{TellsTaken};
 ghost use Rattle.kifzaro.specs.Drawing.{drawing, drawn_from};
 ghost use Rattle.kifzaro.specs.Errors.{IsKeysError};
 ghost use Rattle.kifzaro.specs.Queues.{IsFirst};
 ghost use Rattle.kifzaro.specs.Rooms.{TellsRoom};
-ghost use Rattle.kifzaro.specs.Servers.{Did, Is, Leaves, StaysAt, TellsAnswered, TellsEvent, TellsHeard, answering};
+ghost use Rattle.kifzaro.specs.Servers.{Did, Is, Leaves, StaysAt, TellsAnswered, TellsEvent, TellsHeard, after_reply};
 ghost use Rattle.kifzaro.specs.declared.error.Error.TheVariants as errors;
 
 use crate::error::Error;
-use crate::given::{Given, Listening, is_reply};
+use crate::given::{Given, is_reply};
 use crate::names::SessionName;
 use crate::queue::Queue;
 use crate::rings::seal_of;
@@ -58,7 +57,8 @@ pub struct Server {
 }
 
 impl Model for Server {
-    ghost use Rattle.std.specs.Prelude.{◌<◌, IfSome};
+    ghost use Rattle.std.specs.Prelude.{◌≡◌, ◌<◌, IfSome, Some};
+    ghost use Rattle.server_core.specs.Desks.{request_at};
     ghost use Rattle.waits.specs.Jobs.{ready_count};
     ghost use Rattle.kifzaro.specs.Queues.{all_in};
     ghost use Rattle.kifzaro.specs.Servers.{Kept};
@@ -67,8 +67,8 @@ impl Model for Server {
 
     ghost view = { λ server. record { server = server.server; draw = server.draw; waiting = all_in server.queue; asked = server.asked } };
 
-    // A job is ready while a request waits for its answer.
-    ghost invariant = { λ server. IfSome server.asked (λ _. 0 < ready_count server.server.jobs) };
+    // A request that waits for its answer is that of the first ready job.
+    ghost invariant = { λ server. IfSome server.asked (λ asked. (0 < ready_count server.server.jobs) × (request_at 0 server.server.jobs ≡ Some asked)) };
 }
 
 impl Server {
@@ -239,8 +239,7 @@ impl Server {
     }
 
     /// Hands out the next ready request, that of the job which was accepted first: [`Server::request`] lends its bytes. Whether
-    /// there is one. Until [`Server::answer`] gives its reply, the server is busy. That it is the request of that job is shown by
-    /// the answer, which is taken for no other.
+    /// there is one. Until [`Server::answer`] gives its reply, the server is busy.
     ///
     /// # Errors
     ///
@@ -250,28 +249,25 @@ impl Server {
         ensures busy { is_some self.old.asked ≡ true → result ≡ Err errors.Busy }
         ensures there { IfOk result (λ there. there ≡ is_some self.new.asked) }
         ensures ready { (server : Rules) → Is self.old server → IfOk result (λ there. IsTrue there ↔ (0 < ready_count server.jobs)) }
-        ensures lends { (server : Rules) → Is self.old server → self.new ≡ record self.old { asked = self.new.asked } }
-        ensures unchanged { (server : Rules) → Is self.old server → OnErr result (self.new ≡ self.old) }
+        ensures first { (server : Rules) → Is self.old server → OnOk result (self.new.asked ≡ request_at 0 server.jobs) }
+        ensures lends { OnOk result (self.new ≡ record self.old { asked = request_at 0 self.old.server.jobs }) }
+        ensures unchanged { OnErr result (self.new ≡ self.old) }
         ensures same_ring { self.new.server.seal ≡ self.old.server.seal }
     {
         if self.is_busy() {
             return Err(Error::Busy);
         }
-        if self.server.ready() == 0 {
+        let Some(request) = self.server.ready_request(0) else {
             return Ok(false);
-        }
-        match listen(&mut self.server, alloc) {
-            Some(request) => {
-                self.asked = Some(request);
-                Ok(true)
-            }
-            None => Err(Error::Memory),
-        }
+        };
+        self.asked = Some(Octets::copy(alloc, request)?);
+        Ok(true)
     }
 
-    /// The request that was handed out and waits for its answer, if there is one.
+    /// The request that was handed out and waits for its answer, if there is one: that of the first ready job.
     pub fn request(&self) -> Option<&[u8]>
-        ensures { MatchOption result (self.now.asked ≡ None) (λ request. self.now.asked ≡ Some request.now) }
+        ensures asked { MatchOption result (self.now.asked ≡ None) (λ request. self.now.asked ≡ Some request.now) }
+        ensures first { (server : Rules) → Is self.now server → IfSome result (λ request. request_at 0 server.jobs ≡ Some request.now) }
     {
         match &self.asked {
             Some(request) => Some(request.as_slice()),
@@ -288,26 +284,24 @@ impl Server {
     /// words may have been drawn.
     pub fn answer(&mut self, alloc: Global, now: Moment, reply: &[u8]) -> Result<(), Error>
         ensures told { TellsAnswered self.old.asked reply.now result }
-        ensures given { (keys : Keys) (server : Rules) (asked : List ℕ) → Is self.old server → self.old.asked ≡ Some asked
-            → OnOk result (Did self.old self.new (after_work (setting_of (max self.old.server.moment now) drawing keys) 0 answering
-            (record { asked = asked; reply = reply.now; strayed = false }) server self.old.draw).0) }
-        ensures own { (server : Rules) → Is self.old server → OnOk result (option_map (λ job. job.request) (ready_job 0 server.jobs) ≡ self.old.asked) }
+        ensures given { (keys : Keys) (server : Rules) → Is self.old server
+            → OnOk result (Did self.old self.new (after_reply (setting_of (max self.old.server.moment now) drawing keys) reply.now server self.old.draw)) }
+        ensures own { (server : Rules) → Is self.old server → OnOk result (request_at 0 server.jobs ≡ self.old.asked) }
         ensures leaves { Leaves now self.old self.new result }
         ensures stays { (server : Rules) → Is self.old server → OnErr result (Is self.new server) }
         ensures same_ring { self.new.server.seal ≡ self.old.server.seal }
     {
         runs_keep_order::<ChaChaDraw, Given>();
         is_early(now);
-        let Some(asked) = &self.asked else {
+        if self.asked.is_none() {
             return Err(Error::NotAsked);
-        };
+        }
         if !is_reply(reply) {
             return Err(Error::BadReply { len: reply.len() });
         }
-        let mut given = Given::new(alloc, asked.as_slice(), reply)?;
+        let mut given = Given::new(alloc, reply)?;
         self.queue.make_room()?;
         let effects = self.server.work(alloc, 0, &mut given, now, &mut self.draw)?;
-        given.has_not_strayed();
         self.asked = None;
         self.queue.put(effects.out);
         Ok(())
@@ -374,22 +368,4 @@ fn is_early(now: Moment)
     ensures { now ≤ latest_moment }
 {
     let _ = now.seconds();
-}
-
-// The request of the first ready job, where there is memory for it. Nothing runs.
-fn listen(server: &mut Core<MtSeal>, alloc: Global) -> Option<Octets>
-    requires ready { 0 < ready_count server.old.jobs }
-    ensures same { (rules : Rules) → Stands server.old rules → IsBetweenEvents rules → server.new ≡ server.old }
-    ensures heard { IfSome result (λ _. server.new ≡ server.old) }
-    ensures same_seal { server.new.seal ≡ server.old.seal }
-{
-    let mut draw = ChaChaDraw::at(&[0; 32], 0);
-    let mut listening = Listening::new();
-    match server.work(alloc, 0, &mut listening, Moment::new(0), &mut draw) {
-        Ok(_) => {
-            listening.has_run_nothing();
-            None
-        }
-        Err(Memory) => listening.into_heard(),
-    }
 }

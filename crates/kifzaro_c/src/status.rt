@@ -55,7 +55,7 @@ pub(crate) fn of(error: Error) -> u32 {
     match error {
         Error::Memory => MEMORY,
         Error::Keys(_) | Error::LongKeys { .. } => BAD_KEYS,
-        Error::NoKey { .. } => NO_KEY,
+        Error::NoKey { .. } | Error::NotPermanent { .. } | Error::NotTemporary { .. } => NO_KEY,
         Error::Submit(fault) => of_submit(fault),
         Error::Ended => ENDED,
         Error::NotOpen => NOT_OPEN,

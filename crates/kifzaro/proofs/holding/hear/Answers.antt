@@ -1,13 +1,10 @@
-use Rattle.std.proofs.Common.{◌≡◌, ◌∙◌, ℕ, max, List, ap, sym, subst}
-use Rattle.std.specs.Prelude.{Result, Ok, Err}
-use Rattle.client_core.specs.declared.holder.Holder.{Holder}
-use Rattle.client_rules.specs.Client.{Client, at_moment}
-use Rattle.client_rules.specs.Taking.{take}
+use Rattle.std.proofs.Common.{◌≡◌, ◌∙◌, ℕ, max, ap, sym, subst}
+use Rattle.std.specs.Prelude.{Result, Ok}
+use Rattle.client_rules.specs.Client.{at_moment}
 use Rattle.envelope.specs.declared.parts.Dir.TheVariants.{Down}
-use Rattle.envelope.specs.Opening.{IsRefused, Opens}
-use Rattle.kifzaro.specs.Clients.{Comes, TellsHeard}
+use Rattle.envelope.specs.Opening.{IsRefused}
+use Rattle.kifzaro.specs.Clients.{TellsHeard}
 use Rattle.kifzaro.specs.declared.error.Error.{Error}
-use Rattle.kifzaro.specs.declared.error.Error.TheVariants as errors
 use Rattle.kifzaro.proofs.HearingLemmas.{heard_opens, heard_refused, left_refused}
 use Rattle.kifzaro.proofs.holding.hear.Goals as goal
 

@@ -1,4 +1,3 @@
-use Rattle.std.proofs.Common.{ℕ}
 use Rattle.client_core.specs.Holding.{kept_of}
 use Rattle.client_core.specs.Kept.{Stands}
 use Rattle.client_rules.specs.Client.{Client, calls_of}
