@@ -5,3 +5,4 @@ mod OneRing
 mod QuietAttach
 mod QuietEnd
 mod QuietTick
+mod Rooms

@@ -56,3 +56,15 @@ pub fn keys_are_asked_by_packets_alone<D: Draw, V>()
 pub fn rings_say_one_thing()
     ensures { (ring : List RingKey) (keys other : Keys) → AreOf ring keys → AreOf ring other → keys ≡ other }
 {}
+
+/// What an event leaves: each session has room for another event.
+pub fn events_leave_room<D: Draw, V>()
+    ensures packet { (setting : Setting D) (envelope : Envelope) (server : Server) (draw : D)
+        → All (λ session. is_spent session ≡ false) (after_packet setting envelope server draw).server.sessions }
+    ensures tick { (setting : Setting D) (server : Server) (draw : D)
+        → All (λ session. is_spent session ≡ false) (after_tick setting server draw).server.sessions }
+    ensures attach { (setting : Setting D) (name : Name) (server : Server) (draw : D)
+        → All (λ session. is_spent session ≡ false) (after_attach setting name server draw).server.sessions }
+    ensures work { (setting : Setting D) (place : ℕ) (serve : Step V) (service : V) (server : Server) (draw : D)
+        → All (λ session. is_spent session ≡ false) (after_work setting place serve service server draw).0.server.sessions }
+{}
