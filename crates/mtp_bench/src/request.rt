@@ -15,6 +15,8 @@ pub struct Asked {
 pub enum Request {
     Help,
     Version,
+    /// What the lines of standard input ask for.
+    Each,
     Work(Asked),
 }
 
@@ -24,6 +26,7 @@ pub fn read(words: &[String]) -> Option<Request> {
         [word] => match word.as_str() {
             "--help" => Some(Request::Help),
             "--version" => Some(Request::Version),
+            "--each" => Some(Request::Each),
             _ => None,
         },
         [word, bytes, times] => {
