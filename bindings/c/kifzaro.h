@@ -25,7 +25,9 @@
  *
  * Handles. A client or a server is a kf_client or a kf_server of the caller's, all zero at first (KF_INIT). kf_client_new and
  * kf_server_new make it a handle, kf_client_free and kf_server_free give back all that it has and make it all zero again. It isn't
- * copied, and one thread at a time calls with it. Different handles have nothing to do with one another: each may have a thread.
+ * copied; of a process that forks, one side alone goes on with it, since both would draw the same numbers. One thread at a time calls with
+ * it, and what hands it from thread to thread orders their calls, as a lock does. Different handles have nothing to do with one another:
+ * each may have a thread. No function is called from a signal handler, or in the child of a process with threads that forked.
  *
  * Bytes. Those that go in are read within the call and stay the caller's. Those that come out go into `room` of the caller's, which
  * has room_len bytes: *len becomes how many were put there. By KF_TOO_SHORT it becomes how many are needed, the room is as it was, and
@@ -125,22 +127,24 @@ kf_status kf_client_handle_packet(kf_client *client, uint64_t now, const uint8_t
  * is none. KF_TOO_SHORT: *len becomes what it needs, and it waits. KF_SPENT: only the moment counts. */
 kf_status kf_client_poll_transmit(kf_client *client, uint64_t now, uint8_t *room, size_t room_len, size_t *len);
 
-/* It goes on in another session: of calls that are sent it isn't known what became. KF_NOT_OPEN. */
+/* It goes on in another session: of calls that are sent it isn't known what became. A packet that waits is still handed out.
+ * KF_NOT_OPEN. */
 kf_status kf_client_renew(kf_client *client);
 
-/* It ends: of calls that are sent it isn't known what became, and others that aren't decided are refused with code 0. KF_NOT_OPEN. */
+/* It ends: of calls that are sent it isn't known what became, and others that aren't decided are refused with code 0. A packet that waits
+ * is still handed out. KF_NOT_OPEN. */
 kf_status kf_client_end(kf_client *client);
 
 /* The server is to be asked how the calls that are sent fared. KF_NOT_OPEN. */
 kf_status kf_client_tick(kf_client *client);
 
-/* The server is to answer a ping of this number. KF_NOT_OPEN. */
+/* The server is to answer a ping of this number, in the place of a ping that still waits. KF_NOT_OPEN. */
 kf_status kf_client_ping(kf_client *client, uint64_t id);
 
-/* The server is to tell so many of its next salts. KF_NOT_OPEN. */
+/* The server is to tell so many of its next salts, in the place of such a wish that still waits. KF_NOT_OPEN. */
 kf_status kf_client_ask_salts(kf_client *client, uint32_t count);
 
-/* The server is to drop the answer to a call that is sent. KF_NOT_OPEN, KF_NOT_SENT. */
+/* The server is to drop the answer to a call that is sent. KF_NOT_OPEN; KF_NOT_SENT, also where there is no such call. */
 kf_status kf_client_drop_answer(kf_client *client, uint64_t call);
 
 /* What became of a call: *state becomes a kf_call_state, and *code its code or 0. KF_NO_CALL. */

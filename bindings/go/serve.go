@@ -15,6 +15,31 @@ func Must[T any](value T, err error) T {
 	return value
 }
 
+// Call submits a call with each of these bodies, has Run decide them over a new connection, and gives their replies in order. A body and a
+// reply are bytes, which a string holds.
+func (c *Client) Call(stream io.ReadWriter, bodies ...string) ([]string, error) {
+	var calls []uint64
+	for _, body := range bodies {
+		call, err := c.Submit([]byte(body), 0)
+		if err != nil {
+			return nil, err
+		}
+		calls = append(calls, call)
+	}
+	if err := c.Run(stream); err != nil {
+		return nil, err
+	}
+	var replies []string
+	for _, call := range calls {
+		reply, err := c.TakeReply(call)
+		if err != nil {
+			return nil, err
+		}
+		replies = append(replies, string(reply))
+	}
+	return replies, nil
+}
+
 // Run brings the client's packets over a new connection, of the intermediate form, and the server's back, until each call is decided.
 func (c *Client) Run(stream io.ReadWriter) error {
 	wire, err := ClientWire(stream)
@@ -55,7 +80,7 @@ type desk struct {
 }
 
 // Serve accepts connections of the intermediate form until the listener fails, and has all of them served by one server: each call is
-// answered by `answer`, one after the other. Packets that don't open are logged.
+// answered by answer, one after the other. Packets that don't open are logged. Nothing else calls with the server meanwhile.
 func Serve(listener net.Listener, server *Server, answer func(request []byte) []byte) error {
 	desk := &desk{server: server, answer: answer, ends: map[SessionName]*Wire{}}
 	for {

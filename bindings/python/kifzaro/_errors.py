@@ -33,20 +33,38 @@ class NotOpen(KifzaroError):
     """The client has learnt nothing of its session, or has ended."""
 
 
+class NotSent(KifzaroError):
+    """The call isn't sent."""
+
+
 class NoReply(KifzaroError):
     """The call has no reply, or not yet."""
+
+
+class TooMany(KifzaroError):
+    """The client has 65,536 calls."""
+
+
+class Spent(KifzaroError):
+    """There may be too few numbers left in this session: ``renew`` goes on in another one."""
 
 
 class Busy(KifzaroError):
     """A request that was handed out waits for its answer."""
 
 
+class NotAsked(KifzaroError):
+    """No request was handed out."""
+
+
 class Refused(KifzaroError):
     """The packet doesn't open. Only the moment has changed."""
 
 
-_BY_STATUS = {1: OutOfMemory, 3: Closed, 5: Unfit, 6: Unfit, 7: Unfit, 8: Unfit, 9: Unfit, 11: Ended, 12: NotOpen, 14: NoReply,
-              16: Busy, 18: Unfit, **{status: Refused for status in range(19, 24)}}
+_BY_STATUS = {
+    1: OutOfMemory, 3: Closed, 5: Unfit, 6: Unfit, 7: Unfit, 8: Unfit, 9: Unfit, 10: TooMany, 11: Ended, 12: NotOpen, 13: NotSent,
+    14: NoReply, 15: Spent, 16: Busy, 17: NotAsked, 18: Unfit, **{status: Refused for status in range(19, 24)},
+}
 
 
 def error_of(status: int, text: str) -> KifzaroError:

@@ -5,6 +5,7 @@ import re
 import subprocess
 import sys
 import tempfile
+import threading
 import unittest
 import zipfile
 
@@ -12,7 +13,7 @@ PACKAGE = pathlib.Path(__file__).parent.parent
 sys.path.insert(0, str(PACKAGE))
 
 import packing
-from kifzaro import Busy, Client, Closed, KifzaroError, NoReply, NotOpen, Refused, Server, State, Wire, build, key_id, version
+from kifzaro import Busy, Client, Closed, KifzaroError, NoReply, NotAsked, NotOpen, Refused, Server, State, Wire, build, key_id, version
 
 KEY = bytes(range(256))
 KEYS = "perm " + KEY.hex()
@@ -134,8 +135,26 @@ class Refusals(unittest.TestCase):
             server.answer(b"odd", NOW)
         server.answer(b"5678", NOW)
         self.assertIsNone(server.next_request())
-        with self.assertRaises(KifzaroError):
+        with self.assertRaises(NotAsked):
             server.answer(b"5678", NOW)
+
+    def test_numbers_that_do_not_fit(self):
+        client, server = ends()
+        call = client.submit(memoryview(b"even"))
+        for unfit in (lambda: client.state(call + 2**64), lambda: client.poll_transmit(-1), lambda: server.tick(2**64), lambda: client.ask_salts(2**32),
+                      lambda: server.attach((1, -1), NOW), lambda: Client(KEYS, -1), lambda: Client(KEYS, "32d1586ea457dfc "), lambda: client.submit(b"even", -1)):
+            self.assertRaises(ValueError, unfit)
+        self.assertRaises(TypeError, server.tick, 1.5)
+        self.assertRaises(TypeError, client.submit, "text")
+
+    def test_threads_wait_for_one_another(self):
+        client, calls = Client(KEYS, key_id(KEY)), []
+        threads = [threading.Thread(target=lambda: calls.extend(client.submit(b"even") for _ in range(200))) for _ in range(4)]
+        for each in threads:
+            each.start()
+        for each in threads:
+            each.join()
+        self.assertEqual(sorted(calls), list(range(1, 801)))
 
 
 class Framing(unittest.TestCase):

@@ -8,7 +8,7 @@ fn serve(shared: &Shared, stream: &Arc<TcpStream>) -> Result<(), Box<dyn std::er
         let (server, ends) = &mut *shared.lock().map_err(|_| "another thread failed")?;
         match server.handle_packet(now(), &packet) {
             Ok(name) => if !ends.insert(name, stream.clone()).is_some_and(|before| Arc::ptr_eq(&before, stream)) { server.attach(name, now())? },
-            Err(Error::Refused(why)) => eprintln!("{why:?}"),
+            Err(Error::Refused(why)) => eprintln!("{why}"),
             Err(why) => return Err(why.into()),
         }
         server.tick(now())?;

@@ -1,6 +1,7 @@
 //! Both ends of MTProto 2.0 sessions: a client and a server without sockets and clocks. Packets come in by `handle_packet` and go out by
 //! `poll_transmit`. A moment `now` is Unix time in seconds. A method that answers an error leaves its object as if it hadn't been called,
-//! unless it says otherwise.
+//! unless it says otherwise; `Error::Memory` may come of each and isn't named again. A process that forks goes on with an object on one
+//! side alone, since both would draw the same numbers.
 
 #![warn(missing_docs)]
 
@@ -12,7 +13,7 @@ pub use error::{Error, Refusal};
 use error::{must, TOO_SHORT};
 pub use framing::Wire;
 use raw::Handle;
-use std::{ffi::CStr, fs::File, io, io::Read, time::SystemTime};
+use std::{ffi::CStr, fmt, fs::File, io, io::Read, time::SystemTime};
 
 /// The library's version.
 pub fn version() -> String {
@@ -26,12 +27,16 @@ pub fn build() -> String {
     unsafe { CStr::from_ptr(raw::kf_build()) }.to_string_lossy().into_owned()
 }
 
-/// The present moment.
+/// The present moment, in seconds.
 pub fn now() -> u64 {
     SystemTime::UNIX_EPOCH.elapsed().map_or(0, |since| since.as_secs())
 }
 
 /// A seed from the system's random source.
+///
+/// # Errors
+///
+/// Those of reading it.
 pub fn seed() -> io::Result<[u8; 32]> {
     let mut seed = [0; 32];
     File::open("/dev/urandom")?.read_exact(&mut seed)?;
@@ -98,6 +103,10 @@ unsafe impl Send for Client {}
 
 impl Client {
     /// A client under the permanent key with this identifier, which the text of a key file has. The seed is to be random, and used once.
+    ///
+    /// # Errors
+    ///
+    /// `BadKeys`, `NoKey`.
     pub fn new(keys: &[u8], key: u64, seed: &[u8; 32]) -> Result<Client, Error> {
         let mut client = Client(Handle::INIT);
         must(unsafe { raw::kf_client_new(&mut client.0, keys.as_ptr(), keys.len(), key, seed.as_ptr()) })?;
@@ -105,6 +114,10 @@ impl Client {
     }
 
     /// A client under a temporary key, which the server is to bind to the key `perm` up to the moment `expires`.
+    ///
+    /// # Errors
+    ///
+    /// `BadKeys`, `NoKey`, where the text hasn't both.
     pub fn new_temp(keys: &[u8], temp: u64, perm: u64, expires: u64, seed: &[u8; 32]) -> Result<Client, Error> {
         let mut client = Client(Handle::INIT);
         must(unsafe { raw::kf_client_new_temp(&mut client.0, keys.as_ptr(), keys.len(), temp, perm, expires, seed.as_ptr()) })?;
@@ -112,6 +125,10 @@ impl Client {
     }
 
     /// Submits a call, whole words of 4 bytes, that is to execute after an earlier one if one is given.
+    ///
+    /// # Errors
+    ///
+    /// `Ended`, `BadBody`, `NoCall`, `TooManyCalls`.
     pub fn submit(&mut self, body: &[u8], after: Option<CallId>) -> Result<CallId, Error> {
         let mut call = 0;
         must(unsafe { raw::kf_client_submit(&mut self.0, body.as_ptr(), body.len(), after.map_or(0, |it| it.0), &mut call) })?;
@@ -119,52 +136,92 @@ impl Client {
     }
 
     /// A connection was opened after an earlier one: what was sent and isn't answered is sent again.
+    ///
+    /// # Errors
+    ///
+    /// `Ended`.
     pub fn attach(&mut self) -> Result<(), Error> {
         must(unsafe { raw::kf_client_attach(&mut self.0) })
     }
 
-    /// A packet came. Of one that doesn't open (`Error::Refused`), isn't of this session or isn't lawful only the moment counts.
+    /// A packet came. Of one that doesn't open, isn't of this session or isn't lawful only the moment counts.
+    ///
+    /// # Errors
+    ///
+    /// `Refused`, why it doesn't open.
     pub fn handle_packet(&mut self, now: u64, packet: &[u8]) -> Result<(), Error> {
         must(unsafe { raw::kf_client_handle_packet(&mut self.0, now, packet.as_ptr(), packet.len()) })
     }
 
     /// The packet that is to be sent next, if there is one. Each is handed out once.
+    ///
+    /// # Errors
+    ///
+    /// `Spent`, and only the moment counts.
     pub fn poll_transmit(&mut self, now: u64) -> Result<Option<Vec<u8>>, Error> {
         let packet = bytes_of(|room, count, len| unsafe { raw::kf_client_poll_transmit(&mut self.0, now, room, count, len) })?;
         Ok(Some(packet).filter(|it| !it.is_empty()))
     }
 
-    /// Goes on in another session.
+    /// Goes on in another session: of calls that are sent it isn't known what became.
+    ///
+    /// # Errors
+    ///
+    /// `NotOpen`.
     pub fn renew(&mut self) -> Result<(), Error> {
         must(unsafe { raw::kf_client_renew(&mut self.0) })
     }
 
-    /// Ends.
+    /// Ends: of calls that are sent it isn't known what became, and others that aren't decided are refused with code 0.
+    ///
+    /// # Errors
+    ///
+    /// `NotOpen`.
     pub fn end(&mut self) -> Result<(), Error> {
         must(unsafe { raw::kf_client_end(&mut self.0) })
     }
 
     /// Has the server asked how the calls that are sent fared.
+    ///
+    /// # Errors
+    ///
+    /// `NotOpen`.
     pub fn tick(&mut self) -> Result<(), Error> {
         must(unsafe { raw::kf_client_tick(&mut self.0) })
     }
 
     /// Has the server answer a ping.
+    ///
+    /// # Errors
+    ///
+    /// `NotOpen`.
     pub fn ping(&mut self, id: u64) -> Result<(), Error> {
         must(unsafe { raw::kf_client_ping(&mut self.0, id) })
     }
 
     /// Has the server tell so many of its next salts.
+    ///
+    /// # Errors
+    ///
+    /// `NotOpen`.
     pub fn ask_salts(&mut self, count: u32) -> Result<(), Error> {
         must(unsafe { raw::kf_client_ask_salts(&mut self.0, count) })
     }
 
     /// Has the server drop the answer to a call.
+    ///
+    /// # Errors
+    ///
+    /// `NotOpen`, `NotSent`.
     pub fn drop_answer(&mut self, call: CallId) -> Result<(), Error> {
         must(unsafe { raw::kf_client_drop_answer(&mut self.0, call.0) })
     }
 
     /// What became of a call.
+    ///
+    /// # Errors
+    ///
+    /// `NoCall`.
     pub fn state(&mut self, call: CallId) -> Result<State, Error> {
         let (mut state, mut code) = (0, 0);
         must(unsafe { raw::kf_client_state(&mut self.0, call.0, &mut state, &mut code) })?;
@@ -179,22 +236,40 @@ impl Client {
     }
 
     /// The reply to a call. The client keeps it.
+    ///
+    /// # Errors
+    ///
+    /// `NoCall`, `NoReply`.
     pub fn take_reply(&mut self, call: CallId) -> Result<Vec<u8>, Error> {
         bytes_of(|room, count, len| unsafe { raw::kf_client_take_reply(&mut self.0, call.0, room, count, len) })
     }
 
     /// Whether each call is done, refused or unknown.
+    ///
+    /// # Errors
+    ///
+    /// None but `Memory`.
     pub fn calls_decided(&mut self) -> Result<bool, Error> {
         let mut decided = 0;
         must(unsafe { raw::kf_client_calls_decided(&mut self.0, &mut decided) })?;
         Ok(decided != 0)
     }
 
-    /// The number of its session.
+    /// The number of its session; once it ended, of its last one.
+    ///
+    /// # Errors
+    ///
+    /// None but `Memory`.
     pub fn session(&mut self) -> Result<u64, Error> {
         let mut session = 0;
         must(unsafe { raw::kf_client_session(&mut self.0, &mut session) })?;
         Ok(session)
+    }
+}
+
+impl fmt::Debug for Client {
+    fn fmt(&self, f: &mut fmt::Formatter<'_>) -> fmt::Result {
+        f.write_str("Client { .. }")
     }
 }
 
@@ -207,18 +282,32 @@ impl Drop for Client {
 /// A server, whose calls are answered from outside.
 pub struct Server(Handle);
 
+// As of a client.
 unsafe impl Send for Server {}
+
+impl fmt::Debug for Server {
+    fn fmt(&self, f: &mut fmt::Formatter<'_>) -> fmt::Result {
+        f.write_str("Server { .. }")
+    }
+}
 
 impl Server {
     /// A server with the keys of the text of a key file. The seed is to be random, and used once.
+    ///
+    /// # Errors
+    ///
+    /// `BadKeys`.
     pub fn new(keys: &[u8], seed: &[u8; 32]) -> Result<Server, Error> {
         let mut server = Server(Handle::INIT);
         must(unsafe { raw::kf_server_new(&mut server.0, keys.as_ptr(), keys.len(), seed.as_ptr()) })?;
         Ok(server)
     }
 
-    /// A packet came: the name of its session, whose packets go where this one came from. Of one that doesn't open (`Error::Refused`) only
-    /// the moment counts. `Error::Busy` while a request waits for its answer, as of `tick`, `attach` and `restart`.
+    /// A packet came: the name of its session, whose packets go where this one came from.
+    ///
+    /// # Errors
+    ///
+    /// `Busy`, a request waits for its answer; `Refused`, why the packet doesn't open, and only the moment counts.
     pub fn handle_packet(&mut self, now: u64, packet: &[u8]) -> Result<SessionName, Error> {
         let mut name = SessionName { key: 0, session: 0 };
         must(unsafe { raw::kf_server_handle_packet(&mut self.0, now, packet.as_ptr(), packet.len(), &mut name.key, &mut name.session) })?;
@@ -226,21 +315,37 @@ impl Server {
     }
 
     /// Time passed: calls that have waited too long for others are answered.
+    ///
+    /// # Errors
+    ///
+    /// `Busy`.
     pub fn tick(&mut self, now: u64) -> Result<(), Error> {
         must(unsafe { raw::kf_server_tick(&mut self.0, now) })
     }
 
     /// A packet came for a session, the first one over this connection: what the server keeps for it is said again.
+    ///
+    /// # Errors
+    ///
+    /// `Busy`.
     pub fn attach(&mut self, name: SessionName, now: u64) -> Result<(), Error> {
         must(unsafe { raw::kf_server_attach(&mut self.0, name.key, name.session, now) })
     }
 
-    /// Starts again, with no session left.
+    /// Starts again, with no session left. Packets that wait are still handed out.
+    ///
+    /// # Errors
+    ///
+    /// `Busy`.
     pub fn restart(&mut self) -> Result<(), Error> {
         must(unsafe { raw::kf_server_restart(&mut self.0) })
     }
 
     /// How many requests are ready.
+    ///
+    /// # Errors
+    ///
+    /// None but `Memory`.
     pub fn ready(&mut self) -> Result<u64, Error> {
         let mut ready = 0;
         must(unsafe { raw::kf_server_ready(&mut self.0, &mut ready) })?;
@@ -248,6 +353,10 @@ impl Server {
     }
 
     /// The next ready request, if there is one. Until it is answered the server takes nothing else, and this gives it again.
+    ///
+    /// # Errors
+    ///
+    /// None but `Memory`.
     pub fn next_request(&mut self) -> Result<Option<Vec<u8>>, Error> {
         let mut there = 0;
         let request = bytes_of(|room, count, len| unsafe { raw::kf_server_next_request(&mut self.0, &mut there, room, count, len) })?;
@@ -255,11 +364,19 @@ impl Server {
     }
 
     /// The request that was handed out has run, and this is its reply, whole words of 4 bytes.
+    ///
+    /// # Errors
+    ///
+    /// `NotAsked`; `BadReply` and `Memory`, and the request waits on.
     pub fn answer(&mut self, now: u64, reply: &[u8]) -> Result<(), Error> {
         must(unsafe { raw::kf_server_answer(&mut self.0, now, reply.as_ptr(), reply.len()) })
     }
 
     /// The packet that is to be sent next, if there is one, with the session that it is for. Each is handed out once.
+    ///
+    /// # Errors
+    ///
+    /// None but `Memory`.
     pub fn poll_transmit(&mut self) -> Result<Option<(SessionName, Vec<u8>)>, Error> {
         let mut name = SessionName { key: 0, session: 0 };
         let packet = bytes_of(|room, count, len| unsafe { raw::kf_server_poll_transmit(&mut self.0, &mut name.key, &mut name.session, room, count, len) })?;
