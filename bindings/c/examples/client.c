@@ -12,17 +12,17 @@ int main(int count, char **words)
     struct sockaddr_in at = { .sin_family = AF_INET, .sin_addr.s_addr = htonl(INADDR_LOOPBACK) };
     must(count > 3, "client PORT KEY_FILE KEY BODY..");
     uint8_t *keys = read_file(words[2], &len);
-    must(getrandom(seed, sizeof seed, 0) == sizeof seed, "the random source");
+    must(getrandom(seed, sizeof seed, 0) == sizeof seed, "there is no random source");
     done(kf_client_new(&client, keys, len, key_id(words[3]), seed));
     for (int k = 4; k < count; k++) done(kf_client_submit(&client, (uint8_t *)words[k], strlen(words[k]), 0, &call));
     int server = socket(AF_INET, SOCK_STREAM, 0);
     at.sin_port = htons((uint16_t)atoi(words[1]));
-    must(connect(server, (struct sockaddr *)&at, sizeof at) == 0 && send_all(server, (uint8_t *)"\xee\xee\xee\xee", 4), "the connection");
+    must(connect(server, (struct sockaddr *)&at, sizeof at) == 0 && send_all(server, (uint8_t *)"\xee\xee\xee\xee", 4), "there is no server");
     for (;;) {
-        while (kf_client_poll_transmit(&client, moment(), room, sizeof room, &len) == KF_OK && len) must(send_packet(server, room, len), "sending");
+        while (kf_client_poll_transmit(&client, moment(), room, sizeof room, &len) == KF_OK && len) must(send_packet(server, room, len), "the connection has ended");
         done(kf_client_calls_decided(&client, &decided));
         if (decided) break;
-        must(receive_packet(server, room, sizeof room, &len), "receiving");
+        must(receive_packet(server, room, sizeof room, &len), "the connection has ended");
         done(kf_client_handle_packet(&client, moment(), room, len));
     }
     for (call = 1; call + 3 < (uint64_t)count; call++) {

@@ -65,13 +65,13 @@ int main(int count, char **words)
     socklen_t at_len = sizeof at;
     must(count == 3, "server PORT KEY_FILE");
     uint8_t *keys = read_file(words[2], &len);
-    must(getrandom(seed, sizeof seed, 0) == sizeof seed, "the random source");
+    must(getrandom(seed, sizeof seed, 0) == sizeof seed, "there is no random source");
     done(kf_server_new(&server, keys, len, seed));
     free(keys);
     int listening = socket(AF_INET, SOCK_STREAM, 0);
     at.sin_port = htons((uint16_t)atoi(words[1]));
-    must(bind(listening, (struct sockaddr *)&at, sizeof at) == 0 && listen(listening, 128) == 0, "listening");
-    must(getsockname(listening, (struct sockaddr *)&at, &at_len) == 0, "the port's number");
+    must(bind(listening, (struct sockaddr *)&at, sizeof at) == 0 && listen(listening, 128) == 0, "the port is taken");
+    must(getsockname(listening, (struct sockaddr *)&at, &at_len) == 0, "the port has no number");
     printf("listening %d\n", ntohs(at.sin_port));
     fflush(stdout);
     for (;;) {

@@ -9,9 +9,9 @@
 #include <time.h>
 #include <unistd.h>
 
-static void must(int holds, const char *what)
+static void must(int holds, const char *else_what)
 {
-    if (!holds) { fprintf(stderr, "%s failed\n", what); exit(1); }
+    if (!holds) { fprintf(stderr, "%s\n", else_what); exit(1); }
 }
 
 static void done(kf_status status)
@@ -26,7 +26,7 @@ static uint8_t *read_file(const char *name, size_t *len)
 {
     FILE *file = fopen(name, "rb");
     uint8_t *bytes = malloc(1 << 20);
-    must(file && bytes, name);
+    must(file && bytes, "the key file can't be read");
     *len = fread(bytes, 1, 1 << 20, file);
     fclose(file);
     return bytes;

@@ -6,9 +6,13 @@ would draw the same numbers. A method that gives nothing raises a :class:`Kifzar
 unless the method says otherwise.
 """
 
-from ._ends import Client, Key, Server, SessionName, State, build, key_id, version
+from ._ends import Bytes, Client, Key, Server, SessionName, State, build, key_id, version
 from ._errors import Busy, Closed, Ended, KifzaroError, NoReply, NotAsked, NotOpen, NotSent, OutOfMemory, Refused, Spent, TooMany, Unfit
 from .framing import Wire
 
-__all__ = ["Busy", "Closed", "Client", "Ended", "Key", "KifzaroError", "NoReply", "NotAsked", "NotOpen", "NotSent", "OutOfMemory", "Refused",
+__all__ = ["Busy", "Bytes", "Closed", "Client", "Ended", "Key", "KifzaroError", "NoReply", "NotAsked", "NotOpen", "NotSent", "OutOfMemory", "Refused",
            "Server", "SessionName", "Spent", "State", "TooMany", "Unfit", "Wire", "build", "key_id", "version"]
+
+for _each in (Busy, Client, Closed, Ended, KifzaroError, NoReply, NotAsked, NotOpen, NotSent, OutOfMemory, Refused, Server, SessionName, Spent,
+              State, TooMany, Unfit, Wire):
+    _each.__module__ = __name__
