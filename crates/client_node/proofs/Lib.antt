@@ -1,5 +1,6 @@
 pub mod AllFlowing
 pub mod Connecting
+pub mod Counting
 pub mod Conversing
 pub mod Flowing
 pub mod HearingSteps

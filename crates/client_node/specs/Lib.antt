@@ -1,4 +1,5 @@
 pub mod Connects
+pub mod Counts
 pub mod Course
 pub mod Ends
 pub mod Flow

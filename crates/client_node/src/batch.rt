@@ -1,9 +1,10 @@
 //! A batch of calls.
 
-ghost use Rattle.std.specs.Prelude.{◌≡◌, ◌≢◌, ◌≤◌, IfSome, IsSome, IsSomeAnd, false, length, true};
+ghost use Rattle.std.specs.Prelude.{◌≡◌, ◌≢◌, ◌<◌, ◌≤◌, IfSome, IsSome, IsSomeAnd, false, length, true};
 ghost use Rattle.transport.specs.declared.form.Form.TheVariants as forms;
 ghost use Rattle.client_rules.specs.Client.{Client};
 ghost use Rattle.client_node.specs.Connects.{Connects, Uses};
+ghost use Rattle.client_node.specs.Counts.{Counted};
 ghost use Rattle.client_node.specs.Course.{Course, Reading, is_decided};
 ghost use Rattle.client_node.specs.Standing.{AllDecided, HasKeys, IsReading, LeavesUndecided, StandsAs, StandsFor, count_of};
 ghost use Rattle.client_node.specs.Talks.{piece_bytes, rules_of};
@@ -43,6 +44,8 @@ fn connect_all<N: Net, S: Seal, C: Clock, D: Draw>(
     ensures decided { result.1 ≡ Batch.Decided → AllDecided result.0 }
     ensures connects { IfSome (N.calls net.new) (λ after. IsSomeAnd (N.calls net.old) (λ before. Connects plan.now result.1 before after)) }
     ensures goes_on { IsSome (N.calls net.old) → N.faults net.old ≡ 0 → N.faults net.new ≤ 1 → IsSome (N.calls net.new) }
+    ensures still_tells { IsSome (N.calls net.old) → plan.now.retries < N.room net.old → IsSome (N.calls net.new) }
+    ensures faults { IfSome (N.calls net.new) (λ after. IsSomeAnd (N.calls net.old) (λ before. Counted before after (N.faults net.old) (N.faults net.new))) }
     ensures trace { (course : Course D) (reading : Reading) → IsReading S.lock (S.keys seal.now) reading → StandsAs client draw.old course → is_decided course.client ≡ false
         → ClientTrace (rules_of D.step S.lock (S.keys seal.now) reading) plan.now course result.1 (N.calls net.old) (N.calls net.new) (C.given clock.old) (C.given clock.new) result.0 draw.new }
 {
@@ -79,6 +82,9 @@ pub fn run_batch<N: Net, S: Seal, C: Clock, D: Draw>(
         → LeavesUndecided result.1 result.0 }
     ensures uses { IfSome (N.calls net.new) (λ after. IsSomeAnd (N.calls net.old) (λ before. Uses plan.now result.1 before after)) }
     ensures goes_on { IsSome (N.calls net.old) → N.faults net.old ≡ 0 → N.faults net.new ≤ 1 → IsSome (N.calls net.new) }
+    // Where it tells, it goes on telling while it can note each attempt, and its count rises by one for each that failed.
+    ensures still_tells { IsSome (N.calls net.old) → plan.now.retries < N.room net.old → IsSome (N.calls net.new) }
+    ensures faults { IfSome (N.calls net.new) (λ after. IsSomeAnd (N.calls net.old) (λ before. Counted before after (N.faults net.old) (N.faults net.new))) }
     ensures keys { HasKeys (S.keys seal.now) result.0 }
     ensures count { count_of result.0 ≡ count_of client }
     ensures trace { (course : Course D) (reading : Reading) → IsReading S.lock (S.keys seal.now) reading → StandsAs client draw.old course

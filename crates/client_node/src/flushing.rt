@@ -63,7 +63,7 @@ fn flush_once<L: Link, S: Seal, D: Draw>(
     ensures goes_on { IsSome (L.told link.old) → OnOk result (IsSome (L.told link.new)) }
     ensures first_fault { IsSome (L.told link.old) → L.faults link.old ≡ 0 → IsSome (L.told link.new) }
     ensures counted { CountsEnd result (L.faults link.old) (L.faults link.new) }
-    ensures same_place { L.place link.new ≡ L.place link.old }
+    ensures same_standing { L.standing link.new ≡ L.standing link.old }
     ensures same_in { (wire.new.form ≡ wire.old.form) × (wire.new.held ≡ wire.old.held) × (wire.new.reading ≡ wire.old.reading) }
 {
     opens_what_it_sealed::<S>();
@@ -112,7 +112,7 @@ pub(crate) fn flush_all<L: Link, S: Seal, D: Draw>(
     ensures goes_on { IsSome (L.told link.old) → OnOk result (IsSome (L.told link.new)) }
     ensures first_fault { IsSome (L.told link.old) → L.faults link.old ≡ 0 → IsSome (L.told link.new) }
     ensures counted { CountsEnd result (L.faults link.old) (L.faults link.new) }
-    ensures same_place { L.place link.new ≡ L.place link.old }
+    ensures same_standing { L.standing link.new ≡ L.standing link.old }
     ensures same_in { (wire.new.form ≡ wire.old.form) × (wire.new.held ≡ wire.old.held) × (wire.new.reading ≡ wire.old.reading) }
 {
     'flushes: for _count in 0..FLUSHES_MAX {

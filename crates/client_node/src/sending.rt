@@ -21,7 +21,7 @@ pub(crate) fn send<L: Link>(link: &mut L, piece: &[u8]) -> Result<(), End>
     ensures told { IfSome (L.told link.new) (λ after. IsSomeAnd (L.told link.old) (λ before. WroteBy result piece.now before after)) }
     ensures goes_on { IsSome (L.told link.old) → OnOk result (IsSome (L.told link.new)) }
     ensures first_fault { IsSome (L.told link.old) → L.faults link.old ≡ 0 → IsSome (L.told link.new) }
-    ensures same_place { L.place link.new ≡ L.place link.old }
+    ensures same_standing { L.standing link.new ≡ L.standing link.old }
     ensures counted { CountsBy result (L.faults link.old) (L.faults link.new) }
     ensures fails { IfErr result (λ end. end ≡ End.Lost) }
 {
@@ -52,7 +52,7 @@ pub(crate) fn send_packet<L: Link>(
     ensures told { IfSome (L.told link.new) (λ after. IsSomeAnd (L.told link.old) (λ before. WroteBy result (framed wire.old packet.now) before after)) }
     ensures goes_on { IsSome (L.told link.old) → OnOk result (IsSome (L.told link.new)) }
     ensures first_fault { IsSome (L.told link.old) → L.faults link.old ≡ 0 → IsSome (L.told link.new) }
-    ensures same_place { L.place link.new ≡ L.place link.old }
+    ensures same_standing { L.standing link.new ≡ L.standing link.old }
     ensures counted { CountsBy result (L.faults link.old) (L.faults link.new) }
     ensures tells { TellsMore result ((to : Option CtrState) (packets : List (List ℕ)) (bytes : List ℕ) → Spells wire.old to packets bytes
         → Spells wire.new to (packets ++ packet.now ∷ []) (bytes ++ framed wire.old packet.now)) }

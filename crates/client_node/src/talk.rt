@@ -53,7 +53,7 @@ fn take_turn<L: Link, S: Seal, C: Clock, D: Draw>(
     ensures goes_on { IsSome (L.told link.old) → OnOk result.1 (IsSome (L.told link.new)) }
     ensures first_fault { IsSome (L.told link.old) → L.faults link.old ≡ 0 → IsSome (L.told link.new) }
     ensures counted { CountsTurn result.1 (L.faults link.old) (L.faults link.new) }
-    ensures same_place { L.place link.new ≡ L.place link.old }
+    ensures same_standing { L.standing link.new ≡ L.standing link.old }
     ensures turn { TookTurn D.step S.lock (S.keys seal.now) client draw.old wire.old (seen (L.told link.old) (L.faults link.old)) (C.given clock.old) result.1 result.0 draw.new wire.new (seen (L.told link.new) (L.faults link.new)) (C.given clock.new) }
     ensures same_out { (wire.new.form ≡ wire.old.form) × (wire.new.writing ≡ wire.old.writing) × (wire.new.number ≡ wire.old.number) }
 {
@@ -101,7 +101,7 @@ fn take_turns<L: Link, S: Seal, C: Clock, D: Draw>(
     ensures decided { DecidedIn result.1 result.0 }
     ensures first_fault { IsSome (L.told link.old) → L.faults link.old ≡ 0 → IsSome (L.told link.new) }
     ensures counted { CountsLink result.1 (L.faults link.old) (L.faults link.new) }
-    ensures same_place { L.place link.new ≡ L.place link.old }
+    ensures same_standing { L.standing link.new ≡ L.standing link.old }
     ensures talked { (course : Course D) (reading : Reading) (opening : Opening) → IsReading S.lock (S.keys seal.now) reading
         → StandsAs client draw.old course → is_decided course.client ≡ false → HasOpened wire.old opening
         → Talked (rules_of D.step S.lock (S.keys seal.now) reading) opening (began first course) (seen (L.told link.old) (L.faults link.old)) (C.given clock.old) result.1 result.0 draw.new (seen (L.told link.new) (L.faults link.new)) (C.given clock.new) }
@@ -145,7 +145,7 @@ fn take_turns<L: Link, S: Seal, C: Clock, D: Draw>(
     }
 }
 
-/// Everything that is done over a connection: the start of its form, an attach, and its turns.
+/// Everything that is done over an open connection: the start of its form, an attach, and its turns. It stays open.
 #[tactic(auto, using(crate::proofs::Talking::sent_counts, crate::proofs::Talking::sent_decided, crate::proofs::Talking::same_link, crate::proofs::Talking::counts_after))]
 pub(crate) fn talk<L: Link, S: Seal, C: Clock, D: Draw>(
     client: Holder,
@@ -161,12 +161,13 @@ pub(crate) fn talk<L: Link, S: Seal, C: Clock, D: Draw>(
     requires full_is_plain { plan.now.obfuscate ≡ true → plan.now.form ≢ forms.Full }
     requires keys { HasKeys (S.keys seal.now) client }
     requires room { length into.old ≡ piece_bytes }
+    requires open { (L.standing link.old).closed ≡ false }
     ensures keys { HasKeys (S.keys seal.now) result.0 }
     ensures count { count_of result.0 ≡ count_of client }
     ensures decided { DecidedIn result.1 result.0 }
     ensures first_fault { IsSome (L.told link.old) → L.faults link.old ≡ 0 → IsSome (L.told link.new) }
     ensures counted { CountsLink result.1 (L.faults link.old) (L.faults link.new) }
-    ensures same_place { L.place link.new ≡ L.place link.old }
+    ensures same_standing { L.standing link.new ≡ L.standing link.old }
     ensures conversed { (course : Course D) (reading : Reading) → IsReading S.lock (S.keys seal.now) reading → StandsAs client draw.old course → is_decided course.client ≡ false
         → Conversed (rules_of D.step S.lock (S.keys seal.now) reading) plan.now course (seen (L.told link.old) (L.faults link.old)) (C.given clock.old) result.1 result.0 draw.new (seen (L.told link.new) (L.faults link.new)) (C.given clock.new) }
 {

@@ -13,7 +13,7 @@ use server_core::Desk;
 use server_node::{Conn, ConnEnd, serve_one};
 use std::alloc::Global;
 
-/// Takes the next connection, serves it, closes its link (of which no clause tells) and gives it back; how it ended, or
+/// Takes the next connection, serves it, closes its link and gives it back; how it ended, or
 /// `None` where no connection could be taken.
 pub(crate) fn serve_next<N: Net, K: Desk, V: Service, C: Clock>(
     alloc: Global,

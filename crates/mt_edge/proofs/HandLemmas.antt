@@ -1,11 +1,16 @@
 -- Lemmas on what is handed over from the front of what is left.
-use Rattle.std.proofs.Common.{◌≡◌, ◌+◌, ℕ, Bool, true, false, List, [], ◌∷◌, ◌++◌, length, take, drop, if◌then◌else◌, None, Some, IfSome, IsSomeAnd, arith, refl}
+use Rattle.std.proofs.Common.{◌≡◌, ◌+◌, ℕ, Bool, true, false, List, [], ◌∷◌, ◌++◌, length, take, drop, if◌then◌else◌, Option, None, Some, IfSome, IsSomeAnd, arith, refl}
 use Rattle.std.proofs.lemmas.Grind.{common_steps}
 use Rattle.std.proofs.lemmas.List.{take-append-drop, drop-drop}
 use Rattle.mt_edge.specs.declared.source.Got.TheVariants.{Bytes}
 use Rattle.mt_edge.specs.declared.link_read.LinkRead.{LinkRead}
 use Rattle.mt_edge.specs.Links.{ReadsOver}
 use Rattle.mt_edge.proofs.TakeLemmas.{take_more}
+
+-- where nothing was read, what is left stays
+pub none_handed : (left : Option (List ℕ)) → IfSome left (λ before. IsSomeAnd left (λ after. after ≡ before))
+none_handed None = tt
+none_handed (Some bytes) = refl
 
 -- what came grows by what is copied
 pub came_more : (xs copied : List ℕ) (place count : ℕ) → take count copied ≡ take count (drop place xs) → take (place + count) xs ≡ take place xs ++ take count copied

@@ -2,3 +2,4 @@ pub mod TakeLemmas
 pub mod ClockLemmas
 pub mod HandLemmas
 pub mod NetLemmas
+pub mod ReadLemmas

@@ -1,9 +1,11 @@
 pub mod Faults
 pub mod Got
 pub mod Put
+pub mod Reads
 pub mod Acts
 pub mod Links
 pub mod Nets
+pub mod Addresses
 pub mod Files
 pub mod Kids
 pub mod Lines

@@ -1,8 +1,10 @@
 -- Lines of a reader.
-use Rattle.std.specs.Prelude.{◌≡◌, ◌≢◌, ℕ, List, [], ◌∷◌, ◌++◌, ◌⊎◌, Option, IfSome, IsSomeAnd}
+use Rattle.std.specs.Prelude.{◌≡◌, ◌≢◌, ◌<◌, ℕ, List, [], ◌∷◌, ◌++◌, ◌⊎◌, length, Option, IfSome, IsSomeAnd}
 use Rattle.std.specs.List.{All}
 use Rattle.mt_edge.specs.declared.spawner.Line.{Line}
-use Rattle.mt_edge.specs.declared.spawner.Line.TheVariants.{Text, End as NoLine, Failed as NotRead, Memory}
+use Rattle.mt_edge.specs.declared.spawner.Line.TheVariants as lines
+use Rattle.mt_edge.specs.declared.lines.NextLine.{NextLine}
+use Rattle.mt_edge.specs.declared.lines.NextLine.TheVariants.{Text, End as NoLine, Failed as NotRead, TooLong, Memory}
 use Rattle.mt_edge.specs.declared.lines.NextByte.{NextByte}
 use Rattle.mt_edge.specs.declared.lines.NextByte.TheVariants.{Byte, End, Failed}
 
@@ -24,14 +26,30 @@ pub record Loses (before after : List ℕ) : Type 0 where
   pub one : All (λ byte. byte ≢ 10) lost
   pub front : before ≡ lost ++ after
 
--- a read of a line, by the bytes that were left before it and are left after it: the end comes only where nothing was left, and
--- memory runs out only where something was
-abbrev pub GivesLine : Line → List ℕ → List ℕ → Type 0
-GivesLine (Text line) before after = IsLine line before after
-GivesLine NoLine before after = (before ≡ []) × (after ≡ [])
-GivesLine NotRead before after = Loses before after
-GivesLine Memory before after = Loses before after × (before ≢ [])
+-- no line was given, since its end wasn't among so many bytes, which are lost
+pub record LosesAll (max : ℕ) (before after : List ℕ) : Type 0 where
+  pub lost : List ℕ
+  pub one : All (λ byte. byte ≢ 10) lost
+  pub front : before ≡ lost ++ after
+  pub all : length lost ≡ max
+
+-- a read of a line of less than so many bytes, by the bytes that were left before it and are left after it: the end comes only
+-- where nothing was left, and memory runs out only where something was
+abbrev pub GivesLine : ℕ → NextLine → List ℕ → List ℕ → Type 0
+GivesLine max (Text line) before after = IsLine line before after × (length line < max)
+GivesLine max NoLine before after = (before ≡ []) × (after ≡ [])
+GivesLine max NotRead before after = Loses before after
+GivesLine max TooLong before after = LosesAll max before after
+GivesLine max Memory before after = Loses before after × (before ≢ [])
 
 -- a read of a line from a reader of std, by what it tells before and after
-abbrev pub ReadsLine : Line → Option (List ℕ) → Option (List ℕ) → Type 0
-ReadsLine line before after = IfSome before (λ left. IsSomeAnd after (λ rest. GivesLine line left rest))
+abbrev pub ReadsLine : ℕ → NextLine → Option (List ℕ) → Option (List ℕ) → Type 0
+ReadsLine max line before after = IfSome before (λ left. IsSomeAnd after (λ rest. GivesLine max line left rest))
+
+-- what a spawner answers for it
+abbrev pub line_of : NextLine → Line
+line_of (Text line) = lines.Text line
+line_of NoLine = lines.End
+line_of NotRead = lines.Failed
+line_of TooLong = lines.Failed
+line_of Memory = lines.Memory

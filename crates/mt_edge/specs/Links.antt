@@ -1,5 +1,5 @@
 -- What a link tells.
-use Rattle.std.specs.Prelude.{◌≡◌, ℕ, List, [], ◌∷◌, ◌++◌, length}
+use Rattle.std.specs.Prelude.{◌≡◌, ℕ, Bool, List, [], ◌∷◌, ◌++◌, length}
 use Rattle.mt_edge.specs.declared.source.Got.{Got}
 use Rattle.mt_edge.specs.declared.source.Got.TheVariants.{Bytes, End, Failed}
 use Rattle.mt_edge.specs.declared.sink.Put.{Put}
@@ -17,6 +17,12 @@ pub record Told : Type 0 where
   pub written : List ℕ
   -- its reads, in order: the room of each, and the answer
   pub reads : List LinkRead
+
+-- how a link stands
+pub record Standing : Type 0 where
+  -- the place, from 0, that the call that handed it out has in the record of its net
+  pub place : ℕ
+  pub closed : Bool
 
 -- a link that neither read nor wrote yet
 pub record IsFresh (told : Told) : Type 0 where

@@ -5,7 +5,7 @@ ghost use Rattle.std.specs.Process.{child_status, command_args, command_program,
 ghost use Rattle.mt_edge.specs.Lines.{ReadsLine};
 
 use crate::act::Act;
-use crate::lines::read_line;
+use crate::lines::{NextLine, line_of, read_line};
 use crate::mem_kids::after_line;
 use crate::spawner::{Line, Spawner};
 use crate::tcp::after_act;
@@ -53,11 +53,20 @@ impl<R: Processes + Drop> ChildKids<R> {
         Ok(command)
     }
 
-    /// What std answers to a start with these words.
-    fn spawn(&self, words: &[String]) -> io::Result<Child<R::Started>> {
+    /// The program with these words, with an input that is empty and an output that is read.
+    fn prepared(&self, words: &[String]) -> Result<Command, AllocError>
+        ensures program { IfOk result (λ command. command_program command ≡ string_bytes self.now.program) }
+        ensures words { IfOk result (λ command. command_args command ≡ map string_bytes words.now) }
+    {
         let mut command = self.command(words)?;
         command.stdin(Stdio::null());
         command.stdout(Stdio::piped());
+        Ok(command)
+    }
+
+    /// What std answers to a start with these words.
+    fn spawn(&self, words: &[String]) -> io::Result<Child<R::Started>> {
+        let mut command = self.prepared(words)?;
         command.spawn(&self.processes)
     }
 
@@ -77,18 +86,18 @@ impl<R: Processes + Drop> ChildKids<R> {
     }
 
     /// The next line of the child.
-    fn next_line(&mut self, alloc: Global) -> Line
-        ensures none { self.old.child ≡ None → result ≡ Line.Failed }
+    fn next_line(&mut self, alloc: Global) -> NextLine
+        ensures none { self.old.child ≡ None → result ≡ NextLine.Failed }
         ensures line { IfSome self.old.child (λ before. IfSome before.stdout (λ output. IsSomeAnd self.new.child (λ after. IsSomeAnd after.stdout (λ rest.
-            ReadsLine result (R.Started.Stdout.remaining output) (R.Started.Stdout.remaining rest))))) }
+            ReadsLine 65536 result (R.Started.Stdout.remaining output) (R.Started.Stdout.remaining rest))))) }
         ensures faults { self.new.faults ≡ self.old.faults }
     {
         match &mut self.child {
             Some(child) => match &mut child.stdout {
                 Some(output) => read_line(alloc, output, LINE_BYTES_MAX),
-                None => Line::Failed,
+                None => NextLine::Failed,
             },
-            None => Line::Failed,
+            None => NextLine::Failed,
         }
     }
 
@@ -137,7 +146,7 @@ impl<R: Processes + Drop> Spawner for ChildKids<R> {
     }
 
     fn line(&mut self, alloc: Global) -> Line {
-        let answer = self.next_line(alloc);
+        let answer = line_of(self.next_line(alloc));
         self.faults = after_line(&answer, self.faults);
         answer
     }

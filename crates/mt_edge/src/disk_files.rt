@@ -1,6 +1,6 @@
 //! Files of this machine, which are read whole. They tell nothing.
 
-ghost use Rattle.std.specs.Prelude.{◌≡◌, ◌≢◌, ◌≤◌, None, length, IfOk, Err};
+ghost use Rattle.std.specs.Prelude.{◌≡◌, ◌≢◌, ◌<◌, ◌≤◌, None, length, IfOk, IfSome, Err};
 ghost use Rattle.mt_edge.specs.Files.{Counts};
 
 use crate::faults::raised;
@@ -10,6 +10,7 @@ use crate::whole::{ReadFault, read_all};
 use octets::Octets;
 use std::alloc::Global;
 use std::fs::{File, Files};
+use std::io::Read;
 
 /// The most bytes that a file may have.
 pub(crate) const FILE_BYTES_MAX: usize = 1_048_576;
@@ -34,10 +35,19 @@ impl<R: Files + Drop> DiskFiles<R> {
         ensures { IfOk result (λ contents. length contents ≤ 1048576) }
     {
         match File::open(&self.files, name) {
-            Ok(file) => read_all(alloc, &mut ReadSource::new(file), FILE_BYTES_MAX),
+            Ok(file) => all_of(alloc, file),
             Err(_) => Err(ReadFault::Failed),
         }
     }
+}
+
+/// All that a reader has left, where it is no more than a file may have.
+fn all_of<R: Read + Drop>(alloc: Global, reader: R) -> Result<Octets, ReadFault>
+    ensures short { IfOk result (λ contents. length contents ≤ 1048576) }
+    ensures whole { IfOk result (λ contents. IfSome (R.remaining reader) (λ left. contents ≡ left)) }
+    ensures too_long { result ≡ Err ReadFault.TooLong → IfSome (R.remaining reader) (λ left. 1048576 < length left) }
+{
+    read_all(alloc, &mut ReadSource::new(reader), FILE_BYTES_MAX)
 }
 
 /// The answer of a read of a file, by what came of reading it whole.

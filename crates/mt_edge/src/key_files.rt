@@ -5,9 +5,10 @@ ghost use Rattle.mt_edge.specs.Files.{Asks, Counts, FilesTold, IfContents};
 
 use octets::Octets;
 use std::alloc::Global;
+use std::fmt;
 
 /// A file.
-#[derive(Debug, Drop)]
+#[derive(Drop)]
 pub struct NamedFile {
     /// Its name.
     pub name: Octets,
@@ -15,8 +16,18 @@ pub struct NamedFile {
     pub contents: Octets,
 }
 
+impl fmt::Debug for NamedFile {
+    /// The name, and how many bytes it has: they may be keys.
+    fn fmt<W: fmt::Write>(&self, f: &mut fmt::Formatter<W>) -> fmt::Result {
+        f.debug_struct("NamedFile")
+            .field("name", &self.name)
+            .field("count", &self.contents.as_slice().len())
+            .finish_non_exhaustive()
+    }
+}
+
 /// The answer of a read of a file.
-#[derive(Debug, Drop)]
+#[derive(Drop)]
 pub enum FileGot {
     /// All of the file, at most 1,048,576 bytes.
     Contents(Octets),
@@ -24,6 +35,20 @@ pub enum FileGot {
     Failed,
     /// Memory ran out.
     Memory,
+}
+
+impl fmt::Debug for FileGot {
+    /// What it is, and how many bytes of contents: they may be keys.
+    fn fmt<W: fmt::Write>(&self, f: &mut fmt::Formatter<W>) -> fmt::Result {
+        match self {
+            FileGot::Contents(contents) => f
+                .debug_struct("Contents")
+                .field("count", &contents.as_slice().len())
+                .finish_non_exhaustive(),
+            FileGot::Failed => f.write_str("Failed"),
+            FileGot::Memory => f.write_str("Memory"),
+        }
+    }
 }
 
 /// Files that are read whole. What they tell now, they told before each call.

@@ -2,7 +2,7 @@
 
 ghost use Rattle.std.specs.Prelude.{◌≡◌, ◌≢◌, ◌∷◌, [], IfSome, IsSomeAnd, length};
 ghost use Rattle.std.specs.List.{All};
-ghost use Rattle.mt_edge.specs.Lines.{HandsByte, ReadsLine};
+ghost use Rattle.mt_edge.specs.Lines.{HandsByte, ReadsLine, line_of};
 
 use crate::answers::read_from;
 use crate::source::Got;
@@ -37,34 +37,60 @@ fn next_byte<R: Read>(reader: &mut R) -> NextByte
     }
 }
 
+/// What a read of a line gives.
+pub(crate) enum NextLine {
+    /// The next line, without its end.
+    Text(Octets),
+    /// No line is left.
+    End,
+    /// A read failed.
+    Failed,
+    /// No end of the line came within the bytes that it may have.
+    TooLong,
+    /// Memory ran out.
+    Memory,
+}
+
+/// The answer of a spawner, by what a read of a line gave.
+pub(crate) fn line_of(next: NextLine) -> Line
+    ensures { result ≡ line_of next }
+{
+    match next {
+        NextLine::Text(text) => Line::Text(text),
+        NextLine::End => Line::End,
+        NextLine::Failed | NextLine::TooLong => Line::Failed,
+        NextLine::Memory => Line::Memory,
+    }
+}
+
 /// The next line of a reader, where it is shorter than `max_bytes`; the last one may have no end.
-pub(crate) fn read_line<R: Read>(alloc: Global, reader: &mut R, max_bytes: usize) -> Line
-    ensures { ReadsLine result (R.remaining reader.old) (R.remaining reader.new) }
+pub(crate) fn read_line<R: Read>(alloc: Global, reader: &mut R, max_bytes: usize) -> NextLine
+    ensures { ReadsLine max_bytes result (R.remaining reader.old) (R.remaining reader.new) }
 {
     let mut text = Octets::new(alloc);
-    for _ in 0..max_bytes {
+    'bytes: for _count in 0..max_bytes {
         match next_byte(reader) {
-            NextByte::Byte(LINE_END) => return Line::Text(text),
+            NextByte::Byte(LINE_END) => return NextLine::Text(text),
             NextByte::Byte(byte) => {
                 if let Err(Memory) = text.push_all(alloc, &[byte]) {
-                    return Line::Memory;
+                    return NextLine::Memory;
                 }
             }
             NextByte::End => return last_line(text),
-            NextByte::Failed => return Line::Failed,
+            NextByte::Failed => return NextLine::Failed,
         }
     }
-    Line::Failed
+    NextLine::TooLong
 }
 
 /// The line at the end, where it has a byte.
-fn last_line(text: Octets) -> Line
-    ensures text { text ≢ [] → result ≡ Line.Text text }
-    ensures end { text ≡ [] → result ≡ Line.End }
+fn last_line(text: Octets) -> NextLine
+    ensures text { text ≢ [] → result ≡ NextLine.Text text }
+    ensures end { text ≡ [] → result ≡ NextLine.End }
 {
     if text.as_slice().is_empty() {
-        Line::End
+        NextLine::End
     } else {
-        Line::Text(text)
+        NextLine::Text(text)
     }
 }

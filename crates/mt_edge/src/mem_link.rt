@@ -1,6 +1,6 @@
 //! A link in memory, for tests.
 
-ghost use Rattle.std.specs.Prelude.{◌≡◌, ◌≢◌, ◌<◌, ◌≤◌, ◌+◌, [], None, Some, length, take, drop, min, vec_len, vec_capacity, if◌then◌else◌, IfOk, IfSome, IsSome, IsSomeAnd, MatchOption};
+ghost use Rattle.std.specs.Prelude.{◌≡◌, ◌≢◌, ◌<◌, ◌≤◌, ◌+◌, [], None, Some, length, take, drop, min, vec_len, vec_capacity, false, if◌then◌else◌, IfOk, IfSome, IsSome, IsSomeAnd, MatchOption};
 ghost use Rattle.mt_edge.specs.Faults.{one_more};
 ghost use Rattle.mt_edge.specs.Got.{IsWithin};
 ghost use Rattle.mt_edge.specs.Links.{IsFresh, ReadsOver};
@@ -91,7 +91,8 @@ impl MemLink {
     /// The link as it stood when it was made, handed out by the call of its net at this place.
     pub(crate) fn handed_out(self, place: usize) -> MemLink
         ensures no_fault_yet { ⟦<MemLink as Link>⟧.faults result ≡ 0 }
-        ensures place { ⟦<MemLink as Link>⟧.place result ≡ place }
+        ensures place { (⟦<MemLink as Link>⟧.standing result).place ≡ place }
+        ensures open { (⟦<MemLink as Link>⟧.standing result).closed ≡ false }
         ensures fresh { IsSomeAnd (⟦<MemLink as Link>⟧.told result) IsFresh }
     {
         let mut link = self;
@@ -109,7 +110,7 @@ impl MemLink {
     /// The link's place, what it tells, and its count of faults, where it tells.
     pub(crate) fn into_told(self) -> Option<(usize, LinkTold, u64)>
         ensures told { MatchOption result (⟦<MemLink as Link>⟧.told self ≡ None) (λ is. ⟦<MemLink as Link>⟧.told self ≡ Some is.1) }
-        ensures place { IfSome result (λ is. is.0 ≡ ⟦<MemLink as Link>⟧.place self) }
+        ensures place { IfSome result (λ is. is.0 ≡ (⟦<MemLink as Link>⟧.standing self).place) }
         ensures faults { IfSome result (λ is. is.2 ≡ ⟦<MemLink as Link>⟧.faults self) }
     {
         if self.is_untold {
@@ -140,7 +141,7 @@ impl MemLink {
         ensures told { IfSome (⟦<MemLink as Link>⟧.told self.new) (λ after. IsSomeAnd (⟦<MemLink as Link>⟧.told self.old) (λ before.
             ReadsOver Got.Failed into.now before after)) }
         ensures first_fault { IsSome (⟦<MemLink as Link>⟧.told self.old) → self.old.faults ≡ 0 → IsSome (⟦<MemLink as Link>⟧.told self.new) }
-        ensures same_place { self.new.place ≡ self.old.place }
+        ensures same_standing { ⟦<MemLink as Link>⟧.standing self.new ≡ ⟦<MemLink as Link>⟧.standing self.old }
         ensures never_falls { self.old.faults ≤ self.new.faults }
         ensures counted { self.new.faults ≡ one_more self.old.faults }
     {
@@ -163,7 +164,7 @@ impl MemLink {
         ensures told { IfSome (⟦<MemLink as Link>⟧.told self.new) (λ after. IsSomeAnd (⟦<MemLink as Link>⟧.told self.old) (λ before.
             ReadsOver result into.new before after)) }
         ensures goes_on { IsSome (⟦<MemLink as Link>⟧.told self.old) → IsSome (⟦<MemLink as Link>⟧.told self.new) }
-        ensures same_place { self.new.place ≡ self.old.place }
+        ensures same_standing { ⟦<MemLink as Link>⟧.standing self.new ≡ ⟦<MemLink as Link>⟧.standing self.old }
         ensures counted { self.new.faults ≡ self.old.faults }
     {
         let left = &self.contents.as_slice()[self.came_bytes..];
@@ -200,7 +201,7 @@ impl Link for MemLink {
       reads = link.reads.items;
     }) };
 
-    ghost place = { λ link. link.place };
+    ghost standing = { λ link. record { place = link.place; closed = link.is_closed } };
 
     ghost faults = { λ link. link.faults };
 

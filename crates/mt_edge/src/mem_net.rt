@@ -1,6 +1,6 @@
 //! A net in memory, for tests.
 
-ghost use Rattle.std.specs.Prelude.{◌≡◌, ◌<◌, ◌≤◌, ◌+◌, ◌++◌, ◌∷◌, [], None, Some, length, vec_len, vec_capacity, if◌then◌else◌, IfOk, IfSome, IsSomeAnd};
+ghost use Rattle.std.specs.Prelude.{◌≡◌, ◌<◌, ◌≤◌, ◌+◌, ◌-◌, false, ◌++◌, ◌∷◌, [], None, Some, length, vec_len, vec_capacity, if◌then◌else◌, IfOk, IfSome, IsSomeAnd};
 ghost use Rattle.mt_edge.specs.Nets.{Counts, IfLink, outcome_of};
 ghost use Rattle.mt_edge.specs.Acts.{Counts as CountsAct};
 ghost use Rattle.mt_edge.specs.Links.{IsFresh};
@@ -94,7 +94,8 @@ impl MemNet {
     /// The next link, or a fault.
     fn next_link(&mut self) -> Linked<MemLink>
         ensures no_fault_yet { IfLink result (λ link. ⟦<MemLink as Link>⟧.faults link ≡ 0) }
-        ensures place { IfLink result (λ link. ⟦<MemLink as Link>⟧.place link ≡ vec_len self.old.calls) }
+        ensures place { IfLink result (λ link. (⟦<MemLink as Link>⟧.standing link).place ≡ vec_len self.old.calls) }
+        ensures open { IfLink result (λ link. (⟦<MemLink as Link>⟧.standing link).closed ≡ false) }
         ensures fresh { IfLink result (λ link. IsSomeAnd (⟦<MemLink as Link>⟧.told link) IsFresh) }
         ensures room { IfLink result (λ _. vec_len self.new.calls + 1 < self.new.room) }
         ensures counted { Counts result self.old.faults self.new.faults }
@@ -120,6 +121,8 @@ impl MemNet {
         requires { vec_len self.old.calls < self.old.room → vec_len self.old.calls + 1 < self.old.room + self.old.faults }
         ensures told { IfSome (⟦<MemNet as Net>⟧.calls self.new) (λ after. IsSomeAnd (⟦<MemNet as Net>⟧.calls self.old) (λ before. after ≡ before ++ call ∷ [])) }
         ensures kept { vec_len self.old.calls < self.old.room → self.new.is_untold ≡ self.old.is_untold }
+        ensures one_place { vec_len self.new.calls ≤ vec_len self.old.calls + 1 }
+        ensures same_room { self.new.room ≡ self.old.room }
         ensures faults { self.new.faults ≡ self.old.faults }
     {
         if self.calls.len() < self.room {
@@ -144,6 +147,8 @@ impl Net for MemNet {
     type L = MemLink;
 
     ghost calls = { λ net. if net.is_untold then None else Some net.calls.items };
+
+    ghost room = { λ net. net.room - vec_len net.calls };
 
     ghost faults = { λ net. net.faults };
 

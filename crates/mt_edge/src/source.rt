@@ -1,6 +1,6 @@
 //! What a program reads from.
 
-ghost use Rattle.std.specs.Prelude.{◌≡◌, ◌<◌, ◌≤◌, ℕ, List, Option, length, IfSome, IsSomeAnd};
+ghost use Rattle.std.specs.Prelude.{◌≡◌, ◌<◌, ◌≤◌, ◌++◌, ◌∷◌, [], ℕ, List, Option, None, length, IfSome, IsSomeAnd};
 ghost use Rattle.mt_edge.specs.Got.{IsWithin, HandsOver, Counts};
 
 /// The answer of a read.
@@ -16,8 +16,13 @@ pub enum Got {
 
 /// A place that bytes come from, in order.
 pub trait Source {
+    ghost use Rattle.mt_edge.specs.declared.source.Got.{Got};
+
     /// The bytes left, where the source tells them.
     ghost left: { Self → Option (List ℕ) };
+
+    /// The answers of its reads in order, where the source tells them. What it tells now, it told before each read.
+    ghost reads: { Self → Option (List Got) } = { λ _. None };
 
     /// How many reads have failed. It stays at 2^64 - 1 once it is there.
     ghost faults: { Self → ℕ };
@@ -28,6 +33,7 @@ pub trait Source {
         ensures within { IsWithin result (length into.new) }
         // Where the bytes left are told, the read hands over the next of them, and answers `End` only after the last.
         ensures told { IfSome (left self.old) (λ before. IsSomeAnd (left self.new) (λ after. HandsOver result into.new before after)) }
+        ensures noted { IfSome (reads self.new) (λ after. IsSomeAnd (reads self.old) (λ before. after ≡ before ++ result ∷ [])) }
         ensures never_falls { faults self.old ≤ faults self.new }
         // A failed read raises the count by one, or leaves it at its last value. Any other leaves it as it was.
         ensures counted { Counts result (faults self.old) (faults self.new) };

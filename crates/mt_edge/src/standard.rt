@@ -1,7 +1,9 @@
 //! Readers and writers of std, standard input and output among them, as a source and a sink. The source tells what its
-//! reader tells, and the sink nothing, since a flush that fails leaves open what was written.
+//! reader tells. The sink tells nothing, since a flush that fails leaves open what was written; of a write that didn't fail it
+//! says what its writer took.
 
-ghost use Rattle.std.specs.Prelude.{◌≡◌, None};
+ghost use Rattle.std.specs.Prelude.{◌≡◌, ◌<◌, ◌≤◌, None, length};
+ghost use Rattle.mt_edge.specs.Put.{Counts, IsWithin, TakesFrom};
 
 use crate::answers::{after_read, after_write, read_from, write_to};
 use crate::sink::{Put, Sink};
@@ -18,7 +20,8 @@ pub struct ReadSource<R> {
 impl<R: Read + Drop> ReadSource<R> {
     /// A source over the reader, with no fault yet.
     pub fn new(reader: R) -> ReadSource<R>
-        ensures { ⟦<ReadSource<R> as Source>⟧.faults result ≡ 0 }
+        ensures faults { ⟦<ReadSource<R> as Source>⟧.faults result ≡ 0 }
+        ensures left { ⟦<ReadSource<R> as Source>⟧.left result ≡ R.remaining reader }
     {
         ReadSource { reader, faults: 0 }
     }
@@ -53,7 +56,8 @@ pub struct WriteSink<W> {
 impl<W: Write + Drop> WriteSink<W> {
     /// A sink over the writer, with no fault yet.
     pub fn new(writer: W) -> WriteSink<W>
-        ensures { ⟦<WriteSink<W> as Sink>⟧.faults result ≡ 0 }
+        ensures faults { ⟦<WriteSink<W> as Sink>⟧.faults result ≡ 0 }
+        ensures writer { result.writer ≡ writer }
     {
         WriteSink { writer, faults: 0 }
     }
@@ -66,7 +70,9 @@ impl<W: Write + Drop> WriteSink<W> {
     }
 
     /// The writer.
-    pub fn into_inner(self) -> W {
+    pub fn into_inner(self) -> W
+        ensures { result ≡ self.writer }
+    {
         let WriteSink { writer, .. } = self;
         writer
     }
@@ -77,7 +83,14 @@ impl<W: Write + Drop> Sink for WriteSink<W> {
 
     ghost faults = { λ sink. sink.faults };
 
-    fn write(&mut self, piece: &[u8]) -> Put {
+    fn write(&mut self, piece: &[u8]) -> Put
+        requires { 0 < length piece.now }
+        ensures within { IsWithin result (length piece.now) }
+        ensures never_falls { self.old.faults ≤ self.new.faults }
+        ensures counted { Counts result self.old.faults self.new.faults }
+        // What it took is what its writer took, where that tells.
+        ensures writer { TakesFrom result piece.now (W.contents self.old.writer) (W.contents self.new.writer) }
+    {
         let put = write_to(&mut self.writer, piece);
         self.faults = after_write(put, self.faults);
         put

@@ -1,6 +1,6 @@
 //! The clock of this machine. It tells nothing.
 
-ghost use Rattle.std.specs.Prelude.{◌≡◌, ◌-◌, ◌/◌, None, IfOk, IfErr};
+ghost use Rattle.std.specs.Prelude.{◌≡◌, ◌/◌, None, IfOk, IfErr};
 ghost use Rattle.std.specs.Time.{system_time_nanos};
 ghost use Rattle.msg_ids.specs.Moments.{moment_of};
 
@@ -26,17 +26,17 @@ impl<R: Time + Drop> Clock for SystemClock<R> {
     ghost given = { λ _. None };
 
     fn now(&mut self) -> Moment {
-        moment_of(SystemTime::now(&self.time), UNIX_EPOCH)
+        moment_of(SystemTime::now(&self.time))
     }
 }
 
-/// The moment, by what std answered and by the begin of 1970.
-fn moment_of(answer: io::Result<SystemTime>, begin: SystemTime) -> Moment
-    ensures time { IfOk answer (λ time. result ≡ moment_of ((system_time_nanos time - system_time_nanos begin) / 1000000000)) }
+/// The moment, by what std answered: the seconds since the begin of 1970.
+fn moment_of(answer: io::Result<SystemTime>) -> Moment
+    ensures time { IfOk answer (λ time. result ≡ moment_of (system_time_nanos time / 1000000000)) }
     ensures no_time { IfErr answer (λ _. result ≡ 0) }
 {
     match answer {
-        Ok(time) => match time.duration_since(begin) {
+        Ok(time) => match time.duration_since(UNIX_EPOCH) {
             Ok(since) => Moment::new(since.as_secs()),
             Err(_) => Moment::new(0),
         },

@@ -1,8 +1,12 @@
-//! Connections over TCP on this machine, 127.0.0.1. They tell nothing.
+//! Connections over TCP on this machine, 127.0.0.1. They tell whether they are closed, and nothing else.
 
-ghost use Rattle.std.specs.Prelude.{◌≡◌, ◌≤◌, None, IfOk, IfErr};
+ghost use Rattle.std.specs.Prelude.{◌≡◌, ◌<◌, ◌≤◌, ◌∷◌, [], None, Some, Ok, length, false, true, IfOk, IfErr, IsErr, IfSome, IsSome, IsSomeAnd};
+ghost use Rattle.std.specs.Net.Socket.{IsPlainSocket};
+ghost use Rattle.mt_edge.specs.Addresses.{IsLocal};
 ghost use Rattle.mt_edge.specs.Acts.{Counts as CountsAct};
 ghost use Rattle.mt_edge.specs.Nets.{Counts};
+ghost use Rattle.mt_edge.specs.Got.{IsWithin, HandsOver, Counts as CountsRead};
+ghost use Rattle.mt_edge.specs.Put.{IsWithin as IsPutWithin, TakesFrom, Counts as CountsPut};
 
 use crate::act::Act;
 use crate::answers::{after_read, after_write, read_from, write_to};
@@ -14,27 +18,55 @@ use crate::source::Got;
 use std::io::{self, ErrorKind, Read, Write};
 use std::net::{Ipv4Addr, Net as Sockets, OpenListener, OpenStream, Shutdown, SocketAddr};
 
-/// One end of a connection over TCP. Each piece is flushed as it is written.
+/// One end of a connection over TCP. Each piece is flushed as it is written. Once it is closed, reads and writes fail.
 #[derive(Debug, Drop)]
 pub struct TcpLink<S> {
     stream: S,
+    is_closed: bool,
     faults: u64,
 }
 
 impl<S: Read + Write + OpenStream + Drop> Link for TcpLink<S> {
     ghost told = { λ _. None };
 
-    ghost place = { λ _. 0 };
+    ghost standing = { λ link. record { place = 0; closed = link.is_closed } };
 
     ghost faults = { λ link. link.faults };
 
-    fn read(&mut self, into: &mut [u8]) -> Got {
+    #[tactic(auto, using(crate::proofs::HandLemmas::none_handed))]
+    fn read(&mut self, into: &mut [u8]) -> Got
+        requires { 0 < length into.old }
+        ensures within { IsWithin result (length into.new) }
+        ensures closed { self.old.is_closed ≡ true → result ≡ Got.Failed }
+        ensures same_standing { self.new.is_closed ≡ self.old.is_closed }
+        ensures never_falls { self.old.faults ≤ self.new.faults }
+        ensures counted { CountsRead result self.old.faults self.new.faults }
+        // What it hands over is what its stream handed over, where that tells.
+        ensures stream { IfSome (S.remaining self.old.stream) (λ before. IsSomeAnd (S.remaining self.new.stream) (λ after. HandsOver result into.new before after)) }
+    {
+        if self.is_closed {
+            self.faults = raised(self.faults);
+            return Got::Failed;
+        }
         let got = read_from(&mut self.stream, into);
         self.faults = after_read(got, self.faults);
         got
     }
 
-    fn write(&mut self, piece: &[u8]) -> Put {
+    fn write(&mut self, piece: &[u8]) -> Put
+        requires { 0 < length piece.now }
+        ensures within { IsPutWithin result (length piece.now) }
+        ensures closed { self.old.is_closed ≡ true → result ≡ Put.Failed }
+        ensures same_standing { self.new.is_closed ≡ self.old.is_closed }
+        ensures never_falls { self.old.faults ≤ self.new.faults }
+        ensures counted { CountsPut result self.old.faults self.new.faults }
+        // What it took is what its stream took, where that tells.
+        ensures stream { TakesFrom result piece.now (S.contents self.old.stream) (S.contents self.new.stream) }
+    {
+        if self.is_closed {
+            self.faults = raised(self.faults);
+            return Put::Failed;
+        }
         let put = write_to(&mut self.stream, piece);
         self.faults = after_write(put, self.faults);
         put
@@ -42,18 +74,23 @@ impl<S: Read + Write + OpenStream + Drop> Link for TcpLink<S> {
 
     fn close(&mut self) {
         let _ = self.stream.shutdown(Shutdown::Both);
+        self.is_closed = true;
     }
 }
 
 /// The answer of an attempt, by what std answered. Small writes of the connection aren't held back.
 fn linked_of<S: OpenStream + Drop>(answer: io::Result<S>) -> Linked<TcpLink<S>>
-    ensures link { IfOk answer (λ stream. result ≡ Linked.Link (record { stream = stream; faults = 0 })) }
+    ensures link { IfOk answer (λ stream. result ≡ Linked.Link (record { stream = stream; is_closed = false; faults = 0 })) }
     ensures failed { IfErr answer (λ _. result ≡ Linked.Failed) }
 {
     match answer {
         Ok(stream) => {
             let _ = stream.set_nodelay(true);
-            Linked::Link(TcpLink { stream, faults: 0 })
+            Linked::Link(TcpLink {
+                stream,
+                is_closed: false,
+                faults: 0,
+            })
         }
         Err(_) => Linked::Failed,
     }
@@ -93,8 +130,22 @@ pub fn after_act(act: Act, faults: u64) -> u64
 }
 
 /// The address of a port of this machine.
-fn loopback(port: u16) -> SocketAddr {
+fn loopback(port: u16) -> SocketAddr
+    ensures address { IsLocal result }
+    ensures port { IsPlainSocket result port }
+{
     SocketAddr::from((Ipv4Addr::LOCALHOST, port))
+}
+
+/// The stream of an answer of std, without the address of its peer.
+fn stream_of<S: Drop>(answer: io::Result<(S, SocketAddr)>) -> io::Result<S>
+    ensures stream { IfOk answer (λ both. result ≡ Ok both.0) }
+    ensures failed { IfErr answer (λ _. IsErr result) }
+{
+    match answer {
+        Ok((stream, _peer)) => Ok(stream),
+        Err(error) => Err(error),
+    }
 }
 
 /// The ports of this machine, 127.0.0.1.
@@ -118,9 +169,11 @@ impl<R: Sockets + Drop> TcpNet<R> {
     }
 
     /// What std answers to the next connection.
-    fn next_stream(&self) -> io::Result<R::Stream> {
+    fn next_stream(&self) -> io::Result<R::Stream>
+        ensures none { self.now.listener ≡ None → IsErr result }
+    {
         match &self.listener {
-            Some(listener) => listener.accept().map(|(stream, _peer)| stream),
+            Some(listener) => stream_of(listener.accept()),
             None => Err(io::Error::from(ErrorKind::NotConnected)),
         }
     }
@@ -130,6 +183,8 @@ impl<R: Sockets + Drop> Net for TcpNet<R> {
     type L = TcpLink<R::Stream>;
 
     ghost calls = { λ _. None };
+
+    ghost room = { λ _. 0 };
 
     ghost faults = { λ net. net.faults };
 
@@ -154,7 +209,6 @@ impl<R: Sockets + Drop> Net for TcpNet<R> {
     }
 
     fn done(&mut self, link: TcpLink<R::Stream>) {
-        let mut link = link;
-        link.close();
+        drop(link);
     }
 }

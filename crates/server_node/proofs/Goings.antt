@@ -1,6 +1,6 @@
 -- What a link is after one part and then another, and how many packets are left.
 use Rattle.std.proofs.Common.{◌≡◌, ◌≢◌, ℕ, zero, suc, List, ◌++◌, Option, Some, None, IfSome, IsSomeAnd, Ok, Err, refl, sym, ap, subst, ◌∙◌, append_assoc, arith}
-use Rattle.mt_edge.specs.Links.{Told}
+use Rattle.mt_edge.specs.Links.{Standing, Told}
 use Rattle.server_core.specs.declared.desk.DeskFault.{DeskFault}
 use Rattle.server_node.specs.Doing.{IsEventEnd, IsFeedEnd, IsPacketEnd, IsPacketsEnd, IsPieceEnd, stop_by}
 use Rattle.server_node.specs.Record.{Answered, IsFewer, Stops, counted_down}
@@ -33,12 +33,12 @@ goes_on_both : (end : Option ConnEnd) (first middle last : Option Told) → Goes
 goes_on_both None first middle last before after = λ is. after (before is)
 goes_on_both (Some end) first middle last before after = tt
 
-pub goes_both : (end : Option ConnEnd) (place faults : ℕ) (told : Option Told) (place_between faults_between : ℕ) (told_between : Option Told) (place_then faults_then : ℕ) (told_then : Option Told)
-    → Goes None place faults told place_between faults_between told_between
-    → Goes end place_between faults_between told_between place_then faults_then told_then
-    → Goes end place faults told place_then faults_then told_then
-goes_both end place faults told place_between faults_between told_between place_then faults_then told_then before after = record {
-  same_place = after.same_place ∙ before.same_place;
+pub goes_both : (end : Option ConnEnd) (standing : Standing) (faults : ℕ) (told : Option Told) (standing_between : Standing) (faults_between : ℕ) (told_between : Option Told) (standing_then : Standing) (faults_then : ℕ) (told_then : Option Told)
+    → Goes None standing faults told standing_between faults_between told_between
+    → Goes end standing_between faults_between told_between standing_then faults_then told_then
+    → Goes end standing faults told standing_then faults_then told_then
+goes_both end standing faults told standing_between faults_between told_between standing_then faults_then told_then before after = record {
+  same_standing = after.same_standing ∙ before.same_standing;
   counted = subst (λ (count : ℕ). CountsBy end count faults_then) before.counted after.counted;
   writes = writes_both told told_between told_then before.writes after.writes;
   first_fault = λ is none. after.first_fault (before.first_fault is none) (before.counted ∙ none);
@@ -46,8 +46,8 @@ goes_both end place faults told place_between faults_between told_between place_
 }
 
 -- nothing was written
-pub goes_none : (place faults : ℕ) (told : Option Told) → Goes None place faults told place faults told
-goes_none place faults told = record { same_place = refl; counted = refl; writes = only_wrote _ told told (wrote_nothing told); first_fault = λ is none. is; goes_on = λ is. is }
+pub goes_none : (standing : Standing) (faults : ℕ) (told : Option Told) → Goes None standing faults told standing faults told
+goes_none standing faults told = record { same_standing = refl; counted = refl; writes = only_wrote _ told told (wrote_nothing told); first_fault = λ is none. is; goes_on = λ is. is }
 
 counts : (end : ConnEnd) (faults : ℕ) → (end ≢ ends.LinkFault) → CountsBy (Some end) faults faults
 counts ends.LinkFault faults other = absurd (other refl)
@@ -60,8 +60,8 @@ counts (ends.Journal fault) faults other = refl
 counts ends.Memory faults other = refl
 
 -- and the connection ended by no fault of the link
-pub goes_same : (end : ConnEnd) (place faults : ℕ) (told : Option Told) → (end ≢ ends.LinkFault) → Goes (Some end) place faults told place faults told
-goes_same end place faults told other = record { same_place = refl; counted = counts end faults other; writes = only_wrote _ told told (wrote_nothing told); first_fault = λ is none. is; goes_on = tt }
+pub goes_same : (end : ConnEnd) (standing : Standing) (faults : ℕ) (told : Option Told) → (end ≢ ends.LinkFault) → Goes (Some end) standing faults told standing faults told
+goes_same end standing faults told other = record { same_standing = refl; counted = counts end faults other; writes = only_wrote _ told told (wrote_nothing told); first_fault = λ is none. is; goes_on = tt }
 
 -- ---- ends
 
@@ -169,8 +169,8 @@ no_fault ends.Ended can same = absurd can
 no_fault ends.TurnsSpent can same = absurd can
 
 -- the line ended the connection
-pub feed_goes : (end : ConnEnd) (place faults : ℕ) (told : Option Told) → IsFeedEnd (Some end) → Goes (Some end) place faults told place faults told
-feed_goes end place faults told can = goes_same end place faults told (no_fault end can)
+pub feed_goes : (end : ConnEnd) (standing : Standing) (faults : ℕ) (told : Option Told) → IsFeedEnd (Some end) → Goes (Some end) standing faults told standing faults told
+feed_goes end standing faults told can = goes_same end standing faults told (no_fault end can)
 
 pub feed_answered : (end : ConnEnd) (left : Option ℕ) → left ≢ Some 0 → IsFeedEnd (Some end) → Answered (Some end) left left
 feed_answered ends.Memory left some can = record { fewer = same_fewer left; stops = some }

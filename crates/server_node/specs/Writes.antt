@@ -1,7 +1,7 @@
 -- What is written over a link, by how the connection ended then, if it did.
 use Rattle.std.specs.Prelude.{◌≡◌, ◌≢◌, ℕ, List, [], ◌∷◌, ◌++◌, Option, Some, None, IfSome, IsSome, IsSomeAnd, Result, Ok, Err}
 use Rattle.mt_edge.specs.Faults.{one_more}
-use Rattle.mt_edge.specs.Links.{Told}
+use Rattle.mt_edge.specs.Links.{Standing, Told}
 use Rattle.server_node.specs.declared.conn.ConnEnd.{ConnEnd}
 use Rattle.server_node.specs.declared.conn.ConnEnd.TheVariants as ends
 
@@ -66,10 +66,10 @@ abbrev pub GoesOn : Option ConnEnd → Option Told → Option Told → Type 0
 GoesOn None before after = IsSome before → IsSome after
 GoesOn (Some end) before after = Unit {0}
 
--- What a link is after writes: it is in its place, its count tells of a fault where the connection ended by that, and it goes on
+-- What a link is after writes: it is in its place and as open as it was, its count tells of a fault where the connection ended by that, and it goes on
 -- telling unless a call failed, and through the first one that fails.
-pub record Goes (end : Option ConnEnd) (place faults : ℕ) (told : Option Told) (place_then faults_then : ℕ) (told_then : Option Told) : Type 0 where
-  pub same_place : place_then ≡ place
+pub record Goes (end : Option ConnEnd) (standing : Standing) (faults : ℕ) (told : Option Told) (standing_then : Standing) (faults_then : ℕ) (told_then : Option Told) : Type 0 where
+  pub same_standing : standing_then ≡ standing
   pub counted : CountsBy end faults faults_then
   pub writes : IfSome told_then (λ last. IsSomeAnd told (λ first. OnlyWrites first last))
   pub first_fault : IsSome told → faults ≡ 0 → IsSome told_then

@@ -23,7 +23,7 @@ use transport::{Framed, Wire};
 /// `LinkFault`: a write failed, and what is written is a front of the piece.
 pub(crate) fn send<L: Link>(link: &mut L, piece: &[u8]) -> Result<(), ConnEnd>
     ensures written { WrittenBy (end_in result) piece.now (L.told link.old) (L.told link.new) }
-    ensures goes { Goes (end_in result) (L.place link.old) (L.faults link.old) (L.told link.old) (L.place link.new) (L.faults link.new) (L.told link.new) }
+    ensures goes { Goes (end_in result) (L.standing link.old) (L.faults link.old) (L.told link.old) (L.standing link.new) (L.faults link.new) (L.told link.new) }
     ensures ends { IfErr result (λ end. end ≡ ConnEnd.LinkFault) }
 {
     let mut rest = piece;
@@ -113,7 +113,7 @@ pub(crate) fn say_framed<L: Link>(
     text: &mut Octets,
 ) -> Result<(), ConnEnd>
     ensures said { Said (Line.Framed wire.old) heard.now (L.told link.old) (going_out heard.now outs.now.outs) (end_in result) (Line.Framed wire.new) (L.told link.new) }
-    ensures goes { Goes (end_in result) (L.place link.old) (L.faults link.old) (L.told link.old) (L.place link.new) (L.faults link.new) (L.told link.new) }
+    ensures goes { Goes (end_in result) (L.standing link.old) (L.faults link.old) (L.told link.old) (L.standing link.new) (L.faults link.new) (L.told link.new) }
     ensures ends { IsSendEnd (end_in result) }
     ensures same_in { IsSameIn wire.old wire.new }
 {
@@ -138,7 +138,7 @@ pub(crate) fn say<L: Link>(
     text: &mut Octets,
 ) -> Result<(), ConnEnd>
     ensures said { Said line.old heard.now (L.told link.old) (going_out heard.now outs.now.outs) (end_in result) line.new (L.told link.new) }
-    ensures goes { Goes (end_in result) (L.place link.old) (L.faults link.old) (L.told link.old) (L.place link.new) (L.faults link.new) (L.told link.new) }
+    ensures goes { Goes (end_in result) (L.standing link.old) (L.faults link.old) (L.told link.old) (L.standing link.new) (L.faults link.new) (L.told link.new) }
     ensures ends { IsSendEnd (end_in result) }
     ensures same_in { HearsAlike line.old line.new }
 {
@@ -164,7 +164,7 @@ pub(crate) fn say_unknown<L: Link>(
     text: &mut Octets,
 ) -> Result<(), ConnEnd>
     ensures said { (heard : List Name) → Said (Line.Framed wire.old) heard (L.told link.old) (unknown_key ∷ []) (end_in result) (Line.Framed wire.new) (L.told link.new) }
-    ensures goes { Goes (end_in result) (L.place link.old) (L.faults link.old) (L.told link.old) (L.place link.new) (L.faults link.new) (L.told link.new) }
+    ensures goes { Goes (end_in result) (L.standing link.old) (L.faults link.old) (L.told link.old) (L.standing link.new) (L.faults link.new) (L.told link.new) }
     ensures ends { IsSendEnd (end_in result) }
     ensures same_in { IsSameIn wire.old wire.new }
 {

@@ -48,7 +48,7 @@ fn take_whole<L: Link, K: Desk, V: Service>(
         (λ (service : V). record { desk = K.StandsFor desk.old; drawn = K.drawn desk.old; service = service; heard = heard.old; line = line.old; told = L.told link.old })
         now line.old line.new left.old left.new (end_in result)
         (λ (service : V). record { desk = K.StandsFor desk.new; drawn = K.drawn desk.new; service = service; heard = heard.new; line = line.new; told = L.told link.new }) }
-    ensures goes { Goes (end_in result) (L.place link.old) (L.faults link.old) (L.told link.old) (L.place link.new) (L.faults link.new) (L.told link.new) }
+    ensures goes { Goes (end_in result) (L.standing link.old) (L.faults link.old) (L.told link.old) (L.standing link.new) (L.faults link.new) (L.told link.new) }
     ensures ends { IsPacketsEnd K.MayAnswer (end_in result) }
     ensures left { Answered (end_in result) left.old left.new }
     ensures same_keys { K.keys desk.new ≡ K.keys desk.old }
@@ -80,7 +80,7 @@ fn take_piece<L: Link, K: Desk, V: Service>(
         (record { desk = K.StandsFor desk.old; drawn = K.drawn desk.old; service = service.old; heard = heard.old; line = line; told = L.told link.old })
         (record { desk = K.StandsFor desk.new; drawn = K.drawn desk.new; service = service.new; heard = heard.new; line = line_in result; told = L.told link.new })
         left.old left.new (end_in result) }
-    ensures goes { Goes (end_in result) (L.place link.old) (L.faults link.old) (L.told link.old) (L.place link.new) (L.faults link.new) (L.told link.new) }
+    ensures goes { Goes (end_in result) (L.standing link.old) (L.faults link.old) (L.told link.old) (L.standing link.new) (L.faults link.new) (L.told link.new) }
     ensures ends { IsPieceEnd K.MayAnswer (end_in result) }
     ensures left { Answered (end_in result) left.old left.new }
     ensures same_keys { K.keys desk.new ≡ K.keys desk.old }
@@ -119,7 +119,7 @@ fn take_turn<L: Link, K: Desk, V: Service, C: Clock>(
         (record { desk = K.StandsFor desk.new; drawn = K.drawn desk.new; service = service.new; heard = heard.new; line = line_in result; told = L.told link.new })
         (record { told = L.told link.old; given = C.given clock.old; left = left.old }) (record { told = L.told link.new; given = C.given clock.new; left = left.new }) (end_in result) }
     ensures turned { IfSome (L.told link.new) (λ after. IsSomeAnd (L.told link.old) (λ before. Turned (end_in result) (length into.new) before after)) }
-    ensures same_place { L.place link.new ≡ L.place link.old }
+    ensures same_standing { L.standing link.new ≡ L.standing link.old }
     ensures counted { CountsBy (end_in result) (L.faults link.old) (L.faults link.new) }
     ensures first_fault { IsSome (L.told link.old) → L.faults link.old ≡ 0 → IsSome (L.told link.new) }
     ensures ends { IsTurnEnd K.MayAnswer (end_in result) }
@@ -156,7 +156,7 @@ fn take_turns<L: Link, K: Desk, V: Service, C: Clock>(
         → ServerTrace (rules_of K.D.step V.step outside) talk (record { told = L.told link.old; given = C.given clock.old; left = left.old }) result
         (K.StandsFor desk.new) (K.drawn desk.new) service.new (record { told = L.told link.new; given = C.given clock.new; left = left.new }) }
     ensures record { IfSome (L.told link.new) (λ after. IsSomeAnd (L.told link.old) (λ before. ReadTo result before after)) }
-    ensures same_place { L.place link.new ≡ L.place link.old }
+    ensures same_standing { L.standing link.new ≡ L.standing link.old }
     ensures counted { CountsBy (Some result) (L.faults link.old) (L.faults link.new) }
     ensures first_fault { IsSome (L.told link.old) → L.faults link.old ≡ 0 → IsSome (L.told link.new) }
     ensures left { Answered (Some result) left.old left.new }
@@ -178,8 +178,8 @@ fn take_turns<L: Link, K: Desk, V: Service, C: Clock>(
 }
 
 /// Serves one connection: hands its packets to a desk and writes what comes of them, until it ends. What it reads, does and
-/// writes is the trace of a server (`specs/Connection.antt`), up to the end and its cause. It gives the link back; that it
-/// isn't closed no clause says. `left` counts the packets that are still to be answered, where they are counted; it isn't 0
+/// writes is the trace of a server (`specs/Connection.antt`), up to the end and its cause. It gives the link back as open
+/// as it was. `left` counts the packets that are still to be answered, where they are counted; it isn't 0
 /// at the start.
 pub fn serve_one<L: Link, K: Desk, V: Service, C: Clock>(
     alloc: Global,
@@ -197,7 +197,8 @@ pub fn serve_one<L: Link, K: Desk, V: Service, C: Clock>(
         (K.StandsFor desk.new) (K.drawn desk.new) service.new (record { told = L.told result.0; given = C.given clock.new; left = left.new }) }
     // What was read: pieces, each into 65,536 bytes of room, and the read that ended it, if one did.
     ensures record { IfSome (L.told result.0) (λ after. IsSomeAnd (L.told conn) (λ before. ReadTo result.1 before after)) }
-    ensures same_place { L.place result.0 ≡ L.place conn }
+    // The link is in its place, and the call doesn't close it.
+    ensures same_standing { L.standing result.0 ≡ L.standing conn }
     // The count of the link's faults is one more, or still its last value, exactly where it ended by that; else it is the same.
     ensures counted { CountsBy (Some result.1) (L.faults conn) (L.faults result.0) }
     ensures first_fault { IsSome (L.told conn) → L.faults conn ≡ 0 → IsSome (L.told result.0) }

@@ -49,7 +49,7 @@ fn attach<L: Link, K: Desk, V: Service>(
         (record { desk = K.StandsFor desk.old; drawn = K.drawn desk.old; service = service; heard = heard.now; line = Line.Framed wire.old; told = L.told link.old })
         (λ rules talk. Attach now name ∷ []) (end_in result)
         (record { desk = K.StandsFor desk.new; drawn = K.drawn desk.new; service = service; heard = heard.now; line = Line.Framed wire.new; told = L.told link.new }) }
-    ensures goes { Goes (end_in result) (L.place link.old) (L.faults link.old) (L.told link.old) (L.place link.new) (L.faults link.new) (L.told link.new) }
+    ensures goes { Goes (end_in result) (L.standing link.old) (L.faults link.old) (L.told link.old) (L.standing link.new) (L.faults link.new) (L.told link.new) }
     ensures ends { IsEventEnd K.MayAnswer (end_in result) }
     ensures same_in { IsSameIn wire.old wire.new }
     ensures same_keys { K.keys desk.new ≡ K.keys desk.old }
@@ -115,7 +115,7 @@ fn answer<L: Link>(
     text: &mut Octets,
 ) -> Result<Came, ConnEnd>
     ensures says { SaysBy wire.old heard.old (L.told link.old) reply.now.heard reply.now.out.outs result wire.new heard.new (L.told link.new) }
-    ensures goes { Goes (end_in result) (L.place link.old) (L.faults link.old) (L.told link.old) (L.place link.new) (L.faults link.new) (L.told link.new) }
+    ensures goes { Goes (end_in result) (L.standing link.old) (L.faults link.old) (L.told link.old) (L.standing link.new) (L.faults link.new) (L.told link.new) }
     ensures ends { IsSendEnd (end_in result) }
     ensures same_in { IsSameIn wire.old wire.new }
 {
@@ -166,7 +166,7 @@ fn hear<L: Link, K: Desk, V: Service>(
         (λ (service : V). record { desk = K.StandsFor desk.old; drawn = K.drawn desk.old; service = service; heard = heard.old; line = Line.Framed wire.old; told = L.told link.old })
         now wire.old wire.new result
         (λ (service : V). record { desk = K.StandsFor desk.new; drawn = K.drawn desk.new; service = service; heard = heard.new; line = Line.Framed wire.new; told = L.told link.new }) }
-    ensures goes { Goes (end_in result) (L.place link.old) (L.faults link.old) (L.told link.old) (L.place link.new) (L.faults link.new) (L.told link.new) }
+    ensures goes { Goes (end_in result) (L.standing link.old) (L.faults link.old) (L.told link.old) (L.standing link.new) (L.faults link.new) (L.told link.new) }
     ensures ends { IsPacketEnd K.MayAnswer (end_in result) }
     ensures same_form { wire.new.form ≡ wire.old.form }
     ensures same_keys { K.keys desk.new ≡ K.keys desk.old }
@@ -196,7 +196,7 @@ fn take_packet<L: Link, K: Desk, V: Service>(
         (λ (service : V). record { desk = K.StandsFor desk.old; drawn = K.drawn desk.old; service = service; heard = heard.old; line = Line.Framed wire.old; told = L.told link.old })
         now wire.old wire.new result
         (λ (service : V). record { desk = K.StandsFor desk.new; drawn = K.drawn desk.new; service = service; heard = heard.new; line = Line.Framed wire.new; told = L.told link.new }) }
-    ensures goes { Goes (end_in result) (L.place link.old) (L.faults link.old) (L.told link.old) (L.place link.new) (L.faults link.new) (L.told link.new) }
+    ensures goes { Goes (end_in result) (L.standing link.old) (L.faults link.old) (L.told link.old) (L.standing link.new) (L.faults link.new) (L.told link.new) }
     ensures ends { IsPacketEnd K.MayAnswer (end_in result) }
     ensures same_form { wire.new.form ≡ wire.old.form }
     ensures same_keys { K.keys desk.new ≡ K.keys desk.old }
@@ -256,7 +256,7 @@ pub(crate) fn take_packets<L: Link, K: Desk, V: Service>(
         (λ (service : V). record { desk = K.StandsFor desk.old; drawn = K.drawn desk.old; service = service; heard = heard.old; line = Line.Framed wire.old; told = L.told link.old })
         now wire.old wire.new left.old left.new (end_in result)
         (λ (service : V). record { desk = K.StandsFor desk.new; drawn = K.drawn desk.new; service = service; heard = heard.new; line = Line.Framed wire.new; told = L.told link.new }) }
-    ensures goes { Goes (end_in result) (L.place link.old) (L.faults link.old) (L.told link.old) (L.place link.new) (L.faults link.new) (L.told link.new) }
+    ensures goes { Goes (end_in result) (L.standing link.old) (L.faults link.old) (L.told link.old) (L.standing link.new) (L.faults link.new) (L.told link.new) }
     ensures ends { IsPacketsEnd K.MayAnswer (end_in result) }
     ensures left { Answered (end_in result) left.old left.new }
     ensures same_form { wire.new.form ≡ wire.old.form }

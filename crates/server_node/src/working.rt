@@ -37,7 +37,7 @@ fn tick<L: Link, K: Desk, V: Service>(
         (record { desk = K.StandsFor desk.old; drawn = K.drawn desk.old; service = service; heard = heard.now; line = line.old; told = L.told link.old })
         (λ rules talk. Tick now ∷ []) (end_in result)
         (record { desk = K.StandsFor desk.new; drawn = K.drawn desk.new; service = service; heard = heard.now; line = line.new; told = L.told link.new }) }
-    ensures goes { Goes (end_in result) (L.place link.old) (L.faults link.old) (L.told link.old) (L.place link.new) (L.faults link.new) (L.told link.new) }
+    ensures goes { Goes (end_in result) (L.standing link.old) (L.faults link.old) (L.told link.old) (L.standing link.new) (L.faults link.new) (L.told link.new) }
     ensures ends { IsEventEnd K.MayAnswer (end_in result) }
     ensures same_in { HearsAlike line.old line.new }
     ensures same_keys { K.keys desk.new ≡ K.keys desk.old }
@@ -66,7 +66,7 @@ fn run_first<L: Link, K: Desk, V: Service>(
         (record { desk = K.StandsFor desk.old; drawn = K.drawn desk.old; service = service.old; heard = heard.now; line = line.old; told = L.told link.old })
         (λ rules talk. Run now ∷ []) (end_in result)
         (record { desk = K.StandsFor desk.new; drawn = K.drawn desk.new; service = service.new; heard = heard.now; line = line.new; told = L.told link.new }) }
-    ensures goes { Goes (end_in result) (L.place link.old) (L.faults link.old) (L.told link.old) (L.place link.new) (L.faults link.new) (L.told link.new) }
+    ensures goes { Goes (end_in result) (L.standing link.old) (L.faults link.old) (L.told link.old) (L.standing link.new) (L.faults link.new) (L.told link.new) }
     ensures ends { IsEventEnd K.MayAnswer (end_in result) }
     ensures same_in { HearsAlike line.old line.new }
     ensures same_keys { K.keys desk.new ≡ K.keys desk.old }
@@ -98,7 +98,7 @@ pub(crate) fn work_all<L: Link, K: Desk, V: Service>(
         (record { desk = K.StandsFor desk.old; drawn = K.drawn desk.old; service = service.old; heard = heard.now; line = line.old; told = L.told link.old })
         now (end_in result)
         (record { desk = K.StandsFor desk.new; drawn = K.drawn desk.new; service = service.new; heard = heard.now; line = line.new; told = L.told link.new }) }
-    ensures goes { Goes (end_in result) (L.place link.old) (L.faults link.old) (L.told link.old) (L.place link.new) (L.faults link.new) (L.told link.new) }
+    ensures goes { Goes (end_in result) (L.standing link.old) (L.faults link.old) (L.told link.old) (L.standing link.new) (L.faults link.new) (L.told link.new) }
     ensures ends { IsEventEnd K.MayAnswer (end_in result) }
     ensures same_in { HearsAlike line.old line.new }
     ensures same_keys { K.keys desk.new ≡ K.keys desk.old }

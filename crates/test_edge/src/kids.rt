@@ -118,6 +118,22 @@ fn children_of_this_machine(rt: HostRuntime) -> Result<(), Fail> {
     Ok(())
 }
 
+#[test]
+fn a_child_doesnt_take_our_input(rt: HostRuntime) -> Result<(), Fail> {
+    let alloc = rt.alloc();
+    let mut kids = ChildKids::new(&rt, String::from_str(alloc, "sh")?);
+    let looks = words(
+        alloc,
+        "-c",
+        "test \"$(readlink /proc/self/fd/0)\" = /dev/null && echo ready",
+    )?;
+    same(
+        life(&mut kids, alloc, looks.as_slice()),
+        (Act::Ready, "ready", Act::Ready),
+    )?;
+    Ok(())
+}
+
 /// Starts a child, fails to start another, reads a line and waits: what each came to.
 fn life_beside<P: Spawner>(
     kids: &mut P,

@@ -14,7 +14,7 @@ use octets::Octets;
 use std::fs;
 use std::io::{self, ErrorKind, Read, Write};
 use std::test::Fail;
-use test_asserts::{holds, same};
+use test_asserts::{holds, same, shown, shows};
 
 /// What a node does: it reads once and writes once, and hands on what came of both.
 fn read_and_write<L: Link>(link: &mut L, into: &mut [u8], piece: &[u8]) -> (Got, Put)
@@ -22,7 +22,7 @@ fn read_and_write<L: Link>(link: &mut L, into: &mut [u8], piece: &[u8]) -> (Got,
     requires piece { 0 < length piece.now }
     ensures told { IfSome (L.told link.new) (λ after. IsSomeAnd (L.told link.old) (λ before.
         (after.came ≡ before.came ++ handed result.0 into.new) × (after.written ≡ before.written ++ taken result.1 piece.now))) }
-    ensures same_place { L.place link.new ≡ L.place link.old }
+    ensures same_standing { L.standing link.new ≡ L.standing link.old }
 {
     let got = link.read(into);
     let put = link.write(piece);
@@ -35,6 +35,8 @@ fn take_and_give_back<N: Net>(net: &mut N) -> bool
 {
     match net.accept() {
         Linked::Link(link) => {
+            let mut link = link;
+            link.close();
             net.done(link);
             true
         }
@@ -226,8 +228,22 @@ fn files_are_read_by_name(rt: HostRuntime) -> Result<(), Fail> {
     let long = vec![in alloc; 7u8; 1_048_577]?;
     fs::write(&rt, name, long.as_slice())?;
     assert!(rt; matches!(files.read(alloc, name), FileGot::Failed));
+    fs::write(&rt, name, &long.as_slice()[..1_048_576])?;
+    assert!(rt; matches!(files.read(alloc, name), FileGot::Contents(_)));
     fs::remove_file(&rt, name)?;
     assert!(rt; matches!(files.read(alloc, name), FileGot::Failed));
+    Ok(())
+}
+
+#[test]
+fn files_of_keys_show_no_byte(rt: HostRuntime) -> Result<(), Fail> {
+    let alloc = rt.alloc();
+    let name = Octets::copy(alloc, b"")?;
+    let contents = Octets::copy(alloc, b"key")?;
+    let file = NamedFile { name, contents };
+    let got = FileGot::Contents(Octets::copy(alloc, b"key")?);
+    shows(alloc, &got, "Contents { count: 3, .. }")?;
+    holds(!shown(alloc, &file)?.as_str().contains("107"))?;
     Ok(())
 }
 
@@ -258,8 +274,12 @@ fn sockets_of_this_machine(rt: HostRuntime) -> Result<(), Fail> {
     same(&into[..3], b"abc".as_slice())?;
     same(far.write(b"de"), Put::Took(2))?;
     same(near.read(&mut into), Got::Bytes(2))?;
+    far.close();
     net.done(far);
     same(near.read(&mut into), Got::End)?;
+    near.close();
+    same(near.read(&mut into), Got::Failed)?;
+    same(near.write(b"f"), Put::Failed)?;
     other.done(near);
     Ok(())
 }

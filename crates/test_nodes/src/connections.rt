@@ -6,7 +6,7 @@ ghost use Rattle.auth_keys.specs.Rings.{entry_of};
 use draws::StepDraw;
 use envelope::{Dir, Envelope, MtSeal, Seal};
 use msg_ids::Moment;
-use mt_edge::{Linked, ListClock, MemLink, MemNet, Net, NetCall, Outcome};
+use mt_edge::{Link, Linked, ListClock, MemLink, MemNet, Net, NetCall, Outcome};
 use octets::{Memory, Octets};
 use regs_service::{Regs, Service};
 use server_core::{Plain, Server};
@@ -78,6 +78,8 @@ fn ended(
     let mut clock = ListClock::new(alloc, &[Moment::new(0)])?;
     let conn = Conn::new(link);
     let (link, end) = serve_one(alloc, conn, &mut desk, &mut service, &mut clock, left);
+    let mut link = link;
+    link.close();
     net.done(link);
     Ok((end, net))
 }

@@ -3,6 +3,7 @@ use Rattle.client_node.specs.Talks.{rules_of}
 use Rattle.client_node.specs.Trace.{ClientTrace, after_all}
 use Rattle.client_node.specs.declared.plan.Batch.{Batch}
 use Rattle.client_node.proofs.Connecting.{none_lost, not_link_lost, one_more_lost, still_tells}
+use Rattle.client_node.proofs.Counting.{more_counted, none_counted}
 use Rattle.client_node.proofs.Conversing.{lost_more, none_so_far, traced}
 use Rattle.client_node.proofs.Undecided.{lost_undecided}
 use Rattle.client_node.proofs.batch.connect_all.Goals as goal
@@ -15,6 +16,9 @@ lost-init g c =
       room = c.requires.room;
       lost = none_lost c.args.plan.now.port (g.N.Net.calls c.args.net.now);
       tells = λ is none few. is;
+      still = λ is enough. is;
+      left = omega arith;
+      counted = none_counted (g.N.Net.calls c.args.net.now) (g.N.Net.faults c.args.net.now);
       so_far = λ course reading read_so stands some.
           none_so_far (rules_of g.D.Draw.step g.S.Seal.lock (g.S.Seal.keys c.args.seal.now) reading) c.args.plan.now course
           (g.N.Net.calls c.args.net.now) (g.C.Clock.given c.args.clock.now) c.args.client c.args.draw.now stands;
@@ -43,6 +47,11 @@ lost-preserved g c =
       tells = still_tells (g.N.Net.calls c.args.net.now) (g.N.Net.calls c.lost.net) (g.N.Net.calls c.connect-next.new.net)
           (g.N.Net.faults c.args.net.now) (g.N.Net.faults c.lost.net) (g.N.Net.faults c.connect-next.new.net)
           c.lost.invariant.tells c.connect-next.ensures.first_fault c.connect-next.ensures.counted;
+      still = λ is enough. c.connect-next.ensures.still_tells (c.lost.invariant.still is enough) (omega (arith, enough, c.lost.invariant.left, c.lost-test.true));
+      left = omega (arith, c.lost.invariant.left, c.connect-next.ensures.room);
+      counted = more_counted (g.N.Net.calls c.args.net.now) (g.N.Net.calls c.lost.net) (g.N.Net.calls c.connect-next.new.net)
+          (g.N.Net.faults c.args.net.now) (g.N.Net.faults c.lost.net) (g.N.Net.faults c.connect-next.new.net)
+          c.lost.invariant.counted c.connect-next.ensures.faults;
       so_far = λ course reading read_so stands some.
           let before = c.lost.invariant.so_far course reading read_so stands some in
           let rules_so = rules_of g.D.Draw.step g.S.Seal.lock (g.S.Seal.keys c.args.seal.now) reading in
@@ -50,6 +59,26 @@ lost-preserved g c =
           (g.C.Clock.given c.args.clock.now) (g.C.Clock.given c.lost.clock) (g.C.Clock.given c.connect-next.new.clock) c.lost.client c.connect-next.result.0 c.lost.draw c.connect-next.new.draw c.connect-next.result.1
           same before (c.connect-next.ensures.tried (after_all rules_so c.args.plan.now course before.attempts) reading read_so before.stands (lost_undecided rules_so c.args.plan.now course before.attempts some before.lost));
     }
+
+pub returns-then-not-is_lost-clause-still_tells : goal.returns-then-not-is_lost-clause-still_tells
+returns-then-not-is_lost-clause-still_tells g c is enough =
+    c.connect-next.ensures.still_tells (c.lost.invariant.still is enough) (omega (arith, enough, c.lost.invariant.left, c.lost-test.true))
+
+pub returns-then-not-is_lost-clause-faults : goal.returns-then-not-is_lost-clause-faults
+returns-then-not-is_lost-clause-faults g c =
+    more_counted (g.N.Net.calls c.args.net.now) (g.N.Net.calls c.lost.net) (g.N.Net.calls c.connect-next.new.net)
+    (g.N.Net.faults c.args.net.now) (g.N.Net.faults c.lost.net) (g.N.Net.faults c.connect-next.new.net)
+    c.lost.invariant.counted c.connect-next.ensures.faults
+
+pub returns-clause-still_tells : goal.returns-clause-still_tells
+returns-clause-still_tells g c is enough =
+    c.connect-client.ensures.still_tells (c.lost.invariant.still is enough) (omega (arith, enough, c.lost.invariant.left, c.lost-test.false, c.lost.auto._count-end))
+
+pub returns-clause-faults : goal.returns-clause-faults
+returns-clause-faults g c =
+    more_counted (g.N.Net.calls c.args.net.now) (g.N.Net.calls c.lost.net) (g.N.Net.calls c.connect-client.new.net)
+    (g.N.Net.faults c.args.net.now) (g.N.Net.faults c.lost.net) (g.N.Net.faults c.connect-client.new.net)
+    c.lost.invariant.counted c.connect-client.ensures.faults
 
 pub returns-clause-trace : goal.returns-clause-trace
 returns-clause-trace g c course reading read_so stands some =

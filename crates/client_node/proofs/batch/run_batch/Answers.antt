@@ -4,12 +4,19 @@ use Rattle.client_node.specs.Trace.{after_all}
 use Rattle.client_node.specs.declared.plan.Batch.TheVariants as batch
 use Rattle.client_node.proofs.Connecting.{used}
 use Rattle.client_node.proofs.Conversing.{untraced}
+use Rattle.client_node.proofs.Counting.{none_counted}
 use Rattle.client_node.proofs.KindLemmas.{leaves_undecided}
 use Rattle.client_node.proofs.batch.run_batch.Goals as goal
 
 pub returns-in-Ok-clause-uses : goal.returns-in-Ok-clause-uses
 returns-in-Ok-clause-uses g c =
     used c.args.plan.now c.connect_all.result.1 (g.N.Net.calls c.args.net.now) (g.N.Net.calls c.connect_all.new.net) c.connect_all.ensures.connects
+
+pub returns-then-is_decided-clause-faults : goal.returns-then-is_decided-clause-faults
+returns-then-is_decided-clause-faults g c = none_counted (g.N.Net.calls c.args.net.now) (g.N.Net.faults c.args.net.now)
+
+pub returns-in-Err-clause-faults : goal.returns-in-Err-clause-faults
+returns-in-Err-clause-faults g c = none_counted (g.N.Net.calls c.args.net.now) (g.N.Net.faults c.args.net.now)
 
 pub returns-then-is_decided-clause-trace : goal.returns-then-is_decided-clause-trace
 returns-then-is_decided-clause-trace g c course reading read_so stands =

@@ -28,7 +28,7 @@ flushes-preserved g c =
       calls = one.count ∙ so_far.calls;
       goes_on = λ is. one.goes_on (so_far.goes_on is);
       faults = one.counted ∙ so_far.faults;
-      place = one.same_place ∙ so_far.place;
+      place = one.same_standing ∙ so_far.place;
       same_in = (one.same_in.0 ∙ so_far.same_in.0, one.same_in.1 ∙ so_far.same_in.1, one.same_in.2 ∙ so_far.same_in.2);
     }
 

@@ -13,6 +13,6 @@ invariant-flushes g l = record {
   calls : count_of l.client ≡ count_of l.fn.client;
   goes_on : IsSome (g.L.Link.told l.fn.link) → IsSome (g.L.Link.told l.link);
   faults : g.L.Link.faults l.link ≡ g.L.Link.faults l.fn.link;
-  place : g.L.Link.place l.link ≡ g.L.Link.place l.fn.link;
+  place : g.L.Link.standing l.link ≡ g.L.Link.standing l.fn.link;
   same_in : (l.wire.form ≡ l.fn.wire.form) × (l.wire.held ≡ l.fn.wire.held) × (l.wire.reading ≡ l.fn.wire.reading);
 }

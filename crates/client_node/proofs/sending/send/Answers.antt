@@ -10,6 +10,6 @@ loop-rest-preserved g c =
     record {
       written = (so_far.written.0 ++ take count rest, front_more c.args.piece.now so_far.written.0 rest count so_far.written.1, told_more so_far.written.0 rest count _ _ _ so_far.written.2 c.in-Took.ensures.told);
       goes_on = λ is. c.in-Took.ensures.goes_on (so_far.goes_on is) (search rules);
-      place = c.in-Took.ensures.same_place ∙ so_far.place;
+      place = c.in-Took.ensures.same_standing ∙ so_far.place;
       faults = c.in-Took.ensures.counted ∙ so_far.faults;
     }

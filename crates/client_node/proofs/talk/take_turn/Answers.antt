@@ -35,7 +35,7 @@ returns-in-End g c =
       goes_on = λ is. tt;
       first_fault = c.read.ensures.first_fault;
       counted = either_counts c.read.result (g.L.Link.faults c.args.link.now) (g.L.Link.faults c.read.new.self) none c.read.ensures.counted;
-      same_place = c.read.ensures.same_place;
+      same_standing = c.read.ensures.same_standing;
       turn = inl (
         refl,
         (

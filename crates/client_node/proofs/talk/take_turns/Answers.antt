@@ -21,7 +21,7 @@ turns-preserved g c =
       goes_on = λ is. subst (λ (answer : Result ℕ End). OnOk answer (IsSome told)) c.in-Ok.is (turn.goes_on (c.in_default.ensures.goes_on (c.turns.invariant.goes_on is)));
       faults = subst (λ (answer : Result ℕ End). CountsTurn answer (g.L.Link.faults c.flush_all.new.link) (g.L.Link.faults c.take_turn-next.new.link)) c.in-Ok.is turn.counted
           ∙ c.in_default.ensures.counted ∙ c.turns.invariant.faults;
-      place = turn.same_place ∙ c.flush_all.ensures.same_place ∙ c.turns.invariant.place;
+      place = turn.same_standing ∙ c.flush_all.ensures.same_standing ∙ c.turns.invariant.place;
       so_far = λ course reading opening read_so stands some opens.
           turn_more g.D.Draw.step g.S.Seal.lock (g.S.Seal.keys c.args.seal.now) reading opening (began c.args.first course) c.turns._count c.turns.now
           c.turns.client c.turns.draw c.turns.wire (seen (g.L.Link.told c.turns.link) (g.L.Link.faults c.turns.link)) (g.C.Clock.given c.turns.clock)

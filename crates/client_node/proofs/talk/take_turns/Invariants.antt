@@ -15,7 +15,7 @@ invariant-turns g l = record {
   room : length l.into ≡ piece_bytes;
   goes_on : IsSome (g.L.Link.told l.fn.link) → IsSome (g.L.Link.told l.link);
   faults : g.L.Link.faults l.link ≡ g.L.Link.faults l.fn.link;
-  place : g.L.Link.place l.link ≡ g.L.Link.place l.fn.link;
+  place : g.L.Link.standing l.link ≡ g.L.Link.standing l.fn.link;
   so_far : (course : Course g.row.D.Denot) (reading : Reading) (opening : Opening) → IsReading g.S.Seal.lock (g.S.Seal.keys l.seal) reading
       → StandsAs l.fn.client l.fn.draw course → is_decided course.client ≡ false → HasOpened l.fn.wire opening
       → TurnsSoFar (rules_of g.D.Draw.step g.S.Seal.lock (g.S.Seal.keys l.seal) reading) opening (began l.fn.first course) l._count l.now l.client l.draw l.wire

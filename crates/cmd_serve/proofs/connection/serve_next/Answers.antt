@@ -1,5 +1,5 @@
 use Rattle.std.proofs.Common.{ℕ, IsSome, IsSomeAnd, Some, ap, sym, subst, ◌∙◌}
-use Rattle.mt_edge.specs.Links.{IsFresh}
+use Rattle.mt_edge.specs.Links.{IsFresh, Standing}
 use Rattle.server_node.specs.Trace.{rules_of}
 use Rattle.server_node.specs.Writes.{CountsBy}
 use Rattle.cmd_serve.proofs.Taking.{closed-as, no-journal, some-of, took-one}
@@ -11,7 +11,7 @@ returns-in-Link-clause-took g c outside before is stands =
     (g.K.Desk.StandsFor c.args.desk.now) (g.K.Desk.drawn c.args.desk.now) c.args.service.now (g.C.Clock.given c.args.clock.now) c.args.left.now stands
     (g.N.L.Link.told c.new.result) (g.N.L.Link.told c.serve_one-link.result.0) c.serve_one-link.result.1
     (record { desk = g.K.Desk.StandsFor c.serve_one-link.new.desk; drawn = g.K.Desk.drawn c.serve_one-link.new.desk; service = c.serve_one-link.new.service; given = g.C.Clock.given c.serve_one-link.new.clock; left = c.serve_one-link.new.left; calls = g.N.Net.calls c.done.new.self })
-    (g.N.L.Link.place c.in-Link.link) (g.N.L.Link.faults c.serve_one-link.result.0) (g.N.Net.calls c.args.net.now) (g.N.Net.calls c.accept.new.self)
+    (g.N.L.Link.standing c.in-Link.link).place (g.N.L.Link.faults c.serve_one-link.result.0) (g.N.Net.calls c.args.net.now) (g.N.Net.calls c.accept.new.self)
     (no-journal c.serve_one-link.result.1 (λ fault same. let both = c.serve_one-link.ensures.journal fault same in both.1 (c.requires.no_journal fault both.0)))
     (λ talk begins. c.serve_one-link.ensures.trace outside talk is begins)
     c.serve_one-link.ensures.record
@@ -20,8 +20,8 @@ returns-in-Link-clause-took g c outside before is stands =
     c.in-Link.ensures.told
     (λ told. subst (λ link. IsSomeAnd (g.N.L.Link.told link) IsFresh) (sym c.new.ensures) (c.in-Link.ensures.fresh told))
     c.in-Link.ensures.place
-    (closed-as (g.N.Net.calls c.done.new.self) (g.N.Net.calls c.accept.new.self) (g.N.L.Link.told c.serve_one-link.result.0) (g.N.L.Link.told c.close.new.self) (g.N.L.Link.place c.in-Link.link) (g.N.L.Link.place c.close.new.self) (g.N.L.Link.faults c.serve_one-link.result.0) (g.N.L.Link.faults c.close.new.self)
-    c.close.ensures.told (c.close.ensures.same_place ∙ c.serve_one-link.ensures.same_place ∙ ap g.N.L.Link.place c.new.ensures) c.close.ensures.counted c.done.ensures.told)
+    (closed-as (g.N.Net.calls c.done.new.self) (g.N.Net.calls c.accept.new.self) (g.N.L.Link.told c.serve_one-link.result.0) (g.N.L.Link.told c.close.new.self) (g.N.L.Link.standing c.in-Link.link).place (g.N.L.Link.standing c.close.new.self).place (g.N.L.Link.faults c.serve_one-link.result.0) (g.N.L.Link.faults c.close.new.self)
+    c.close.ensures.told (c.close.ensures.same_place ∙ ap (λ (one : Standing). one.place) (c.serve_one-link.ensures.same_standing ∙ ap g.N.L.Link.standing c.new.ensures)) c.close.ensures.counted c.done.ensures.told)
 
 pub returns-in-Failed-clause-took : goal.returns-in-Failed-clause-took
 returns-in-Failed-clause-took g c outside before is stands = record { stands = stands; noted = c.in-Failed.ensures.told }

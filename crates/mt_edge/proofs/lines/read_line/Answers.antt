@@ -2,7 +2,7 @@ use Rattle.std.proofs.Common.{◌≡◌, ◌≢◌, ℕ, List, [], ◌∷◌, �
 use Rattle.std.proofs.lemmas.Grind.{common_steps}
 use Rattle.std.proofs.lemmas.List.Elements.{All-push}
 use Rattle.std.specs.List.{All}
-use Rattle.mt_edge.specs.declared.spawner.Line.TheVariants.{Memory}
+use Rattle.mt_edge.specs.declared.lines.NextLine.TheVariants.{Memory}
 use Rattle.mt_edge.specs.Lines.{Loses, ReadsLine}
 use Rattle.mt_edge.proofs.lines.read_line.Goals as goal
 
@@ -19,15 +19,15 @@ here left rest text byte (Some after) one other e h = (
   λ nothing. omega (arith, ap length nothing, ap length e, length-append text rest, ap length h),
 )
 
-lost_here : (first old new : Option (List ℕ)) (text : List ℕ) (byte : ℕ) → All (λ b. b ≢ 10) text → byte ≢ 10
+lost_here : (max : ℕ) (first old new : Option (List ℕ)) (text : List ℕ) (byte : ℕ) → All (λ b. b ≢ 10) text → byte ≢ 10
     → IfSome first (λ left. (rest : List ℕ) × (left ≡ text ++ rest) × (old ≡ Some rest)) → IfSome old (λ before. IsSomeAnd new (λ after. before ≡ byte ∷ after))
-    → ReadsLine Memory first new
-lost_here None old new text byte one other read told = tt
-lost_here (Some left) old new text byte one other (rest, e, f) told =
+    → ReadsLine max Memory first new
+lost_here max None old new text byte one other read told = tt
+lost_here max (Some left) old new text byte one other (rest, e, f) told =
     here left rest text byte new one other e (subst (λ o. IfSome o (λ before. IsSomeAnd new (λ after. before ≡ byte ∷ after))) f told)
 
 -- memory runs out behind a byte
 pub returns-in-Err : goal.returns-in-Err
 returns-in-Err g c =
-    lost_here (g.R.Read.remaining c.args.reader.now) (g.R.Read.remaining c.loop.reader) (g.R.Read.remaining c.next_byte.new.reader) c.loop.text c.in-Byte.byte
-    c.loop.invariant.one (grind (arith, common_steps)) c.loop.invariant.read c.in-Byte.ensures.told
+    lost_here c.args.max_bytes (g.R.Read.remaining c.args.reader.now) (g.R.Read.remaining c.bytes.reader) (g.R.Read.remaining c.next_byte.new.reader) c.bytes.text c.in-Byte.byte
+    c.bytes.invariant.one (grind (arith, common_steps)) c.bytes.invariant.read c.in-Byte.ensures.told

@@ -53,7 +53,7 @@ turns-preserved g c =
           so_far.same_keys (omega (arith, c.turns-test.true, c.turns.auto._count-end)) is (so_far.so_far outside talk is begins) turn.took;
       room = search rules;
       read = one_more_read c.turns._count (length c.take_turn.new.into) (g.L.Link.told c.args.link.now) (g.L.Link.told c.turns.link) (g.L.Link.told c.take_turn.new.link) (search rules) so_far.read turn.turned;
-      place = c.take_turn.ensures.same_place ∙ so_far.place;
+      place = c.take_turn.ensures.same_standing ∙ so_far.place;
       faults = turn.counted ∙ so_far.faults;
       tells = λ is none. c.take_turn.ensures.first_fault (so_far.tells is none) (so_far.faults ∙ none);
       fewer = fewer_both c.args.left.now c.turns.left c.take_turn.new.left so_far.fewer turn.left.fewer;

@@ -16,7 +16,7 @@ invariant-turns g l = record {
       (record { told = g.L.Link.told l.link; given = g.C.Clock.given l.clock; left = l.left });
   room : length l.into ≡ 65536;
   read : AreRead l._count (g.L.Link.told l.fn.link) (g.L.Link.told l.link);
-  place : g.L.Link.place l.link ≡ g.L.Link.place l.fn.link;
+  place : g.L.Link.standing l.link ≡ g.L.Link.standing l.fn.link;
   faults : g.L.Link.faults l.link ≡ g.L.Link.faults l.fn.link;
   tells : IsSome (g.L.Link.told l.fn.link) → g.L.Link.faults l.fn.link ≡ 0 → IsSome (g.L.Link.told l.link);
   fewer : IsFewer l.fn.left l.left;

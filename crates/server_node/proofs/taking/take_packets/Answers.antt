@@ -6,7 +6,7 @@ use Rattle.server_node.proofs.taking.take_packets.Goals as goal
 pub packets-init : goal.packets-init
 packets-init g c = record {
   took = some_none g.K.D.Draw.step g.V.Service.step g.K.S.Seal.lock (g.K.Desk.keys c.args.desk.now) _ c.args.now c.args.wire.now c.args.left.now;
-  goes = goes_none (g.L.Link.place c.args.link.now) (g.L.Link.faults c.args.link.now) (g.L.Link.told c.args.link.now);
+  goes = goes_none (g.L.Link.standing c.args.link.now) (g.L.Link.faults c.args.link.now) (g.L.Link.told c.args.link.now);
   fewer = same_fewer c.args.left.now;
   some = c.requires.some;
   same_keys = refl;

@@ -12,7 +12,7 @@ invariant-packets g l = record {
       (λ service. record { desk = g.K.Desk.StandsFor l.fn.desk; drawn = g.K.Desk.drawn l.fn.desk; service = service; heard = l.fn.heard; line = Framed l.fn.wire; told = g.L.Link.told l.fn.link })
       l.now l._count l.fn.wire l.wire l.fn.left l.left
       (λ service. record { desk = g.K.Desk.StandsFor l.desk; drawn = g.K.Desk.drawn l.desk; service = service; heard = l.heard; line = Framed l.wire; told = g.L.Link.told l.link });
-  goes : Goes None (g.L.Link.place l.fn.link) (g.L.Link.faults l.fn.link) (g.L.Link.told l.fn.link) (g.L.Link.place l.link) (g.L.Link.faults l.link) (g.L.Link.told l.link);
+  goes : Goes None (g.L.Link.standing l.fn.link) (g.L.Link.faults l.fn.link) (g.L.Link.told l.fn.link) (g.L.Link.standing l.link) (g.L.Link.faults l.link) (g.L.Link.told l.link);
   fewer : IsFewer l.fn.left l.left;
   some : l.left ≢ Some 0;
   same_keys : g.K.Desk.keys l.desk ≡ g.K.Desk.keys l.fn.desk;

@@ -12,7 +12,7 @@ invariant-runs g l = record {
       (record { desk = g.K.Desk.StandsFor l.fn.desk; drawn = g.K.Desk.drawn l.fn.desk; service = l.fn.service; heard = l.heard; line = l.fn.line; told = g.L.Link.told l.fn.link })
       (λ rules talk. work_acts l.now l._count) None
       (record { desk = g.K.Desk.StandsFor l.desk; drawn = g.K.Desk.drawn l.desk; service = l.service; heard = l.heard; line = l.line; told = g.L.Link.told l.link });
-  goes : Goes None (g.L.Link.place l.fn.link) (g.L.Link.faults l.fn.link) (g.L.Link.told l.fn.link) (g.L.Link.place l.link) (g.L.Link.faults l.link) (g.L.Link.told l.link);
+  goes : Goes None (g.L.Link.standing l.fn.link) (g.L.Link.faults l.fn.link) (g.L.Link.told l.fn.link) (g.L.Link.standing l.link) (g.L.Link.faults l.link) (g.L.Link.told l.link);
   same_in : HearsAlike l.fn.line l.line;
   same_keys : g.K.Desk.keys l.desk ≡ g.K.Desk.keys l.fn.desk;
 }
