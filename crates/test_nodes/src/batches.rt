@@ -20,13 +20,13 @@ const WORDS: &str = "call --keys k --key 32d1586ea457dfc8 --port 1 --form interm
 // What a run is given: the line of the key but for its digits, the script, and the number of the call that fails of the input,
 // of the key files and of the output.
 #[derive(Clone, Copy, Debug)]
-struct Given {
+pub struct Given {
     kind: &'static str,
     script: &'static str,
     failing: [u64; 3],
 }
 
-fn row_of(kind: &'static str, script: &'static str, failing: [u64; 3]) -> Given {
+pub fn row_of(kind: &'static str, script: &'static str, failing: [u64; 3]) -> Given {
     Given {
         kind,
         script,
@@ -53,19 +53,23 @@ fn net(alloc: Global) -> Result<MemNet, Memory> {
     MemNet::new(alloc, links, &[], 8)
 }
 
-// How a run ends, and what it wrote.
-fn ends(alloc: Global, options: &CallOptions<'_>, row: Given) -> Result<(Status, Octets), Fail>
+// How a run ends over a net, and what it wrote.
+fn ends(
+    alloc: Global,
+    options: &CallOptions<'_>,
+    row: Given,
+    net: &mut MemNet,
+) -> Result<(Status, Octets), Fail>
     requires { options.now.obfuscate ≡ true → options.now.form ≢ forms.Full }
 {
     let [input, _, out] = row.failing;
     let mut input = MemSource::new(alloc, row.script.as_bytes(), 3, &[input])?;
     let mut out = MemSink::new(alloc, 1000, 7, &[out])?;
     let mut files = key_files(alloc, row)?;
-    let mut net = net(alloc)?;
     let mut clock = ListClock::new(alloc, &[Moment::new(0)])?;
     let mut draw = StepDraw::new();
     let status = run_call(
-        alloc, options, &mut input, &mut out, &mut files, &mut net, &mut clock, &mut draw,
+        alloc, options, &mut input, &mut out, &mut files, net, &mut clock, &mut draw,
     );
     Ok((status, Octets::copy(alloc, out.written())?))
 }
@@ -78,10 +82,15 @@ fn words_of(alloc: Global, line: &str) -> Result<Vec<String>, AllocError> {
 }
 
 // The same, by the words of the command line.
-fn runs(alloc: Global, row: Given) -> Result<(Status, Octets), Fail> {
-    let words = words_of(alloc, WORDS)?;
+pub fn runs(
+    alloc: Global,
+    line: &str,
+    row: Given,
+    net: &mut MemNet,
+) -> Result<(Status, Octets), Fail> {
+    let words = words_of(alloc, line)?;
     match read(alloc, words.as_slice())? {
-        Command::Call(options) => ends(alloc, &options, row),
+        Command::Call(options) => ends(alloc, &options, row, net),
         _ => Err(Fail::new("another command")),
     }
 }
@@ -126,7 +135,8 @@ fn runs_and_what_they_write(rt: HostRuntime) -> Result<(), Fail> {
         (row_of("perm", "", [0, 0, 0]), Status::Done, ""),
     ];
     for (row, status, text) in rows {
-        let (ended, written) = runs(alloc, row)?;
+        let mut net = net(alloc)?;
+        let (ended, written) = runs(alloc, WORDS, row, &mut net)?;
         same_at(row, ended, status)?;
         same_at(row, written.as_slice(), text.as_bytes())?;
     }

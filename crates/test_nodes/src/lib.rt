@@ -7,4 +7,6 @@ mod batches;
 #[cfg(test)]
 mod connections;
 #[cfg(test)]
+mod joint;
+#[cfg(test)]
 mod servers;

@@ -47,7 +47,7 @@ fn links(alloc: Global) -> Result<Vec<MemLink>, Fail> {
 }
 
 // The one file that there is.
-fn file(alloc: Global, name: &str, contents: &str) -> Result<MemFiles, Fail> {
+pub fn file(alloc: Global, name: &str, contents: &str) -> Result<MemFiles, Fail> {
     let mut files = Vec::new(alloc);
     files.push(NamedFile {
         name: Octets::copy(alloc, name.as_bytes())?,
@@ -64,13 +64,15 @@ fn words_of(alloc: Global, line: &str) -> Result<Vec<String>, AllocError> {
 }
 
 // How a run with these words ends, what it writes, and its net, over these links, where these calls of the net and these
-// writes fail.
-fn ran(
+// writes fail. Its words are drawn from here.
+pub fn over(
     alloc: Global,
     line: &str,
     mut files: MemFiles,
+    links: Vec<MemLink>,
     failing: &[u64],
     unwritten: &[u64],
+    draw: &mut StepDraw,
 ) -> Result<(Status, MemSink, MemNet), Fail> {
     let words = words_of(alloc, line)?;
     let Command::Serve(options) = read(alloc, words.as_slice())? else {
@@ -80,22 +82,29 @@ fn ran(
         return Err(Fail::new("no packet to answer"));
     }
     let mut out = MemSink::new(alloc, 1_000, 7, unwritten)?;
-    let mut net = MemNet::new(alloc, links(alloc)?, failing, 8)?;
+    let mut net = MemNet::new(alloc, links, failing, 8)?;
     let mut clock = ListClock::new(alloc, &[Moment::new(0)])?;
     let status = run_serve(
-        alloc,
-        &options,
-        &mut out,
-        &mut files,
-        &mut net,
-        &mut clock,
-        &mut StepDraw::new(),
+        alloc, &options, &mut out, &mut files, &mut net, &mut clock, draw,
     );
     Ok((status, out, net))
 }
 
+// The same, over the links of a first packet.
+fn ran(
+    alloc: Global,
+    line: &str,
+    files: MemFiles,
+    failing: &[u64],
+    unwritten: &[u64],
+) -> Result<(Status, MemSink, MemNet), Fail> {
+    let links = links(alloc)?;
+    let mut draw = StepDraw::new();
+    over(alloc, line, files, links, failing, unwritten, &mut draw)
+}
+
 // What was written over the connection that was accepted behind a listen.
-fn written(net: &MemNet) -> &[u8] {
+pub fn written(net: &MemNet) -> &[u8] {
     match net.calls() {
         [
             NetCall::Listen { .. },
