@@ -1,5 +1,5 @@
 -- What comes back after a crash.
-use Rattle.std.proofs.Common.{◌≡◌, ℕ, Option, None, Some, List, [], ◌∷◌, ◌++◌, length, inl, inr, refl, sym, ap, subst, ◌∙◌, append_assoc}
+use Rattle.std.proofs.Common.{◌≡◌, ℕ, Option, None, Some, List, ◌++◌, length, inl, inr, sym, ap, subst, ◌∙◌, append_assoc}
 use Rattle.std.specs.Prelude.{◌⊎◌, IfSome, IsSomeAnd}
 use Rattle.disks.specs.Told.{DiskTold, MayHaveLeft}
 use Rattle.envelope.specs.Lawful.{OpensWhatItSealed}
@@ -8,7 +8,7 @@ use Rattle.sess_records.specs.Format.{Spells}
 use Rattle.sess_records.specs.Seen.{File}
 use Rattle.sess_records.specs.Standing.{SpellsSome}
 use Rattle.sess_journal.specs.Back.{ComesBack, HoldsBytes, MayHold}
-use Rattle.sess_journal.specs.Keeping.{Adds, Book, LeavesSome, Opened, Resumed, Seen, disk_by, disk_in, ending}
+use Rattle.sess_journal.specs.Keeping.{Adds, LeavesSome, Opened, Resumed, Seen, disk_by, disk_in, ending}
 use Rattle.sess_replay.specs.Files.{IsNoJournalAt}
 use Rattle.sess_replay.specs.Replay.{Bases, Basis, Reached, Replays, at_first}
 
@@ -39,7 +39,7 @@ spells_left left seed entries None h bytes = absurd bytes
 spells_left left seed entries (Some file) h bytes = subst (λ (l : List ℕ). Spells seed entries l) bytes h
 
 module _ {K S D : Type 0} (laws : FileLaws D) (bases : Bases S D) (told : K → Option DiskTold) (entries more : List Record) (before after : Seen K S D) (adds : Adds bases told entries more before after)
-  (left : List ℕ) (holds : MayHold told before.book after.book left) where
+    (left : List ℕ) (holds : MayHold told before.book after.book left) where
   -- what is left has some of the records
   left_some : SpellsSome adds.file.seed entries more left
   left_some =

@@ -1,5 +1,5 @@
 -- An event of a desk, and its record.
-use Rattle.std.proofs.Common.{◌≡◌, ◌≤◌, ◌<◌, ◌^◌, ℕ, Option, None, Some, Result, Ok, Err, IfErr, IfOk, List, [], ◌∷◌, ◌++◌, length, max, inl, inr, sym, ap, subst, refl, ◌∙◌, arith, append_assoc, Bool, true, false}
+use Rattle.std.proofs.Common.{◌≡◌, ◌≤◌, ◌<◌, ◌^◌, ℕ, Option, None, Some, Result, Ok, Err, List, [], ◌∷◌, ◌++◌, length, max, sym, ap, subst, refl, ◌∙◌, arith, Bool, true, false}
 use Rattle.std.specs.Prelude.{IfSome, IsErr, IsErrAnd, IsSomeAnd}
 use Rattle.std.specs.List.{All}
 use Rattle.disks.specs.Crash.{MayLeave, synced_at}
@@ -24,7 +24,7 @@ use Rattle.server_core.specs.Effects.{Gives}
 use Rattle.server_output.specs.declared.outs.Out.{Out}
 use Rattle.server_output.specs.Outs.{AreSent}
 use Rattle.server_core.specs.Packets.{brought_in}
-use Rattle.server_core.specs.Server.{Kept, Stands}
+use Rattle.server_core.specs.Server.{Stands}
 use Rattle.server_rules.specs.Answer.{Answer, after_attach, after_packet, after_tick, after_work, is_spent}
 use Rattle.server_rules.specs.Event.{Envelope, Sent, Setting}
 use Rattle.server_rules.specs.Server.{Name, Server}
@@ -345,7 +345,7 @@ none_sent lock keys (one ∷ sent) [] h is = absurd h
 none_sent lock keys (one ∷ sent) (out ∷ outs) h is = let e : out ∷ outs ≡ [] = is in absurd (cc)
 
 module _ {K S D A : Type 0} (bases : Bases S D) (told : K → Option DiskTold) (entries : List Record) (old : Seen K S D) (server : Server) (keeps : KeepsFor bases told entries old server)
-  (laws : RowLaws) where
+    (laws : RowLaws) where
   -- the desk is as it was
   pub none_journals : {all : List Record} {P : A → List Record → Type 0} (new : Seen K S D) (fault : DeskFault) → new ≡ old → Journals bases told entries all [] server old new (Err fault) P
   none_journals {all} {P} new fault same =
@@ -402,8 +402,8 @@ module _ {K S D A : Type 0} (bases : Bases S D) (told : K → Option DiskTold) (
 -- ---- an event that may give nothing
 
 module _ {K S D : Type 0} (bases : Bases S D) (told : K → Option DiskTold) (entries : List Record) (old : Seen K S D) (server : Server) (keeps : KeepsFor bases told entries old server)
-  (goes : Goes (bases old.server.seal keeps.recorded.file.seed)) (places : Places (bases old.server.seal keeps.recorded.file.seed)) (moment : ℕ) (early : moment ≤ latest_moment)
-  (lock : Lock) (keys : List RingKey) (answer : Keys → Answer D) (event : Event (List ℕ)) where
+    (goes : Goes (bases old.server.seal keeps.recorded.file.seed)) (places : Places (bases old.server.seal keeps.recorded.file.seed)) (moment : ℕ) (early : moment ≤ latest_moment)
+    (lock : Lock) (keys : List RingKey) (answer : Keys → Answer D) (event : Event (List ℕ)) where
   abbrev due : Record
   due = entry_at (bases old.server.seal keeps.recorded.file.seed).place_of old moment event
 
@@ -418,19 +418,19 @@ module _ {K S D : Type 0} (bases : Bases S D) (told : K → Option DiskTold) (en
   may_quiet new effects nothing gives is_quiet between seal latest book = (
     record { none = λ _. refl; one = λ some. absurd (some nothing) },
     λ ring.
-    let given = gives ring in
-    let then : Server = record server { now = max server.now moment } in
-    let server_is : (answer ring).server ≡ then = ap (λ (a : Answer D). a.server) (is_quiet ring) in
-    let draw_is : new.draw ≡ old.draw = given.drawn ∙ ap (λ (a : Answer D). a.draw) (is_quiet ring) in
-    let stands : KeepsFor bases told entries new then =
-    keeps_quiet bases told entries old server keeps new (max server.now moment) seal (subst (λ (s : Server). Stands new.server s) server_is given.stands)
-    (subst IsBetweenEvents server_is (between ring)) (omega arith) (latest ∙ time_is bases told entries old server keeps goes places moment early) draw_is book in
-    record {
-      stands = subst (λ (l : List Record). KeepsFor bases told l new (answer ring).server) (sym (append_none entries)) (subst (λ (s : Server). KeepsFor bases told entries new s) (sym server_is) stands);
-      drawn = given.drawn;
-      sent = given.sent;
-      entered = given.entered;
-    },
+        let given = gives ring in
+        let then : Server = record server { now = max server.now moment } in
+        let server_is : (answer ring).server ≡ then = ap (λ (a : Answer D). a.server) (is_quiet ring) in
+        let draw_is : new.draw ≡ old.draw = given.drawn ∙ ap (λ (a : Answer D). a.draw) (is_quiet ring) in
+        let stands : KeepsFor bases told entries new then =
+        keeps_quiet bases told entries old server keeps new (max server.now moment) seal (subst (λ (s : Server). Stands new.server s) server_is given.stands)
+        (subst IsBetweenEvents server_is (between ring)) (omega arith) (latest ∙ time_is bases told entries old server keeps goes places moment early) draw_is book in
+        record {
+          stands = subst (λ (l : List Record). KeepsFor bases told l new (answer ring).server) (sym (append_none entries)) (subst (λ (s : Server). KeepsFor bases told entries new s) (sym server_is) stands);
+          drawn = given.drawn;
+          sent = given.sent;
+          entered = given.entered;
+        },
   )
 
   -- it gave something, and was recorded
@@ -443,16 +443,16 @@ module _ {K S D : Type 0} (bases : Bases S D) (told : K → Option DiskTold) (en
   may_added new effects added some gives leads drew between at seal latest opened adds = (
     record { none = λ nothing. absurd (some nothing); one = λ _. refl },
     λ ring.
-    let given = gives ring in
-    let words = drew ring in
-    record {
-      stands =
-          keeps_event bases told entries old server keeps goes places moment early event (answer ring) words.0 new added (leads ring) words.1 seal given.stands (between ring) (at ring) latest given.drawn
-          opened adds;
-      drawn = given.drawn;
-      sent = given.sent;
-      entered = given.entered;
-    },
+        let given = gives ring in
+        let words = drew ring in
+        record {
+          stands =
+              keeps_event bases told entries old server keeps goes places moment early event (answer ring) words.0 new added (leads ring) words.1 seal given.stands (between ring) (at ring) latest given.drawn
+              opened adds;
+          drawn = given.drawn;
+          sent = given.sent;
+          entered = given.entered;
+        },
   )
 
 -- what a tick and an attach come to, by the desk before

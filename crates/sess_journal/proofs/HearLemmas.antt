@@ -14,7 +14,7 @@ use Rattle.server_core.specs.declared.desk.DeskFault.{DeskFault}
 use Rattle.server_core.specs.declared.desk.Heard.{Heard}
 use Rattle.server_core.specs.declared.desk.Heard.TheVariants.{Judged, NotOpened}
 use Rattle.server_core.specs.declared.desk.Reply.{Reply}
-use Rattle.server_core.specs.Desks.{Does, DoesNothing, IsBetweenEvents}
+use Rattle.server_core.specs.Desks.{Does, DoesNothing}
 use Rattle.server_core.specs.Packets.{IsHeardOf, NothingIsDone, effects_in}
 use Rattle.server_core.specs.Server.{Kept, Stands}
 use Rattle.server_core.specs.Sessions.{AreKept}
@@ -57,7 +57,7 @@ HearJournals bases told place_of lock ring_of answer entries server now packet n
     → Does (KeepsFor bases told (entries ++ more) new) lock (ring_of old.server.seal) new.draw (effects_in reply) (answer old.draw ring envelope))))
 
 module _ {K S D : Type 0} (bases : Bases S D) (told : K → Option DiskTold) (entries : List Record) (old : Seen K S D) (server : Server) (keeps : KeepsFor bases told entries old server)
-  (goes : Goes (bases old.server.seal keeps.recorded.file.seed)) (places : Places (bases old.server.seal keeps.recorded.file.seed)) (moment : ℕ) (early : moment ≤ latest_moment) where
+    (goes : Goes (bases old.server.seal keeps.recorded.file.seed)) (places : Places (bases old.server.seal keeps.recorded.file.seed)) (moment : ℕ) (early : moment ≤ latest_moment) where
   -- a packet that doesn't open
   pub hears_nothing : Later → (new : Seen K S D) (reply : Reply) → NothingIsDone (max old.server.moment moment) old.server new.server old.draw new.draw reply
       → new.latest ≡ max old.latest moment → new.book ≡ old.book

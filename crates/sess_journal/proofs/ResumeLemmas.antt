@@ -1,8 +1,7 @@
 -- A server with its journal, and the end of a run that was cut off.
-use Rattle.std.proofs.Common.{◌≡◌, ◌≤◌, ℕ, Option, None, Some, Result, Ok, Err, IfOk, List, [], ◌∷◌, ◌++◌, max, refl, sym, ap, subst, ◌∙◌, arith}
+use Rattle.std.proofs.Common.{◌≡◌, ℕ, Option, None, Some, Result, Ok, Err, IfOk, List, [], ◌∷◌, ◌++◌, max, refl, sym, ap, subst, ◌∙◌, arith}
 use Rattle.std.specs.Prelude.{◌≢◌, IfSome, IsSomeAnd}
 use Rattle.disks.specs.Told.{DiskTold}
-use Rattle.sess_records.specs.declared.records.Event.{Event}
 use Rattle.sess_records.specs.declared.records.Event.TheVariants.{Interrupted}
 use Rattle.sess_records.specs.declared.records.Record.{Record}
 use Rattle.sess_records.specs.Seen.{File}
@@ -11,7 +10,7 @@ use Rattle.sess_records.specs.Standing.{Behind, Holds}
 use Rattle.server_core.specs.Server.{Kept, Stands}
 use Rattle.sess_journal.specs.Keeping.{Book, KeepsFor, Resumed, Seen, ending, ending_by}
 use Rattle.sess_journal.specs.Playing.{Leads, Player, StandsAt, basis_for}
-use Rattle.sess_replay.specs.Replay.{Bases, LeadsTo, Plays, Reached, Replays, at_first}
+use Rattle.sess_replay.specs.Replay.{Bases, Reached, Replays, at_first}
 use Rattle.sess_journal.proofs.NextLemmas.{replays_more}
 use Rattle.sess_journal.proofs.PlayLemmas.{plays_of}
 

@@ -146,7 +146,7 @@ entry_at place_of desk now event = record { moment = max desk.latest now; place 
 -- A call for this server, whose event has these records in order, adds the first ones of them. Where it answers, P says which
 -- these are. On want of memory they are the spare ones, and the desk stands for the server that it stood for.
 pub record Journals {K S D A : Type 0} (bases : Bases S D) (told : K → Option DiskTold) (entries all spare : List Record) (server : Server) (before after : Seen K S D)
-  (result : Result A DeskFault) (P : A → List Record → Type 0) : Type 0 where
+    (result : Result A DeskFault) (P : A → List Record → Type 0) : Type 0 where
   pub more : List Record
   pub back : List Record
   pub front : all ≡ more ++ back

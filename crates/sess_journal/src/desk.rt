@@ -120,10 +120,7 @@ impl<K: Disk + Drop, S: Seal + Drop, D: Seeded + Drop> Kept<K, S, D> {
         let seed = self.book.seed_with_room(ATTACH_BYTES)?;
         let place = self.draw.place();
         let moment = later(self.latest, now);
-        let Ok(effects) = self
-            .server
-            .attach(alloc, key, session, now, &mut self.draw)
-        else {
+        let Ok(effects) = self.server.attach(alloc, key, session, now, &mut self.draw) else {
             self.draw = D::at(&seed, place);
             return Err(DeskFault::Memory);
         };
@@ -141,7 +138,12 @@ impl<K: Disk + Drop, S: Seal + Drop, D: Seeded + Drop> Kept<K, S, D> {
     /// # Errors
     ///
     /// `Closed`, `Full`, `Memory` or `Disk`, in this order. After `Memory` the server is as it was.
-    pub fn on_packet(&mut self, alloc: Global, now: Moment, packet: &[u8]) -> Result<Reply, DeskFault>
+    pub fn on_packet(
+        &mut self,
+        alloc: Global,
+        now: Moment,
+        packet: &[u8],
+    ) -> Result<Reply, DeskFault>
         ensures refuses { Refuses (22 + length packet.now) self.old.book result }
         ensures journal { (entries : List Record) (server : Rules) → KeepsFor (bases_of S.lock S.keys D.step D.standing_at D.place_of) K.told entries self.old server
             → Journals (bases_of S.lock S.keys D.step D.standing_at D.place_of) K.told entries (entry_at D.place_of self.old now (Packet packet.now) ∷ []) [] server self.old self.new result (λ reply more.
@@ -166,9 +168,7 @@ impl<K: Disk + Drop, S: Seal + Drop, D: Seeded + Drop> Kept<K, S, D> {
         rings_have_keys();
         rings_say_one_thing();
         is_early(now);
-        let seed = self
-            .book
-            .seed_with_room(SHORT_BYTES + packet.len() as u64)?;
+        let seed = self.book.seed_with_room(SHORT_BYTES + packet.len() as u64)?;
         let place = self.draw.place();
         let moment = later(self.latest, now);
         let Ok(reply) = self.server.on_packet(alloc, now, packet, &mut self.draw) else {

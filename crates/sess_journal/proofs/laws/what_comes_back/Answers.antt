@@ -1,4 +1,4 @@
-use Rattle.std.proofs.Common.{◌≡◌, ℕ, List, ap}
+use Rattle.std.proofs.Common.{List, ap}
 use Rattle.auth_keys.specs.declared.ring.RingKey.{RingKey}
 use Rattle.sess_replay.specs.Replay.{Bases, Basis, bases_of}
 use Rattle.sess_journal.proofs.BackLemmas.{FileLaws, comes_back, not_refused}

@@ -1,4 +1,4 @@
-use Rattle.std.proofs.Common.{◌≡◌, ◌+◌, ◌≤◌, ℕ, List, [], ◌∷◌, ◌++◌, Result, Ok, Err, max, refl, sym, ap, subst, ◌∙◌, length}
+use Rattle.std.proofs.Common.{◌≡◌, ℕ, List, [], ◌∷◌, ◌++◌, Result, Ok, Err, max, refl, sym, ap, subst, ◌∙◌}
 use Rattle.envelope.specs.declared.parts.Dir.TheVariants.{Up}
 use Rattle.envelope.specs.declared.parts.Envelope.{Envelope as Sealed}
 use Rattle.envelope.specs.Opening.{IsRefused, Opens}
@@ -135,14 +135,14 @@ returns-in_err-add-in-Judged-clause-journal g c = λ entries server keeps.
     let event : Event (List ℕ) = Packet c.args.packet.now in
     let due : Record = entry_at g.D.Seeded.place_of inside c.args.now event in
     let leads : (ring : Keys) (envelope : Sealed) → AreOf keys ring → Opens lock keys time Up c.args.packet.now envelope
-        → LeadsTo basis (max inside.latest c.args.now) (g.D.Seeded.place_of inside.draw) event own.recorded.reached (reached_by basis (answer inside.draw ring envelope)) =
+    → LeadsTo basis (max inside.latest c.args.now) (g.D.Seeded.place_of inside.draw) event own.recorded.reached (reached_by basis (answer inside.draw ring envelope)) =
     λ ring envelope of opens. (
       answer inside.draw ring envelope,
       (
         envelope,
         subst (λ (n : ℕ). Opens lock keys n Up c.args.packet.now envelope) (sym (time_of bases told entries inside server own goes places c.args.now c.is_early.ensures)) opens,
         ap (λ (k : Keys). after_packet (setting_of time g.D.Draw.step k) (brought_in envelope) server inside.draw) (c.rings_say_one_thing.ensures keys ring (keys_of keys) of (c.rings_have_keys.ensures keys))
-        ∙ same_event bases told entries inside server own goes places c.args.now c.is_early.ensures (λ at one draw. after_packet (setting_of at g.D.Draw.step (keys_of keys)) (brought_in envelope) one draw) (λ at one n draw. refl),
+            ∙ same_event bases told entries inside server own goes places c.args.now c.is_early.ensures (λ at one draw. after_packet (setting_of at g.D.Draw.step (keys_of keys)) (brought_in envelope) one draw) (λ at one n draw. refl),
       ),
       refl,
     ) in
@@ -189,14 +189,14 @@ returns-in_ok-add-in-Judged-clause-journal g c = λ entries server keeps.
     let event : Event (List ℕ) = Packet c.args.packet.now in
     let due : Record = entry_at g.D.Seeded.place_of inside c.args.now event in
     let leads : (ring : Keys) (envelope : Sealed) → AreOf keys ring → Opens lock keys time Up c.args.packet.now envelope
-        → LeadsTo basis (max inside.latest c.args.now) (g.D.Seeded.place_of inside.draw) event own.recorded.reached (reached_by basis (answer inside.draw ring envelope)) =
+    → LeadsTo basis (max inside.latest c.args.now) (g.D.Seeded.place_of inside.draw) event own.recorded.reached (reached_by basis (answer inside.draw ring envelope)) =
     λ ring envelope of opens. (
       answer inside.draw ring envelope,
       (
         envelope,
         subst (λ (n : ℕ). Opens lock keys n Up c.args.packet.now envelope) (sym (time_of bases told entries inside server own goes places c.args.now c.is_early.ensures)) opens,
         ap (λ (k : Keys). after_packet (setting_of time g.D.Draw.step k) (brought_in envelope) server inside.draw) (c.rings_say_one_thing.ensures keys ring (keys_of keys) of (c.rings_have_keys.ensures keys))
-        ∙ same_event bases told entries inside server own goes places c.args.now c.is_early.ensures (λ at one draw. after_packet (setting_of at g.D.Draw.step (keys_of keys)) (brought_in envelope) one draw) (λ at one n draw. refl),
+            ∙ same_event bases told entries inside server own goes places c.args.now c.is_early.ensures (λ at one draw. after_packet (setting_of at g.D.Draw.step (keys_of keys)) (brought_in envelope) one draw) (λ at one n draw. refl),
       ),
       refl,
     ) in
@@ -210,7 +210,7 @@ returns-in_ok-add-in-Judged-clause-journal g c = λ entries server keeps.
     let left = left_in told entries entry due own.recorded.file inside.book.journal c.add.new.self own.recorded.opened due_is own.recorded.holds c.in_ok-add-in-Judged.ensures.any_moment in
     let added = added_in told entry due own.recorded.file inside.book.journal c.add.new.self.journal own.recorded.opened due_is c.in_ok-add-in-Judged.ensures.added in
     let does : (ring : Keys) (envelope : Sealed) → AreOf keys ring → Opens lock keys time Up c.args.packet.now envelope
-        → Does (KeepsFor bases told (entries ++ due ∷ []) new) lock keys new.draw (effects_in c.in-Ok.reply) (answer inside.draw ring envelope) =
+    → Does (KeepsFor bases told (entries ++ due ∷ []) new) lock keys new.draw (effects_in c.in-Ok.reply) (answer inside.draw ring envelope) =
     λ ring envelope of opens.
     let opens_then : Opens lock keys (max inside.server.moment c.args.now) Up c.args.packet.now envelope =
     subst (λ (n : ℕ). Opens lock keys (max n c.args.now) Up c.args.packet.now envelope) (sym own.stands.moment) opens in

@@ -1,5 +1,4 @@
-use Rattle.std.proofs.Common.{◌≡◌, ℕ, List, [], ◌∷◌, ◌≤◌, Result, Ok, Err, max, refl, sym, ap, subst, ◌∙◌, ◌+◌}
-use Rattle.msg_ids.specs.Moments.{latest_moment, moment_of}
+use Rattle.std.proofs.Common.{◌≡◌, ℕ, List, ◌≤◌, Result, Ok, Err, max, refl, sym, ap, subst, ◌∙◌, ◌+◌}
 use Rattle.ring_rules.specs.Binding.{keys_of}
 use Rattle.sess_records.specs.declared.records.Event.{Event}
 use Rattle.sess_records.specs.declared.records.Event.TheVariants.{Tick}
@@ -10,11 +9,10 @@ use Rattle.server_core.specs.declared.effects.Effects.{Effects}
 use Rattle.server_core.specs.Desks.{IsBetweenEvents}
 use Rattle.server_core.specs.Effects.{Gives}
 use Rattle.server_rules.specs.Answer.{Answer, after_tick}
-use Rattle.server_rules.specs.Server.{Name, Server}
 use Rattle.server_session.specs.Says.{Keys, setting_of}
 use Rattle.sess_journal.specs.Keeping.{GivesNothing, KeepsFor, Seen, entry_at}
 use Rattle.sess_replay.specs.Replay.{Bases, LeadsTo, bases_of, reached_by}
-use Rattle.sess_journal.proofs.DeskLemmas.{LeaveRoom, MayJournals, RowLaws, added_in, added_journals, draw_back, err_is, failed_journals, iff_no, keeps_room, left_in, may_added, may_quiet, none_journals, none_sent, plays_at, quiet_journals, same_event, same_record, time_early}
+use Rattle.sess_journal.proofs.DeskLemmas.{LeaveRoom, MayJournals, RowLaws, added_in, added_journals, draw_back, err_is, failed_journals, iff_no, keeps_room, left_in, may_added, may_quiet, none_journals, plays_at, quiet_journals, same_event, same_record, time_early}
 use Rattle.sess_journal.proofs.PlayLemmas.{Goes, Places}
 use Rattle.sess_journal.proofs.kept.Kept.tick.Goals as goal
 
@@ -127,7 +125,7 @@ returns-in_err-add-clause-journal g c = λ entries server keeps.
     λ ring. (
       answer inside.draw ring,
       c.keys_are_asked_by_packets_alone.ensures.tick time g.D.Draw.step ring (keys_of basis.keys) server inside.draw
-      ∙ same_event bases told entries inside server own goes places c.args.now c.is_early.ensures (λ at one draw. after_tick (setting_of at g.D.Draw.step (keys_of basis.keys)) one draw) (λ at one n draw. refl),
+          ∙ same_event bases told entries inside server own goes places c.args.now c.is_early.ensures (λ at one draw. after_tick (setting_of at g.D.Draw.step (keys_of basis.keys)) one draw) (λ at one n draw. refl),
       refl,
     ) in
     let entry : Record = record { moment = c.seconds.result; place = c.place-place.result; event = event } in
@@ -172,7 +170,7 @@ returns-clause-journal g c = λ entries server keeps.
     λ ring. (
       answer inside.draw ring,
       c.keys_are_asked_by_packets_alone.ensures.tick time g.D.Draw.step ring (keys_of basis.keys) server inside.draw
-      ∙ same_event bases told entries inside server own goes places c.args.now c.is_early.ensures (λ at one draw. after_tick (setting_of at g.D.Draw.step (keys_of basis.keys)) one draw) (λ at one n draw. refl),
+          ∙ same_event bases told entries inside server own goes places c.args.now c.is_early.ensures (λ at one draw. after_tick (setting_of at g.D.Draw.step (keys_of basis.keys)) one draw) (λ at one n draw. refl),
       refl,
     ) in
     let entry : Record = record { moment = c.seconds.result; place = c.place-place.result; event = event } in
