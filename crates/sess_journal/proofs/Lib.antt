@@ -1,3 +1,6 @@
+mod BackLemmas
+mod DeskLemmas
+mod HearLemmas
 mod NextLemmas
 mod PlayLemmas
 mod ResumeLemmas

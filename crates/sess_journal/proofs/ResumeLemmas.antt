@@ -1,8 +1,7 @@
 -- A server with its journal, and the end of a run that was cut off.
-use Rattle.std.proofs.Common.{◌≡◌, ◌≤◌, ℕ, Option, None, Some, Result, Ok, Err, IfOk, List, [], ◌∷◌, ◌++◌, max, refl, sym, ap, subst, ◌∙◌, arith}
+use Rattle.std.proofs.Common.{◌≡◌, ℕ, Option, None, Some, Result, Ok, Err, IfOk, List, [], ◌∷◌, ◌++◌, max, refl, sym, ap, subst, ◌∙◌, arith}
 use Rattle.std.specs.Prelude.{◌≢◌, IfSome, IsSomeAnd}
 use Rattle.disks.specs.Told.{DiskTold}
-use Rattle.sess_records.specs.declared.records.Event.{Event}
 use Rattle.sess_records.specs.declared.records.Event.TheVariants.{Interrupted}
 use Rattle.sess_records.specs.declared.records.Record.{Record}
 use Rattle.sess_records.specs.Seen.{File}
@@ -11,11 +10,11 @@ use Rattle.sess_records.specs.Standing.{Behind, Holds}
 use Rattle.server_core.specs.Server.{Kept, Stands}
 use Rattle.sess_journal.specs.Keeping.{Book, KeepsFor, Resumed, Seen, ending, ending_by}
 use Rattle.sess_journal.specs.Playing.{Leads, Player, StandsAt, basis_for}
-use Rattle.sess_replay.specs.Replay.{Bases, LeadsTo, Plays, Reached, Replays, at_first}
+use Rattle.sess_replay.specs.Replay.{Bases, Reached, Replays, at_first}
 use Rattle.sess_journal.proofs.NextLemmas.{replays_more}
 use Rattle.sess_journal.proofs.PlayLemmas.{plays_of}
 
-append_none : (entries : List Record) → entries ++ [] ≡ entries
+pub append_none : (entries : List Record) → entries ++ [] ≡ entries
 append_none [] = refl
 append_none (entry ∷ entries) = ap (λ (l : List Record). entry ∷ l) (append_none entries)
 
@@ -50,16 +49,16 @@ module _ {K S D : Type 0} (bases : Bases S D) (told : K → Option DiskTold) whe
   pub resumed_none : (now : ℕ) (desk : Seen K S D) (player : Player S D) (file : File K) (entries : List Record) (reached : Reached) → player.begun ≡ None
       → desk.server ≡ player.server → desk.latest ≡ player.latest → desk.draw ≡ player.draw → desk.book ≡ record { journal = Some file; lost = None } → Holds told entries file
       → player.seed ≡ file.seed → Replays (basis_for bases player) entries at_first reached → StandsAt bases reached player
-      → Resumed bases told now reached (entries ++ ending now reached) desk
+      → Resumed bases told file.seed now reached (entries ++ ending now reached) desk
   resumed_none now desk player file entries reached none server latest draw book holds seed replays stands =
       let begun : reached.begun ≡ None = sym stands.begun_is ∙ none in
       let empty : ending now reached ≡ [] = ap (ending_by now reached.server.now reached.place) begun in
       let all : entries ++ ending now reached ≡ entries = ap (λ (l : List Record). entries ++ l) empty ∙ append_none entries in
       record {
-        seed = file.seed;
         after = reached;
         replays = subst (λ (l : List Record). Replays (bases desk.server.seal file.seed) l reached reached) (sym empty) refl;
         stands = subst (λ (l : List Record). KeepsFor bases told l desk reached.server) (sym all) (keeps_by desk player file entries reached server latest draw book seed holds replays stands);
+        seed_is = subst (λ (b : Book K). IsSomeAnd b.journal (λ one. one.seed ≡ file.seed)) (sym book) refl;
       }
 
   -- a run was cut off
@@ -68,7 +67,7 @@ module _ {K S D : Type 0} (bases : Bases S D) (told : K → Option DiskTold) whe
       → added.seed ≡ file.seed → new.server.seal ≡ old.server.seal → new.seed ≡ old.seed → moment ≡ max reached.server.now now → place ≡ reached.place
       → Holds told (entries ++ record { moment = moment; place = place; event = Interrupted } ∷ []) added
       → old.seed ≡ file.seed → Replays (basis_for bases old) entries at_first reached → StandsAt bases reached old → Leads bases moment place Interrupted reached new
-      → Resumed bases told now reached (entries ++ ending now reached) desk
+      → Resumed bases told file.seed now reached (entries ++ ending now reached) desk
   resumed_some now job desk old new file added entries reached moment place begun server latest draw book same_seed seal seed is_moment is_place holds from replays stands leads =
       let entry : Record = record { moment = moment; place = place; event = Interrupted } in
       let its = plays_of bases old new entry Interrupted reached seal seed refl (omega (arith, is_moment)) (omega (arith, is_place)) leads in
@@ -88,12 +87,14 @@ module _ {K S D : Type 0} (bases : Bases S D) (told : K → Option DiskTold) whe
       let last_sealed : Replays (bases desk.server.seal old.seed) (entry ∷ []) reached after =
       subst (λ (s : S). Replays (bases s old.seed) (entry ∷ []) reached after) (sym desk_seal) last in
       record {
-        seed = old.seed;
         after = after;
-        replays = subst (λ (l : List Record). Replays (bases desk.server.seal old.seed) l reached after) (sym ends) last_sealed;
+        replays =
+            subst (λ (s : List ℕ). Replays (bases desk.server.seal s) (ending now reached) reached after) from
+            (subst (λ (l : List Record). Replays (bases desk.server.seal old.seed) l reached after) (sym ends) last_sealed);
         stands =
             subst (λ (l : List Record). KeepsFor bases told (entries ++ l) desk after.server) (sym ends)
             (keeps_by desk new added (entries ++ entry ∷ []) after server latest draw book (seed ∙ from ∙ sym same_seed) holds all its.2);
+        seed_is = subst (λ (b : Book K). IsSomeAnd b.journal (λ one. one.seed ≡ file.seed)) (sym book) same_seed;
       }
 
 -- ---- an opening

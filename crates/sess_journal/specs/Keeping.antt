@@ -1,13 +1,18 @@
 -- What contracts see of a server that keeps a journal, and what it stands for.
-use Rattle.std.specs.Prelude.{◌≡◌, ℕ, ◌≤◌, ◌<◌, ◌+◌, ◌^◌, max, Option, Some, None, List, [], ◌∷◌, ◌++◌, IfSome, IsSomeAnd}
-use Rattle.disks.specs.Told.{DiskTold}
+use Rattle.std.specs.Prelude.{◌≡◌, ℕ, ◌≤◌, ◌<◌, ◌+◌, ◌^◌, ◌↔◌, max, length, is_some, Option, Some, None, Result, Err, List, [], ◌∷◌, ◌++◌, IfErr, IfOk, IfSome, IsSomeAnd}
+use Rattle.disks.specs.Told.{DiskTold, MayHaveLeft}
 use Rattle.mt_edge.specs.Faults.{Rose}
+use Rattle.sess_records.specs.declared.records.Event.{Event}
 use Rattle.sess_records.specs.declared.records.Event.TheVariants.{Interrupted}
 use Rattle.sess_records.specs.declared.records.Record.{Record}
 use Rattle.sess_records.specs.Format.{Spells, size_of}
 use Rattle.sess_records.specs.Seen.{File}
-use Rattle.sess_records.specs.Crashes.{LeavesOnly}
 use Rattle.sess_records.specs.Standing.{Holds, SpellsSome}
+use Rattle.server_core.specs.declared.desk.DeskFault.{DeskFault}
+use Rattle.server_core.specs.declared.desk.DeskFault.TheVariants as faults
+use Rattle.server_core.specs.declared.desk.Heard.{Heard}
+use Rattle.server_core.specs.declared.desk.Heard.TheVariants.{Judged, NotOpened}
+use Rattle.server_core.specs.declared.effects.Effects.{Effects}
 use Rattle.server_core.specs.Desks.{IsBetweenEvents}
 use Rattle.server_core.specs.Server.{Kept, Stands}
 use Rattle.server_rules.specs.Server.{Server}
@@ -72,12 +77,12 @@ ending_by now moment place (Some job) = record { moment = max moment now; place 
 abbrev pub ending : ℕ → Reached → List Record
 ending now reached = ending_by now reached.server.now reached.place reached.begun
 
--- Behind what was reached, the run that was cut off is answered, and these records are all of the journal.
-pub record Resumed {K S D : Type 0} (bases : Bases S D) (told : K → Option DiskTold) (now : ℕ) (reached : Reached) (entries : List Record) (desk : Seen K S D) : Type 0 where
-  pub seed : List ℕ
+-- Behind what was reached, the run that was cut off is answered, and these records are all of the journal of this seed.
+pub record Resumed {K S D : Type 0} (bases : Bases S D) (told : K → Option DiskTold) (seed : List ℕ) (now : ℕ) (reached : Reached) (entries : List Record) (desk : Seen K S D) : Type 0 where
   pub after : Reached
   pub replays : Replays (bases desk.server.seal seed) (ending now reached) reached after
   pub stands : KeepsFor bases told entries desk after.server
+  pub seed_is : IsSomeAnd desk.book.journal (λ file. file.seed ≡ seed)
 
 -- What is opened are records that the file spells, where the disk tells; they lead to some server, and what stands is that one
 -- after the end of a run that was cut off.
@@ -87,7 +92,7 @@ pub record Opened {K S D : Type 0} (bases : Bases S D) (told : K → Option Disk
   pub spells : IfSome (told disk) (λ before. Spells seed entries before.contents)
   pub reached : Reached
   pub replays : Replays (bases desk.server.seal seed) entries at_first reached
-  pub resumed : Resumed bases told now reached (entries ++ ending now reached) desk
+  pub resumed : Resumed bases told seed now reached (entries ++ ending now reached) desk
 
 -- ---- calls
 
@@ -99,15 +104,66 @@ IsClosed book = book.journal ≡ None
 abbrev pub IsFull : {K : Type 0} → Book K → ℕ → ℕ → Type 0
 IsFull book bytes len = IsSomeAnd book.journal (λ file. (len ≡ file.len) × (268435456 < len + bytes))
 
--- its disk failed, and it is closed
-abbrev pub HasFailed : {K : Type 0} → (K → ℕ) → Book K → Book K → Type 0
-HasFailed faults before after = IsClosed after × IfSome before.journal (λ file. IsSomeAnd after.lost (λ disk. Rose (faults file.disk) (faults disk)))
+-- A call answers `Closed` exactly where the journal is closed, and `Full` exactly where it has no room for so many bytes more.
+pub record Refuses {K A : Type 0} (bytes : ℕ) (book : Book K) (result : Result A DeskFault) : Type 0 where
+  pub closed : IsClosed book ↔ (result ≡ Err faults.Closed)
+  pub full : (len : ℕ) → (IsFull book bytes len ↔ (result ≡ Err (faults.Full len)))
+
+-- P says something of its disk before and after a call
+abbrev pub OfDisks : {K : Type 0} → Book K → Book K → (K → K → Type 0) → Type 0
+OfDisks before after P = IfSome (disk_in before) (λ one. IsSomeAnd (disk_in after) (λ other. P one other))
+
+-- Where a call answers `Disk`, its disk's count rose in it, and the journal is closed from then on; else the count is as it was.
+abbrev pub HasCounted : {K A : Type 0} → (K → ℕ) → Result A DeskFault → Book K → Book K → Type 0
+HasCounted count (Err faults.Disk) before after = IsClosed after × OfDisks before after (λ one other. Rose (count one) (count other))
+HasCounted count result before after = OfDisks before after (λ one other. count other ≡ count one)
+
+-- it goes on telling, and is the same file
+pub record IsSameDisk {K : Type 0} (told : K → Option DiskTold) (place : K → ℕ) (before after : K) : Type 0 where
+  pub tells : is_some (told after) ≡ is_some (told before)
+  pub place_is : place after ≡ place before
+
+-- Whatever a crash at any moment of a call leaves, from the one before it to the one after it, has P; and so does the call.
+pub record LeavesSome (before after : DiskTold) (P : List ℕ → Type 0) : Type 0 where
+  pub each : (left : List ℕ) → MayHaveLeft (length before.acts) after left → P left
+  pub read : P after.contents
 
 -- These records are added behind the others, and are lawful there. A crash at any moment of the call leaves the records from
 -- before it, or these and the first ones of the added; and so does the call.
 pub record Adds {K S D : Type 0} (bases : Bases S D) (told : K → Option DiskTold) (entries more : List Record) (before after : Seen K S D) : Type 0 where
-  pub seed : List ℕ
+  pub file : File K
+  pub opened : before.book.journal ≡ Some file
+  pub disk : K
+  pub stands : disk_in after.book ≡ Some disk
   pub reached : Reached
-  pub replays : Replays (bases before.server.seal seed) (entries ++ more) at_first reached
-  pub leaves : IfSome before.book.journal (λ file. IfSome (disk_in after.book) (λ disk. IfSome (told file.disk) (λ was. IsSomeAnd (told disk)
-      (λ is. LeavesOnly was is (SpellsSome file.seed entries more)))))
+  pub replays : Replays (bases before.server.seal file.seed) (entries ++ more) at_first reached
+  pub leaves : IfSome (told file.disk) (λ was. IsSomeAnd (told disk) (λ is. LeavesSome was is (SpellsSome file.seed entries more)))
+
+-- the record of an event of a desk at this moment, or at the greatest so far where that is later, with the place of its draw
+abbrev pub entry_at : {K S D : Type 0} → (D → ℕ) → Seen K S D → ℕ → Event (List ℕ) → Record
+entry_at place_of desk now event = record { moment = max desk.latest now; place = place_of desk.draw; event = event }
+
+-- A call for this server, whose event has these records in order, adds the first ones of them. Where it answers, P says which
+-- these are. On want of memory they are the spare ones, and the desk stands for the server that it stood for.
+pub record Journals {K S D A : Type 0} (bases : Bases S D) (told : K → Option DiskTold) (entries all spare : List Record) (server : Server) (before after : Seen K S D)
+    (result : Result A DeskFault) (P : A → List Record → Type 0) : Type 0 where
+  pub more : List Record
+  pub back : List Record
+  pub front : all ≡ more ++ back
+  pub adds : Adds bases told entries more before after
+  pub answers : IfOk result (λ value. P value more)
+  pub memory : IfErr result (λ fault. fault ≡ faults.Memory → (more ≡ spare) × KeepsFor bases told (entries ++ more) after server)
+
+-- an event gives neither a packet nor an entry
+abbrev pub GivesNothing : Effects → Type 0
+GivesNothing effects = (effects.out.outs ≡ []) × (effects.entries.entries ≡ [])
+
+-- an event that gives something is recorded, and no other
+pub record IsRecorded (nothing : Type 0) (entry : Record) (more : List Record) : Type 0 where
+  pub none : nothing → more ≡ []
+  pub one : (nothing → ⊥) → more ≡ entry ∷ []
+
+-- P holds where a packet doesn't open, and Q where it was judged
+abbrev pub ByHeard : Heard → Type 0 → Type 0 → Type 0
+ByHeard (NotOpened refusal) P Q = P
+ByHeard (Judged key session) P Q = Q

@@ -1,5 +1,5 @@
 -- Records that are played, one after the other.
-use Rattle.std.specs.Prelude.{◌≡◌, ℕ, ◌≤◌, ◌<◌, ◌^◌, List, [], ◌∷◌, ◌++◌, ◌⊎◌, Option, None, Some, IfSome}
+use Rattle.std.specs.Prelude.{◌≡◌, ℕ, ◌<◌, ◌^◌, List, Option, IfSome}
 use Rattle.disks.specs.Told.{DiskTold}
 use Rattle.sess_records.specs.declared.records.Event.{Event}
 use Rattle.sess_records.specs.declared.records.Record.{Record}

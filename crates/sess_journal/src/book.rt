@@ -1,13 +1,12 @@
 //! The journal of a desk, until a call of its disk fails.
 
-ghost use Rattle.std.specs.Prelude.{◌≡◌, ◌≤◌, ◌<◌, ◌+◌, true, None, Some, List, IfOk, IfErr, IfSome, IsSomeAnd, OnErr, OnOk, MatchOption, is_some};
-ghost use Rattle.mt_edge.specs.Faults.{Rose};
+ghost use Rattle.std.specs.Prelude.{◌≡◌, ◌≤◌, ◌<◌, ◌+◌, true, None, Some, List, IfOk, IfErr, IfSome, IsSomeAnd, OnOk, MatchOption, is_some};
 ghost use Rattle.server_core.specs.declared.desk.DeskFault.TheVariants as faults;
 ghost use Rattle.sess_records.specs.declared.records.Record.{Record};
 ghost use Rattle.sess_records.specs.Calls.{event_in};
 ghost use Rattle.sess_records.specs.Format.{IsEvent, size_of};
 ghost use Rattle.sess_records.specs.Standing.{Holds, LeavesOneOf};
-ghost use Rattle.sess_journal.specs.Keeping.{Added, disk_in};
+ghost use Rattle.sess_journal.specs.Keeping.{Added, HasCounted, IsSameDisk, OfDisks, disk_in};
 
 use disks::Disk;
 use server_core::DeskFault;
@@ -80,8 +79,9 @@ impl<K: Disk + Drop> Book<K> {
         requires lawful { IsEvent (event_in event) }
         requires room { IfSome self.old.journal (λ file. file.len + size_of (event_in event) ≤ 268435456) }
         ensures added { OnOk result (IfSome self.old.journal (λ before. IsSomeAnd self.new.journal (Added K.told before (record { moment = moment; place = place; event = event_in event.entry })))) }
-        ensures disk { IfErr result (λ fault. (fault ≡ faults.Disk) × (self.new.journal ≡ None)) }
-        ensures cause { OnErr result (IfSome self.old.journal (λ before. IsSomeAnd self.new.lost (λ disk. Rose (K.faults before.disk) (K.faults disk)))) }
+        ensures disk { IfErr result (λ fault. fault ≡ faults.Disk) }
+        ensures counted { HasCounted K.faults result self.old self.new }
+        ensures same_disk { OfDisks self.old self.new (IsSameDisk K.told K.place) }
         ensures any_moment { IfSome self.old.journal (λ before. IsSomeAnd (disk_in self.new) (λ disk. (entries : List Record) → Holds K.told entries before
             → LeavesOneOf K.told entries (record { moment = moment; place = place; event = event_in event.entry }) before disk)) }
     {

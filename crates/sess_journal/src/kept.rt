@@ -214,7 +214,7 @@ fn resume<K: Disk + Drop, S: Seal + Drop, D: Seeded + Drop>(
     requires ready { IsReady played }
     ensures resumed { IfOk result (λ kept. (entries : List Record) (reached : Reached) → Holds K.told entries journal
         → played.seed ≡ journal.seed → Replays (basis_for (bases_of S.lock S.keys D.step D.standing_at D.place_of) played) entries at_first reached → StandsAt (bases_of S.lock S.keys D.step D.standing_at D.place_of) reached played
-        → Resumed (bases_of S.lock S.keys D.step D.standing_at D.place_of) K.told now reached (entries ++ ending now reached) kept) }
+        → Resumed (bases_of S.lock S.keys D.step D.standing_at D.place_of) K.told journal.seed now reached (entries ++ ending now reached) kept) }
     ensures seal { IfOk result (λ kept. kept.server.seal ≡ played.server.seal) }
     ensures cause { IfErr result (λ back. (IfNotJournal back.1 (λ at. ⊥)) × HasCause back.1 (K.faults journal.disk) (K.faults back.0)) }
 {

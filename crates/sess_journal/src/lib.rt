@@ -1,12 +1,16 @@
-//! The server of a journal on a disk: [`Kept::create`] makes one with a new journal, and [`Kept::open`] plays the records that
-//! a disk spells, and answers a run that was cut off.
+//! A server whose sessions outlive a crash: what it does is recorded in a journal on a disk, and who opens that journal
+//! plays the records again.
 //!
-//! `sess_replay` says which record is lawful in its place, which server records lead to, and what a crash leaves of a journal.
-//! What `open` gives is the server of the records that it found.
+//! [`Kept::create`] makes one with a new journal, and [`Kept::open`] plays the records that a disk spells, and answers a run
+//! that was cut off. A packet, a tick and an attach are stepped, recorded, and then answered. `sess_replay` says which record
+//! is lawful in its place and which server records lead to. Whatever a crash at any moment of such an event leaves is a
+//! journal, and whoever opens it has the server of every event that was answered ([`laws::what_comes_back`]).
 #![tactic(auto)]
 
 mod book;
+mod desk;
 mod kept;
+pub mod laws;
 mod played;
 mod recorded;
 

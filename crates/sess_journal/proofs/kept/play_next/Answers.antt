@@ -1,4 +1,3 @@
-use Rattle.std.proofs.Common.{ℕ, List}
 use Rattle.sess_replay.specs.Replay.{Bases, bases_of}
 use Rattle.sess_journal.proofs.NextLemmas.{follows_next, stops_at}
 use Rattle.sess_journal.proofs.kept.play_next.Goals as goal

@@ -1,4 +1,4 @@
-use Rattle.std.proofs.Common.{◌≡◌, ℕ, List, Option, None, Some, max, sym, ap, arith, ◌∙◌}
+use Rattle.std.proofs.Common.{ℕ, max, sym, ap, arith, ◌∙◌}
 use Rattle.sess_journal.specs.Playing.{Player}
 use Rattle.sess_replay.specs.Replay.{Bases, bases_of}
 use Rattle.sess_journal.proofs.ResumeLemmas.{resumed_none, resumed_some}

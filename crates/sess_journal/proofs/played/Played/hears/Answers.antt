@@ -1,4 +1,4 @@
-use Rattle.std.proofs.Common.{ℕ, None, refl, sym, subst, max, ◌∙◌}
+use Rattle.std.proofs.Common.{ℕ, None, refl, sym, subst, max}
 use Rattle.envelope.specs.declared.parts.Dir.TheVariants.{Up}
 use Rattle.envelope.specs.Opening.{Opens}
 use Rattle.ring_rules.specs.Binding.{keys_of}

@@ -1,4 +1,4 @@
-use Rattle.std.proofs.Common.{ℕ, sym, ap, subst, arith, ◌∙◌}
+use Rattle.std.proofs.Common.{sym, ap, subst, arith, ◌∙◌}
 use Rattle.sess_records.specs.declared.records.Event.TheVariants.{Packet, Tick, Attach, Begin, Ran, Interrupted}
 use Rattle.sess_journal.specs.Playing.{Player, StandsAt, basis_for}
 use Rattle.sess_replay.specs.Replay.{Bases, bases_of}

@@ -1,4 +1,4 @@
-use Rattle.std.proofs.Common.{ℕ, None, refl, sym, subst}
+use Rattle.std.proofs.Common.{None, refl, sym, subst}
 use Rattle.ring_rules.specs.Binding.{keys_of}
 use Rattle.msg_ids.specs.Moments.{moment_of}
 use Rattle.server_rules.specs.Answer.{after_tick}
