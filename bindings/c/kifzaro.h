@@ -59,7 +59,7 @@ typedef enum kf_status {
     KF_NO_HANDLE = 3,            /* it is no handle, or none of this kind; by kf_*_new, it is not all zero */
     KF_TOO_SHORT = 4,            /* the room is too short */
     KF_BAD_KEYS = 5,             /* the text isn't a key file */
-    KF_NO_KEY = 6,               /* it hasn't that key */
+    KF_NO_KEY = 6,               /* it hasn't that key, or not of the kind that is due */
     KF_BAD_SEED = 7,             /* a seed hasn't 32 bytes (no function of this header answers it) */
     KF_BAD_BODY = 8,             /* a body isn't whole words of 4 bytes, is too long, or begins with a constructor of the session layer */
     KF_NO_CALL = 9,              /* there is no such call */
