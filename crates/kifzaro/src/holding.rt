@@ -18,14 +18,14 @@ ghost use Rattle.client_core.specs.Holding.{IsInState, is_open_now, kept_of};
 ghost use Rattle.client_core.specs.Keys.{HasKeys, keys_in};
 ghost use Rattle.client_core.specs.Kept.{Stands};
 ghost use Rattle.kifzaro.specs.Clients.{Comes, TellsDropped, TellsEnded, TellsHeard, TellsOpen, TellsSubmit, wished};
-ghost use Rattle.kifzaro.specs.Holding.{IsDoneOrMemory, refused_for};
+ghost use Rattle.kifzaro.specs.Holding.{told_of};
 
 use crate::error::Error;
 use client_core::{
     CallNo, CallState, Flush, Holder, NotSent, OpenClient, OpenStep, OpeningClient, OpeningStep,
 };
 use draws::Draw;
-use envelope::{Dir, Opened, Refusal, Seal};
+use envelope::{Refusal, Seal};
 use msg_ids::Moment;
 use std::alloc::Global;
 
@@ -181,66 +181,6 @@ pub(crate) fn hear<S: Seal>(
     ensures ended { (client : Client) → Stands (kept_of holder) client → client.has_ended ≡ true → (result.0 ≡ holder) × (result.1 ≡ Ok tt) }
     ensures keys { keys_in (kept_of result.0) ≡ keys_in (kept_of holder) }
 {
-    S::opens_what_it_sealed();
-    if holder.has_ended() {
-        return (holder, Ok(()));
-    }
-    match opens(alloc, later(holder.moment(), now), seal, packet) {
-        Ok(()) => takes(holder, alloc, now, seal, packet),
-        Err(Error::Refused(why)) => refused(takes(holder, alloc, now, seal, packet), why),
-        Err(_) => (holder, Err(Error::Memory)),
-    }
-}
-
-// Whether a packet that comes down at a moment opens, or why it doesn't.
-fn opens<S: Seal>(alloc: Global, at: Moment, seal: &S, packet: &[u8]) -> Result<(), Error>
-    ensures { TellsHeard S.lock (S.keys seal.now) at packet.now result }
-{
-    match seal.unseal(alloc, at, Dir::Down, packet) {
-        Opened::Envelope(_) => Ok(()),
-        Opened::Refused(why) => Err(Error::Refused(why)),
-        Opened::Memory => Err(Error::Memory),
-    }
-}
-
-// The later of two moments.
-fn later(one: Moment, other: Moment) -> Moment
-    ensures { result ≡ max one other }
-{
-    if one.seconds() < other.seconds() {
-        other
-    } else {
-        one
-    }
-}
-
-// A packet that doesn't open was taken, unless memory ran out.
-fn refused(left: (Holder, Result<(), Error>), why: Refusal) -> (Holder, Result<(), Error>)
-    ensures same { result.0 ≡ left.0 }
-    ensures told { result.1 ≡ refused_for why left.1 }
-{
-    let (holder, taken) = left;
-    match taken {
-        Ok(()) => (holder, Err(Error::Refused(why))),
-        Err(fault) => (holder, Err(fault)),
-    }
-}
-
-// A client that hasn't ended takes a packet.
-fn takes<S: Seal>(
-    holder: Holder,
-    alloc: Global,
-    now: Moment,
-    seal: &S,
-    packet: &[u8],
-) -> (Holder, Result<(), Error>)
-    ensures told { IsDoneOrMemory result.1 }
-    ensures opened { (client : Client) (envelope : Envelope) → Stands (kept_of holder) client → client.has_ended ≡ false
-        → Opens S.lock (S.keys seal.now) (max client.now now) Down packet.now envelope → Comes client (take now envelope client) result.0 result.1 }
-    ensures other { (client : Client) → Stands (kept_of holder) client → client.has_ended ≡ false
-        → ((envelope : Envelope) → Opens S.lock (S.keys seal.now) (max client.now now) Down packet.now envelope → ⊥) → Comes client (at_moment now client) result.0 result.1 }
-    ensures keys { keys_in (kept_of result.0) ≡ keys_in (kept_of holder) }
-{
     state_is_known(&holder);
     match holder {
         Holder::Opening(client) => opening_hears(client, alloc, now, seal, packet),
@@ -256,16 +196,17 @@ fn opening_hears<S: Seal>(
     seal: &S,
     packet: &[u8],
 ) -> (Holder, Result<(), Error>)
-    ensures told { IsDoneOrMemory result.1 }
+    ensures told { (whole : Client) → Stands client whole → TellsHeard S.lock (S.keys seal.now) (max whole.now now) packet.now result.1 }
     ensures opened { (whole : Client) (envelope : Envelope) → Stands client whole
         → Opens S.lock (S.keys seal.now) (max whole.now now) Down packet.now envelope → Comes whole (take now envelope whole) result.0 result.1 }
     ensures other { (whole : Client) → Stands client whole
         → ((envelope : Envelope) → Opens S.lock (S.keys seal.now) (max whole.now now) Down packet.now envelope → ⊥) → Comes whole (at_moment now whole) result.0 result.1 }
     ensures keys { keys_in (kept_of result.0) ≡ keys_in client }
 {
-    match client.on_packet(alloc, now, seal, packet) {
-        OpeningStep::Still(client) => (Holder::Opening(client), Ok(())),
-        OpeningStep::Opened(client) => (Holder::Open(client), Ok(())),
+    let (step, why) = client.receive(alloc, now, seal, packet);
+    match step {
+        OpeningStep::Still(client) => (Holder::Opening(client), told(why)),
+        OpeningStep::Opened(client) => (Holder::Open(client), told(why)),
         OpeningStep::Memory(client) => (Holder::Opening(client), Err(Error::Memory)),
     }
 }
@@ -277,17 +218,28 @@ fn open_hears<S: Seal>(
     seal: &S,
     packet: &[u8],
 ) -> (Holder, Result<(), Error>)
-    ensures told { IsDoneOrMemory result.1 }
+    ensures told { (whole : Client) → Stands client whole → TellsHeard S.lock (S.keys seal.now) (max whole.now now) packet.now result.1 }
     ensures opened { (whole : Client) (envelope : Envelope) → Stands client whole
         → Opens S.lock (S.keys seal.now) (max whole.now now) Down packet.now envelope → Comes whole (take now envelope whole) result.0 result.1 }
     ensures other { (whole : Client) → Stands client whole
         → ((envelope : Envelope) → Opens S.lock (S.keys seal.now) (max whole.now now) Down packet.now envelope → ⊥) → Comes whole (at_moment now whole) result.0 result.1 }
     ensures keys { keys_in (kept_of result.0) ≡ keys_in client }
 {
-    match client.on_packet(alloc, now, seal, packet) {
-        OpenStep::Still(client) => (Holder::Open(client), Ok(())),
-        OpenStep::Ended(client) => (Holder::Ended(client), Ok(())),
+    let (step, why) = client.receive(alloc, now, seal, packet);
+    match step {
+        OpenStep::Still(client) => (Holder::Open(client), told(why)),
+        OpenStep::Ended(client) => (Holder::Ended(client), told(why)),
         OpenStep::Memory(client) => (Holder::Open(client), Err(Error::Memory)),
+    }
+}
+
+// A packet was taken, or doesn't open, for this cause.
+fn told(why: Option<Refusal>) -> Result<(), Error>
+    ensures { result ≡ told_of why }
+{
+    match why {
+        Some(why) => Err(Error::Refused(why)),
+        None => Ok(()),
     }
 }
 
