@@ -22,6 +22,8 @@ pub(crate) fn answer<S: Source>(alloc: Global, input: &mut S) -> Result<Answer, 
     ensures answered { IfOk result (λ answer. IfSome (S.left input.old) (λ left. Owes left answer.status answer.text)) }
     ensures done_at_the_end { IfOk result (λ answer. answer.status ≡ status.Done → IfSome (S.left input.old) (λ _. S.left input.new ≡ Some [])) }
     ensures broken_at_the_end { IfOk result (λ answer. answer.status ≡ status.Broken → IfSome (S.left input.old) (λ _. S.left input.new ≡ Some [])) }
+    ensures done_no_fault { IfOk result (λ answer. answer.status ≡ status.Done → S.faults input.new ≡ S.faults input.old) }
+    ensures broken_no_fault { IfOk result (λ answer. answer.status ≡ status.Broken → S.faults input.new ≡ S.faults input.old) }
     ensures read_fault { result ≡ Err Stop.ReadFault → Rose (S.faults input.old) (S.faults input.new) }
 {
     match read_all(alloc, input, TRACE_BYTES_MAX) {

@@ -26,6 +26,7 @@ pub(crate) fn sim<S: Source>(alloc: Global, wire: bool, input: &mut S) -> Result
     ensures status { IfOk result (λ answer. IsOfSim answer.status) }
     ensures answered { IfOk result (λ answer. IfSome (S.left input.old) (λ left. Owes wire left answer.status answer.text)) }
     ensures to_the_end { IfOk result (λ answer. answer.status ≡ status.Done → IfSome (S.left input.old) (λ _. S.left input.new ≡ Some [])) }
+    ensures no_fault { IfOk result (λ answer. answer.status ≡ status.Done → S.faults input.new ≡ S.faults input.old) }
     ensures read_fault { result ≡ Err Stop.ReadFault → Rose (S.faults input.old) (S.faults input.new) }
 {
     match read_all(alloc, input, SCHEDULE_BYTES_MAX) {

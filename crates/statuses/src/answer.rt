@@ -79,7 +79,7 @@ pub fn refusal(alloc: Global, status: Status, line: u32, cause: &str) -> Result<
 }
 
 /// Writes the text of an answer, and answers how the run ends: by the answer's status, or by `WriteFault`, where a front of
-/// the text is written.
+/// the text is written, short of the whole.
 pub fn tell<O: Sink>(out: &mut O, answer: &Answer) -> Status
     ensures { Tells (record { told = O.written; faults = O.faults; before = out.old; after = out.new }) answer.now.status answer.now.text result }
 {

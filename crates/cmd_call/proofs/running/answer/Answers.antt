@@ -9,7 +9,7 @@ use Rattle.cmd_call.proofs.running.answer.Goals as goal
 pub returns-in_ok-answer_to_text-in-Ok-clause-owed : goal.returns-in_ok-answer_to_text-in-Ok-clause-owed
 returns-in_ok-answer_to_text-in-Ok-clause-owed g c =
     let input : Outside g.row.S.Denot = record { told = g.S.Source.left; faults = g.S.Source.faults; before = c.args.input.now; after = c.read_all.new.source } in
-    let read : IsRead input c.in-Ok.text = record { whole = c.in-Ok.ensures.whole; to_the_end = c.in-Ok.ensures.to_the_end; short = c.in-Ok.ensures.short } in
+    let read : IsRead input c.in-Ok.text = record { whole = c.in-Ok.ensures.whole; to_the_end = record { bytes = c.in-Ok.ensures.to_the_end; no_fault = c.in-Ok.ensures.no_fault }; short = c.in-Ok.ensures.short } in
     inr (c.in-Ok.text, read, c.in_ok-answer_to_text-in-Ok.ensures.owed)
 
 pub returns-in_ok-new-in-Err-TooLong-clause-owed : goal.returns-in_ok-new-in-Err-TooLong-clause-owed
@@ -41,7 +41,7 @@ returns-in_err-answer_to_text-in-Ok-clause-left g c =
     let around = around_of g.N.Net.calls g.N.Net.faults g.C.Clock.given g.D.Draw.step c.args.net.now c.answer_to_text.new.net c.args.clock.now c.answer_to_text.new.clock c.args.draw.now c.answer_to_text.new.draw in
     let files = files_of g.F.KeyFiles.told g.F.KeyFiles.faults c.args.files.now c.answer_to_text.new.files in
     let input : Outside g.row.S.Denot = record { told = g.S.Source.left; faults = g.S.Source.faults; before = c.args.input.now; after = c.read_all.new.source } in
-    let read : IsRead input c.in-Ok.text = record { whole = c.in-Ok.ensures.whole; to_the_end = c.in-Ok.ensures.to_the_end; short = c.in-Ok.ensures.short } in
+    let read : IsRead input c.in-Ok.text = record { whole = c.in-Ok.ensures.whole; to_the_end = record { bytes = c.in-Ok.ensures.to_the_end; no_fault = c.in-Ok.ensures.no_fault }; short = c.in-Ok.ensures.short } in
     λ is. leaves_text c.args.options.now input files around c.in-Ok.text read c.in_err-answer_to_text-in-Ok.ensures.left
 
 pub returns-in_err-new-in-Err-TooLong-clause-left : goal.returns-in_err-new-in-Err-TooLong-clause-left
