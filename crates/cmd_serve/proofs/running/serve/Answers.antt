@@ -14,6 +14,6 @@ returns-clause-served g c =
     (record { server = (c.new-server.ensures.stands, c.events_keep_order.ensures.fresh); draw = refl; served = c.fresh-service.ensures; gave = refl; count = refl }) in
     record {
       connections = all.connections;
-      are = record { are = all.are; ended = all.ended; moments = all.stands.gave };
+      are = record { are = all.are; ended = all.ended; moments = all.stands.gave; words = all.stands.draw };
       noted = all.noted;
     }
