@@ -8,6 +8,7 @@ ghost use Rattle.kifzaro_c.specs.declared.client_handle.ClientSlot.{ClientSlot a
 ghost use Rattle.kifzaro_c.specs.declared.client_handle.ClientSlot.TheVariants as slots;
 
 use crate::loose::Loose;
+use crate::status;
 use kifzaro::Client;
 use std::alloc::{AllocError, AllocFailed, Global};
 use std::marker::Model;
@@ -34,6 +35,9 @@ pub struct ClientHandle {
 impl Model for ClientHandle {
     ghost also_owns = { λ h. box_owns (ghosts.dealloc_token h.alloc) the_row h.at h.value };
 }
+
+// What it owns is of no thread.
+unsafe impl Send for ClientHandle {}
 
 impl ClientHandle {
     fn of_loose(it: Loose<ClientSlot, Global>) -> ClientHandle
@@ -71,7 +75,7 @@ impl ClientHandle {
     /// # Errors
     ///
     /// Where there is no memory, and the handle is as it was.
-    pub(crate) fn take(&mut self, alloc: Global) -> Result<Box<ClientSlot>, AllocFailed<ClientSlot>>
+    fn take(&mut self, alloc: Global) -> Result<Box<ClientSlot>, AllocFailed<ClientSlot>>
         ensures taken { IfOk result (λ slot. slot.value ≡ self.old.value) }
         ensures away { OnOk result (self.new.value ≡ slots.Away) }
         ensures unchanged { OnErr result (self.new ≡ self.old) }
@@ -81,11 +85,26 @@ impl ClientHandle {
     }
 
     /// The box is back in the handle.
-    pub(crate) fn put(&mut self, slot: Box<ClientSlot>)
+    fn put(&mut self, slot: Box<ClientSlot>)
         ensures { self.new.value ≡ slot.value }
     {
         let spare = mem::replace(self, ClientHandle::of(slot)).into_box();
         drop(spare);
+    }
+
+    /// Has a call work on the client, and tells its status: `MEMORY` where there is none for a box, and nothing was done.
+    pub(crate) fn run<F: FnOnce(&mut Client) -> u32>(&mut self, alloc: Global, call: F) -> u32
+        requires callable { F.IsAlwaysCallable call }
+    {
+        let Ok(mut slot) = self.take(alloc) else {
+            return status::MEMORY;
+        };
+        let told = match slot.as_mut() {
+            ClientSlot::Here(client) => call(client),
+            ClientSlot::Away => status::NO_HANDLE,
+        };
+        self.put(slot);
+        told
     }
 }
 
