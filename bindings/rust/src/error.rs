@@ -11,7 +11,7 @@ pub enum Error {
     Memory,
     /// The text isn't a key file.
     BadKeys,
-    /// It hasn't that key.
+    /// It hasn't that key, or not of the kind that is due.
     NoKey,
     /// A body isn't whole words of 4 bytes, is over 262,144 bytes, or begins with a constructor of the session layer.
     BadBody,
