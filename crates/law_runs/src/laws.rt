@@ -29,9 +29,10 @@ use envelope::MtSeal;
 use regs_service::Regs;
 
 /// What `ServeRun.serves` tells of a run that served connections, and what `CallRun.told` tells of a batch that was run, or left where
-/// memory ran out, or `PairRun.told` of its one or two batches, is a run of `serve`, and one of a client, as joint runs have them, with
-/// the client whose table was told: it has the events of the trace that is told, and the batches with their attempts. The two servers of `pair` are runs of `serve` of their own, of which it tells that they were
-/// started, one behind the other, with its key file.
+/// memory ran out, or `PairRun.told` of its one or two batches, is a run of `serve`, and one of a client, as joint runs have them: with
+/// the events of the trace that is told, and with the batches and their attempts, and the client whose table was told, where one was.
+/// The two servers of `pair` are runs of `serve` of their own, of which it tells that they were started, one behind the other, with its
+/// key file.
 pub fn runs_are_told<D: Draw, S, F, N, C, P>()
     ensures serves { (step : D → ℕ × D) (options : ServeOptions) (moments : Moments) (draws : Draws D) (course : Course D) → (served : ServesBy step options moments draws course)
         → IsServing course
