@@ -118,8 +118,9 @@ batch_begins step keys calls draw =
 abbrev pub client_rules_under : {D : Type 0} → (D → ℕ × D) → List RingKey → client.Rules D
 client_rules_under step ring = client.rules_of step mt_lock ring (reading_under ring)
 
--- What a run of `call` did, as `CallRun.told` tells of it, or one of `pair`, as `PairRun.told` does: its script spells these calls,
--- and each was taken; its key file is this ring, which has the client's keys; and these are its batches, the last one first.
+-- What a client did in any number of batches, each going on where the one before it lost its connections: its script spells these
+-- calls, and each was taken; its key file is this ring, which has the client's keys; and these are its batches, the last one first.
+-- What `CallRun.told` tells of a run of `call` has one batch, and what `PairRun.told` tells of one of `pair` has one or two.
 pub record Called {D : Type 0} (step : D → ℕ × D) : Type 0 where
   pub text : List ℕ
   pub calls : List ScriptCall

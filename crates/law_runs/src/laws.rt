@@ -1,6 +1,6 @@
 //! Laws of runs that are joint, each the contract of a function that does nothing.
 
-ghost use Rattle.std.specs.Prelude.{◌≡◌, ◌≢◌, ℕ, List, [], Some};
+ghost use Rattle.std.specs.Prelude.{◌≡◌, ◌≢◌, ℕ, List, [], ◌∷◌, Some};
 ghost use Rattle.auth_keys.specs.declared.ring.RingKey.{RingKey};
 ghost use Rattle.call_script.specs.Scripts.{Spells};
 ghost use Rattle.call_script.specs.declared.script.ScriptCall.{ScriptCall};
@@ -21,33 +21,35 @@ ghost use Rattle.world_rules.specs.Premises.{Fresh, IsSealed, IsSound};
 ghost use Rattle.world_rules.specs.Once.{InOrder, Once};
 ghost use Rattle.law_connections.specs.Joint.{Step, joint_of, nobody_yet};
 ghost use Rattle.law_connections.specs.Premises.{AreOf, NoChance};
-ghost use Rattle.law_runs.specs.Joining.{AreJoint, AreLeft, AreTimely, AreWhole, AreWords, Called, IsServerLeft, IsServing, Served, connections_in, left_by, ring_in, setting_under};
-ghost use Rattle.law_runs.specs.Told.{IsCall};
+ghost use Rattle.law_runs.specs.Joining.{AreJoint, AreLeft, AreTimely, AreWhole, AreWords, Called, IsServerLeft, IsServing, Served, connections_in, left_by, ring_in, setting_under, start_by};
+ghost use Rattle.law_runs.specs.Told.{IsCall, acts_told, batch_last, batch_left, batch_lost, batch_ran};
 
 use draws::Draw;
 use envelope::MtSeal;
 use regs_service::Regs;
 
 /// What `ServeRun.serves` tells of a run that served connections, and what `CallRun.told` tells of a batch that was run, or left where
-/// memory ran out, or `PairRun.told` of its one or two batches, is a run of `serve`, and one of a client, as joint runs have them, with
-/// the client whose table was told. The two servers of `pair` are runs of `serve` of their own, of which it tells that they were
-/// started, one behind the other, with its key file.
+/// memory ran out, or `PairRun.told` of its one or two batches, is a run of `serve`, and one of a client, as joint runs have them: with
+/// the events of the trace that is told, and with the batches and their attempts, and the client whose table was told, where one was.
+/// The two servers of `pair` are runs of `serve` of their own, of which it tells that they were started, one behind the other, with its
+/// key file.
 pub fn runs_are_told<D: Draw, S, F, N, C, P>()
-    ensures serves { (step : D → ℕ × D) (options : ServeOptions) (moments : Moments) (draws : Draws D) (course : Course D) → ServesBy step options moments draws course
+    ensures serves { (step : D → ℕ × D) (options : ServeOptions) (moments : Moments) (draws : Draws D) (course : Course D) → (served : ServesBy step options moments draws course)
         → IsServing course
-        → (run : Served step (ring_in course)) × (run.first ≡ first_of options moments draws.before) × (run.connections ≡ connections_in course) }
+        → (run : Served step (ring_in course)) × (run.first ≡ first_of options moments draws.before) × (run.connections ≡ connections_in course)
+        × ((start_by run).acts ≡ acts_told step options moments draws course served) }
     ensures calls { (options : CallOptions) (text : List ℕ) (calls : List ScriptCall) (ring : List RingKey) (keys : Keys) (around : Around N C D) (one : Status) (due : List ℕ) → Spells text calls
         → keys_for ring options.key options.perm ≡ Some keys → (ran : RanBatch options calls ring keys around one due)
-        → (run : Called around.step) × IsCall run calls ring keys around × (left_by run ≡ ran.left) }
+        → (run : Called around.step) × IsCall run calls ring keys around × (run.batches ≡ batch_ran ran ∷ []) × (left_by run ≡ ran.left) }
     ensures left { (options : CallOptions) (text : List ℕ) (calls : List ScriptCall) (ring : List RingKey) (keys : Keys) (around : Around N C D) → Spells text calls
-        → keys_for ring options.key options.perm ≡ Some keys → LeftBatch options calls ring keys around
-        → (run : Called around.step) × IsCall run calls ring keys around }
+        → keys_for ring options.key options.perm ≡ Some keys → (left : LeftBatch options calls ring keys around)
+        → (run : Called around.step) × IsCall run calls ring keys around × (run.batches ≡ batch_left left ∷ []) }
     ensures over_one { (options : PairOptions) (input : Outside S) (files : Files F) (calls : List ScriptCall) (ring : List RingKey) (keys : Keys) (around : Around N C D) (kids : Kids P) (one : Status) (due : List ℕ)
         → IsReady options input files calls ring keys → (ran : OverOne options ring (begins keys calls around) around kids one due)
-        → (run : Called around.step) × IsCall run calls ring keys around × (left_by run ≡ ran.last.left) }
+        → (run : Called around.step) × IsCall run calls ring keys around × (run.batches ≡ batch_last ran.last ∷ []) × (left_by run ≡ ran.last.left) }
     ensures over_both { (options : PairOptions) (input : Outside S) (files : Files F) (calls : List ScriptCall) (ring : List RingKey) (keys : Keys) (around : Around N C D) (kids : Kids P) (one : Status) (due : List ℕ)
         → IsReady options input files calls ring keys → (ran : OverBoth options ring (begins keys calls around) around kids one due)
-        → (run : Called around.step) × IsCall run calls ring keys around × (left_by run ≡ ran.last.left) }
+        → (run : Called around.step) × IsCall run calls ring keys around × (run.batches ≡ batch_last ran.last ∷ batch_lost ran.first ∷ []) × (left_by run ≡ ran.last.left) }
 {}
 
 /// The setting of joint runs seals and opens as the protocol's seal does under the ring.
@@ -88,13 +90,14 @@ pub fn servers_are_left<D: Draw>()
 {}
 
 /// Of runs of `serve`, one after the other and all with one key file, and of runs of `call` and `pair`, each with a key file of its own
-/// whose keys the server has, that are one joint run (`AreJoint`), each call executes at most once, as its client sent it, and what is
-/// told of it is so; and calls run in order. The premises: the server's key file has a key; words that are drawn have 64 bits; bytes
-/// that open at an end were sealed by the other in that direction (`NoChance`), so the joint run has all that was ever done under these
-/// keys; words drawn for session numbers, unique numbers and salts aren't 0 and differ, whichever process drew them (`Fresh`). A process
-/// may be stopped from outside: then its part is a front of what its run tells. Where none was (`AreWhole`) and no moment is past the
-/// latest (`AreTimely`), the clients of which this is said are those that their runs left, the server the one that the last run of
-/// `serve` left.
+/// that has the keys under which its client acts as the server's has them, that are one joint run (`AreJoint`), each call executes at
+/// most once, as its client sent it, and what the client of the joint run holds of it is so; and calls run in order. The premises: the
+/// server's key file has a key; words that are drawn have 64 bits; bytes that open at an end were sealed by the other in that direction
+/// (`NoChance`), so the joint run has all that was ever done under these keys; words drawn for session numbers, unique numbers and
+/// salts aren't 0 and differ, whichever process drew them (`Fresh`). A process may be stopped from outside: then its part is a front of
+/// what some run would have told; that it is one is a premise. Where none was (`AreWhole`) and no moment is past the latest
+/// (`AreTimely`), the clients of which this is said are those that their runs left, the server the one that the last run of `serve`
+/// left.
 pub fn runs_execute_once<D: Draw>()
     ensures once { (step : D → ℕ × D) (ring : List RingKey) (draw : D) (served : List (Served step ring)) (called : List (Called step)) (steps : List (Step D))
         → AreJoint step ring draw served called steps → ring ≢ [] → AreWords step

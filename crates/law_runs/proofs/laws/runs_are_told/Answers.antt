@@ -4,11 +4,13 @@ use Rattle.cmd_call.specs.Owed.{plan_of}
 use Rattle.cmd_pair.specs.Batches.{plan_at}
 use Rattle.cmd_serve.specs.Runs.{Course, Deaf, Draws, Moments, Mute, Refused, Serves, ServesBy, Unbegun, Unread, first_of}
 use Rattle.client_node.specs.declared.plan.Batch.TheVariants as batch
-use Rattle.law_runs.specs.Joining.{IsServing, Served, connections_in, ring_in}
+use Rattle.law_runs.specs.Joining.{IsServing, Served, connections_in, ring_in, start_by}
+use Rattle.law_runs.specs.Told.{acts_told}
 use Rattle.law_runs.proofs.laws.runs_are_told.Goals as goal
 
-served-so : {D : Type 0} (step : D → ℕ × D) (options : ServeOptions) (moments : Moments) (draws : Draws D) (course : Course D) → ServesBy step options moments draws course → IsServing course
+served-so : {D : Type 0} (step : D → ℕ × D) (options : ServeOptions) (moments : Moments) (draws : Draws D) (course : Course D) → (served : ServesBy step options moments draws course) → IsServing course
     → (run : Served step (ring_in course)) × (run.first ≡ first_of options moments draws.before) × (run.connections ≡ connections_in course)
+    × ((start_by run).acts ≡ acts_told step options moments draws course served)
 served-so step options moments draws (Serves ring connections ending) served is = (
   record {
     first = first_of options moments draws.before;
@@ -20,6 +22,7 @@ served-so step options moments draws (Serves ring connections ending) served is 
     server = refl;
     service = refl;
   },
+  refl,
   refl,
   refl,
 )
@@ -49,6 +52,7 @@ returns-clause-calls g c = λ options text calls ring keys around one due spelt 
     are = (tt, ran.trace.ended);
   },
   record { calls_are = refl; ring_is = refl; keys_are = refl; draw_is = refl },
+  refl,
   sym ran.its,
 )
 
@@ -69,6 +73,7 @@ returns-clause-left g c = λ options text calls ring keys around spelt found lef
     are = (tt, left.trace.ended);
   },
   record { calls_are = refl; ring_is = refl; keys_are = refl; draw_is = refl },
+  refl,
 )
 
 pub returns-clause-over_one : goal.returns-clause-over_one
@@ -88,6 +93,7 @@ returns-clause-over_one g c = λ options input files calls ring keys around kids
     are = (tt, over.last.trace.ended);
   },
   record { calls_are = refl; ring_is = refl; keys_are = refl; draw_is = refl },
+  refl,
   sym over.last.its,
 )
 
@@ -109,5 +115,6 @@ returns-clause-over_both g c = λ options input files calls ring keys around kid
     are = ((tt, over.first.trace.ended, refl), over.last.trace.ended);
   },
   record { calls_are = refl; ring_is = refl; keys_are = refl; draw_is = refl },
+  refl,
   sym over.last.its,
 )
