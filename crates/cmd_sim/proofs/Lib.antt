@@ -5,6 +5,5 @@ pub mod Playing
 pub mod Ends
 pub mod Drawing
 pub mod Fresh
-pub mod Bindings
 pub mod Sound
 pub mod Loaded

@@ -17,18 +17,17 @@ ghost use Rattle.cmd_sim.specs.Words.{words_max};
 ghost use Rattle.cmd_sim.specs.Worlds.{sim_setting, sim_world};
 
 use crate::counted_draw::CountedDraw;
-use aes_core::laws::blocks_are_bytes;
-use auth_keys::laws::digests_are_bytes;
 use draws::laws::step_words_are_fresh;
 use envelope::MtSeal;
 use envelope::laws::opens_what_it_sealed;
+use law_bytes::laws::bindings_are_bytes;
 use law_numbers::laws::{notice_19_never_comes, numbers_are_given_once};
 use law_once::laws::{calls_execute_once, names_are_words_drawn};
 use law_order::laws::calls_run_in_order;
 use law_packet_parts::laws::locks_keep_sizes;
 use law_packets::laws::registers_give_replies;
 use mt_edge::{Sink, Source};
-use octets::laws::{bytes_stay_bytes, counts_of_bytes};
+use octets::laws::bytes_stay_bytes;
 use regs_service::Regs;
 use ring_rules::laws::{packets_open_as_worked_out, rings_have_keys};
 
@@ -46,9 +45,8 @@ pub fn setting_of_sim()
 pub fn setting_is_sound()
     ensures { IsSound sim_ring sim_setting }
 {
-    counts_of_bytes();
-    blocks_are_bytes();
-    digests_are_bytes();
+    bytes_stay_bytes();
+    bindings_are_bytes();
     registers_give_replies();
 }
 

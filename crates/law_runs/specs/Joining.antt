@@ -70,8 +70,8 @@ AreWords {D = D} step = (draw : D) → (step draw).0 < 2 ^ 64
 
 -- ---- a run of `serve`
 
--- The connections that a run of `serve` served with this ring, as `ServeRun.serves` tells of them, of so many that there should be:
--- one trace from a fresh server and a fresh service on.
+-- The connections that a run of `serve` served with this ring, as `ServeRun.serves` tells of them, with how many there should be and
+-- how they ended: one trace from a fresh server and a fresh service on.
 pub record Served {D : Type 0} (step : D → ℕ × D) (ring : List RingKey) : Type 0 where
   pub first : Between D Registers
   pub connections : List (Connection D Registers)
@@ -199,7 +199,8 @@ ArePartsOf (part ∷ parts) [] = ⊥
 ArePartsOf (part ∷ parts) (run ∷ called) = IsPartOf part (part_by run) × ArePartsOf parts called
 
 -- These steps are what the runs of `serve` did, one after the other, and what the runs of `call` and `pair` did, in some order: each
--- end's part is what its run tells, or a front of that. The runs of `serve` stand with the last one first, and share one ring.
+-- end's part is what its run tells, or a front of that. The runs of `serve` stand with the last one first, and share one ring. Of the
+-- bytes that came between them nothing is said here: `NoChance` says which of them may open.
 pub record AreJoint {D : Type 0} (step : D → ℕ × D) (ring : List RingKey) (draw : D) (served : List (Served step ring)) (called : List (Called step)) (steps : List (Step D)) : Type 0 where
   pub servers : AreStartsOf (starts_of draw steps) served
   pub clients : ArePartsOf (parts_of steps) called
