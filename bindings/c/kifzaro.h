@@ -19,9 +19,9 @@
  * sends the bytes ee ee ee ee once, and each side sends each packet behind its length in 4 bytes, the lowest first.
  *
  * Statuses. Each function answers a kf_status. Where it isn't KF_OK, nothing of the caller's is written and the client or server goes
- * on as if it hadn't been called, unless the comment of the function says otherwise; of its random numbers some may have gone. So a
- * packet is never lost by want of memory or of room: the call may be done again. KF_NULL, KF_NO_HANDLE and KF_MEMORY may come of each
- * function, KF_BAD_LENGTH of each that takes bytes or room; they are not named again.
+ * on as if it hadn't been called, unless the comment of the function says otherwise. So a packet is never lost by want of memory or
+ * of room: the call may be done again. KF_NULL, KF_NO_HANDLE and KF_MEMORY may come of each function, KF_BAD_LENGTH of each that takes
+ * bytes or room; they are not named again.
  *
  * Handles. A client or a server is a kf_client or a kf_server of the caller's, all zero at first (KF_INIT). kf_client_new and
  * kf_server_new make it a handle, kf_client_free and kf_server_free give back all that it has and make it all zero again. It isn't

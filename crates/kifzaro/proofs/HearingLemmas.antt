@@ -1,7 +1,9 @@
 -- What is told of a packet, by what it opens to.
 use Rattle.std.proofs.Common.{◌≡◌, ℕ, List, sym, subst}
-use Rattle.std.specs.Prelude.{Result, Ok, Err}
+use Rattle.std.specs.Prelude.{Result, Ok, Err, IfErr}
 use Rattle.auth_keys.specs.declared.ring.RingKey.{RingKey}
+use Rattle.client_core.specs.Holding.{kept_of}
+use Rattle.client_core.specs.Kept.{Stands}
 use Rattle.client_core.specs.declared.holder.Holder.{Holder}
 use Rattle.client_rules.specs.Client.{Client}
 use Rattle.envelope.specs.declared.parts.Dir.TheVariants.{Down}
@@ -11,6 +13,7 @@ use Rattle.envelope.specs.Packet.{Lock}
 use Rattle.kifzaro.specs.Clients.{Comes, TellsHeard}
 use Rattle.kifzaro.specs.Holding.{IsDoneOrMemory, refused_for}
 use Rattle.kifzaro.specs.declared.error.Error.{Error}
+use Rattle.kifzaro.specs.declared.error.Error.TheVariants as errors
 
 -- one that doesn't
 pub heard_refused : (lock : Lock) (ring : List RingKey) (at : ℕ) (packet : List ℕ) (why : Refusal) (taken : Result Unit Error)
@@ -34,3 +37,9 @@ pub heard_opens : (lock : Lock) (ring : List RingKey) (at : ℕ) (packet : List 
     → IsDoneOrMemory taken → TellsHeard lock ring at packet (Ok tt) → TellsHeard lock ring at packet taken
 heard_opens lock ring at packet (Ok done) is heard = heard
 heard_opens lock ring at packet (Err error) is heard = subst (λ (one : Error). TellsHeard lock ring at packet (Err one)) (sym is) tt
+
+-- where memory ran out it is the client that it was
+pub stays_of : (before after : Client) (kept : Holder) (taken : Result Unit Error) → Comes before after kept taken
+    → IfErr taken (λ error. error ≡ errors.Memory → Stands (kept_of kept) before)
+stays_of before after kept (Ok done) comes = tt
+stays_of before after kept (Err error) comes = λ is. subst (λ (one : Error). Comes before after kept (Err one)) is comes

@@ -1,9 +1,10 @@
 -- What an event leaves of a server with its draw and its packets.
-use Rattle.std.proofs.Common.{◌≡◌, ◌≤◌, ℕ, false, Option, Some, None, List, [], ◌∷◌, ◌++◌, max, refl, sym, subst, arith}
+use Rattle.std.proofs.Common.{◌≡◌, ◌≤◌, ℕ, false, Option, Some, None, List, [], ◌∷◌, ◌++◌, max, zero, suc, ap, refl, sym, subst, ◌∙◌, arith}
 use Rattle.std.specs.Prelude.{is_some}
 use Rattle.std.proofs.lemmas.Bool.{true≢false}
 use Rattle.auth_keys.specs.declared.ring.RingKey.{RingKey}
 use Rattle.draws.specs.ChaChaWords.{ChaChaPlace}
+use Rattle.draws.specs.Draws.{draw_after}
 use Rattle.envelope.specs.Lock.{mt_lock}
 use Rattle.msg_ids.specs.Moments.{latest_moment}
 use Rattle.server_core.specs.Desks.{IsBetweenEvents}
@@ -15,6 +16,7 @@ use Rattle.server_rules.specs.Answer.{Answer}
 use Rattle.server_rules.specs.Server.{Server, Session}
 use Rattle.server_session.specs.SessionState.{Stands}
 use Rattle.server_session.specs.declared.session.SessionState.{SessionState}
+use Rattle.kifzaro.specs.Drawing.{drawing}
 use Rattle.kifzaro.specs.Servers.{Did, Is, Kept}
 
 -- ---- moments
@@ -56,6 +58,24 @@ moment_alone law before after now server given stands is same =
       record { at = early before.moment now server.now stands.moment is.at given; order = is.order; replies = is.replies; jobs = is.jobs },
     )
 
+-- ---- words
+
+keeps_key : (words : ℕ) (draw : ChaChaPlace) → (draw_after drawing words draw).key ≡ draw.key
+keeps_key zero draw = refl
+keeps_key (suc n) draw = keeps_key n (drawing draw).1
+
+same_draw : (one other : ChaChaPlace) → one.key ≡ other.key → one.place ≡ other.place → one ≡ other
+same_draw one other key place =
+    subst (λ (k : List ℕ). record { key = k; place = one.place } ≡ other) (sym key)
+    (subst (λ (at : ℕ). record { key = other.key; place = at } ≡ other) (sym place) refl)
+
+-- the draw stands where some of its words bring it
+reaches : (words : ℕ) (before left due : ChaChaPlace) → due ≡ draw_after drawing words before → left ≡ due
+    → record before { place = left.place } ≡ due
+reaches words before left due is same =
+    same_draw (record before { place = left.place }) due (sym (ap (λ (draw : ChaChaPlace). draw.key) is ∙ keeps_key words before))
+    (ap (λ (draw : ChaChaPlace). draw.place) same)
+
 -- ---- events
 
 pub did : (before after : Kept) (effects : Effects) (answer : Answer ChaChaPlace)
@@ -70,16 +90,29 @@ did before after effects answer gives order waits none = record {
   asked = none;
 }
 
--- an event that gives what the rules say
-pub event_did : (before after : Kept) (effects : Effects) (answer : ℕ → Answer ChaChaPlace) (now : ℕ) (server : Server)
+-- an event that drew from where the server's draw stood, gives what the rules say, and leaves its draw where they do
+pub event_did : (before after : Kept) (drawn left : ChaChaPlace) (effects : Effects) (answer : ℕ → ChaChaPlace → Answer ChaChaPlace) (now : ℕ) (server : Server)
     → Is before server → now ≤ latest_moment
-    → ((at : ℕ) → at ≤ latest_moment → IsBetweenEvents (answer at).server)
-    → Gives mt_lock before.server.seal after.server after.draw effects (answer (max before.server.moment now))
+    → ((at : ℕ) (draw : ChaChaPlace) → at ≤ latest_moment → IsBetweenEvents (answer at draw).server)
+    → ((at : ℕ) (draw : ChaChaPlace) → (words : ℕ) × ((answer at draw).draw ≡ draw_after drawing words draw))
+    → drawn ≡ before.draw
+    → Gives mt_lock before.server.seal after.server left effects (answer (max before.server.moment now) drawn)
+    → after.draw ≡ record before.draw { place = left.place }
     → after.waiting ≡ before.waiting ++ effects.out.outs → after.asked ≡ None
-    → Did before after (answer (max before.server.moment now))
-event_did before after effects answer now server is given keeps gives waits none =
+    → Did before after (answer (max before.server.moment now) before.draw)
+event_did before after drawn left effects answer now server is given keeps draws from gives moves waits none =
     let at = max before.server.moment now in
-    did before after effects (answer at) gives (keeps at (early before.server.moment now server.now is.stands.moment is.order.at given)) waits none
+    let due = answer at before.draw in
+    let gave = subst (λ (draw : ChaChaPlace). Gives mt_lock before.server.seal after.server left effects (answer at draw)) from gives in
+    let words = draws at before.draw in
+    did before after effects due
+    (record {
+      stands = gave.stands;
+      drawn = moves ∙ reaches words.0 before.draw left due.draw words.1 gave.drawn;
+      sent = gave.sent;
+      entered = gave.entered;
+    })
+    (keeps at before.draw (early before.server.moment now server.now is.stands.moment is.order.at given)) waits none
 
 -- what nothing was done to is the server that it was
 pub still : (before after : Kept) (server : Server) → Is before server → after.server ≡ before.server → Is after server

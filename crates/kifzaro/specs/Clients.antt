@@ -16,6 +16,7 @@ use Rattle.client_core.specs.Flushed.{TellsFlush}
 use Rattle.client_core.specs.Holding.{kept_of}
 use Rattle.client_core.specs.Kept.{Contents, Stands}
 use Rattle.client_core.specs.Told.{TellsFault}
+use Rattle.client_core.specs.declared.fault.SubmitFault.TheVariants as submit
 use Rattle.client_core.specs.declared.flush.Flush.TheVariants as told
 use Rattle.client_core.specs.declared.holder.Holder.{Holder}
 use Rattle.client_core.specs.declared.holder.Holder.TheVariants as holder
@@ -88,6 +89,7 @@ IsNoClient text fault error = IsKeysError text error ⊎ ((ring : List RingKey) 
 -- a call is taken by a client that hasn't ended, where nothing refuses it; or the refusal is told
 abbrev pub TellsSubmit : {X : Type 0} → Bool → Option Fault → Result X Error → Type 0
 TellsSubmit ended due (Ok taken) = (ended ≡ false) × (due ≡ None)
+TellsSubmit ended due (Err (errors.Submit submit.Memory)) = ⊥
 TellsSubmit {X} ended due (Err (errors.Submit fault)) = (ended ≡ false) × TellsFault {X = X} due (Err fault)
 TellsSubmit ended due (Err errors.Ended) = ended ≡ true
 TellsSubmit ended due (Err errors.Memory) = (ended ≡ false) × (due ≡ None)

@@ -20,6 +20,7 @@ of_keys fault = errors.Keys fault
 
 -- why the text of a key file gives no ring
 abbrev pub IsKeysError : List ℕ → Error → Type 0
+IsKeysError text (errors.Keys key_fault.Memory) = ⊥
 IsKeysError text (errors.Keys fault) = IsFaultOf text fault
 IsKeysError text (errors.LongKeys len) = (len ≡ length text) × (2 ^ 32 ≤ len)
 IsKeysError text errors.Memory = ⊤

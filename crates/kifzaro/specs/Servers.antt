@@ -74,11 +74,10 @@ TellsAnswered asked reply (Err other) = ⊥
 abbrev pub at_moment : ℕ → Kept → Kept
 at_moment now kept = record kept { server = record kept.server { moment = max kept.server.moment now } }
 
--- A packet that is refused leaves the moment, and want of memory words that were drawn; all else is as it was.
+-- A packet that is refused leaves the moment; all else is as it was.
 abbrev pub Leaves : {X : Type 0} → ℕ → Kept → Kept → Result X Error → Type 0
 Leaves now before after (Ok done) = ⊤
 Leaves now before after (Err (errors.Refused why)) = after ≡ at_moment now before
-Leaves now before after (Err errors.Memory) = after ≡ record before { draw = after.draw }
 Leaves now before after (Err other) = after ≡ before
 
 -- it is still the server of the rules that it was, at this moment where it was told the moment alone

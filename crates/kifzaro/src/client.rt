@@ -19,6 +19,7 @@ ghost use Rattle.client_core.specs.declared.flush.Flush.TheVariants as flushed;
 ghost use Rattle.client_core.specs.Holding.{is_open_now, kept_of};
 ghost use Rattle.kifzaro.specs.Clients.{AreDecided, Becomes, Is, IsNoClient, Polls, TellsDropped, TellsEnded, TellsHeard, TellsNoCall, TellsOpen, TellsReply, TellsSubmit, TellsTaken, outcome, perm_fault, state_of, temp_fault};
 ghost use Rattle.kifzaro.specs.Drawing.{drawing, drawn_from};
+ghost use Rattle.kifzaro.specs.declared.error.Error.TheVariants as errors;
 
 use crate::error::Error;
 use crate::holding::{self, Wish};
@@ -277,6 +278,7 @@ impl Client {
             → ((envelope : Envelope) → Opens mt_lock self.old.ring (max client.now now) Down packet.now envelope → ⊥)
             → Becomes client (at_moment now client) self.new result }
         ensures ended { (client : Rules) → Is self.old client → client.has_ended ≡ true → (self.new ≡ self.old) × (result ≡ Ok tt) }
+        ensures stays { (client : Rules) → Is self.old client → IfErr result (λ error. error ≡ errors.Memory → Is self.new client) }
         ensures rest { self.new ≡ record self.old { holder = self.new.holder } }
     {
         match self.holder.take() {

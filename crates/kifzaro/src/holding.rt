@@ -19,6 +19,7 @@ ghost use Rattle.client_core.specs.Keys.{HasKeys, keys_in};
 ghost use Rattle.client_core.specs.Kept.{Stands};
 ghost use Rattle.kifzaro.specs.Clients.{Comes, TellsDropped, TellsEnded, TellsHeard, TellsOpen, TellsSubmit, wished};
 ghost use Rattle.kifzaro.specs.Holding.{IsDoneOrMemory, refused_for};
+ghost use Rattle.kifzaro.specs.declared.error.Error.TheVariants as errors;
 
 use crate::error::Error;
 use client_core::{
@@ -179,6 +180,7 @@ pub(crate) fn hear<S: Seal>(
     ensures other { (client : Client) → Stands (kept_of holder) client → client.has_ended ≡ false
         → ((envelope : Envelope) → Opens S.lock (S.keys seal.now) (max client.now now) Down packet.now envelope → ⊥) → Comes client (at_moment now client) result.0 result.1 }
     ensures ended { (client : Client) → Stands (kept_of holder) client → client.has_ended ≡ true → (result.0 ≡ holder) × (result.1 ≡ Ok tt) }
+    ensures stays { (client : Client) → Stands (kept_of holder) client → IfErr result.1 (λ error. error ≡ errors.Memory → Stands (kept_of result.0) client) }
     ensures keys { keys_in (kept_of result.0) ≡ keys_in (kept_of holder) }
 {
     S::opens_what_it_sealed();

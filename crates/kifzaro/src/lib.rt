@@ -14,6 +14,7 @@ mod queue;
 mod rings;
 mod server;
 mod telling;
+mod words;
 
 pub use auth_keys::KeyFault;
 pub use client::Client;
@@ -23,7 +24,7 @@ pub use envelope::Refusal;
 pub use error::Error;
 pub use msg_ids::Moment;
 pub use names::SessionName;
-pub use octets::Octets;
+pub use octets::{Memory, Octets};
 pub use server::Server;
 pub use server_output::Out;
 pub use transport::{Form, FrameFault, Framed, Next, Raw, RawStep, Wire};

@@ -29,8 +29,10 @@ use crate::names::SessionName;
 use crate::queue::Queue;
 use crate::rings::seal_of;
 use crate::telling::put;
-use draws::{ChaChaDraw, Seeded};
+use crate::words::Words;
+use draws::ChaChaDraw;
 use envelope::MtSeal;
+use law_server_replay::laws::events_draw_words;
 use msg_ids::Moment;
 use octets::{Memory, Octets};
 use server_core::order_laws::{events_keep_order, runs_keep_order};
@@ -50,7 +52,7 @@ use std::marker::Model;
 #[derive(Debug, Drop)]
 pub struct Server {
     server: Core<MtSeal>,
-    draw: ChaChaDraw,
+    words: Words,
     queue: Queue,
     // The request of the first ready job, while it waits for its answer.
     asked: Option<Octets>,
@@ -65,7 +67,7 @@ impl Model for Server {
 
     ghost Value = { Kept };
 
-    ghost view = { λ server. record { server = server.server; draw = server.draw; waiting = all_in server.queue; asked = server.asked } };
+    ghost view = { λ server. record { server = server.server; draw = server.words; waiting = all_in server.queue; asked = server.asked } };
 
     // A request that waits for its answer is that of the first ready job.
     ghost invariant = { λ server. IfSome server.asked (λ asked. (0 < ready_count server.server.jobs) × (request_at 0 server.server.jobs ≡ Some asked)) };
@@ -88,7 +90,7 @@ impl Server {
         events_keep_order::<ChaChaDraw>();
         Ok(Server {
             server: Core::new(alloc, seal_of(alloc, keys)?),
-            draw: ChaChaDraw::at(seed, 0),
+            words: Words::new(seed),
             queue: Queue::new(alloc),
             asked: None,
         })
@@ -107,7 +109,7 @@ impl Server {
     /// # Errors
     ///
     /// `Busy`, a request waits for its answer; `Refused`, why the packet doesn't open, and only the moment has changed;
-    /// `Memory`, and it is the server that it was, though words may have been drawn.
+    /// `Memory`, and nothing has changed.
     pub fn handle_packet(
         &mut self,
         alloc: Global,
@@ -124,6 +126,7 @@ impl Server {
         ensures same_ring { self.new.server.seal ≡ self.old.server.seal }
     {
         events_keep_order::<ChaChaDraw>();
+        events_draw_words::<ChaChaDraw, Given>();
         sessions_stand_later();
         is_early(now);
         if self.is_busy() {
@@ -132,10 +135,12 @@ impl Server {
         if self.queue.make_room().is_err() {
             return Err(Error::Memory);
         }
-        match self.server.on_packet(alloc, now, packet, &mut self.draw) {
+        let mut draw = self.words.draw();
+        match self.server.on_packet(alloc, now, packet, &mut draw) {
             Ok(reply) => match reply.heard {
                 Heard::NotOpened(refusal) => Err(Error::Refused(refusal)),
                 Heard::Judged { key, session } => {
+                    self.words.reach(&draw);
                     self.queue.put(reply.out);
                     Ok(SessionName { key, session })
                 }
@@ -159,6 +164,7 @@ impl Server {
         ensures same_ring { self.new.server.seal ≡ self.old.server.seal }
     {
         events_keep_order::<ChaChaDraw>();
+        events_draw_words::<ChaChaDraw, Given>();
         is_early(now);
         if self.is_busy() {
             return Err(Error::Busy);
@@ -166,8 +172,10 @@ impl Server {
         if self.queue.make_room().is_err() {
             return Err(Error::Memory);
         }
-        match self.server.tick(alloc, now, &mut self.draw) {
+        let mut draw = self.words.draw();
+        match self.server.tick(alloc, now, &mut draw) {
             Ok(effects) => {
+                self.words.reach(&draw);
                 self.queue.put(effects.out);
                 Ok(())
             }
@@ -190,6 +198,7 @@ impl Server {
         ensures same_ring { self.new.server.seal ≡ self.old.server.seal }
     {
         events_keep_order::<ChaChaDraw>();
+        events_draw_words::<ChaChaDraw, Given>();
         is_early(now);
         if self.is_busy() {
             return Err(Error::Busy);
@@ -197,11 +206,13 @@ impl Server {
         if self.queue.make_room().is_err() {
             return Err(Error::Memory);
         }
+        let mut draw = self.words.draw();
         match self
             .server
-            .attach(alloc, name.key, name.session, now, &mut self.draw)
+            .attach(alloc, name.key, name.session, now, &mut draw)
         {
             Ok(effects) => {
+                self.words.reach(&draw);
                 self.queue.put(effects.out);
                 Ok(())
             }
@@ -280,8 +291,7 @@ impl Server {
     ///
     /// # Errors
     ///
-    /// `NotAsked`, no request was handed out; `BadReply`, and the request waits on; `Memory`, and the request waits on, though
-    /// words may have been drawn.
+    /// `NotAsked`, no request was handed out; `BadReply`, or `Memory`, and the request waits on.
     pub fn answer(&mut self, alloc: Global, now: Moment, reply: &[u8]) -> Result<(), Error>
         ensures told { TellsAnswered self.old.asked reply.now result }
         ensures given { (keys : Keys) (server : Rules) → Is self.old server
@@ -292,6 +302,7 @@ impl Server {
         ensures same_ring { self.new.server.seal ≡ self.old.server.seal }
     {
         runs_keep_order::<ChaChaDraw, Given>();
+        events_draw_words::<ChaChaDraw, Given>();
         is_early(now);
         if self.asked.is_none() {
             return Err(Error::NotAsked);
@@ -301,7 +312,9 @@ impl Server {
         }
         let mut given = Given::new(alloc, reply)?;
         self.queue.make_room()?;
-        let effects = self.server.work(alloc, 0, &mut given, now, &mut self.draw)?;
+        let mut draw = self.words.draw();
+        let effects = self.server.work(alloc, 0, &mut given, now, &mut draw)?;
+        self.words.reach(&draw);
         self.asked = None;
         self.queue.put(effects.out);
         Ok(())

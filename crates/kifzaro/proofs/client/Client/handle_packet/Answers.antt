@@ -34,3 +34,10 @@ returns-clause-other c = λ client is living none.
     c.hear-holder.ensures.other client stands living
     (λ envelope opens. none envelope
     (subst (λ (ring : List RingKey). Opens mt_lock ring (max client.now c.args.now) Down c.args.packet.now envelope) (ap (λ (kept : Kept). kept.ring) c.self.view_is) opens))
+
+pub returns-clause-stays : goal.returns-clause-stays
+returns-clause-stays c = λ client is.
+    let held : c.in-Some.holder ≡ c.args.self.now.holder =
+    held_now c.args.self.now c.self.inside.holder c.self.inside.seal c.self.inside.draw c.self.inside.waiting c.in-Some.holder c.self.view_is (sym c.take.ensures.value ∙ c.in-Some.is) in
+    let stands = subst (λ (holder : Holder). Stands (kept_of holder) client) (sym held) is in
+    c.hear-holder.ensures.stays client stands

@@ -10,8 +10,8 @@ use Rattle.kifzaro.proofs.server.Server.answer.Goals as goal
 
 pub returns-clause-given : goal.returns-clause-given
 returns-clause-given c = λ keys server is.
-    let inside : Kept = record { server = c.self.inside.server; draw = c.self.inside.draw; waiting = all_in c.self.inside.queue; asked = c.self.inside.asked } in
-    let after : Kept = record { server = c.work.new.self; draw = c.work.new.draw; waiting = all_in c.put.new.self; asked = None } in
+    let inside : Kept = record { server = c.self.inside.server; draw = c.self.inside.words; waiting = all_in c.self.inside.queue; asked = c.self.inside.asked } in
+    let after : Kept = record { server = c.work.new.self; draw = c.reach.new.self; waiting = all_in c.put.new.self; asked = None } in
     let effects = c.in_ok-effects.effects in
     let given = c.in_ok-given.given in
     let more : after.waiting ≡ inside.waiting ++ effects.out.outs =
@@ -20,7 +20,9 @@ returns-clause-given c = λ keys server is.
     c.self.view_is
     (λ (own : Is inside server).
     subst (λ (one : List ℕ). Did inside after (after_reply (setting_of (max inside.server.moment c.args.now) drawing keys) one server inside.draw)) c.in_ok-given.ensures
-    (event_did inside after effects (λ at. (after_work (setting_of at drawing keys) 0 giving given server inside.draw).0) c.args.now server own c.is_early.ensures
-    (λ at early. c.runs_keep_order.ensures (setting_of at drawing keys) 0 giving given server inside.draw early (c.in_ok-effects.ensures.short server own.stands own.order.order) own.order)
-    (c.in_ok-effects.ensures.given keys server own.stands own.order.order) more refl))
+    (event_did inside after c.draw-draw.result c.work.new.draw effects (λ at draw. (after_work (setting_of at drawing keys) 0 giving given server draw).0)
+    c.args.now server own c.is_early.ensures
+    (λ at draw early. c.runs_keep_order.ensures (setting_of at drawing keys) 0 giving given server draw early (c.in_ok-effects.ensures.short server own.stands own.order.order) own.order)
+    (λ at draw. c.events_draw_words.ensures.work (setting_of at drawing keys) 0 giving given server draw)
+    c.draw-draw.ensures (c.in_ok-effects.ensures.given keys server own.stands own.order.order) c.reach.ensures more refl))
     is

@@ -17,8 +17,8 @@ use Rattle.kifzaro.proofs.server.Server.handle_packet.Goals as goal
 
 pub returns-in-Judged-clause-given : goal.returns-in-Judged-clause-given
 returns-in-Judged-clause-given c = λ keys server envelope of is opens.
-    let inside : Kept = record { server = c.self.inside.server; draw = c.self.inside.draw; waiting = all_in c.self.inside.queue; asked = c.self.inside.asked } in
-    let after : Kept = record { server = c.on_packet.new.self; draw = c.on_packet.new.draw; waiting = all_in c.put.new.self; asked = c.self.inside.asked } in
+    let inside : Kept = record { server = c.self.inside.server; draw = c.self.inside.words; waiting = all_in c.self.inside.queue; asked = c.self.inside.asked } in
+    let after : Kept = record { server = c.on_packet.new.self; draw = c.reach.new.self; waiting = all_in c.put.new.self; asked = c.self.inside.asked } in
     let effects = effects_in c.in-Ok.reply in
     let none : inside.asked ≡ None = not_asked inside.asked (ap (λ (kept : Kept). is_some kept.asked) c.self.view_is ∙ sym c.is_busy.ensures ∙ c.if-is_busy.false) in
     let waits : after.waiting ≡ inside.waiting ++ effects.out.outs =
@@ -26,15 +26,17 @@ returns-in-Judged-clause-given c = λ keys server envelope of is opens.
     subst (λ (old : Kept). AreOf old.server.seal keys → Is old server → Opens mt_lock old.server.seal (max old.server.moment c.args.now) Up c.args.packet.now envelope
     → Did old after (after_packet (setting_of (max old.server.moment c.args.now) drawing keys) (brought_in envelope) server old.draw)) c.self.view_is
     (λ (known : AreOf inside.server.seal keys) (own : Is inside server) (opened : Opens mt_lock inside.server.seal (max inside.server.moment c.args.now) Up c.args.packet.now envelope).
-    event_did inside after effects (λ at. after_packet (setting_of at drawing keys) (brought_in envelope) server inside.draw) c.args.now server own c.is_early.ensures
-    (λ at early. c.events_keep_order.ensures.packet (setting_of at drawing keys) (brought_in envelope) server inside.draw early own.order)
-    (c.in-Ok.ensures.given keys server envelope known own.stands own.order.order opened) waits none)
+    event_did inside after c.draw-draw.result c.on_packet.new.draw effects (λ at draw. after_packet (setting_of at drawing keys) (brought_in envelope) server draw)
+    c.args.now server own c.is_early.ensures
+    (λ at draw early. c.events_keep_order.ensures.packet (setting_of at drawing keys) (brought_in envelope) server draw early own.order)
+    (λ at draw. c.events_draw_words.ensures.packet (setting_of at drawing keys) (brought_in envelope) server draw)
+    c.draw-draw.ensures (c.in-Ok.ensures.given keys server envelope known own.stands own.order.order opened) c.reach.ensures waits none)
     of is opens
 
 pub returns-in-NotOpened-clause-stays : goal.returns-in-NotOpened-clause-stays
 returns-in-NotOpened-clause-stays c = λ server is.
-    let inside : Kept = record { server = c.self.inside.server; draw = c.self.inside.draw; waiting = all_in c.self.inside.queue; asked = c.self.inside.asked } in
-    let after : Kept = record { server = c.on_packet.new.self; draw = c.on_packet.new.draw; waiting = all_in c.make_room.new.self; asked = c.self.inside.asked } in
+    let inside : Kept = record { server = c.self.inside.server; draw = c.self.inside.words; waiting = all_in c.self.inside.queue; asked = c.self.inside.asked } in
+    let after : Kept = record { server = c.on_packet.new.self; draw = c.self.inside.words; waiting = all_in c.make_room.new.self; asked = c.self.inside.asked } in
     let heard = subst (λ (one : Heard). IsHeardOf mt_lock inside.server.seal (max inside.server.moment c.args.now) c.args.packet.now one) c.in-NotOpened.is c.in-Ok.ensures.heard in
     let nothing = c.in-Ok.ensures.refused c.in-NotOpened.refusal heard in
     subst (λ (old : Kept). Is old server → Is after (record server { now = max old.server.moment c.args.now })) c.self.view_is

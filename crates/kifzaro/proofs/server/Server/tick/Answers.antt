@@ -11,13 +11,15 @@ use Rattle.kifzaro.proofs.server.Server.tick.Goals as goal
 
 pub returns-in-Ok-clause-given : goal.returns-in-Ok-clause-given
 returns-in-Ok-clause-given c = λ keys server is.
-    let inside : Kept = record { server = c.self.inside.server; draw = c.self.inside.draw; waiting = all_in c.self.inside.queue; asked = c.self.inside.asked } in
-    let after : Kept = record { server = c.tick.new.self; draw = c.tick.new.draw; waiting = all_in c.put.new.self; asked = c.self.inside.asked } in
+    let inside : Kept = record { server = c.self.inside.server; draw = c.self.inside.words; waiting = all_in c.self.inside.queue; asked = c.self.inside.asked } in
+    let after : Kept = record { server = c.tick.new.self; draw = c.reach.new.self; waiting = all_in c.put.new.self; asked = c.self.inside.asked } in
     let none : inside.asked ≡ None = not_asked inside.asked (ap (λ (kept : Kept). is_some kept.asked) c.self.view_is ∙ sym c.is_busy.ensures ∙ c.if-is_busy.false) in
     let waits : after.waiting ≡ inside.waiting ++ c.in-Ok.effects.out.outs =
     c.put.ensures.put ∙ ap (λ (outs : List Out). outs ++ c.in-Ok.effects.out.outs) c.make_room.ensures.same in
     subst (λ (old : Kept). Is old server → Did old after (after_tick (setting_of (max old.server.moment c.args.now) drawing keys) server old.draw)) c.self.view_is
-    (λ (own : Is inside server). event_did inside after c.in-Ok.effects (λ at. after_tick (setting_of at drawing keys) server inside.draw) c.args.now server own c.is_early.ensures
-    (λ at early. c.events_keep_order.ensures.tick (setting_of at drawing keys) server inside.draw early own.order)
-    (c.in-Ok.ensures.given keys server own.stands own.order.order) waits none)
+    (λ (own : Is inside server). event_did inside after c.draw-draw.result c.tick.new.draw c.in-Ok.effects (λ at draw. after_tick (setting_of at drawing keys) server draw)
+    c.args.now server own c.is_early.ensures
+    (λ at draw early. c.events_keep_order.ensures.tick (setting_of at drawing keys) server draw early own.order)
+    (λ at draw. c.events_draw_words.ensures.tick (setting_of at drawing keys) server draw)
+    c.draw-draw.ensures (c.in-Ok.ensures.given keys server own.stands own.order.order) c.reach.ensures waits none)
     is
