@@ -53,3 +53,4 @@ pub mod Desked
 pub mod Outcomes
 pub mod Acked
 pub mod Accepted
+pub mod FewerJobs

@@ -1,8 +1,9 @@
 -- What a desk does: the events of a server, with what it draws from.
-use Rattle.std.specs.Prelude.{◌≡◌, ◌≤◌, ℕ, ◌+◌, All, Option, Some, option_map, List, [], length}
+use Rattle.std.specs.Prelude.{◌≡◌, ◌≤◌, ℕ, ◌+◌, All, Option, Some, option_map, Result, Ok, Err, List, [], length}
 use Rattle.auth_keys.specs.declared.ring.RingKey.{RingKey}
 use Rattle.envelope.specs.Packet.{Lock}
 use Rattle.msg_ids.specs.Moments.{latest_moment}
+use Rattle.mt_edge.specs.Faults.{Rose}
 use Rattle.outbox.specs.Replies.{IsWithin}
 use Rattle.server_output.specs.Outs.{AreSent}
 use Rattle.regs_service.specs.Served.{Step, reply_bytes_max}
@@ -11,6 +12,8 @@ use Rattle.waits.specs.Jobs.{AreWithinLimits, Queue, ready_job}
 use Rattle.server_rules.specs.Answer.{Answer}
 use Rattle.server_rules.specs.Server.{Server, kept_replies}
 use Rattle.law_server.specs.Order.{AreOrdered}
+use Rattle.server_core.specs.declared.desk.DeskFault.{DeskFault}
+use Rattle.server_core.specs.declared.desk.DeskFault.TheVariants as faults
 use Rattle.server_core.specs.declared.desk.Reply.{Reply}
 use Rattle.server_core.specs.declared.effects.Effects.{Effects}
 
@@ -62,3 +65,14 @@ pub record DoesNothing {D : Type 0} (StandsFor : Server → Type 0) (before afte
   pub drawn : after ≡ before
   pub sent : reply.out.outs ≡ []
   pub entered : reply.entries.entries ≡ []
+
+-- The count of the failed calls of what a desk keeps its events on rose where the desk answers `Disk`, and else it is as it was.
+abbrev pub CountsFault : DeskFault → ℕ → ℕ → Type 0
+CountsFault faults.Disk before after = Rose before after
+CountsFault faults.Memory before after = after ≡ before
+CountsFault faults.Closed before after = after ≡ before
+CountsFault (faults.Full len) before after = after ≡ before
+
+abbrev pub Counts : {A : Type 0} → Result A DeskFault → ℕ → ℕ → Type 0
+Counts (Ok value) before after = after ≡ before
+Counts (Err fault) before after = CountsFault fault before after

@@ -1,6 +1,6 @@
 //! A desk: what takes the packets of connections to a server.
 
-ghost use Rattle.std.specs.Prelude.{◌≡◌, ◌<◌, max, IfErr, IfOk, OnOk};
+ghost use Rattle.std.specs.Prelude.{◌≡◌, ◌<◌, length, max, IfErr, IfOk, OnOk};
 ghost use Rattle.envelope.specs.declared.parts.Dir.TheVariants.{Up};
 ghost use Rattle.envelope.specs.declared.parts.Envelope.{Envelope as Sealed};
 ghost use Rattle.envelope.specs.declared.refusal.Refusal.{Refusal as Refused};
@@ -11,7 +11,7 @@ ghost use Rattle.server_rules.specs.Answer.{after_attach, after_packet, after_ti
 ghost use Rattle.server_rules.specs.Server.{Server as Rules};
 ghost use Rattle.server_session.specs.Says.{Keys, setting_of};
 ghost use Rattle.server_core.specs.declared.desk.DeskFault.TheVariants as faults;
-ghost use Rattle.server_core.specs.Desks.{Does, DoesNothing, IsBetweenEvents};
+ghost use Rattle.server_core.specs.Desks.{Counts, Does, DoesNothing, IsBetweenEvents};
 ghost use Rattle.server_core.specs.Packets.{IsHeardOf, brought_in, effects_in};
 
 use crate::desk::{DeskFault, Reply};
@@ -47,6 +47,12 @@ pub trait Desk {
     /// The draw that it stands for.
     ghost drawn: { Self → Self.D };
 
+    /// The reference that its draw is behind, where it is behind one. No call changes it.
+    ghost draw_name: { Self → ℕ };
+
+    /// How many calls of what it keeps its events on have failed: 0 where it keeps none.
+    ghost fault_count: { Self → ℕ };
+
     /// How many jobs are ready.
     ghost ready_jobs: { Self → ℕ };
 
@@ -71,12 +77,18 @@ pub trait Desk {
             (after_packet (setting_of (max server.now now) Self.D.step ring) (brought_in envelope) server (drawn self.old))) }
         ensures unchanged_on_memory { (server : Rules) → StandsFor self.old server → IfErr result (λ fault. fault ≡ faults.Memory → StandsFor self.new server) }
         ensures faults { IfErr result MayAnswer }
-        ensures same_keys { keys self.new ≡ keys self.old };
+        ensures same_keys { keys self.new ≡ keys self.old }
+        ensures same_reference { draw_name self.new ≡ draw_name self.old }
+        ensures counted { Counts result (fault_count self.old) (fault_count self.new) };
 
     /// How many jobs are ready.
     fn ready(&self) -> usize
         ensures count { result ≡ ready_jobs self.now }
         ensures stands { (server : Rules) → StandsFor self.now server → result ≡ ready_count server.jobs };
+
+    /// How many jobs are unfinished, ready or not.
+    fn unfinished(&self) -> usize
+        ensures stands { (server : Rules) → StandsFor self.now server → result ≡ length server.jobs };
 
     /// Runs the ready job of this place, as [`Server::work`](crate::Server::work). The place has to be less than `ready()`.
     ///
@@ -100,7 +112,9 @@ pub trait Desk {
         ensures unchanged_on_memory { (server : Rules) → StandsFor self.old server → IfErr result (λ fault. fault ≡ faults.Memory → StandsFor self.new server) }
         ensures same_service_on_memory { IfErr result (λ fault. fault ≡ faults.Memory → service.new ≡ service.old) }
         ensures faults { IfErr result MayAnswer }
-        ensures same_keys { keys self.new ≡ keys self.old };
+        ensures same_keys { keys self.new ≡ keys self.old }
+        ensures same_reference { draw_name self.new ≡ draw_name self.old }
+        ensures counted { Counts result (fault_count self.old) (fault_count self.new) };
 
     /// Answers the jobs that have waited too long, as [`Server::tick`](crate::Server::tick).
     ///
@@ -113,7 +127,9 @@ pub trait Desk {
             (after_tick (setting_of (max server.now now) Self.D.step ring) server (drawn self.old))) }
         ensures unchanged_on_memory { (server : Rules) → StandsFor self.old server → IfErr result (λ fault. fault ≡ faults.Memory → StandsFor self.new server) }
         ensures faults { IfErr result MayAnswer }
-        ensures same_keys { keys self.new ≡ keys self.old };
+        ensures same_keys { keys self.new ≡ keys self.old }
+        ensures same_reference { draw_name self.new ≡ draw_name self.old }
+        ensures counted { Counts result (fault_count self.old) (fault_count self.new) };
 
     /// A connection is opened for the session of this name, as [`Server::attach`](crate::Server::attach).
     ///
@@ -132,7 +148,9 @@ pub trait Desk {
             (after_attach (setting_of (max server.now now) Self.D.step ring) (record { key = key; session = session }) server (drawn self.old))) }
         ensures unchanged_on_memory { (server : Rules) → StandsFor self.old server → IfErr result (λ fault. fault ≡ faults.Memory → StandsFor self.new server) }
         ensures faults { IfErr result MayAnswer }
-        ensures same_keys { keys self.new ≡ keys self.old };
+        ensures same_keys { keys self.new ≡ keys self.old }
+        ensures same_reference { draw_name self.new ≡ draw_name self.old }
+        ensures counted { Counts result (fault_count self.old) (fault_count self.new) };
 
     /// A law: a server that a desk stands for is in order. Does nothing.
     fn is_in_order()

@@ -1,8 +1,9 @@
 //! Laws of a server between events, each the contract of a function that does nothing.
 
-ghost use Rattle.std.specs.Prelude.{◌≤◌, ℕ};
+ghost use Rattle.std.specs.Prelude.{◌<◌, ◌≤◌, ℕ, length};
 ghost use Rattle.msg_ids.specs.Moments.{latest_moment};
 ghost use Rattle.regs_service.specs.Served.{Step};
+ghost use Rattle.waits.specs.Jobs.{ready_count};
 ghost use Rattle.server_rules.specs.Answer.{after_attach, after_packet, after_tick, after_work};
 ghost use Rattle.server_rules.specs.Event.{Envelope, Setting};
 ghost use Rattle.server_rules.specs.Server.{Name, Server, fresh_server};
@@ -67,3 +68,9 @@ pub fn runs_give_few<D: Draw, V>()
     bounds::jobs_are_few::<D, V>();
     bounds::events_give_few::<D, V>();
 }
+
+/// A run leaves fewer unfinished jobs, where a ready one has its place.
+pub fn runs_leave_fewer_jobs<D: Draw, V>()
+    ensures { (setting : Setting D) (place : ℕ) (serve : Step V) (service : V) (server : Server) (draw : D) → place < ready_count server.jobs
+        → length (after_work setting place serve service server draw).0.server.jobs < length server.jobs }
+{}

@@ -39,6 +39,10 @@ impl<'a, S: Seal, D: Draw> Desk for Plain<'a, S, D> {
 
     ghost drawn = { λ desk. desk.draw.now };
 
+    ghost draw_name = { λ desk. desk.draw.ghost_name };
+
+    ghost fault_count = { λ desk. 0 };
+
     ghost ready_jobs = { λ desk. ready_count desk.server.now.jobs };
 
     ghost MayAnswer = { λ fault. fault ≡ faults.Memory };
@@ -52,6 +56,10 @@ impl<'a, S: Seal, D: Draw> Desk for Plain<'a, S, D> {
 
     fn ready(&self) -> usize {
         self.server.ready()
+    }
+
+    fn unfinished(&self) -> usize {
+        self.server.unfinished()
     }
 
     fn work<V: Service>(
