@@ -1,6 +1,6 @@
 //! A file that is read and written at places, and may be lost in parts by a crash.
 
-ghost use Rattle.std.specs.Prelude.{◌≡◌, ◌+◌, ◌≤◌, ℕ, Option, length, take, drop, IfSome, IsSomeAnd, is_some};
+ghost use Rattle.std.specs.Prelude.{◌≡◌, ◌+◌, ◌^◌, ◌≤◌, ◌<◌, ℕ, Option, length, take, drop, IfSome, IsSomeAnd, is_some};
 ghost use Rattle.mt_edge.specs.Acts.{Counts as CountsAct};
 ghost use Rattle.disks.specs.Crash.{overwritten};
 ghost use Rattle.disks.specs.Told.{Changes, Counts, DiskTold, IfLen, Syncs};
@@ -23,8 +23,9 @@ pub trait Disk {
     /// How many calls have failed. It stays at 2^64 - 1 once it is there.
     ghost faults: { Self → ℕ };
 
-    /// The length of the file, in bytes.
+    /// The length of the file, in bytes. No file is longer than 2^63 - 1.
     fn len(&mut self) -> DiskLen
+        ensures short { IfLen result (λ len. len < 2 ^ 63) }
         ensures length { IfSome (told self.old) (λ before. IfLen result (λ len. len ≡ length before.contents)) }
         ensures told { told self.new ≡ told self.old }
         ensures same_place { place self.new ≡ place self.old }

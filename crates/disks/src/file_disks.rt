@@ -1,6 +1,6 @@
 //! Files of this machine. They tell nothing.
 
-ghost use Rattle.std.specs.Prelude.{◌≡◌, ◌≢◌, ◌≤◌, None, true, IfOk, IfErr, OnOk};
+ghost use Rattle.std.specs.Prelude.{◌≡◌, ◌≢◌, ◌≤◌, ◌<◌, ◌^◌, None, true, IfOk, IfErr, OnOk};
 ghost use Rattle.std.specs.Fs.{new_options, with_create, with_read, with_write};
 ghost use Rattle.disks.specs.Named.{Counts, CountsDone};
 ghost use Rattle.disks.specs.Placed.{ReadsFrom, StandsAt, WritesTo};
@@ -55,14 +55,15 @@ impl<F: Read + Write + Seek + OpenFile + Drop> FileDisk<F> {
     }
 }
 
-/// The answer of a call for the length, by what std answered.
+/// The answer of a call for the length, by what std answered. It fails where that is longer than a file may be.
 fn len_of(answer: io::Result<u64>) -> DiskLen
-    ensures len { IfOk answer (λ len. result ≡ DiskLen.Len len) }
+    ensures len { IfOk answer (λ len. len < 2 ^ 63 → result ≡ DiskLen.Len len) }
+    ensures too_long { IfOk answer (λ len. 2 ^ 63 ≤ len → result ≡ DiskLen.Failed) }
     ensures failed { IfErr answer (λ _. result ≡ DiskLen.Failed) }
 {
     match answer {
-        Ok(len) => DiskLen::Len(len),
-        Err(_) => DiskLen::Failed,
+        Ok(len) if len <= i64::MAX as u64 => DiskLen::Len(len),
+        _ => DiskLen::Failed,
     }
 }
 
@@ -124,7 +125,8 @@ fn how() -> OpenOptions
     how
 }
 
-/// The files of this machine. One that isn't there is made, and is empty.
+/// The files of this machine. One that isn't there is made, and is empty. A sync makes sure of a file's bytes; that its name
+/// stands in its folder after a crash is made sure of by nothing.
 #[derive(Debug, Drop)]
 pub struct FileDisks<R> {
     files: R,

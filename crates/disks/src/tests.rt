@@ -1,7 +1,7 @@
 //! A file of std that fails.
 
 use crate::file_disks::open_of;
-use crate::{Disk, DiskOpen};
+use crate::{Disk, DiskLen, DiskOpen};
 use mt_edge::Act;
 use std::fs::{Metadata, OpenFile};
 use std::io::{self, ErrorKind, Read, Seek, SeekFrom, Write};
@@ -58,24 +58,34 @@ impl OpenFile for Faulty {
     }
 }
 
-/// What a file that moves, or doesn't, answers to a read, a write, a cut and a sync.
-fn answers_of(can_move: bool) -> Option<[Act; 4]> {
+/// What a file that moves, or doesn't, answers to a question for its length, and to a read, a write, a cut and a sync.
+fn answers_of(can_move: bool) -> Option<(DiskLen, [Act; 4])> {
     let DiskOpen::Disk(mut disk) = open_of(Ok(Faulty { can_move })) else {
         return None;
     };
     let mut into = [0u8; 2];
-    Some([
-        disk.read(0, &mut into),
-        disk.write(0, b"ab"),
-        disk.cut(0),
-        disk.sync(),
-    ])
+    let len = disk.len();
+    Some((
+        len,
+        [
+            disk.read(0, &mut into),
+            disk.write(0, b"ab"),
+            disk.cut(0),
+            disk.sync(),
+        ],
+    ))
 }
 
 #[test]
 fn files_that_fail(rt: HostRuntime) -> Result<(), Fail> {
     use Act::{Failed, Ready};
-    assert_eq!(rt; answers_of(true), Some([Ready, Failed, Failed, Failed]));
-    assert_eq!(rt; answers_of(false), Some([Failed, Failed, Failed, Failed]));
+    assert_eq!(rt;
+        answers_of(true),
+        Some((DiskLen::Failed, [Ready, Failed, Failed, Failed]))
+    );
+    assert_eq!(rt;
+        answers_of(false),
+        Some((DiskLen::Failed, [Failed, Failed, Failed, Failed]))
+    );
     Ok(())
 }

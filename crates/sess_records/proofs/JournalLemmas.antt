@@ -371,6 +371,12 @@ sure_leaves answer (Some before) None new e p = absurd p
 sure_leaves answer (Some before) (Some between) new e p =
     subst (λ (x : Option DiskTold). IsSomeAnd x (λ after. Leaves before after (λ left. left ≡ before.contents))) (sym e) p.leaves
 
+-- a file that was made sure of is as it was
+pub sure_same : (old mid new : Option DiskTold) → new ≡ mid → Sured Ready old mid → IfSome old (λ before. IsSomeAnd new (λ after. after.contents ≡ before.contents))
+sure_same None mid new e p = tt
+sure_same (Some before) None new e p = absurd p
+sure_same (Some before) (Some between) new e p = subst (λ (x : Option DiskTold). IsSomeAnd x (λ after. after.contents ≡ before.contents)) (sym e) (p.done refl).contents
+
 pub seed_read : (header seed : List ℕ) → take 8 header ≡ magic → seed ≡ take 32 (drop 8 header) → take 40 header ≡ magic ++ seed
 seed_read header seed front s =
     sym (take-append-drop 8 (take 40 header)) ∙ ap₂ (λ (a b : List ℕ). a ++ b) (take-take 8 40 header (omega arith) ∙ front) (drop-take 8 32 header ∙ sym s)

@@ -1,6 +1,6 @@
 //! The header of a file.
 
-ghost use Rattle.std.specs.Prelude.{◌≡◌, ◌≢◌, ◌≤◌, ◌+◌, ◌++◌, ℕ, List, length, take, IfOk, IfErr, OnOk, IfSome, IsSomeAnd, IsTrue, ◌↔◌, MatchOption, is_some};
+ghost use Rattle.std.specs.Prelude.{◌≡◌, ◌≢◌, ◌≤◌, ◌<◌, ◌+◌, ◌^◌, ◌++◌, ℕ, List, length, take, IfOk, IfErr, OnOk, IfSome, IsSomeAnd, IsTrue, ◌↔◌, MatchOption, is_some};
 ghost use Rattle.sess_records.specs.Crashes.{Leaves};
 ghost use Rattle.sess_records.specs.Format.{HasHeader, magic};
 ghost use Rattle.sess_records.specs.Calls.{HasCause, IfNotJournal};
@@ -58,9 +58,10 @@ fn seed_in(header: &[u8; HEADER_BYTES]) -> Option<[u8; 32]>
 /// Makes sure of a disk as it stands, and reads its header.
 pub(crate) fn look<K: Disk>(disk: &mut K) -> Result<Front, JournalFault>
     ensures found { IfOk result (λ front. IfSome (K.told disk.old) (λ before. IsSomeAnd (K.told disk.new) (λ after. Finds front before after))) }
-    ensures inside { IfOk result (λ front. 41 ≤ front.len) }
+    ensures inside { IfOk result (λ front. (41 ≤ front.len) × (front.len < 2 ^ 63)) }
     ensures tells { is_some (K.told disk.new) ≡ is_some (K.told disk.old) }
     ensures refused { IfErr result (λ fault. IfNotJournal fault (λ at. (at ≡ 0) × IfSome (K.told disk.old) (λ before. HasHeader before.contents → ⊥))) }
+    ensures unchanged { IfErr result (λ fault. IfNotJournal fault (λ _. IfSome (K.told disk.old) (λ before. IsSomeAnd (K.told disk.new) (λ after. after.contents ≡ before.contents)))) }
     ensures not_memory { IfErr result (λ fault. fault ≢ JournalFault.Memory) }
     ensures cause { IfErr result (λ fault. HasCause fault (K.faults disk.old) (K.faults disk.new)) }
     ensures counted { OnOk result (K.faults disk.new ≡ K.faults disk.old) }

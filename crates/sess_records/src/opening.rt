@@ -45,7 +45,7 @@ impl<K: Disk> fmt::Debug for Opening<K> {
 }
 
 impl<K: Disk> Opening<K> {
-    ghost use Rattle.std.specs.Prelude.{◌≡◌, ◌≢◌, ◌<◌, ◌≤◌, ◌+◌, ◌++◌, ◌∷◌, [], List, IsTrue, ◌↔◌, IfOk, IfErr, OnOk, OnErr, IfSome, IsSomeAnd, is_some};
+    ghost use Rattle.std.specs.Prelude.{◌≡◌, ◌≢◌, ◌<◌, ◌≤◌, ◌+◌, ◌^◌, ◌++◌, ◌∷◌, [], List, IsTrue, ◌↔◌, IfOk, IfErr, OnOk, OnErr, IfSome, IsSomeAnd, is_some};
     ghost use Rattle.mt_edge.specs.Faults.{Rose};
     ghost use Rattle.sess_records.specs.declared.records.Record.{Record};
     ghost use Rattle.sess_records.specs.Crashes.{Leaves};
@@ -86,12 +86,15 @@ impl<K: Disk> Opening<K> {
     ///
     /// # Errors
     ///
-    /// The disk, and `Disk` where a call of it failed, or `NotJournal` at 0 where the file doesn't begin with a header.
+    /// The disk, and `Disk` where a call of it failed, or `NotJournal` at 0 where the file doesn't begin with a header; the
+    /// file stays as it is then.
     pub fn new(disk: K) -> Result<Opening<K>, (K, JournalFault)>
         ensures empty { IfOk result (λ opening. HasTaken K.told [] opening) }
         ensures same { IfOk result (λ opening. IfSome (K.told disk) (λ before. IsSomeAnd (K.told opening.disk) (λ after. after.contents ≡ before.contents))) }
         ensures place { IfOk result (λ opening. (opening.at ≡ 41) × (41 ≤ opening.len)) }
+        ensures short { IfOk result (λ opening. opening.len < 2 ^ 63) }
         ensures refused { IfErr result (λ back. IfNotJournal back.1 (λ at. (at ≡ 0) × IfSome (K.told disk) (λ before. IsFault at before.contents))) }
+        ensures unchanged { IfErr result (λ back. IfNotJournal back.1 (λ _. IfSome (K.told disk) (λ before. IsSomeAnd (K.told back.0) (λ after. after.contents ≡ before.contents)))) }
         ensures not_memory { IfErr result (λ back. back.1 ≢ JournalFault.Memory) }
         ensures cause { IfErr result (λ back. HasCause back.1 (K.faults disk) (K.faults back.0)) }
         ensures counted { IfOk result (λ opening. K.faults opening.disk ≡ K.faults disk) }

@@ -1,12 +1,9 @@
 //! What follows from the definitions of records, each the contract of a function that does nothing.
 
-ghost use Rattle.std.specs.Prelude.{◌≡◌, ℕ, List, ◌++◌, length};
-ghost use Rattle.disks.specs.Told.{DiskTold, MayHaveLeft};
+ghost use Rattle.std.specs.Prelude.{◌≡◌, ℕ, List, ◌++◌};
 ghost use Rattle.envelope.specs.Lawful.{OpensWhatItSealed};
 ghost use Rattle.sess_records.specs.declared.records.Record.{Record};
-ghost use Rattle.sess_records.specs.Crashes.{LeavesOnly};
 ghost use Rattle.sess_records.specs.Format.{Spells};
-ghost use Rattle.sess_records.specs.Standing.{SpellsSome};
 ghost use Rattle.sess_replay.specs.Files.{IsNoJournalAt};
 ghost use Rattle.sess_replay.specs.Replay.{Basis, Reached, Replays, at_first};
 
@@ -28,20 +25,6 @@ pub fn lawful_files_are_opened<D: Draw>()
     ensures { (by_seed : List ℕ → Basis D) (seed : List ℕ) (entries : List Record) (reached : Reached) (file : List ℕ) (at : ℕ)
         → OpensWhatItSealed (by_seed seed).lock → Spells seed entries file → Replays (by_seed seed) entries at_first reached
         → IsNoJournalAt by_seed at file → ⊥ }
-{
-    files_spell_one_list();
-}
-
-/// Where calls add some records behind others, lawful ones all of them, whatever a crash at any moment of these calls leaves
-/// spells the records from before and the first ones of the added; they are lawful, and the file isn't refused. So of calls
-/// one after the other, each that was answered before the crash is in what it leaves.
-pub fn crashes_leave_what_was_answered<D: Draw>()
-    ensures { (by_seed : List ℕ → Basis D) (seed : List ℕ) (entries more : List Record) (reached : Reached) (before after : DiskTold) (left : List ℕ)
-        → OpensWhatItSealed (by_seed seed).lock → Replays (by_seed seed) (entries ++ more) at_first reached
-        → LeavesOnly before after (SpellsSome seed entries more) → MayHaveLeft (length before.acts) after left
-        → (front : List Record) × (back : List Record) × (more ≡ front ++ back) × Spells seed (entries ++ front) left
-        × ((found : Reached) × Replays (by_seed seed) (entries ++ front) at_first found)
-        × ((at : ℕ) → IsNoJournalAt by_seed at left → ⊥) }
 {
     files_spell_one_list();
 }

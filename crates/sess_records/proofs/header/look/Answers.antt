@@ -1,6 +1,6 @@
 use Rattle.std.proofs.Common.{◌∙◌, refl}
 use Rattle.mt_edge.specs.declared.act.Act.TheVariants.{Ready, Failed}
-use Rattle.sess_records.proofs.JournalLemmas.{find_told, inside_same, other_told, short_told, sure_leaves}
+use Rattle.sess_records.proofs.JournalLemmas.{find_told, inside_same, other_told, short_told, sure_leaves, sure_same}
 use Rattle.sess_records.proofs.header.look.Goals as goal
 
 pub read-requires : goal.read-requires
@@ -22,6 +22,10 @@ pub returns-then-len-clause-refused : goal.returns-then-len-clause-refused
 returns-then-len-clause-refused g c =
     (refl, short_told c.in-Len.len (g.K.Disk.told c.args.disk.now) (g.K.Disk.told c.settle.new.disk) c.in-Ready.ensures.settled c.in-Len.ensures.length c.if-len.true)
 
+pub returns-then-len-clause-unchanged : goal.returns-then-len-clause-unchanged
+returns-then-len-clause-unchanged g c =
+    sure_same (g.K.Disk.told c.args.disk.now) (g.K.Disk.told c.settle.new.disk) (g.K.Disk.told c.len.new.self) c.len.ensures.told c.in-Ready.ensures.settled
+
 pub returns-in_default-read-clause-any_moment : goal.returns-in_default-read-clause-any_moment
 returns-in_default-read-clause-any_moment g c =
     sure_leaves Ready (g.K.Disk.told c.args.disk.now) (g.K.Disk.told c.settle.new.disk) (g.K.Disk.told c.read.new.self) (c.read.ensures.told ∙ c.len.ensures.told) c.in-Ready.ensures.settled
@@ -29,6 +33,10 @@ returns-in_default-read-clause-any_moment g c =
 pub returns-in_default-seed_in-clause-any_moment : goal.returns-in_default-seed_in-clause-any_moment
 returns-in_default-seed_in-clause-any_moment g c =
     sure_leaves Ready (g.K.Disk.told c.args.disk.now) (g.K.Disk.told c.settle.new.disk) (g.K.Disk.told c.read.new.self) (c.read.ensures.told ∙ c.len.ensures.told) c.in-Ready.ensures.settled
+
+pub returns-in_default-seed_in-clause-unchanged : goal.returns-in_default-seed_in-clause-unchanged
+returns-in_default-seed_in-clause-unchanged g c =
+    sure_same (g.K.Disk.told c.args.disk.now) (g.K.Disk.told c.settle.new.disk) (g.K.Disk.told c.read.new.self) (c.read.ensures.told ∙ c.len.ensures.told) c.in-Ready.ensures.settled
 
 pub returns-in_default-seed_in-clause-refused : goal.returns-in_default-seed_in-clause-refused
 returns-in_default-seed_in-clause-refused g c = (

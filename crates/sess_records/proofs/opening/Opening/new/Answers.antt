@@ -3,7 +3,7 @@ use Rattle.sess_records.proofs.opening.Opening.new.Goals as goal
 
 pub invariant_of-result : goal.invariant_of-result
 invariant_of-result g c =
-    found_opening c.in-Ok.front (g.K.Disk.told c.args.disk) (g.K.Disk.told c.look.new.disk) c.look.ensures.tells c.in-Ok.ensures.inside c.in-Ok.ensures.found
+    found_opening c.in-Ok.front (g.K.Disk.told c.args.disk) (g.K.Disk.told c.look.new.disk) c.look.ensures.tells c.in-Ok.ensures.inside.0 c.in-Ok.ensures.found
 
 pub returns-clause-empty : goal.returns-clause-empty
 returns-clause-empty g c = found_taken c.in-Ok.front (g.K.Disk.told c.args.disk) (g.K.Disk.told c.look.new.disk) c.look.ensures.tells c.in-Ok.ensures.found
