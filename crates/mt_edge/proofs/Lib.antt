@@ -3,3 +3,4 @@ pub mod ClockLemmas
 pub mod HandLemmas
 pub mod NetLemmas
 pub mod ReadLemmas
+pub mod PutLemmas

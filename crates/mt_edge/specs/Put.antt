@@ -1,5 +1,5 @@
 -- What a write takes.
-use Rattle.std.specs.Prelude.{◌≡◌, ℕ, ◌<◌, ◌≤◌, List, Option, [], ◌++◌, take}
+use Rattle.std.specs.Prelude.{◌≡◌, ℕ, zero, suc, ◌<◌, ◌≤◌, ◌-◌, List, Option, None, Some, [], ◌++◌, length, take}
 use Rattle.mt_edge.specs.declared.sink.Put.{Put}
 use Rattle.mt_edge.specs.declared.sink.Put.TheVariants.{Took, Failed}
 use Rattle.mt_edge.specs.Faults.{one_more}
@@ -25,8 +25,19 @@ abbrev pub Counts : Put → ℕ → ℕ → Type 0
 Counts (Took n) before after = after ≡ before
 Counts Failed before after = after ≡ one_more before
 
--- a write that took some of this piece, by the bytes that a writer of std held before it and holds after it; of a write that
--- failed nothing is said, since its flush may have failed
-abbrev pub TakesFrom : Put → List ℕ → Option (List ℕ) → Option (List ℕ) → Type 0
-TakesFrom (Took n) piece before after = Appends before after (take n piece)
-TakesFrom Failed piece before after = Unit {0}
+-- a write of this piece, by the bytes that a writer of std held before it and holds after it, and by how many of them no flush
+-- followed: of a write that failed since its flush did, those that the writer took
+abbrev pub TakesFrom : Put → ℕ → List ℕ → Option (List ℕ) → Option (List ℕ) → Type 0
+TakesFrom (Took n) unflushed piece before after = (unflushed ≡ 0) × Appends before after (take n piece)
+TakesFrom Failed unflushed piece before after = Appends before after (take unflushed piece)
+
+-- the bytes that a writer of std holds, but for the last ones, behind which there was no flush
+abbrev pub flushed : ℕ → Option (List ℕ) → Option (List ℕ)
+flushed zero held = held
+flushed (suc n) None = None
+flushed (suc n) (Some bytes) = Some (take (length bytes - suc n) bytes)
+
+-- the same of a write without that number: what a writer took of a piece is a front of it, and it took that once
+abbrev pub TakesFront : Put → List ℕ → Option (List ℕ) → Option (List ℕ) → Type 0
+TakesFront (Took n) piece before after = Appends before after (take n piece)
+TakesFront Failed piece before after = (count : ℕ) × Appends before after (take count piece)

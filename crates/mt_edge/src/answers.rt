@@ -45,15 +45,42 @@ pub(crate) fn read_from<R: Read>(reader: &mut R, into: &mut [u8]) -> Got
     got_of(reader.read(into))
 }
 
+/// How many bytes a writer of std took without a flush that went well.
+fn unflushed_of(answer: &io::Result<usize>, flushed: &io::Result<()>) -> usize
+    ensures flushed { OnOk flushed.now (result ≡ 0) }
+    ensures not_flushed { IfErr flushed.now (λ _. IfOk answer.now (λ n. result ≡ n)) }
+    ensures none { IfErr answer.now (λ _. result ≡ 0) }
+{
+    match (answer, flushed) {
+        (Ok(count), Err(_)) => *count,
+        _ => 0,
+    }
+}
+
+/// What came of a write to a writer of std.
+#[derive(Clone, Copy)]
+pub(crate) struct Written {
+    /// The answer.
+    pub(crate) put: Put,
+    /// How many bytes the writer took without a flush that went well, where the answer is `Failed`.
+    pub(crate) unflushed: usize,
+}
+
 /// Writes from a piece that isn't empty to a writer of std, and flushes it.
-pub(crate) fn write_to<W: Write>(writer: &mut W, piece: &[u8]) -> Put
+#[tactic(auto, using(crate::proofs::PutLemmas::takes_from))]
+pub(crate) fn write_to<W: Write>(writer: &mut W, piece: &[u8]) -> Written
     requires { 0 < length piece.now }
-    ensures within { IsPutWithin result (length piece.now) }
-    ensures told { TakesFrom result piece.now (W.contents writer.old) (W.contents writer.new) }
+    ensures within { IsPutWithin result.put (length piece.now) }
+    ensures unflushed { result.unflushed ≤ length piece.now }
+    ensures told { TakesFrom result.put result.unflushed piece.now (W.contents writer.old) (W.contents writer.new) }
 {
     let answer = writer.write(piece);
     let flushed = writer.flush();
-    put_of(answer, flushed)
+    let unflushed = unflushed_of(&answer, &flushed);
+    Written {
+        put: put_of(answer, flushed),
+        unflushed,
+    }
 }
 
 /// The count after a read.

@@ -1,7 +1,8 @@
 //! The outside as traits: what a program reads from and writes to, told or not, with a count of faults.
 //!
 //! Each trait has a form in memory for tests, whose pieces and failures are chosen, and an adapter over
-//! std. The adapters are the trusted edge: all but that of a source tell nothing of what they carry.
+//! std. The adapters are the trusted edge: a source and a sink tell what their reader and writer tell, the others nothing of what
+//! they carry.
 #![tactic(auto)]
 
 mod act;

@@ -63,6 +63,7 @@ impl MemLink {
         ensures told { IfOk result (λ link. ⟦<MemLink as Link>⟧.told link
             ≡ Some (record { came = []; left = contents.now; written = []; reads = [] })) }
         ensures faults { IfOk result (λ link. ⟦<MemLink as Link>⟧.faults link ≡ 0) }
+        ensures open { IfOk result (λ link. (⟦<MemLink as Link>⟧.standing link).closed ≡ false) }
     {
         Ok(MemLink {
             contents: Octets::copy(alloc, contents)?,

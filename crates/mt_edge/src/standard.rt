@@ -1,11 +1,11 @@
 //! Readers and writers of std, standard input and output among them, as a source and a sink. The source tells what its
-//! reader tells. The sink tells nothing, since a flush that fails leaves open what was written; of a write that didn't fail it
-//! says what its writer took.
+//! reader tells, and the sink what its writer tells, but for bytes behind which a flush failed.
 
-ghost use Rattle.std.specs.Prelude.{◌≡◌, ◌<◌, ◌≤◌, None, length};
-ghost use Rattle.mt_edge.specs.Put.{Counts, IsWithin, TakesFrom};
+ghost use Rattle.std.specs.Prelude.{◌≡◌};
+ghost use Rattle.mt_edge.specs.Put.{flushed};
 
 use crate::answers::{after_read, after_write, read_from, write_to};
+use crate::faults::raised;
 use crate::sink::{Put, Sink};
 use crate::source::{Got, Source};
 use std::io::{Read, Write};
@@ -46,10 +46,12 @@ impl<R: Read + Drop> Source for ReadSource<R> {
     }
 }
 
-/// A writer of std as a sink. Each piece is flushed as it is written.
+/// A writer of std as a sink. Each piece is flushed as it is written. Once a flush failed behind bytes that the writer took, each
+/// write fails, and the writer isn't asked again: those bytes aren't told as written.
 #[derive(Debug, Drop)]
 pub struct WriteSink<W> {
     writer: W,
+    unflushed: usize,
     faults: u64,
 }
 
@@ -57,9 +59,14 @@ impl<W: Write + Drop> WriteSink<W> {
     /// A sink over the writer, with no fault yet.
     pub fn new(writer: W) -> WriteSink<W>
         ensures faults { ⟦<WriteSink<W> as Sink>⟧.faults result ≡ 0 }
+        ensures written { ⟦<WriteSink<W> as Sink>⟧.written result ≡ W.contents writer }
         ensures writer { result.writer ≡ writer }
     {
-        WriteSink { writer, faults: 0 }
+        WriteSink {
+            writer,
+            unflushed: 0,
+            faults: 0,
+        }
     }
 
     /// How many writes have failed.
@@ -79,20 +86,19 @@ impl<W: Write + Drop> WriteSink<W> {
 }
 
 impl<W: Write + Drop> Sink for WriteSink<W> {
-    ghost written = { λ _. None };
+    ghost written = { λ sink. flushed sink.unflushed (W.contents sink.writer) };
 
     ghost faults = { λ sink. sink.faults };
 
-    fn write(&mut self, piece: &[u8]) -> Put
-        requires { 0 < length piece.now }
-        ensures within { IsWithin result (length piece.now) }
-        ensures never_falls { self.old.faults ≤ self.new.faults }
-        ensures counted { Counts result self.old.faults self.new.faults }
-        // What it took is what its writer took, where that tells.
-        ensures writer { TakesFrom result piece.now (W.contents self.old.writer) (W.contents self.new.writer) }
-    {
-        let put = write_to(&mut self.writer, piece);
-        self.faults = after_write(put, self.faults);
-        put
+    #[tactic(auto, using(crate::proofs::PutLemmas::flushed_as_told, crate::proofs::PutLemmas::flushed_stays))]
+    fn write(&mut self, piece: &[u8]) -> Put {
+        if self.unflushed > 0 {
+            self.faults = raised(self.faults);
+            return Put::Failed;
+        }
+        let written = write_to(&mut self.writer, piece);
+        self.unflushed = written.unflushed;
+        self.faults = after_write(written.put, self.faults);
+        written.put
     }
 }

@@ -6,7 +6,7 @@ ghost use Rattle.mt_edge.specs.Addresses.{IsLocal};
 ghost use Rattle.mt_edge.specs.Acts.{Counts as CountsAct};
 ghost use Rattle.mt_edge.specs.Nets.{Counts};
 ghost use Rattle.mt_edge.specs.Got.{IsWithin, HandsOver, Counts as CountsRead};
-ghost use Rattle.mt_edge.specs.Put.{IsWithin as IsPutWithin, TakesFrom, Counts as CountsPut};
+ghost use Rattle.mt_edge.specs.Put.{IsWithin as IsPutWithin, TakesFront, Counts as CountsPut};
 
 use crate::act::Act;
 use crate::answers::{after_read, after_write, read_from, write_to};
@@ -53,6 +53,7 @@ impl<S: Read + Write + OpenStream + Drop> Link for TcpLink<S> {
         got
     }
 
+    #[tactic(auto, using(crate::proofs::PutLemmas::front_taken, crate::proofs::PutLemmas::none_taken))]
     fn write(&mut self, piece: &[u8]) -> Put
         requires { 0 < length piece.now }
         ensures within { IsPutWithin result (length piece.now) }
@@ -60,14 +61,14 @@ impl<S: Read + Write + OpenStream + Drop> Link for TcpLink<S> {
         ensures same_standing { self.new.is_closed ≡ self.old.is_closed }
         ensures never_falls { self.old.faults ≤ self.new.faults }
         ensures counted { CountsPut result self.old.faults self.new.faults }
-        // What it took is what its stream took, where that tells.
-        ensures stream { TakesFrom result piece.now (S.contents self.old.stream) (S.contents self.new.stream) }
+        // What it took is what its stream took, where that tells, and a write that failed was tried once.
+        ensures stream { TakesFront result piece.now (S.contents self.old.stream) (S.contents self.new.stream) }
     {
         if self.is_closed {
             self.faults = raised(self.faults);
             return Put::Failed;
         }
-        let put = write_to(&mut self.stream, piece);
+        let put = write_to(&mut self.stream, piece).put;
         self.faults = after_write(put, self.faults);
         put
     }
