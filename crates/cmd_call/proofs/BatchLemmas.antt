@@ -1,5 +1,5 @@
 -- What is told of a client's batch, by its trace.
-use Rattle.std.proofs.Common.{◌≡◌, ◌∙◌, inl, inr, ℕ, ◌+◌, ◌≤◌, Bool, true, false, not, List, [], ◌∷◌, ◌++◌, length, Option, Some, None, IfSome, Result, Ok, Err, IfErr, IfOk, ap, sym, subst, refl, append_assoc, append-nil, length-append, arith}
+use Rattle.std.proofs.Common.{◌≡◌, ◌∙◌, inl, inr, ℕ, ◌+◌, ◌<◌, ◌≤◌, Bool, true, false, not, List, [], ◌∷◌, ◌++◌, length, Option, Some, None, IfSome, Result, Ok, Err, IfErr, IfOk, ap, sym, subst, refl, append_assoc, append-nil, length-append, arith}
 use Rattle.std.specs.Prelude.{◌↔◌, IsSome, IsSomeAnd}
 use Rattle.std.proofs.lemmas.List.Elements.{All-append, All-cons, All-nil}
 use Rattle.auth_keys.specs.declared.ring.RingKey.{RingKey}
@@ -9,6 +9,7 @@ use Rattle.call_script.specs.declared.script.ScriptCall.{ScriptCall}
 use Rattle.client_core.specs.Keys.{Keys}
 use Rattle.client_core.specs.declared.holder.Holder.{Holder}
 use Rattle.client_node.specs.Connects.{IsLast, IsLost, Uses}
+use Rattle.client_node.specs.Counts.{Counted}
 use Rattle.client_node.specs.Course.{Course, Reading, is_decided, is_undecided}
 use Rattle.client_node.specs.Standing.{AllDecided, IsOpened, IsReading, StandsFor}
 use Rattle.client_node.specs.Talks.{Rules, rules_of}
@@ -109,22 +110,36 @@ if-and (Some x) P Q h p = h x p
 pub uses_net : {N C D : Type 0} (options : CallOptions) (around : Around N C D) (end : Batch)
     → IfSome (around.calls around.net_then) (λ after. IsSomeAnd (around.calls around.net) (λ before. Uses (plan_of options) end before after))
     → (IsSome (around.calls around.net) → around.faults around.net ≡ 0 → around.faults around.net_then ≤ 1 → IsSome (around.calls around.net_then))
+    → (IsSome (around.calls around.net) → options.retries < around.room around.net → IsSome (around.calls around.net_then))
+    → IfSome (around.calls around.net_then) (λ after. IsSomeAnd (around.calls around.net) (λ before. Counted before after (around.faults around.net) (around.faults around.net_then)))
     → UsesNet options around
-uses_net options around end uses goes =
+uses_net options around end uses goes tells counts =
     record {
       connects = if-both (around.calls around.net_then) _ _ (λ after h. if-and (around.calls around.net) _ _ (λ before u. uses-alone (plan_of options) end before after u) h) uses;
       goes_on = goes;
+      still_tells = tells;
+      counted = counts;
     }
 
 same-calls : (o : Option (List NetCall)) (port retries : ℕ) → IfSome o (λ after. IsSomeAnd o (λ before. ConnectsAlone port retries before after))
 same-calls None port retries = tt
 same-calls (Some calls) port retries = none-made port retries calls calls refl
 
+none-counted : (calls : List NetCall) (faults : ℕ) → Counted calls calls faults faults
+none-counted calls faults = record { made = []; whole = sym (append-nil calls); count = refl }
+
+same-counts : (o : Option (List NetCall)) (faults : ℕ) → IfSome o (λ after. IsSomeAnd o (λ before. Counted before after faults faults))
+same-counts None faults = tt
+same-counts (Some calls) faults = none-counted calls faults
+
 pub idle_net : {N C D : Type 0} (options : CallOptions) (around : Around N C D) → around.net_then ≡ around.net → UsesNet options around
 idle_net options around same =
     record {
       connects = subst (λ one. IfSome (around.calls one) (λ after. IsSomeAnd (around.calls around.net) (λ before. ConnectsAlone options.port options.retries before after))) (sym same) (same-calls (around.calls around.net) options.port options.retries);
       goes_on = λ told none few. subst (λ one. IsSome (around.calls one)) (sym same) told;
+      still_tells = λ told room. subst (λ one. IsSome (around.calls one)) (sym same) told;
+      counted = subst (λ one. IfSome (around.calls one) (λ after. IsSomeAnd (around.calls around.net) (λ before. Counted before after (around.faults around.net) (around.faults one)))) (sym same)
+          (same-counts (around.calls around.net) (around.faults around.net));
     }
 
 -- ---- the status

@@ -151,4 +151,4 @@ rises before after same = rises-by before after same (cases_lt before (2 ^ 64 - 
 
 -- the words that are drawn beside don't matter to the net
 pub same_net : {N C D : Type 0} (options : CallOptions) (around : Around N C D) (drawn : D) → UsesNet options (record around { draw = drawn }) → UsesNet options around
-same_net options around drawn uses = record { connects = uses.connects; goes_on = uses.goes_on }
+same_net options around drawn uses = record { connects = uses.connects; goes_on = uses.goes_on; still_tells = uses.still_tells; counted = uses.counted }

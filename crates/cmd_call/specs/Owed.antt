@@ -19,11 +19,10 @@ use Rattle.commands.specs.declared.command.CallOptions.{CallOptions}
 use Rattle.draws.specs.Draws.{draw_after, word_after}
 use Rattle.envelope.specs.Lock.{mt_lock}
 use Rattle.key_files.specs.Files.{AsksOnce, HasFile, IsRefusedAt, not_read, refused_at}
-use Rattle.mt_edge.specs.Faults.{Rose}
 use Rattle.mt_edge.specs.Files.{FilesTold}
 use Rattle.mt_edge.specs.declared.net_call.NetCall.{NetCall}
-use Rattle.statuses.specs.Lines.{input_bytes_max, refusal_line, too_long}
-use Rattle.statuses.specs.Outside.{IfTold, IsReadToTheEnd, Outside}
+use Rattle.statuses.specs.Lines.{bad_line, input_bytes_max, refusal_line, too_long}
+use Rattle.statuses.specs.Outside.{HadFault, IfTold, IsReadToTheEnd, Outside, Part}
 use Rattle.statuses.specs.declared.status.Status.{Status}
 use Rattle.statuses.specs.declared.status.Status.TheVariants as status
 use Rattle.world_rules.specs.Report.{fault_text}
@@ -34,14 +33,10 @@ use Rattle.cmd_call.specs.Table.{TellsBatch, are_done}
 
 -- ---- the outside
 
--- Key files, before a run and after it: what they tell, where they do, and the faults that they counted.
-pub record Files (F : Type 0) : Type 0 where
-  pub told : F → Option FilesTold
-  pub faults : F → ℕ
-  pub before : F
-  pub after : F
+-- key files, before a run and after it
+abbrev pub Files : Type 0 → Type 0
+Files F = Part FilesTold F
 
--- these parts of them
 abbrev pub files_of : {F : Type 0} → (F → Option FilesTold) → (F → ℕ) → F → F → Files F
 files_of told faults before after = record { told = told; faults = faults; before = before; after = after }
 
@@ -51,7 +46,7 @@ AskedFor name files = IfSome (files.told files.after) (λ after. IsSomeAnd (file
 
 -- a read of them failed, and was counted
 abbrev pub FileFault : {F : Type 0} → Files F → Type 0
-FileFault files = Rose (files.faults files.before) (files.faults files.after)
+FileFault files = HadFault files
 
 -- they gave this text for that name: it is that of a file of this name, where they tell
 pub record Gave {F : Type 0} (name : List ℕ) (files : Files F) (text : List ℕ) : Type 0 where
@@ -59,10 +54,11 @@ pub record Gave {F : Type 0} (name : List ℕ) (files : Files F) (text : List �
   pub named : HasFile (files.told files.before) name text
   pub no_fault : files.faults files.after ≡ files.faults files.before
 
--- What is around a batch, before a run and after it: a net, with the calls and faults that it tells, a clock, with the moments that
--- it gave, and words that are drawn.
+-- What is around a batch, before a run and after it: a net, with the calls that it tells, how many more of them it can note, and its
+-- faults; a clock, with the moments that it gave; and words that are drawn.
 pub record Around (N C D : Type 0) : Type 0 where
   pub calls : N → Option (List NetCall)
+  pub room : N → ℕ
   pub faults : N → ℕ
   pub given : C → Option (List ℕ)
   pub step : D → ℕ × D
@@ -74,10 +70,11 @@ pub record Around (N C D : Type 0) : Type 0 where
   pub draw_then : D
 
 -- these parts of it
-abbrev pub around_of : {N C D : Type 0} → (N → Option (List NetCall)) → (N → ℕ) → (C → Option (List ℕ)) → (D → ℕ × D) → N → N → C → C → D → D → Around N C D
-around_of calls faults given step net net_then clock clock_then draw draw_then =
+abbrev pub around_of : {N C D : Type 0} → (N → Option (List NetCall)) → (N → ℕ) → (N → ℕ) → (C → Option (List ℕ)) → (D → ℕ × D) → N → N → C → C → D → D → Around N C D
+around_of calls room faults given step net net_then clock clock_then draw draw_then =
     record {
       calls = calls;
+      room = room;
       faults = faults;
       given = given;
       step = step;
@@ -183,12 +180,15 @@ pub record IsBefore {N C D : Type 0} (around : Around N C D) : Type 0 where
 abbrev pub OwesToKeys : {N C D : Type 0} → CallOptions → List ScriptCall → List RingKey → Keys → Around N C D → Status → List ℕ → Type 0
 OwesToKeys options calls ring keys around one due = RefusesCall calls around one due ⊎ RanBatch options calls ring keys around one due
 
+abbrev pub no_key_text : List ℕ
+no_key_text = codes "no such key\n"
+
 -- the ring hasn't the key, or not the permanent one that it needs
 pub record LacksKey {N C D : Type 0} (options : CallOptions) (ring : List RingKey) (around : Around N C D) (one : Status) (due : List ℕ) : Type 0 where
   pub none : keys_for ring options.key options.perm ≡ None
   pub idle : IsIdle around
   pub said : one ≡ status.KeysRefused
-  pub told : due ≡ codes "no such key\n"
+  pub told : due ≡ no_key_text
 
 abbrev pub OwesToRing : {N C D : Type 0} → CallOptions → List ScriptCall → List RingKey → Around N C D → Status → List ℕ → Type 0
 OwesToRing options calls ring around one due =
@@ -227,7 +227,7 @@ pub record RefusesLine {F N C D : Type 0} (text : List ℕ) (files : Files F) (a
   pub unasked : files.after ≡ files.before
   pub idle : IsIdle around
   pub said : one ≡ status.InputRefused
-  pub told : due ≡ refusal_line line (codes "bad line")
+  pub told : due ≡ bad_line line
 
 abbrev pub OwesToText : {F N C D : Type 0} → CallOptions → List ℕ → Files F → Around N C D → Status → List ℕ → Type 0
 OwesToText options text files around one due =

@@ -6,6 +6,7 @@ use Rattle.auth_keys.specs.declared.ring.RingKey.{RingKey}
 use Rattle.call_script.specs.Scripts.{HasBadLine, Spells}
 use Rattle.call_script.specs.declared.script.ScriptCall.{ScriptCall}
 use Rattle.client_core.specs.Keys.{Keys}
+use Rattle.client_node.specs.Counts.{Counted}
 use Rattle.client_rules.specs.Asking.{Fault}
 use Rattle.commands.specs.declared.command.CallOptions.{CallOptions}
 use Rattle.key_files.specs.Files.{IsRefusedAt}
@@ -77,10 +78,14 @@ pub record ConnectsAlone (port retries : ℕ) (before after : List NetCall) : Ty
   pub each : All (IsConnect port) made
   pub most : length made ≤ retries + 1
 
--- What the net tells afterwards, where it does. It does where it told before, and counted one fault at most.
+-- What the net tells afterwards, where it does. It does where it told before, and counted one fault at most, or can note each attempt.
 pub record UsesNet {N C D : Type 0} (options : CallOptions) (around : Around N C D) : Type 0 where
   pub connects : IfSome (around.calls around.net_then) (λ after. IsSomeAnd (around.calls around.net) (λ before. ConnectsAlone options.port options.retries before after))
   pub goes_on : IsSome (around.calls around.net) → around.faults around.net ≡ 0 → around.faults around.net_then ≤ 1 → IsSome (around.calls around.net_then)
+  pub still_tells : IsSome (around.calls around.net) → options.retries < around.room around.net → IsSome (around.calls around.net_then)
+  -- the faults after are those before, and one for each attempt that failed
+  pub counted : IfSome (around.calls around.net_then) (λ after. IsSomeAnd (around.calls around.net) (λ before.
+      Counted before after (around.faults around.net) (around.faults around.net_then)))
 
 -- ---- `call`
 

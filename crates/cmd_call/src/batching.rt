@@ -41,12 +41,12 @@ pub(crate) fn run<N: Net, C: Clock, D: Draw>(
     requires full_is_plain { options.now.obfuscate ≡ true → options.now.form ≢ forms.Full }
     requires keys { HasKeys ring (keys_in client) }
     ensures ran { (course : Course D) → StandsAs (Holder.Opening client) draw.old course → IfOk result (λ answer. RanFrom options.now ring course
-        (around_of N.calls N.faults C.given D.step net.old net.new clock.old clock.new draw.old draw.new)
+        (around_of N.calls N.room N.faults C.given D.step net.old net.new clock.old clock.new draw.old draw.new)
         answer.status answer.text) }
     ensures left { (course : Course D) → StandsAs (Holder.Opening client) draw.old course → IfErr result (λ _. LeftFrom options.now ring course
-        (around_of N.calls N.faults C.given D.step net.old net.new clock.old clock.new draw.old draw.new)) }
+        (around_of N.calls N.room N.faults C.given D.step net.old net.new clock.old clock.new draw.old draw.new)) }
     ensures connects { UsesNet options.now
-        (around_of N.calls N.faults C.given D.step net.old net.new clock.old clock.new draw.old draw.new) }
+        (around_of N.calls N.room N.faults C.given D.step net.old net.new clock.old clock.new draw.old draw.new) }
 {
     packets_open_as_worked_out();
     let plan = Plan {

@@ -13,6 +13,6 @@ mod telling;
 
 pub use asking::{Untaken, opening, submit_all};
 pub use batching::batch_answer;
-pub use checking::refused_call;
+pub use checking::{key_file_refused, key_file_unread, no_such_key, refused_call};
 pub use keys::{Acting, keys_in_ring};
 pub use running::run_call;

@@ -12,11 +12,8 @@ use call_script::laws::one_reading as one_script;
 use commands::CallOptions;
 use draws::Draw;
 use mt_edge::{Clock, KeyFiles, Net, ReadFault, Sink, Source, read_all};
-use statuses::{Answer, Status, Stop, tell};
+use statuses::{Answer, INPUT_BYTES_MAX, Status, Stop, tell, too_long};
 use std::alloc::Global;
-
-/// The most bytes of a script.
-const SCRIPT_BYTES_MAX: usize = 16_777_216;
 
 /// Reads a script to its end and runs its calls as one batch over connections of a net, under a key of the key file, and
 /// writes a table of what became of them. With no call it connects to nothing and writes nothing.
@@ -41,7 +38,7 @@ pub fn run_call<S: Source, O: Sink, F: KeyFiles, N: Net, C: Clock, D: Draw>(
         (record { told = S.left; faults = S.faults; before = input.old; after = input.new })
         (record { told = O.written; faults = O.faults; before = out.old; after = out.new })
         (files_of F.told F.faults files.old files.new)
-        (around_of N.calls N.faults C.given D.step net.old net.new clock.old clock.new draw.old draw.new)
+        (around_of N.calls N.room N.faults C.given D.step net.old net.new clock.old clock.new draw.old draw.new)
         result }
 {
     one_script();
@@ -67,25 +64,23 @@ fn answer<S: Source, F: KeyFiles, N: Net, C: Clock, D: Draw>(
     ensures owed { IfOk result (λ answer. Owes options.now
         (record { told = S.left; faults = S.faults; before = input.old; after = input.new })
         (files_of F.told F.faults files.old files.new)
-        (around_of N.calls N.faults C.given D.step net.old net.new clock.old clock.new draw.old draw.new)
+        (around_of N.calls N.room N.faults C.given D.step net.old net.new clock.old clock.new draw.old draw.new)
         answer.status answer.text) }
     ensures read_fault { result ≡ Err Stop.ReadFault → HadFault (record { told = S.left; faults = S.faults; before = input.old; after = input.new }) }
     ensures left { result ≡ Err Stop.Memory → RunsOut options.now
         (record { told = S.left; faults = S.faults; before = input.old; after = input.new })
         (files_of F.told F.faults files.old files.new)
-        (around_of N.calls N.faults C.given D.step net.old net.new clock.old clock.new draw.old draw.new) }
+        (around_of N.calls N.room N.faults C.given D.step net.old net.new clock.old clock.new draw.old draw.new) }
     ensures unasked { result ≡ Err Stop.ReadFault → files.new ≡ files.old }
     ensures idle { result ≡ Err Stop.ReadFault → IsIdle
-        (around_of N.calls N.faults C.given D.step net.old net.new clock.old clock.new draw.old draw.new) }
+        (around_of N.calls N.room N.faults C.given D.step net.old net.new clock.old clock.new draw.old draw.new) }
     ensures asked { AskedFor options.now.keys (files_of F.told F.faults files.old files.new) ⊎ (files.new ≡ files.old) }
     ensures connects { UsesNet options.now
-        (around_of N.calls N.faults C.given D.step net.old net.new clock.old clock.new draw.old draw.new) }
+        (around_of N.calls N.room N.faults C.given D.step net.old net.new clock.old clock.new draw.old draw.new) }
 {
-    match read_all(alloc, input, SCRIPT_BYTES_MAX) {
+    match read_all(alloc, input, INPUT_BYTES_MAX) {
         Ok(text) => Ok(answer_to_text(alloc, options, text, files, net, clock, draw)?),
-        Err(ReadFault::TooLong) => {
-            Ok(Answer::new(alloc, Status::InputRefused, b"input too long\n")?)
-        }
+        Err(ReadFault::TooLong) => Ok(too_long(alloc)?),
         Err(ReadFault::Failed) => Err(Stop::ReadFault),
         Err(ReadFault::Memory) => Err(Stop::Memory),
     }

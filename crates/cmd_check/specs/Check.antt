@@ -1,6 +1,6 @@
 -- What `check` owes to the bytes of its input.
 use Rattle.std.specs.Prelude.{◌≡◌, ◌<◌, ◌≤◌, ◌⊎◌, ℕ, codes, decimal, List, ◌++◌, length}
-use Rattle.statuses.specs.Lines.{input_bytes_max, refusal_line, too_long}
+use Rattle.statuses.specs.Lines.{bad_line, input_bytes_max, too_long}
 use Rattle.statuses.specs.declared.status.Status.{Status}
 use Rattle.statuses.specs.declared.status.Status.TheVariants as status
 use Rattle.trace_check.specs.Answers.{AllHoldIn, HasBadLine, IsBrokenIn}
@@ -39,7 +39,7 @@ pub record IsTooLong (text due : List ℕ) : Type 0 where
 pub record HasBadLineAt (text : List ℕ) (line : ℕ) (due : List ℕ) : Type 0 where
   pub short : length text ≤ input_bytes_max
   pub bad : HasBadLine text line
-  pub told : due ≡ refusal_line line (codes "bad line")
+  pub told : due ≡ bad_line line
 
 -- the text is no trace, and this says why
 abbrev pub IsRefused : List ℕ → List ℕ → Type 0

@@ -9,12 +9,9 @@ ghost use Rattle.cmd_check.specs.Check.{IsOfCheck, Owes, broken_line};
 use itoa::Buffer;
 use mt_edge::{ReadFault, Source, read_all};
 use octets::{Memory, Octets};
-use statuses::{Answer, Status, Stop, refusal};
+use statuses::{Answer, INPUT_BYTES_MAX, Status, Stop, bad_line, too_long};
 use std::alloc::Global;
 use trace_check::{CheckFault, Checked, check};
-
-/// The most bytes of a trace.
-const TRACE_BYTES_MAX: usize = 16_777_216;
 
 /// Reads a trace to its end and answers what is found of it, or its refusal.
 pub(crate) fn answer<S: Source>(alloc: Global, input: &mut S) -> Result<Answer, Stop>
@@ -22,15 +19,13 @@ pub(crate) fn answer<S: Source>(alloc: Global, input: &mut S) -> Result<Answer, 
     ensures answered { IfOk result (λ answer. IfSome (S.left input.old) (λ left. Owes left answer.status answer.text)) }
     ensures done_at_the_end { IfOk result (λ answer. answer.status ≡ status.Done → IfSome (S.left input.old) (λ _. S.left input.new ≡ Some [])) }
     ensures broken_at_the_end { IfOk result (λ answer. answer.status ≡ status.Broken → IfSome (S.left input.old) (λ _. S.left input.new ≡ Some [])) }
+    ensures done_no_fault { IfOk result (λ answer. answer.status ≡ status.Done → S.faults input.new ≡ S.faults input.old) }
+    ensures broken_no_fault { IfOk result (λ answer. answer.status ≡ status.Broken → S.faults input.new ≡ S.faults input.old) }
     ensures read_fault { result ≡ Err Stop.ReadFault → Rose (S.faults input.old) (S.faults input.new) }
 {
-    match read_all(alloc, input, TRACE_BYTES_MAX) {
+    match read_all(alloc, input, INPUT_BYTES_MAX) {
         Ok(text) => Ok(answer_to(alloc, text.as_slice())?),
-        Err(ReadFault::TooLong) => Ok(Answer::new(
-            alloc,
-            Status::InputRefused,
-            b"input too long\n",
-        )?),
+        Err(ReadFault::TooLong) => Ok(too_long(alloc)?),
         Err(ReadFault::Failed) => Err(Stop::ReadFault),
         Err(ReadFault::Memory) => Err(Stop::Memory),
     }
@@ -45,9 +40,7 @@ fn answer_to(alloc: Global, text: &[u8]) -> Result<Answer, Memory>
     match check(alloc, text) {
         Ok(Checked::Yes) => Answer::new(alloc, Status::Done, b"yes\n"),
         Ok(Checked::Broken { clause, line }) => broken(alloc, clause, line),
-        Err(CheckFault::BadLine { line }) => {
-            refusal(alloc, Status::InputRefused, line, "bad line")
-        }
+        Err(CheckFault::BadLine { line }) => bad_line(alloc, line),
         Err(CheckFault::Memory) => Err(Memory),
     }
 }

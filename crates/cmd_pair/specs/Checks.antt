@@ -12,7 +12,7 @@ use Rattle.client_rules.specs.Asking.{Fault}
 use Rattle.commands.specs.declared.command.PairOptions.{PairOptions}
 use Rattle.draws.specs.Draws.{draw_after}
 use Rattle.key_files.specs.Files.{IsRefusedAt, not_read, refused_at}
-use Rattle.statuses.specs.Lines.{input_bytes_max, refusal_line, too_long}
+use Rattle.statuses.specs.Lines.{bad_line, input_bytes_max, refusal_line, too_long}
 use Rattle.statuses.specs.Outside.{IfTold, Outside}
 use Rattle.statuses.specs.declared.status.Status.{Status}
 use Rattle.statuses.specs.declared.status.Status.TheVariants as status
@@ -81,10 +81,10 @@ status_of (Untaken line fault) = status.InputRefused
 
 abbrev pub text_of : Refusal → List ℕ
 text_of TooLong = too_long
-text_of (BadLine line) = refusal_line line (codes "bad line")
+text_of (BadLine line) = bad_line line
 text_of Unread = not_read
 text_of (BadFile line) = refused_at line
-text_of NoKey = codes "no such key\n"
+text_of NoKey = no_key_text
 text_of (Untaken line fault) = refusal_line line (fault_text fault)
 
 -- a session number is drawn before the calls are given to a client, and nothing before that

@@ -36,7 +36,7 @@ fn run_on<N: Net, C: Clock, D: Draw>(
 ) -> (Holder, Batch)
     requires { HasKeys seal.now client }
     ensures ran { (course : Course D) (drawn : D) → StandsAs client draw.old course → IsBatch seal.now port course
-        (around_of N.calls N.faults C.given D.step net.old net.new clock.old clock.new drawn draw.new) result.1 result.0 }
+        (around_of N.calls N.room N.faults C.given D.step net.old net.new clock.old clock.new drawn draw.new) result.1 result.0 }
     ensures decided { result.1 ≡ Batch.Decided → AllDecided result.0 }
     ensures keys { HasKeys seal.now result.0 }
 {
@@ -106,7 +106,7 @@ fn over_server<P: Spawner, N: Net, C: Clock, D: Draw>(
     requires { HasKeys seal.now client }
     ensures spawns { ServesBy (server_words server.now.keys.now server.now.port server.now.stop_after) result (kids_of P.calls P.faults kids.old kids.new) }
     ensures ran { (course : Course D) (drawn : D) → StandsAs client draw.old course → IfOk result (λ done. IsBatch seal.now server.now.port course
-        (around_of N.calls N.faults C.given D.step net.old net.new clock.old clock.new drawn draw.new) done.1 done.0) }
+        (around_of N.calls N.room N.faults C.given D.step net.old net.new clock.old clock.new drawn draw.new) done.1 done.0) }
     ensures decided { IfOk result (λ done. done.1 ≡ Batch.Decided → AllDecided done.0) }
     ensures keys { IfOk result (λ done. HasKeys seal.now done.0) }
 {
@@ -134,7 +134,7 @@ fn over_both<P: Spawner, N: Net, C: Clock, D: Draw>(
     requires port { options.now.port < 65535 }
     requires keys { HasKeys seal.now client }
     ensures ran { (course : Course D) (drawn : D) → StandsAs client draw.old course → PairBy options.now seal.now course
-        (around_of N.calls N.faults C.given D.step net.old net.new clock.old clock.new drawn draw.new)
+        (around_of N.calls N.room N.faults C.given D.step net.old net.new clock.old clock.new drawn draw.new)
         (kids_of P.calls P.faults kids.old kids.new) result }
     ensures decided { IfOk result (λ done. done.1 ≡ Batch.Decided → AllDecided done.0) }
 {
@@ -180,7 +180,7 @@ pub(crate) fn run<P: Spawner, N: Net, C: Clock, D: Draw>(
     requires port { options.now.port < 65535 }
     requires keys { HasKeys ring (Holder.Opening client) }
     ensures { (course : Course D) (drawn : D) → StandsAs (Holder.Opening client) draw.old course → IfOk result (λ answer. OwesPair options.now ring course
-        (around_of N.calls N.faults C.given D.step net.old net.new clock.old clock.new drawn draw.new)
+        (around_of N.calls N.room N.faults C.given D.step net.old net.new clock.old clock.new drawn draw.new)
         (kids_of P.calls P.faults kids.old kids.new) answer.status answer.text) }
 {
     statuses_have_causes::<D>();

@@ -3,7 +3,6 @@
 ghost use Rattle.std.specs.Prelude.{◌≡◌, ◌≤◌, ◌⊎◌, IfErr, IfOk, length};
 ghost use Rattle.call_script.specs.Scripts.{Spells};
 ghost use Rattle.cmd_call.specs.Owed.{AskedFor, files_of};
-ghost use Rattle.key_files.specs.Files.{refused_at};
 ghost use Rattle.statuses.specs.Lines.{input_bytes_max};
 ghost use Rattle.cmd_pair.specs.Checks.{HasRing, HasScript};
 ghost use Rattle.cmd_pair.specs.Inner.{HaltsAtCalls, HaltsAtFile, HaltsAtScript, HaltsAtText, HaltsBefore, IsGiven, IsTaken};
@@ -13,17 +12,15 @@ use auth_keys::Ring;
 use call_script::{Script, ScriptFault, read_script};
 use client_core::OpeningClient;
 use cmd_call::laws::found_keys_are_there;
-use cmd_call::{keys_in_ring, opening, refused_call, submit_all};
+use cmd_call::{
+    key_file_refused, key_file_unread, keys_in_ring, no_such_key, opening, refused_call, submit_all,
+};
 use commands::PairOptions;
 use draws::Draw;
-use key_files::{KeysFault, read_ring, refused_line};
+use key_files::{KeysFault, read_ring};
 use mt_edge::{KeyFiles, ReadFault, Source, read_all};
-use octets::Memory;
-use statuses::{Answer, Status, refusal};
+use statuses::{INPUT_BYTES_MAX, bad_line, too_long};
 use std::alloc::Global;
-
-/// The most bytes of a script.
-const SCRIPT_BYTES_MAX: usize = 16_777_216;
 
 /// A client that was given the calls of the input, and the ring of its key.
 ///
@@ -60,13 +57,9 @@ fn script_of<S: Source>(alloc: Global, input: &mut S) -> Result<Script, Halt>
     ensures script { IfOk result (HasScript (record { told = S.left; faults = S.faults; before = input.old; after = input.new })) }
     ensures halts { IfErr result (HaltsAtScript (record { told = S.left; faults = S.faults; before = input.old; after = input.new })) }
 {
-    match read_all(alloc, input, SCRIPT_BYTES_MAX) {
+    match read_all(alloc, input, INPUT_BYTES_MAX) {
         Ok(text) => spelt(alloc, text.as_slice()),
-        Err(ReadFault::TooLong) => Err(Halt::Refused(Answer::new(
-            alloc,
-            Status::InputRefused,
-            b"input too long\n",
-        )?)),
+        Err(ReadFault::TooLong) => Err(Halt::Refused(too_long(alloc)?)),
         Err(ReadFault::Failed) => Err(Halt::ReadFault),
         Err(ReadFault::Memory) => Err(Halt::Memory),
     }
@@ -84,12 +77,7 @@ fn spelt(alloc: Global, text: &[u8]) -> Result<Script, Halt>
 {
     match read_script(alloc, text) {
         Ok(script) => Ok(script),
-        Err(ScriptFault::BadLine { line }) => Err(Halt::Refused(refusal(
-            alloc,
-            Status::InputRefused,
-            line,
-            "bad line",
-        )?)),
+        Err(ScriptFault::BadLine { line }) => Err(Halt::Refused(bad_line(alloc, line)?)),
         Err(ScriptFault::Memory) => Err(Halt::Memory),
     }
 }
@@ -110,25 +98,10 @@ fn ring_of<F: KeyFiles>(
 {
     match read_ring(alloc, options.keys.as_str(), files) {
         Ok(ring) => Ok(ring),
-        Err(KeysFault::Unread) => Err(Halt::Refused(Answer::new(
-            alloc,
-            Status::KeysRefused,
-            b"key file not read\n",
-        )?)),
-        Err(KeysFault::Refused { line }) => Err(Halt::Refused(file_refusal(alloc, line)?)),
+        Err(KeysFault::Unread) => Err(Halt::Refused(key_file_unread(alloc)?)),
+        Err(KeysFault::Refused { line }) => Err(Halt::Refused(key_file_refused(alloc, line)?)),
         Err(KeysFault::Memory) => Err(Halt::Memory),
     }
-}
-
-/// The answer where a line of the key file is refused.
-fn file_refusal(alloc: Global, line: u32) -> Result<Answer, Memory>
-    ensures status { IfOk result (λ answer. answer.status ≡ Status.KeysRefused) }
-    ensures text { IfOk result (λ answer. answer.text ≡ refused_at line) }
-{
-    Ok(Answer {
-        status: Status::KeysRefused,
-        text: refused_line(alloc, line)?,
-    })
 }
 
 /// A client under the key, which was given the calls of a script. The number of its session is drawn.
@@ -149,7 +122,7 @@ fn client_of<D: Draw>(
 {
     found_keys_are_there();
     let Some(keys) = keys_in_ring(ring, options.key, None) else {
-        return Err(Halt::Refused(Answer::new(alloc, Status::KeysRefused, b"no such key\n")?));
+        return Err(Halt::Refused(no_such_key(alloc)?));
     };
     let mut client = opening(alloc, keys, draw)?;
     match submit_all(&mut client, alloc, script) {

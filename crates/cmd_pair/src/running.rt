@@ -42,7 +42,7 @@ pub fn run_pair<S: Source, O: Sink, F: KeyFiles, P: Spawner, N: Net, C: Clock, D
         (record { told = S.left; faults = S.faults; before = input.old; after = input.new })
         (record { told = O.written; faults = O.faults; before = out.old; after = out.new })
         (files_of F.told F.faults files.old files.new)
-        (around_of N.calls N.faults C.given D.step net.old net.new clock.old clock.new draw.old draw.new)
+        (around_of N.calls N.room N.faults C.given D.step net.old net.new clock.old clock.new draw.old draw.new)
         (kids_of P.calls P.faults kids.old kids.new)
         result }
 {
@@ -75,13 +75,13 @@ fn answer<S: Source, F: KeyFiles, P: Spawner, N: Net, C: Clock, D: Draw>(
     ensures owed { IfOk result (λ answer. IsOwed options.now
         (record { told = S.left; faults = S.faults; before = input.old; after = input.new })
         (files_of F.told F.faults files.old files.new)
-        (around_of N.calls N.faults C.given D.step net.old net.new clock.old clock.new draw.old draw.new)
+        (around_of N.calls N.room N.faults C.given D.step net.old net.new clock.old clock.new draw.old draw.new)
         (kids_of P.calls P.faults kids.old kids.new)
         answer.status answer.text) }
     ensures halts { IfErr result (HaltsRun options.now
         (record { told = S.left; faults = S.faults; before = input.old; after = input.new })
         (files_of F.told F.faults files.old files.new)
-        (around_of N.calls N.faults C.given D.step net.old net.new clock.old clock.new draw.old draw.new)
+        (around_of N.calls N.room N.faults C.given D.step net.old net.new clock.old clock.new draw.old draw.new)
         (kids_of P.calls P.faults kids.old kids.new)) }
     ensures asked { AskedFor options.now.keys (files_of F.told F.faults files.old files.new) ⊎ (files.new ≡ files.old) }
 {

@@ -1,6 +1,6 @@
 -- What a relay makes of a capture, line by line.
 use Rattle.std.specs.Prelude.{◌≡◌, ◌<◌, ◌≤◌, ◌⊎◌, ⊤, ℕ, List, [], ◌∷◌, ◌++◌, length, codes}
-use Rattle.statuses.specs.Lines.{input_bytes_max, refusal_line, too_long}
+use Rattle.statuses.specs.Lines.{bad_line, input_bytes_max, refusal_line, too_long}
 use Rattle.statuses.specs.declared.status.Status.{Status}
 use Rattle.statuses.specs.declared.status.Status.TheVariants as status
 use Rattle.transport.specs.declared.form.Form.{Form}
@@ -90,7 +90,7 @@ pub record HasBadLineAt (text due : List ℕ) : Type 0 where
   pub short : length text ≤ input_bytes_max
   pub line : ℕ
   pub bad : HasBadLine text line
-  pub told : due ≡ refusal_line line (codes "bad line")
+  pub told : due ≡ bad_line line
 
 -- else the line of the first piece that is refused
 pub record HasRefusedLine (form : Form) (secret text due : List ℕ) : Type 0 where

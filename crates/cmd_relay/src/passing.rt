@@ -16,11 +16,8 @@ use mt_edge::{ReadFault, Source, read_all};
 use octets::{Memory, Octets};
 use secret_relay::laws::written_by_the_relay;
 use secret_relay::{Form, Relay, RelayFault};
-use statuses::{Answer, Status, Stop, refusal};
+use statuses::{Answer, INPUT_BYTES_MAX, Status, Stop, bad_line, refusal, too_long};
 use std::alloc::Global;
-
-/// The most bytes of a capture.
-const CAPTURE_BYTES_MAX: usize = 16_777_216;
 
 /// Reads a capture to its end and answers a line for each of its lines, or its refusal.
 pub(crate) fn relay<S: Source>(
@@ -33,15 +30,12 @@ pub(crate) fn relay<S: Source>(
     ensures status { IfOk result (λ answer. IsOfRelay answer.status) }
     ensures answered { IfOk result (λ answer. IfSome (S.left input.old) (λ left. Owes form secret.now left answer.status answer.text)) }
     ensures to_the_end { IfOk result (λ answer. answer.status ≡ status.Done → IfSome (S.left input.old) (λ _. S.left input.new ≡ Some [])) }
+    ensures no_fault { IfOk result (λ answer. answer.status ≡ status.Done → S.faults input.new ≡ S.faults input.old) }
     ensures read_fault { result ≡ Err Stop.ReadFault → Rose (S.faults input.old) (S.faults input.new) }
 {
-    match read_all(alloc, input, CAPTURE_BYTES_MAX) {
+    match read_all(alloc, input, INPUT_BYTES_MAX) {
         Ok(text) => Ok(answer_to(alloc, form, secret, text.as_slice())?),
-        Err(ReadFault::TooLong) => Ok(Answer::new(
-            alloc,
-            Status::InputRefused,
-            b"input too long\n",
-        )?),
+        Err(ReadFault::TooLong) => Ok(too_long(alloc)?),
         Err(ReadFault::Failed) => Err(Stop::ReadFault),
         Err(ReadFault::Memory) => Err(Stop::Memory),
     }
@@ -56,9 +50,7 @@ fn answer_to(alloc: Global, form: Form, secret: &[u8; 16], text: &[u8]) -> Resul
 {
     match read_capture(alloc, text) {
         Ok(pieces) => pass(alloc, form, secret, &pieces),
-        Err(CaptureFault::BadLine { line }) => {
-            refusal(alloc, Status::InputRefused, line, "bad line")
-        }
+        Err(CaptureFault::BadLine { line }) => bad_line(alloc, line),
         Err(CaptureFault::Memory) => Err(Memory),
     }
 }

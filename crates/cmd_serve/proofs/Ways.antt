@@ -12,13 +12,13 @@ use Rattle.mt_edge.specs.declared.act.Act.TheVariants.{Ready, Failed as NotReady
 use Rattle.mt_edge.specs.declared.net_call.NetCall.{NetCall}
 use Rattle.mt_edge.specs.declared.net_call.NetCall.TheVariants.{Accept, Listen}
 use Rattle.mt_edge.specs.declared.net_call.Outcome.TheVariants.{Failed}
-use Rattle.statuses.specs.Outside.{HadFault, Outside, Tells}
+use Rattle.statuses.specs.Outside.{HadFault, Outside, Part, Tells}
 use Rattle.statuses.specs.declared.status.Status.{Status}
 use Rattle.statuses.specs.declared.status.Status.TheVariants as status
 use Rattle.cmd_serve.specs.Connections.{AreNoted, AreNotedBy, Connection, CountsEnding, EndsBy}
 use Rattle.cmd_serve.specs.Inner.{IsWith, RunsWith, ServesWith}
 use Rattle.cmd_serve.specs.Lines.{listening}
-use Rattle.cmd_serve.specs.Runs.{Calls, CountsFiles, CountsNet, Course, Draws, Unread, Refused, Unbegun, Deaf, Mute, Serves, Ends, FailsNever, FailsOnce, Faulted, HasKeys, IfTold, Makes, Moments, Part, Reads, Registers, ServeRun, ServesBy, WritesFirst}
+use Rattle.cmd_serve.specs.Runs.{Calls, CountsFiles, CountsNet, Course, Draws, Unread, Refused, Unbegun, Deaf, Mute, Serves, Ends, FailsNever, FailsOnce, HasKeys, IfTold, Makes, Moments, Reads, Registers, ServeRun, ServesBy, WritesFirst}
 use Rattle.cmd_serve.specs.declared.ending.Ending.{Ending}
 use Rattle.cmd_serve.specs.declared.ending.Ending.TheVariants.{Served, Stopped, NotTaken, Memory}
 use Rattle.cmd_serve.proofs.Texts.{rose-once}
@@ -225,7 +225,7 @@ other-status out due text one which (inl done) other never is = other (sym done.
 other-status out due text one which (inr failed) other never is = never (sym failed.0 ∙ is)
 
 not-listening : {D N O : Type 0} (options : ServeOptions) (net : Part (List NetCall) N) (out : Outside O) (course : Course D) (one : Status) → CountsNet net course → Ends options out course one
-    → one ≡ status.NotListening → Faulted net
+    → one ≡ status.NotListening → HadFault net
 not-listening options net out Unread one counted ends is = absurd (other-status out status.KeysRefused _ one status.NotListening ends (λ same. cc) (λ same. cc) is)
 not-listening options net out (Refused line) one counted ends is = absurd (other-status out status.KeysRefused _ one status.NotListening ends (λ same. cc) (λ same. cc) is)
 not-listening options net out Unbegun one counted ends is = let both : status.Memory ≡ status.NotListening = sym ends.0 ∙ is in cc
@@ -237,7 +237,7 @@ not-listening options net out (Serves ring connections NotTaken) one counted end
 not-listening options net out (Serves ring connections Memory) one counted ends is = let both : status.Memory ≡ status.NotListening = sym ends.1.0 ∙ is in cc
 
 keys-refused : {D F O : Type 0} (options : ServeOptions) (files : Part FilesTold F) (out : Outside O) (course : Course D) (one : Status) → CountsFiles files course → Ends options out course one
-    → one ≡ status.KeysRefused → Faulted files ⊎ ((line : ℕ) × (course ≡ Refused line))
+    → one ≡ status.KeysRefused → HadFault files ⊎ ((line : ℕ) × (course ≡ Refused line))
 keys-refused options files out Unread one counted ends is = inl (rose-once (files.faults files.before) (files.faults files.after) counted)
 keys-refused options files out (Refused line) one counted ends is = inr (line, refl)
 keys-refused options files out Unbegun one counted ends is = let both : status.Memory ≡ status.KeysRefused = sym ends.0 ∙ is in cc
@@ -256,7 +256,7 @@ done-or-fault out text one none (inr failed) = absurd (none failed.1)
 
 done-without-fault : {D F N O : Type 0} (options : ServeOptions) (files : Part FilesTold F) (net : Part (List NetCall) N) (out : Outside O) (course : Course D) (one : Status)
     → CountsFiles files course → CountsNet net course → Ends options out course one → ((line : ℕ) → course ≡ Refused line → ⊥)
-    → (Faulted files → ⊥) → (Faulted net → ⊥) → (HadFault out → ⊥) → (one ≡ status.Done) ⊎ (one ≡ status.Memory)
+    → (HadFault files → ⊥) → (HadFault net → ⊥) → (HadFault out → ⊥) → (one ≡ status.Done) ⊎ (one ≡ status.Memory)
 done-without-fault options files net out Unread one read called ends ring file call write = absurd (file (rose-once (files.faults files.before) (files.faults files.after) read))
 done-without-fault options files net out (Refused line) one read called ends ring file call write = absurd (ring line refl)
 done-without-fault options files net out Unbegun one read called ends ring file call write = inr ends.0
@@ -271,7 +271,7 @@ complete : {D F N O : Type 0} (options : ServeOptions) (files : Part FilesTold F
     → CountsFiles files course → CountsNet net course → Ends options out course one
     → IfSome told (λ told. (text : List ℕ) (ring : List RingKey) (line : ℕ) → IsFileOf told.files options.keys text → IsRingOf text ring → course ≡ Refused line → ⊥)
     → IfSome told (λ told. (text : List ℕ) (ring : List RingKey) → IsFileOf told.files options.keys text → IsRingOf text ring
-    → (Faulted files → ⊥) → (Faulted net → ⊥) → (HadFault out → ⊥) → (one ≡ status.Done) ⊎ (one ≡ status.Memory))
+    → (HadFault files → ⊥) → (HadFault net → ⊥) → (HadFault out → ⊥) → (one ≡ status.Done) ⊎ (one ≡ status.Memory))
 complete options files net out course one None read called ends taken = tt
 complete options files net out course one (Some told) read called ends taken = λ text ring is its file call write.
     done-without-fault options files net out course one read called ends (λ line. taken text ring line is its) file call write

@@ -8,7 +8,7 @@ use Rattle.mt_edge.specs.declared.net_call.Outcome.TheVariants.{Failed}
 use Rattle.commands.specs.declared.command.ServeOptions.{ServeOptions}
 use Rattle.regs_service.specs.Registers as registers
 use Rattle.server_rules.specs.Server.{Server}
-use Rattle.statuses.specs.Outside.{Outside}
+use Rattle.statuses.specs.Outside.{Outside, Part}
 use Rattle.statuses.specs.declared.status.Status.{Status}
 use Rattle.server_node.specs.Record.{Answered}
 use Rattle.server_node.specs.Trace.{Rules, rules_of}
@@ -16,7 +16,7 @@ use Rattle.server_node.specs.declared.conn.ConnEnd.{ConnEnd}
 use Rattle.server_node.specs.declared.conn.ConnEnd.TheVariants as ends
 use Rattle.cmd_serve.specs.Connections.{AllGoOn, AreConnections, AreNoted, AreNotedBy, Between, Connection, EndsBy, IsConnection, IsNoted, behind_all}
 use Rattle.cmd_serve.specs.Packets.{outside_of}
-use Rattle.cmd_serve.specs.Runs.{Calls, Course, Unread, Refused, Unbegun, Deaf, Mute, Serves, Draws, Ends, IsServed, Moments, Part, Registers, ServesBy, first_of}
+use Rattle.cmd_serve.specs.Runs.{Calls, Course, Unread, Refused, Unbegun, Deaf, Mute, Serves, Draws, Ends, IsServed, Moments, Registers, ServesBy, first_of}
 use Rattle.cmd_serve.specs.declared.ending.Ending.{Ending}
 use Rattle.cmd_serve.specs.declared.ending.Ending.TheVariants.{Stopped, NotTaken, Memory}
 

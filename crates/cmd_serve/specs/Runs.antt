@@ -4,7 +4,7 @@ use Rattle.auth_keys.specs.KeyFile.{IsRingOf}
 use Rattle.auth_keys.specs.declared.ring.RingKey.{RingKey}
 use Rattle.commands.specs.declared.command.ServeOptions.{ServeOptions}
 use Rattle.key_files.specs.Files.{AsksOnce, HasText, IsFileOf, IsRefusedAt, not_read, refused_at}
-use Rattle.mt_edge.specs.Faults.{Rose, one_more}
+use Rattle.mt_edge.specs.Faults.{one_more}
 use Rattle.mt_edge.specs.Files.{FilesTold}
 use Rattle.mt_edge.specs.declared.act.Act.TheVariants.{Ready, Failed as NotReady}
 use Rattle.mt_edge.specs.declared.net_call.NetCall.{NetCall}
@@ -12,7 +12,7 @@ use Rattle.mt_edge.specs.declared.net_call.NetCall.TheVariants.{Listen}
 use Rattle.regs_service.specs.Registers as registers
 use Rattle.server_rules.specs.Server.{fresh_server}
 use Rattle.server_node.specs.Trace.{Rules, rules_of}
-use Rattle.statuses.specs.Outside.{HadFault, IsUntouched, Outside, Tells, Writes, WritesFront}
+use Rattle.statuses.specs.Outside.{HadFault, IsUntouched, Outside, Part, Tells, Writes, WritesFront}
 use Rattle.statuses.specs.declared.status.Status.{Status}
 use Rattle.statuses.specs.declared.status.Status.TheVariants as status
 use Rattle.cmd_serve.specs.Connections.{AreConnections, AreNotedBy, Between, Connection, CountsEnding, EndsBy, behind_all}
@@ -22,17 +22,6 @@ use Rattle.cmd_serve.specs.declared.ending.Ending.{Ending}
 use Rattle.cmd_serve.specs.declared.ending.Ending.TheVariants.{Served, Stopped, NotTaken, Memory}
 
 -- ---- the outside
-
--- Files, or a net, before a run and after it: what they tell, where they do, and the faults that they counted.
-pub record Part (A T : Type 0) : Type 0 where
-  pub told : T → Option A
-  pub faults : T → ℕ
-  pub before : T
-  pub after : T
-
--- a fault was counted, or the count stands at the last value that it can have
-abbrev pub Faulted : {A T : Type 0} → Part A T → Type 0
-Faulted part = Rose (part.faults part.before) (part.faults part.after)
 
 -- one more fault was counted, and none
 abbrev pub FailsOnce : {A T : Type 0} → Part A T → Type 0
@@ -107,15 +96,11 @@ Makes port (Deaf ring) made = made ≡ Listen port NotReady ∷ []
 Makes port (Mute ring) made = made ≡ Listen port Ready ∷ []
 Makes port (Serves ring connections ending) made = (accepts : List NetCall) × (made ≡ Listen port Ready ∷ accepts) × AreNotedBy ending connections accepts
 
--- nothing was done to it
-abbrev pub IsIdle : {A T : Type 0} → Part A T → Type 0
-IsIdle part = part.after ≡ part.before
-
 -- a call failed exactly where none could be taken
 abbrev pub CountsNet : {D N : Type 0} → Part (List NetCall) N → Course D → Type 0
-CountsNet net Unread = IsIdle net
-CountsNet net (Refused line) = IsIdle net
-CountsNet net Unbegun = IsIdle net
+CountsNet net Unread = IsUntouched net
+CountsNet net (Refused line) = IsUntouched net
+CountsNet net Unbegun = IsUntouched net
 CountsNet net (Deaf ring) = FailsOnce net
 CountsNet net (Mute ring) = FailsNever net
 CountsNet net (Serves ring connections ending) = CountsEnding ending (net.faults net.before) (net.faults net.after)
@@ -203,8 +188,8 @@ pub record ServeRun {F N O D : Type 0} (step : D → ℕ × D) (options : ServeO
   pub first_line : IfTold net (λ before after. length before + 1 < length after → WritesFirst out (listening options.port))
   -- Faults of the outside come only where they were counted.
   pub write_fault : result ≡ status.WriteFault → HadFault out
-  pub not_listening : result ≡ status.NotListening → Faulted net
-  pub keys_refused : result ≡ status.KeysRefused → Faulted files ⊎ ((line : ℕ) × (course ≡ Refused line))
+  pub not_listening : result ≡ status.NotListening → HadFault net
+  pub keys_refused : result ≡ status.KeysRefused → HadFault files ⊎ ((line : ℕ) × (course ≡ Refused line))
   -- Nothing but a fault, or want of memory, keeps a run with a lawful key file from being done.
   pub completeness : IfSome (files.told files.before) (λ told. (text : List ℕ) (ring : List RingKey) → IsFileOf told.files options.keys text → IsRingOf text ring
-      → (Faulted files → ⊥) → (Faulted net → ⊥) → (HadFault out → ⊥) → (result ≡ status.Done) ⊎ (result ≡ status.Memory))
+      → (HadFault files → ⊥) → (HadFault net → ⊥) → (HadFault out → ⊥) → (result ≡ status.Done) ⊎ (result ≡ status.Memory))

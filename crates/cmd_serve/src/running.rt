@@ -14,7 +14,7 @@ use auth_keys::laws::one_reading;
 use commands::ServeOptions;
 use draws::Draw;
 use envelope::MtSeal;
-use key_files::{KeysFault, read_ring, refused_line};
+use key_files::{KeysFault, read_ring, refused_line, unread_line};
 use mt_edge::{Act, Clock, KeyFiles, Net, Sink, WriteFault, write_all};
 use regs_service::{Regs, Service};
 use server_core::order_laws::events_keep_order;
@@ -50,7 +50,7 @@ pub fn run_serve<O: Sink, F: KeyFiles, N: Net, C: Clock, D: Draw>(
     one_reading();
     match read_ring(alloc, options.keys.as_str(), files) {
         Ok(ring) => listen(alloc, ring, options, out, net, clock, draw),
-        Err(KeysFault::Unread) => say(out, Status::KeysRefused, b"key file not read\n"),
+        Err(KeysFault::Unread) => say(out, Status::KeysRefused, unread_line()),
         Err(KeysFault::Refused { line }) => match refused_line(alloc, line) {
             Ok(text) => say(out, Status::KeysRefused, text.as_slice()),
             Err(_) => Status::Memory,

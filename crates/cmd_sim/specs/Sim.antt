@@ -8,7 +8,7 @@ use Rattle.world_rules.specs.Report.{refusal_text, whole_report}
 use Rattle.law_numbers.specs.Numbers.{GivesOnce, SaysNo19}
 use Rattle.statuses.specs.declared.status.Status.{Status}
 use Rattle.statuses.specs.declared.status.Status.TheVariants as status
-use Rattle.statuses.specs.Lines.{input_bytes_max, refusal_line, too_long}
+use Rattle.statuses.specs.Lines.{bad_line, input_bytes_max, refusal_line, too_long}
 use Rattle.cmd_sim.specs.Worlds.{sim_refused, sim_setting, sim_world}
 
 -- ---- a lawful schedule
@@ -43,7 +43,7 @@ pub record IsTooLong (text due : List ℕ) : Type 0 where
 pub record HasBadLineAt (text : List ℕ) (line : ℕ) (due : List ℕ) : Type 0 where
   pub short : length text ≤ input_bytes_max
   pub bad : HasBadLine text line
-  pub told : due ≡ refusal_line line (codes "bad line")
+  pub told : due ≡ bad_line line
 
 -- else the line of the first event that is refused
 pub record IsRefusedAt (text : List ℕ) (events : List Placed) (line : ℕ) (refusal : Refusal) (due : List ℕ) : Type 0 where

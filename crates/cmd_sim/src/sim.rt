@@ -15,26 +15,20 @@ use mt_edge::{ReadFault, Source, read_all};
 use octets::{Memory, Octets};
 use sched_text::{Event, Events, SchedFault, read};
 use sim_world::StepFault;
-use statuses::{Answer, Status, Stop, refusal};
+use statuses::{Answer, INPUT_BYTES_MAX, Status, Stop, bad_line, refusal, too_long};
 use std::alloc::Global;
-
-/// The most bytes of a schedule.
-const SCHEDULE_BYTES_MAX: usize = 16_777_216;
 
 /// Reads a schedule to its end and answers its report, or its refusal.
 pub(crate) fn sim<S: Source>(alloc: Global, wire: bool, input: &mut S) -> Result<Answer, Stop>
     ensures status { IfOk result (λ answer. IsOfSim answer.status) }
     ensures answered { IfOk result (λ answer. IfSome (S.left input.old) (λ left. Owes wire left answer.status answer.text)) }
     ensures to_the_end { IfOk result (λ answer. answer.status ≡ status.Done → IfSome (S.left input.old) (λ _. S.left input.new ≡ Some [])) }
+    ensures no_fault { IfOk result (λ answer. answer.status ≡ status.Done → S.faults input.new ≡ S.faults input.old) }
     ensures read_fault { result ≡ Err Stop.ReadFault → Rose (S.faults input.old) (S.faults input.new) }
 {
-    match read_all(alloc, input, SCHEDULE_BYTES_MAX) {
+    match read_all(alloc, input, INPUT_BYTES_MAX) {
         Ok(text) => Ok(answer_to(alloc, wire, text.as_slice())?),
-        Err(ReadFault::TooLong) => Ok(Answer::new(
-            alloc,
-            Status::InputRefused,
-            b"input too long\n",
-        )?),
+        Err(ReadFault::TooLong) => Ok(too_long(alloc)?),
         Err(ReadFault::Failed) => Err(Stop::ReadFault),
         Err(ReadFault::Memory) => Err(Stop::Memory),
     }
@@ -48,9 +42,7 @@ fn answer_to(alloc: Global, wire: bool, text: &[u8]) -> Result<Answer, Memory>
 {
     match read(alloc, text) {
         Ok(events) => play(alloc, wire, &events),
-        Err(SchedFault::BadLine { line }) => {
-            refusal(alloc, Status::InputRefused, line, "bad line")
-        }
+        Err(SchedFault::BadLine { line }) => bad_line(alloc, line),
         Err(SchedFault::Memory) => Err(Memory),
     }
 }

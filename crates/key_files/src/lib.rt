@@ -4,4 +4,4 @@
 
 mod reading;
 
-pub use reading::{KeysFault, read_ring, refused_line};
+pub use reading::{KeysFault, read_ring, refused_line, unread_line};

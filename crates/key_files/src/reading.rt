@@ -1,7 +1,7 @@
 //! A key file as a ring, and why there is none.
 
 ghost use Rattle.std.specs.Prelude.{◌≡◌, IfOk, IfSome, IsSomeAnd, MatchOption};
-ghost use Rattle.key_files.specs.Files.{AsksOnce, CountsBy, GivesBy, line_of, refused_at};
+ghost use Rattle.key_files.specs.Files.{AsksOnce, CountsBy, GivesBy, line_of, not_read, refused_at};
 
 use auth_keys::{KeyFault, Ring};
 use itoa::Buffer;
@@ -57,6 +57,13 @@ fn keys_fault(fault: KeyFault) -> KeysFault
         KeyFault::SameId { line, .. } => KeysFault::Refused { line },
         KeyFault::Memory => KeysFault::Memory,
     }
+}
+
+/// The line that tells that a key file can't be read.
+pub fn unread_line() -> &'static [u8]
+    ensures { result.now ≡ not_read }
+{
+    b"key file not read\n"
 }
 
 /// The line that tells at which of its lines a key file is refused.

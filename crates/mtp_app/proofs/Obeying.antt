@@ -21,7 +21,7 @@ use Rattle.statuses.specs.Outside.{IsUntouched, Outside, PlainRun}
 use Rattle.statuses.specs.Statuses.{EndsBy, number_of}
 use Rattle.statuses.specs.declared.status.Status.{Status}
 use Rattle.statuses.specs.declared.status.Status.TheVariants as status
-use Rattle.mtp_app.specs.Obeys.{AreOffline, AreWithoutChildren, AreWithoutInput, IsAlone, IsApart, IsUnbegun, Obeys, Stays, draws_of, files_part, moments_of, net_part}
+use Rattle.mtp_app.specs.Obeys.{AreOffline, AreWithoutChildren, AreWithoutInput, IsAlone, IsApart, IsUnbegun, Obeys, Stays, draws_of, moments_of, net_part}
 
 -- ---- the command was carried out
 
@@ -36,7 +36,7 @@ module _ {S O F N C D P : Type 0} (input : Outside S) (out : Outside O) (files :
   loads calls same = (one, ends, so (command.Load calls) same)
 
   pub serves : (options : ServeOptions) → said ≡ command.Serve options
-      → EndsBy n (λ one. ServeRun around.step options (files_part files) (net_part around) out (moments_of around) (draws_of around) one ⊎ IsUnbegun out files around one)
+      → EndsBy n (λ one. ServeRun around.step options files (net_part around) out (moments_of around) (draws_of around) one ⊎ IsUnbegun out files around one)
   serves options same = (one, ends, inl (so (command.Serve options) same))
 
   pub calls : (options : CallOptions) → said ≡ command.Call options → EndsBy n (λ one. CallRun options input out files around one ⊎ IsUnbegun out files around one)

@@ -17,8 +17,8 @@ use Rattle.commands.specs.declared.command.ServeOptions.{ServeOptions}
 use Rattle.mt_edge.specs.Files.{FilesTold}
 use Rattle.mt_edge.specs.declared.net_call.NetCall.{NetCall}
 use Rattle.cmd_sim.specs.Runs.{LoadRun, SimRun}
-use Rattle.cmd_serve.specs.Runs.{Draws, Moments, Part, ServeRun}
-use Rattle.statuses.specs.Outside.{IsUntouched, Outside, PlainRun}
+use Rattle.cmd_serve.specs.Runs.{Draws, Moments, ServeRun}
+use Rattle.statuses.specs.Outside.{IsUntouched, Outside, Part, PlainRun}
 use Rattle.statuses.specs.declared.status.Status.{Status}
 use Rattle.statuses.specs.declared.status.Status.TheVariants as status
 
@@ -55,9 +55,6 @@ pub record IsUnbegun {O F N C D : Type 0} (out : Outside O) (files : Files F) (a
 
 -- ---- what a run does
 
-abbrev pub files_part : {F : Type 0} → Files F → Part FilesTold F
-files_part files = record { told = files.told; faults = files.faults; before = files.before; after = files.after }
-
 abbrev pub net_part : {N C D : Type 0} → Around N C D → Part (List NetCall) N
 net_part around = record { told = around.calls; faults = around.faults; before = around.net; after = around.net_then }
 
@@ -70,7 +67,7 @@ draws_of around = record { before = around.draw; after = around.draw_then }
 abbrev pub Obeys : {S O F N C D P : Type 0} → Command → Outside S → Outside O → Files F → Around N C D → Kids P → Status → Type 0
 Obeys (command.Sim wire) input out files around kids one = SimRun wire input out one
 Obeys (command.Load calls) input out files around kids one = LoadRun calls out one
-Obeys (command.Serve options) input out files around kids one = ServeRun around.step options (files_part files) (net_part around) out (moments_of around) (draws_of around) one
+Obeys (command.Serve options) input out files around kids one = ServeRun around.step options files (net_part around) out (moments_of around) (draws_of around) one
 Obeys (command.Call options) input out files around kids one = CallRun options input out files around one
 Obeys (command.Pair options) input out files around kids one = PairRun options input out files around kids one
 Obeys command.Check input out files around kids one = CheckRun input out one

@@ -86,24 +86,24 @@ pub fn run<S: Source, O: Sink, F: KeyFiles, N: Net, P: Spawner, C: Clock, D: See
         (record { before = draw.old; after = draw.new }) one ⊎ IsUnbegun
         (record { told = O.written; faults = O.faults; before = out.old; after = out.new })
         (record { told = F.told; faults = F.faults; before = files.old; after = files.new })
-        (record { calls = N.calls; faults = N.faults; given = C.given; step = D.step; net = net.old; net_then = net.new; clock = clock.old; clock_then = clock.new; draw = draw.old; draw_then = draw.new }) one) }
+        (record { calls = N.calls; room = N.room; faults = N.faults; given = C.given; step = D.step; net = net.old; net_then = net.new; clock = clock.old; clock_then = clock.new; draw = draw.old; draw_then = draw.new }) one) }
     ensures call { (options : CallOptions) → Says (map string_bytes words.now) (command.Call options) → EndsBy result (λ one. CallRun options
         (record { told = S.left; faults = S.faults; before = input.old; after = input.new })
         (record { told = O.written; faults = O.faults; before = out.old; after = out.new })
         (record { told = F.told; faults = F.faults; before = files.old; after = files.new })
-        (record { calls = N.calls; faults = N.faults; given = C.given; step = D.step; net = net.old; net_then = net.new; clock = clock.old; clock_then = clock.new; draw = draw.old; draw_then = draw.new }) one ⊎ IsUnbegun
+        (record { calls = N.calls; room = N.room; faults = N.faults; given = C.given; step = D.step; net = net.old; net_then = net.new; clock = clock.old; clock_then = clock.new; draw = draw.old; draw_then = draw.new }) one ⊎ IsUnbegun
         (record { told = O.written; faults = O.faults; before = out.old; after = out.new })
         (record { told = F.told; faults = F.faults; before = files.old; after = files.new })
-        (record { calls = N.calls; faults = N.faults; given = C.given; step = D.step; net = net.old; net_then = net.new; clock = clock.old; clock_then = clock.new; draw = draw.old; draw_then = draw.new }) one) }
+        (record { calls = N.calls; room = N.room; faults = N.faults; given = C.given; step = D.step; net = net.old; net_then = net.new; clock = clock.old; clock_then = clock.new; draw = draw.old; draw_then = draw.new }) one) }
     ensures pair { (options : PairOptions) → Says (map string_bytes words.now) (command.Pair options) → EndsBy result (λ one. PairRun options
         (record { told = S.left; faults = S.faults; before = input.old; after = input.new })
         (record { told = O.written; faults = O.faults; before = out.old; after = out.new })
         (record { told = F.told; faults = F.faults; before = files.old; after = files.new })
-        (record { calls = N.calls; faults = N.faults; given = C.given; step = D.step; net = net.old; net_then = net.new; clock = clock.old; clock_then = clock.new; draw = draw.old; draw_then = draw.new })
+        (record { calls = N.calls; room = N.room; faults = N.faults; given = C.given; step = D.step; net = net.old; net_then = net.new; clock = clock.old; clock_then = clock.new; draw = draw.old; draw_then = draw.new })
         (record { calls = P.calls; faults = P.faults; before = kids.old; after = kids.new }) one ⊎ (IsUnbegun
         (record { told = O.written; faults = O.faults; before = out.old; after = out.new })
         (record { told = F.told; faults = F.faults; before = files.old; after = files.new })
-        (record { calls = N.calls; faults = N.faults; given = C.given; step = D.step; net = net.old; net_then = net.new; clock = clock.old; clock_then = clock.new; draw = draw.old; draw_then = draw.new }) one × (kids.new ≡ kids.old))) }
+        (record { calls = N.calls; room = N.room; faults = N.faults; given = C.given; step = D.step; net = net.old; net_then = net.new; clock = clock.old; clock_then = clock.new; draw = draw.old; draw_then = draw.new }) one × (kids.new ≡ kids.old))) }
     ensures check { Says (map string_bytes words.now) command.Check → EndsBy result (CheckRun
         (record { told = S.left; faults = S.faults; before = input.old; after = input.new })
         (record { told = O.written; faults = O.faults; before = out.old; after = out.new })) }
@@ -151,13 +151,13 @@ fn obey<S: Source, O: Sink, F: KeyFiles, N: Net, P: Spawner, C: Clock, D: Seeded
         (record { told = S.left; faults = S.faults; before = input.old; after = input.new })
         (record { told = O.written; faults = O.faults; before = out.old; after = out.new })
         (record { told = F.told; faults = F.faults; before = files.old; after = files.new })
-        (record { calls = N.calls; faults = N.faults; given = C.given; step = D.step; net = net.old; net_then = net.new; clock = clock.old; clock_then = clock.new; draw = draw.old; draw_then = draw.new })
+        (record { calls = N.calls; room = N.room; faults = N.faults; given = C.given; step = D.step; net = net.old; net_then = net.new; clock = clock.old; clock_then = clock.new; draw = draw.old; draw_then = draw.new })
         (record { calls = P.calls; faults = P.faults; before = kids.old; after = kids.new })
         result }
     ensures stays { Stays command.now
         (record { told = S.left; faults = S.faults; before = input.old; after = input.new })
         (record { told = F.told; faults = F.faults; before = files.old; after = files.new })
-        (record { calls = N.calls; faults = N.faults; given = C.given; step = D.step; net = net.old; net_then = net.new; clock = clock.old; clock_then = clock.new; draw = draw.old; draw_then = draw.new })
+        (record { calls = N.calls; room = N.room; faults = N.faults; given = C.given; step = D.step; net = net.old; net_then = net.new; clock = clock.old; clock_then = clock.new; draw = draw.old; draw_then = draw.new })
         (record { calls = P.calls; faults = P.faults; before = kids.old; after = kids.new }) }
 {
     match command {

@@ -1,10 +1,11 @@
 //! A connection that a server took, and how it ends.
 
+use mt_edge::Link;
 use server_core::DeskFault;
 use std::marker::Model;
 use transport::FrameFault;
 
-/// A connection that a server took, and has neither read from nor written to. Contracts see its link.
+/// A connection that a server took, and has neither read from nor written to, nor closed. Contracts see its link.
 #[derive(Debug, Drop)]
 pub struct Conn<L> {
     pub(crate) link: L,
@@ -18,11 +19,12 @@ impl<L> Model for Conn<L> {
     ghost view = { λ conn. conn.link };
 }
 
-impl<L> Conn<L> {
-    ghost use Rattle.std.specs.Prelude.{◌≡◌};
+impl<L: Link> Conn<L> {
+    ghost use Rattle.std.specs.Prelude.{◌≡◌, false};
 
-    /// The connection of this link. Takes no memory.
+    /// The connection of this link, which is open. Takes no memory.
     pub fn new(link: L) -> Conn<L>
+        requires open { (L.standing link).closed ≡ false }
         ensures { result ≡ link }
     {
         Conn { link }

@@ -9,6 +9,10 @@ input_bytes_max = 16777216
 abbrev pub refusal_line : ℕ → List ℕ → List ℕ
 refusal_line line cause = codes "refused at line " ++ decimal line ++ codes ": " ++ cause ++ codes "\n"
 
+-- a line outside the grammar
+abbrev pub bad_line : ℕ → List ℕ
+bad_line line = refusal_line line (codes "bad line")
+
 -- an input of more bytes
 abbrev pub too_long : List ℕ
 too_long = codes "input too long\n"

@@ -1,7 +1,7 @@
 //! What is due, before it is written.
 
 ghost use Rattle.std.specs.Prelude.{◌≡◌, IfOk};
-ghost use Rattle.statuses.specs.Lines.{refusal_line};
+ghost use Rattle.statuses.specs.Lines.{bad_line, refusal_line, too_long};
 ghost use Rattle.statuses.specs.Outside.{Tells};
 
 use crate::status::Status;
@@ -59,6 +59,33 @@ impl From<Memory> for Stop {
     }
 }
 
+/// The most bytes of an input.
+pub const INPUT_BYTES_MAX: usize = 16_777_216;
+
+/// The answer where an input has more.
+///
+/// # Errors
+///
+/// `Memory`.
+pub fn too_long(alloc: Global) -> Result<Answer, Memory>
+    ensures status { IfOk result (λ answer. answer.status ≡ Status.InputRefused) }
+    ensures text { IfOk result (λ answer. answer.text ≡ too_long) }
+{
+    Answer::new(alloc, Status::InputRefused, b"input too long\n")
+}
+
+/// The answer where this line of the input, from 1, is outside its grammar.
+///
+/// # Errors
+///
+/// `Memory`.
+pub fn bad_line(alloc: Global, line: u32) -> Result<Answer, Memory>
+    ensures status { IfOk result (λ answer. answer.status ≡ Status.InputRefused) }
+    ensures text { IfOk result (λ answer. answer.text ≡ bad_line line) }
+{
+    refusal(alloc, Status::InputRefused, line, "bad line")
+}
+
 /// The answer where a line of the input is refused: its number, from 1, and the cause.
 ///
 /// # Errors
@@ -79,7 +106,7 @@ pub fn refusal(alloc: Global, status: Status, line: u32, cause: &str) -> Result<
 }
 
 /// Writes the text of an answer, and answers how the run ends: by the answer's status, or by `WriteFault`, where a front of
-/// the text is written.
+/// the text is written, short of the whole.
 pub fn tell<O: Sink>(out: &mut O, answer: &Answer) -> Status
     ensures { Tells (record { told = O.written; faults = O.faults; before = out.old; after = out.new }) answer.now.status answer.now.text result }
 {

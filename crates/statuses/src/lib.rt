@@ -6,5 +6,5 @@ mod answer;
 pub mod laws;
 mod status;
 
-pub use answer::{Answer, Stop, refusal, tell};
+pub use answer::{Answer, INPUT_BYTES_MAX, Stop, bad_line, refusal, tell, too_long};
 pub use status::Status;

@@ -11,7 +11,7 @@ use test_asserts::{holds_at, same_at};
 const PIECE_BYTES: usize = 280;
 
 /// Room for what goes over a link, in bytes.
-const ROOM_BYTES: usize = 8_192;
+pub(crate) const ROOM_BYTES: usize = 8_192;
 
 /// The key file of the permanent key `00` to `ff` and the temporary one `ff` to `00`.
 fn key_file(alloc: Global) -> Result<Octets, Fail> {
@@ -72,14 +72,14 @@ fn words_of(alloc: Global, line: &str) -> Result<Vec<String>, AllocError> {
 
 /// How a run of these words ended, what it wrote, and what it wrote over its last connection.
 #[derive(Drop)]
-struct Ended {
-    status: u8,
-    out: Octets,
-    sent: Octets,
+pub(crate) struct Ended {
+    pub(crate) status: u8,
+    pub(crate) out: Octets,
+    pub(crate) sent: Octets,
 }
 
 /// A run of these words over a link on which these bytes come, with words drawn from this seed.
-fn ran(
+pub(crate) fn ran(
     alloc: Global,
     line: &str,
     script: &[u8],
@@ -87,9 +87,20 @@ fn ran(
     lost: bool,
     seed: u8,
 ) -> Result<Ended, Fail> {
+    let mut net = net(alloc, come, lost)?;
+    ended(alloc, line, script, &mut net, seed)
+}
+
+/// The same over a net.
+pub(crate) fn ended(
+    alloc: Global,
+    line: &str,
+    script: &[u8],
+    net: &mut MemNet,
+    seed: u8,
+) -> Result<Ended, Fail> {
     let mut input = MemSource::new(alloc, script, ROOM_BYTES, &[])?;
     let mut out = MemSink::new(alloc, ROOM_BYTES, ROOM_BYTES, &[])?;
-    let mut net = net(alloc, come, lost)?;
     let words = words_of(alloc, line)?;
     let status = status_of(
         alloc,
@@ -97,13 +108,13 @@ fn ran(
         &mut input,
         &mut out,
         &mut files(alloc)?,
-        &mut net,
+        net,
         seed,
     )?;
     Ok(Ended {
         status,
         out: Octets::copy(alloc, out.written())?,
-        sent: Octets::copy(alloc, written(&net))?,
+        sent: Octets::copy(alloc, written(net))?,
     })
 }
 

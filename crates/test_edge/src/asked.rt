@@ -18,7 +18,7 @@ struct Notes {
     calls: Cell<u64>,
     address: Cell<SocketAddr>,
     offered: Cell<usize>,
-    is_failing: bool,
+    is_failing: Cell<bool>,
 }
 
 impl Notes {
@@ -27,7 +27,7 @@ impl Notes {
             calls: Cell::new(0),
             address: Cell::new(SocketAddr::from((Ipv4Addr::UNSPECIFIED, 0))),
             offered: Cell::new(0),
-            is_failing,
+            is_failing: Cell::new(is_failing),
         }
     }
 
@@ -48,7 +48,7 @@ impl Notes {
 
     /// The answer of a call, by whether calls fail.
     fn answer<T: Drop>(&self, value: T) -> io::Result<T> {
-        if self.is_failing {
+        if self.is_failing.get() {
             Err(io::Error::from(ErrorKind::BrokenPipe))
         } else {
             Ok(value)
@@ -113,7 +113,7 @@ impl<'a> OpenListener for NotedListener<'a> {
 
     fn accept(&self) -> io::Result<(NotedStream<'a>, SocketAddr)> {
         self.notes.add(ACCEPT);
-        Ok((NotedStream { notes: self.notes }, self.notes.address.get()))
+        self.notes.answer((NotedStream { notes: self.notes }, self.notes.address.get()))
     }
 }
 
@@ -136,14 +136,14 @@ impl<'a> OpenStream for NotedStream<'a> {
 impl<'a> Read for NotedStream<'a> {
     fn read(&mut self, into: &mut [u8]) -> io::Result<usize> {
         self.notes.offered(READ, into.len());
-        Ok(into.len().min(1))
+        self.notes.answer(into.len().min(1))
     }
 }
 
 impl<'a> Write for NotedStream<'a> {
     fn write(&mut self, piece: &[u8]) -> io::Result<usize> {
         self.notes.offered(WRITE, piece.len());
-        Ok(piece.len().min(2))
+        self.notes.answer(piece.len().min(2))
     }
 
     fn flush(&mut self) -> io::Result<()> {
@@ -209,6 +209,26 @@ fn a_net_asks_once_where_it_fails(_rt: HostRuntime) -> Result<(), Fail> {
     same(asked(&notes), 0x2)?;
     same(matches!(net.accept(), Linked::Failed), true)?;
     same(asked(&notes), 0)?;
+    Ok(())
+}
+
+#[test]
+fn what_fails_is_asked_once(_rt: HostRuntime) -> Result<(), Fail> {
+    let notes = Notes::new(false);
+    let mut net = TcpNet::new(NotedSockets { notes: &notes });
+    same(net.listen(443), Act::Ready)?;
+    let Linked::Link(link) = net.connect(80) else {
+        return Err("no link".into());
+    };
+    let mut link = link;
+    same(asked(&notes), 0x124)?;
+    notes.is_failing.set(true);
+    same(matches!(net.accept(), Linked::Failed), true)?;
+    same(asked(&notes), 0x3)?;
+    same(link.read(&mut [0u8; 9]), Got::Failed)?;
+    same(asked(&notes), 0x6)?;
+    same(link.write(b"abc"), Put::Failed)?;
+    same(asked(&notes), 0x78)?;
     Ok(())
 }
 

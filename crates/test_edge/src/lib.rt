@@ -11,6 +11,8 @@ mod kids;
 #[cfg(test)]
 mod links;
 #[cfg(test)]
+mod once;
+#[cfg(test)]
 mod refusals;
 #[cfg(test)]
 mod texts;

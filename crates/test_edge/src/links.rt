@@ -198,6 +198,9 @@ fn objects_of_std_that_fail() -> Result<(), Fail> {
     same(sink.faults(), 1)?;
     let mut sink = WriteSink::new(make_odd(true, true));
     same(sink.write(b"abc"), Put::Failed)?;
+    same(sink.write(b"abc"), Put::Failed)?;
+    same(sink.faults(), 2)?;
+    same(sink.into_inner().held, 1)?;
     let mut sink = WriteSink::new(make_odd(true, false));
     same(sink.write(b"abc"), Put::Took(1))?;
     same(sink.write(b"bc"), Put::Took(1))?;

@@ -4,7 +4,7 @@ use Rattle.cmd_call.proofs.batching.run.Goals as goal
 
 pub returns-clause-ran : goal.returns-clause-ran
 returns-clause-ran g c course stands =
-    let around = around_of g.N.Net.calls g.N.Net.faults g.C.Clock.given g.D.Draw.step c.args.net.now c.run_batch-holder.new.net c.args.clock.now c.run_batch-holder.new.clock c.args.draw.now c.run_batch-holder.new.draw in
+    let around = around_of g.N.Net.calls g.N.Net.room g.N.Net.faults g.C.Clock.given g.D.Draw.step c.args.net.now c.run_batch-holder.new.net c.args.clock.now c.run_batch-holder.new.clock c.args.draw.now c.run_batch-holder.new.draw in
     let end = c.run_batch-holder.result.1 in
     let kept = c.run_batch-holder.result.0 in
     let trace = traced c.args.options.now c.args.ring c.new-seal.result course around end kept c.new-seal.ensures (reads_ring c.packets_open_as_worked_out.ensures.of_the_protocol c.args.ring) (λ reading reads. c.run_batch-holder.ensures.trace course reading reads stands) in
@@ -14,7 +14,7 @@ returns-clause-ran g c course stands =
 
 pub returns-clause-left : goal.returns-clause-left
 returns-clause-left g c course stands =
-    let around = around_of g.N.Net.calls g.N.Net.faults g.C.Clock.given g.D.Draw.step c.args.net.now c.run_batch-holder.new.net c.args.clock.now c.run_batch-holder.new.clock c.args.draw.now c.run_batch-holder.new.draw in
+    let around = around_of g.N.Net.calls g.N.Net.room g.N.Net.faults g.C.Clock.given g.D.Draw.step c.args.net.now c.run_batch-holder.new.net c.args.clock.now c.run_batch-holder.new.clock c.args.draw.now c.run_batch-holder.new.draw in
     let end = c.run_batch-holder.result.1 in
     let kept = c.run_batch-holder.result.0 in
     let trace = traced c.args.options.now c.args.ring c.new-seal.result course around end kept c.new-seal.ensures (reads_ring c.packets_open_as_worked_out.ensures.of_the_protocol c.args.ring) (λ reading reads. c.run_batch-holder.ensures.trace course reading reads stands) in
@@ -22,5 +22,5 @@ returns-clause-left g c course stands =
 
 pub returns-clause-connects : goal.returns-clause-connects
 returns-clause-connects g c =
-    let around = around_of g.N.Net.calls g.N.Net.faults g.C.Clock.given g.D.Draw.step c.args.net.now c.run_batch-holder.new.net c.args.clock.now c.run_batch-holder.new.clock c.args.draw.now c.run_batch-holder.new.draw in
-    uses_net c.args.options.now around c.run_batch-holder.result.1 c.run_batch-holder.ensures.uses c.run_batch-holder.ensures.goes_on
+    let around = around_of g.N.Net.calls g.N.Net.room g.N.Net.faults g.C.Clock.given g.D.Draw.step c.args.net.now c.run_batch-holder.new.net c.args.clock.now c.run_batch-holder.new.clock c.args.draw.now c.run_batch-holder.new.draw in
+    uses_net c.args.options.now around c.run_batch-holder.result.1 c.run_batch-holder.ensures.uses c.run_batch-holder.ensures.goes_on c.run_batch-holder.ensures.still_tells c.run_batch-holder.ensures.faults

@@ -10,12 +10,12 @@ use Rattle.cmd_call.proofs.checking.answer_under.Goals as goal
 
 pub returns-in_err-client-clause-connects : goal.returns-in_err-client-clause-connects
 returns-in_err-client-clause-connects g c =
-    let around = around_of g.N.Net.calls g.N.Net.faults g.C.Clock.given g.D.Draw.step c.args.net.now c.args.net.now c.args.clock.now c.args.clock.now c.args.draw.now c.opening.new.draw in
+    let around = around_of g.N.Net.calls g.N.Net.room g.N.Net.faults g.C.Clock.given g.D.Draw.step c.args.net.now c.args.net.now c.args.clock.now c.args.clock.now c.args.draw.now c.opening.new.draw in
     idle_net c.args.options.now around refl
 
 pub returns-in-Ok-clause-owed : goal.returns-in-Ok-clause-owed
 returns-in-Ok-clause-owed g c =
-    let around = around_of g.N.Net.calls g.N.Net.faults g.C.Clock.given g.D.Draw.step c.args.net.now c.run.new.net c.args.clock.now c.run.new.clock c.args.draw.now c.run.new.draw in
+    let around = around_of g.N.Net.calls g.N.Net.room g.N.Net.faults g.C.Clock.given g.D.Draw.step c.args.net.now c.run.new.net c.args.clock.now c.run.new.clock c.args.draw.now c.run.new.draw in
     let keys = keys_of c.args.keys in
     let first = client_under keys (word_after g.D.Draw.step 0 c.args.draw.now) in
     owes_batch c.args.options.now c.args.script around c.run.result c.args.ring keys c.opening.new.draw (c.in-Ok.ensures.told first c.in_ok-client.ensures.stands refl)
@@ -23,12 +23,12 @@ returns-in-Ok-clause-owed g c =
 
 pub returns-in-Ok-clause-connects : goal.returns-in-Ok-clause-connects
 returns-in-Ok-clause-connects g c =
-    let around = around_of g.N.Net.calls g.N.Net.faults g.C.Clock.given g.D.Draw.step c.args.net.now c.run.new.net c.args.clock.now c.run.new.clock c.args.draw.now c.run.new.draw in
+    let around = around_of g.N.Net.calls g.N.Net.room g.N.Net.faults g.C.Clock.given g.D.Draw.step c.args.net.now c.run.new.net c.args.clock.now c.run.new.clock c.args.draw.now c.run.new.draw in
     same_net c.args.options.now around c.opening.new.draw c.run.ensures.connects
 
 pub returns-in-Err-clause-owed : goal.returns-in-Err-clause-owed
 returns-in-Err-clause-owed g c =
-    let around = around_of g.N.Net.calls g.N.Net.faults g.C.Clock.given g.D.Draw.step c.args.net.now c.args.net.now c.args.clock.now c.args.clock.now c.args.draw.now c.opening.new.draw in
+    let around = around_of g.N.Net.calls g.N.Net.room g.N.Net.faults g.C.Clock.given g.D.Draw.step c.args.net.now c.args.net.now c.args.clock.now c.args.clock.now c.args.draw.now c.opening.new.draw in
     let keys = keys_of c.args.keys in
     let first = client_under keys (word_after g.D.Draw.step 0 c.args.draw.now) in
     owes_refusal c.args.options.now c.args.script around c.refused_call.result c.args.ring keys c.in-Err.untaken.line (fault_of c.in-Err.untaken.fault) (record { net = refl; clock = refl }) c.in_ok-client.ensures.after
@@ -36,7 +36,7 @@ returns-in-Err-clause-owed g c =
 
 pub returns-in-Err-clause-connects : goal.returns-in-Err-clause-connects
 returns-in-Err-clause-connects g c =
-    let around = around_of g.N.Net.calls g.N.Net.faults g.C.Clock.given g.D.Draw.step c.args.net.now c.args.net.now c.args.clock.now c.args.clock.now c.args.draw.now c.opening.new.draw in
+    let around = around_of g.N.Net.calls g.N.Net.room g.N.Net.faults g.C.Clock.given g.D.Draw.step c.args.net.now c.args.net.now c.args.clock.now c.args.clock.now c.args.draw.now c.opening.new.draw in
     idle_net c.args.options.now around refl
 
 pub returns-in_err-client-clause-left : goal.returns-in_err-client-clause-left
@@ -45,7 +45,7 @@ returns-in_err-client-clause-left g c =
 
 pub returns-in-Ok-clause-left : goal.returns-in-Ok-clause-left
 returns-in-Ok-clause-left g c =
-    let around = around_of g.N.Net.calls g.N.Net.faults g.C.Clock.given g.D.Draw.step c.args.net.now c.run.new.net c.args.clock.now c.run.new.clock c.args.draw.now c.run.new.draw in
+    let around = around_of g.N.Net.calls g.N.Net.room g.N.Net.faults g.C.Clock.given g.D.Draw.step c.args.net.now c.run.new.net c.args.clock.now c.run.new.clock c.args.draw.now c.run.new.draw in
     let keys = keys_of c.args.keys in
     let first = client_under keys (word_after g.D.Draw.step 0 c.args.draw.now) in
     leaves_batch c.args.options.now c.args.script around c.run.result c.args.ring keys c.opening.new.draw (c.in-Ok.ensures.told first c.in_ok-client.ensures.stands refl)

@@ -8,7 +8,7 @@ use Rattle.cmd_call.proofs.running.run_call.Goals as goal
 
 pub returns-in-Ok : goal.returns-in-Ok
 returns-in-Ok g c =
-    let around = around_of g.N.Net.calls g.N.Net.faults g.C.Clock.given g.D.Draw.step c.args.net.now c.answer.new.net c.args.clock.now c.answer.new.clock c.args.draw.now c.answer.new.draw in
+    let around = around_of g.N.Net.calls g.N.Net.room g.N.Net.faults g.C.Clock.given g.D.Draw.step c.args.net.now c.answer.new.net c.args.clock.now c.answer.new.clock c.args.draw.now c.answer.new.draw in
     let files = files_of g.F.KeyFiles.told g.F.KeyFiles.faults c.args.files.now c.answer.new.files in
     let input : Outside g.row.S.Denot = record { told = g.S.Source.left; faults = g.S.Source.faults; before = c.args.input.now; after = c.answer.new.input } in
     let out : Outside g.row.O.Denot = record { told = g.O.Sink.written; faults = g.O.Sink.faults; before = c.args.out.now; after = c.tell.new.out } in
@@ -17,7 +17,7 @@ returns-in-Ok g c =
 
 pub returns-in-Err-ReadFault : goal.returns-in-Err-ReadFault
 returns-in-Err-ReadFault g c =
-    let around = around_of g.N.Net.calls g.N.Net.faults g.C.Clock.given g.D.Draw.step c.args.net.now c.answer.new.net c.args.clock.now c.answer.new.clock c.args.draw.now c.answer.new.draw in
+    let around = around_of g.N.Net.calls g.N.Net.room g.N.Net.faults g.C.Clock.given g.D.Draw.step c.args.net.now c.answer.new.net c.args.clock.now c.answer.new.clock c.args.draw.now c.answer.new.draw in
     let files = files_of g.F.KeyFiles.told g.F.KeyFiles.faults c.args.files.now c.answer.new.files in
     let input : Outside g.row.S.Denot = record { told = g.S.Source.left; faults = g.S.Source.faults; before = c.args.input.now; after = c.answer.new.input } in
     let out : Outside g.row.O.Denot = record { told = g.O.Sink.written; faults = g.O.Sink.faults; before = c.args.out.now; after = c.args.out.now } in
@@ -27,7 +27,7 @@ returns-in-Err-ReadFault g c =
 
 pub returns-in-Err-Memory : goal.returns-in-Err-Memory
 returns-in-Err-Memory g c =
-    let around = around_of g.N.Net.calls g.N.Net.faults g.C.Clock.given g.D.Draw.step c.args.net.now c.answer.new.net c.args.clock.now c.answer.new.clock c.args.draw.now c.answer.new.draw in
+    let around = around_of g.N.Net.calls g.N.Net.room g.N.Net.faults g.C.Clock.given g.D.Draw.step c.args.net.now c.answer.new.net c.args.clock.now c.answer.new.clock c.args.draw.now c.answer.new.draw in
     let files = files_of g.F.KeyFiles.told g.F.KeyFiles.faults c.args.files.now c.answer.new.files in
     let input : Outside g.row.S.Denot = record { told = g.S.Source.left; faults = g.S.Source.faults; before = c.args.input.now; after = c.answer.new.input } in
     let out : Outside g.row.O.Denot = record { told = g.O.Sink.written; faults = g.O.Sink.faults; before = c.args.out.now; after = c.args.out.now } in

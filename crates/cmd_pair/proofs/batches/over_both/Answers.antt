@@ -12,7 +12,7 @@ use Rattle.cmd_pair.proofs.batches.over_both.Goals as goal
 
 pub returns-in_err-client-clause-ran : goal.returns-in_err-client-clause-ran
 returns-in_err-client-clause-ran g c course drawn stands =
-    let around = around_of g.N.Net.calls g.N.Net.faults g.C.Clock.given g.D.Draw.step c.args.net.now c.over_server.new.net c.args.clock.now c.over_server.new.clock drawn c.over_server.new.draw in
+    let around = around_of g.N.Net.calls g.N.Net.room g.N.Net.faults g.C.Clock.given g.D.Draw.step c.args.net.now c.over_server.new.net c.args.clock.now c.over_server.new.clock drawn c.over_server.new.draw in
     let kids = kids_of g.P.Spawner.calls g.P.Spawner.faults c.args.kids.now c.over_server.new.kids in
     let same = ap (λ (keys : List ℕ). server_words keys c.args.options.now.port (Some c.args.options.now.stop_after)) c.as_str.ensures in
     let p = err_from_is_err_and c.from_residual.result c.from_residual.ensures.1 in
@@ -22,7 +22,7 @@ returns-in_err-client-clause-ran g c course drawn stands =
 
 pub returns-then-not-is_lost-clause-ran : goal.returns-then-not-is_lost-clause-ran
 returns-then-not-is_lost-clause-ran g c course drawn stands =
-    let around = around_of g.N.Net.calls g.N.Net.faults g.C.Clock.given g.D.Draw.step c.args.net.now c.over_server.new.net c.args.clock.now c.over_server.new.clock drawn c.over_server.new.draw in
+    let around = around_of g.N.Net.calls g.N.Net.room g.N.Net.faults g.C.Clock.given g.D.Draw.step c.args.net.now c.over_server.new.net c.args.clock.now c.over_server.new.clock drawn c.over_server.new.draw in
     let kids = kids_of g.P.Spawner.calls g.P.Spawner.faults c.args.kids.now c.over_server.new.kids in
     let done : Holder × Batch = (c.in_ok-client.client, c.in_ok-client.end) in
     let same = ap (λ (keys : List ℕ). server_words keys c.args.options.now.port (Some c.args.options.now.stop_after)) c.as_str.ensures in
@@ -32,7 +32,7 @@ returns-then-not-is_lost-clause-ran g c course drawn stands =
 
 pub returns-clause-ran : goal.returns-clause-ran
 returns-clause-ran g c course drawn stands =
-    let around = around_of g.N.Net.calls g.N.Net.faults g.C.Clock.given g.D.Draw.step c.args.net.now c.over_server-2.new.net c.args.clock.now c.over_server-2.new.clock drawn c.over_server-2.new.draw in
+    let around = around_of g.N.Net.calls g.N.Net.room g.N.Net.faults g.C.Clock.given g.D.Draw.step c.args.net.now c.over_server-2.new.net c.args.clock.now c.over_server-2.new.clock drawn c.over_server-2.new.draw in
     let kids = kids_of g.P.Spawner.calls g.P.Spawner.faults c.args.kids.now c.over_server.new.kids in
     let later = kids_of g.P.Spawner.calls g.P.Spawner.faults c.over_server.new.kids c.over_server-2.new.kids in
     let done : Holder × Batch = (c.in_ok-client.client, c.in_ok-client.end) in

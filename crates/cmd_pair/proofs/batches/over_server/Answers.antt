@@ -15,7 +15,7 @@ returns-clause-spawns g c =
 
 pub returns-clause-ran : goal.returns-clause-ran
 returns-clause-ran g c course drawn stands =
-    let around = around_of g.N.Net.calls g.N.Net.faults g.C.Clock.given g.D.Draw.step c.args.net.now c.run_on-batch.new.net c.args.clock.now c.run_on-batch.new.clock drawn c.run_on-batch.new.draw in
+    let around = around_of g.N.Net.calls g.N.Net.room g.N.Net.faults g.C.Clock.given g.D.Draw.step c.args.net.now c.run_on-batch.new.net c.args.clock.now c.run_on-batch.new.clock drawn c.run_on-batch.new.draw in
     if-same (λ (done : Holder × Batch). IsBatch c.args.seal.now c.args.server.now.port course around done.1 done.0) c.run_on-batch.result c.ended.result c.ended.ensures.same (c.run_on-batch.ensures.ran course drawn stands)
 
 pub returns-clause-decided : goal.returns-clause-decided

@@ -11,7 +11,7 @@ run-requires-clause-keys g c = c.in_ok-client.ensures.taken.given.has
 
 pub returns-in_err-client-clause-halts : goal.returns-in_err-client-clause-halts
 returns-in_err-client-clause-halts g c =
-    let around = around_of g.N.Net.calls g.N.Net.faults g.C.Clock.given g.D.Draw.step c.args.net.now c.args.net.now c.args.clock.now c.args.clock.now c.args.draw.now c.take.new.draw in
+    let around = around_of g.N.Net.calls g.N.Net.room g.N.Net.faults g.C.Clock.given g.D.Draw.step c.args.net.now c.args.net.now c.args.clock.now c.args.clock.now c.args.draw.now c.take.new.draw in
     let files = files_of g.F.KeyFiles.told g.F.KeyFiles.faults c.args.files.now c.take.new.files in
     let kids = kids_of g.P.Spawner.calls g.P.Spawner.faults c.args.kids.now c.args.kids.now in
     let input : Outside g.row.S.Denot = record { told = g.S.Source.left; faults = g.S.Source.faults; before = c.args.input.now; after = c.take.new.input } in
@@ -21,7 +21,7 @@ returns-in_err-client-clause-halts g c =
 
 pub returns-clause-owed : goal.returns-clause-owed
 returns-clause-owed g c =
-    let around = around_of g.N.Net.calls g.N.Net.faults g.C.Clock.given g.D.Draw.step c.args.net.now c.run.new.net c.args.clock.now c.run.new.clock c.args.draw.now c.run.new.draw in
+    let around = around_of g.N.Net.calls g.N.Net.room g.N.Net.faults g.C.Clock.given g.D.Draw.step c.args.net.now c.run.new.net c.args.clock.now c.run.new.clock c.args.draw.now c.run.new.draw in
     let taken = c.in_ok-client.ensures.taken in
     record {
       calls = taken.calls;

@@ -52,7 +52,7 @@ returns-in-Err g c = record {
     ends = (
       refl,
       c.in-Err.ensures.failed refl,
-      front-line (g.O.Sink.written c.args.out.now) (g.O.Sink.written c.write_all.new.sink) c.as_slice.result.now (listening c.args.options.now.port) (c.as_slice.ensures.value ∙ c.in-Ok.ensures) c.in-Err.ensures.front,
+      front-line (g.O.Sink.written c.args.out.now) (g.O.Sink.written c.write_all.new.sink) c.as_slice.result.now (listening c.args.options.now.port) (c.as_slice.ensures.value ∙ c.in-Ok.ensures) c.in-Err.ensures.cut,
     );
   };
 }
@@ -73,7 +73,7 @@ returns-in-Served g c =
               (listening c.args.options.now.port) status.Done c.say-in-Served.result (c.as_slice.ensures.value ∙ c.in-Ok.ensures) c.in_default-write_all.ensures.whole c.say-in-Served.ensures,
           tells-lines g.O.Sink.written g.O.Sink.faults c.args.out.now c.write_all.new.sink c.say-in-Served.new.out c.as_slice.result.now c.as_slice-in-Served.result.now
               (listening c.args.options.now.port) (last_line c.args.options.now.conns Served) status.Done c.say-in-Served.result
-              (c.as_slice.ensures.value ∙ c.in-Ok.ensures) (c.as_slice-in-Served.ensures.value ∙ c.in-Ok-served_line.ensures) c.in_default-write_all.ensures.whole c.write_all.ensures.never_falls c.say-in-Served.ensures,
+              (c.as_slice.ensures.value ∙ c.in-Ok.ensures) (c.as_slice-in-Served.ensures.value ∙ c.in-Ok-served_line.ensures) c.in_default-write_all.ensures.whole c.in_default-write_all.ensures.no_fault c.say-in-Served.ensures,
         );
       };
     }
@@ -94,7 +94,7 @@ returns-in-Stopped g c =
               (listening c.args.options.now.port) status.Done c.say-in-Stopped.result (c.as_slice.ensures.value ∙ c.in-Ok.ensures) c.in_default-write_all.ensures.whole c.say-in-Stopped.ensures,
           tells-lines g.O.Sink.written g.O.Sink.faults c.args.out.now c.write_all.new.sink c.say-in-Stopped.new.out c.as_slice.result.now (last_line c.args.options.now.conns Stopped)
               (listening c.args.options.now.port) (last_line c.args.options.now.conns Stopped) status.Done c.say-in-Stopped.result
-              (c.as_slice.ensures.value ∙ c.in-Ok.ensures) refl c.in_default-write_all.ensures.whole c.write_all.ensures.never_falls c.say-in-Stopped.ensures,
+              (c.as_slice.ensures.value ∙ c.in-Ok.ensures) refl c.in_default-write_all.ensures.whole c.in_default-write_all.ensures.no_fault c.say-in-Stopped.ensures,
         );
       };
     }
@@ -115,7 +115,7 @@ returns-in-NotTaken g c =
               (listening c.args.options.now.port) status.NotListening c.say-in-NotTaken.result (c.as_slice.ensures.value ∙ c.in-Ok.ensures) c.in_default-write_all.ensures.whole c.say-in-NotTaken.ensures,
           tells-lines g.O.Sink.written g.O.Sink.faults c.args.out.now c.write_all.new.sink c.say-in-NotTaken.new.out c.as_slice.result.now not_listening
               (listening c.args.options.now.port) not_listening status.NotListening c.say-in-NotTaken.result
-              (c.as_slice.ensures.value ∙ c.in-Ok.ensures) refl c.in_default-write_all.ensures.whole c.write_all.ensures.never_falls c.say-in-NotTaken.ensures,
+              (c.as_slice.ensures.value ∙ c.in-Ok.ensures) refl c.in_default-write_all.ensures.whole c.in_default-write_all.ensures.no_fault c.say-in-NotTaken.ensures,
         );
       };
     }
@@ -133,7 +133,13 @@ returns g c =
         serves = serves.are;
         ends = (
           first-line-alone (g.O.Sink.written c.args.out.now) (g.O.Sink.written c.write_all.new.sink) c.as_slice.result.now (listening c.args.options.now.port) (c.as_slice.ensures.value ∙ c.in-Ok.ensures) c.in_default-write_all.ensures.whole,
-          (refl, writes-line (g.O.Sink.written c.args.out.now) (g.O.Sink.written c.write_all.new.sink) c.as_slice.result.now (listening c.args.options.now.port) (c.as_slice.ensures.value ∙ c.in-Ok.ensures) c.in_default-write_all.ensures.whole),
+          (
+            refl,
+            record {
+              bytes = writes-line (g.O.Sink.written c.args.out.now) (g.O.Sink.written c.write_all.new.sink) c.as_slice.result.now (listening c.args.options.now.port) (c.as_slice.ensures.value ∙ c.in-Ok.ensures) c.in_default-write_all.ensures.whole;
+              no_fault = c.in_default-write_all.ensures.no_fault;
+            },
+          ),
         );
       };
     }

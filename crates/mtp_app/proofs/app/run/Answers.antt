@@ -13,7 +13,7 @@ returns-in-Ok-clause-sim g c = λ wire asked.
     (record { told = g.S.Source.left; faults = g.S.Source.faults; before = c.args.input.now; after = c.obey.new.input })
     (record { told = g.O.Sink.written; faults = g.O.Sink.faults; before = c.args.out.now; after = c.obey.new.out })
     (record { told = g.F.KeyFiles.told; faults = g.F.KeyFiles.faults; before = c.args.files.now; after = c.obey.new.files })
-    (record { calls = g.N.Net.calls; faults = g.N.Net.faults; given = g.C.Clock.given; step = g.D.Draw.step; net = c.args.net.now; net_then = c.obey.new.net; clock = c.args.clock.now; clock_then = c.obey.new.clock; draw = c.args.draw.now; draw_then = c.obey.new.draw })
+    (record { calls = g.N.Net.calls; room = g.N.Net.room; faults = g.N.Net.faults; given = g.C.Clock.given; step = g.D.Draw.step; net = c.args.net.now; net_then = c.obey.new.net; clock = c.args.clock.now; clock_then = c.obey.new.clock; draw = c.args.draw.now; draw_then = c.obey.new.draw })
     (record { calls = g.P.Spawner.calls; faults = g.P.Spawner.faults; before = c.args.kids.now; after = c.obey.new.kids })
     c.number.result c.obey.result c.in-Ok.command c.number.ensures c.obey.ensures.obeys wire
     (c.one_reading.ensures (map string_bytes c.args.words.now) c.in-Ok.command (command.Sim wire) c.in-Ok.ensures.said asked)
@@ -24,7 +24,7 @@ returns-in-Ok-clause-load g c = λ count asked.
     (record { told = g.S.Source.left; faults = g.S.Source.faults; before = c.args.input.now; after = c.obey.new.input })
     (record { told = g.O.Sink.written; faults = g.O.Sink.faults; before = c.args.out.now; after = c.obey.new.out })
     (record { told = g.F.KeyFiles.told; faults = g.F.KeyFiles.faults; before = c.args.files.now; after = c.obey.new.files })
-    (record { calls = g.N.Net.calls; faults = g.N.Net.faults; given = g.C.Clock.given; step = g.D.Draw.step; net = c.args.net.now; net_then = c.obey.new.net; clock = c.args.clock.now; clock_then = c.obey.new.clock; draw = c.args.draw.now; draw_then = c.obey.new.draw })
+    (record { calls = g.N.Net.calls; room = g.N.Net.room; faults = g.N.Net.faults; given = g.C.Clock.given; step = g.D.Draw.step; net = c.args.net.now; net_then = c.obey.new.net; clock = c.args.clock.now; clock_then = c.obey.new.clock; draw = c.args.draw.now; draw_then = c.obey.new.draw })
     (record { calls = g.P.Spawner.calls; faults = g.P.Spawner.faults; before = c.args.kids.now; after = c.obey.new.kids })
     c.number.result c.obey.result c.in-Ok.command c.number.ensures c.obey.ensures.obeys count
     (c.one_reading.ensures (map string_bytes c.args.words.now) c.in-Ok.command (command.Load count) c.in-Ok.ensures.said asked)
@@ -35,7 +35,7 @@ returns-in-Ok-clause-serve g c = λ options asked.
     (record { told = g.S.Source.left; faults = g.S.Source.faults; before = c.args.input.now; after = c.obey.new.input })
     (record { told = g.O.Sink.written; faults = g.O.Sink.faults; before = c.args.out.now; after = c.obey.new.out })
     (record { told = g.F.KeyFiles.told; faults = g.F.KeyFiles.faults; before = c.args.files.now; after = c.obey.new.files })
-    (record { calls = g.N.Net.calls; faults = g.N.Net.faults; given = g.C.Clock.given; step = g.D.Draw.step; net = c.args.net.now; net_then = c.obey.new.net; clock = c.args.clock.now; clock_then = c.obey.new.clock; draw = c.args.draw.now; draw_then = c.obey.new.draw })
+    (record { calls = g.N.Net.calls; room = g.N.Net.room; faults = g.N.Net.faults; given = g.C.Clock.given; step = g.D.Draw.step; net = c.args.net.now; net_then = c.obey.new.net; clock = c.args.clock.now; clock_then = c.obey.new.clock; draw = c.args.draw.now; draw_then = c.obey.new.draw })
     (record { calls = g.P.Spawner.calls; faults = g.P.Spawner.faults; before = c.args.kids.now; after = c.obey.new.kids })
     c.number.result c.obey.result c.in-Ok.command c.number.ensures c.obey.ensures.obeys options
     (c.one_reading.ensures (map string_bytes c.args.words.now) c.in-Ok.command (command.Serve options) c.in-Ok.ensures.said asked)
@@ -46,7 +46,7 @@ returns-in-Ok-clause-call g c = λ options asked.
     (record { told = g.S.Source.left; faults = g.S.Source.faults; before = c.args.input.now; after = c.obey.new.input })
     (record { told = g.O.Sink.written; faults = g.O.Sink.faults; before = c.args.out.now; after = c.obey.new.out })
     (record { told = g.F.KeyFiles.told; faults = g.F.KeyFiles.faults; before = c.args.files.now; after = c.obey.new.files })
-    (record { calls = g.N.Net.calls; faults = g.N.Net.faults; given = g.C.Clock.given; step = g.D.Draw.step; net = c.args.net.now; net_then = c.obey.new.net; clock = c.args.clock.now; clock_then = c.obey.new.clock; draw = c.args.draw.now; draw_then = c.obey.new.draw })
+    (record { calls = g.N.Net.calls; room = g.N.Net.room; faults = g.N.Net.faults; given = g.C.Clock.given; step = g.D.Draw.step; net = c.args.net.now; net_then = c.obey.new.net; clock = c.args.clock.now; clock_then = c.obey.new.clock; draw = c.args.draw.now; draw_then = c.obey.new.draw })
     (record { calls = g.P.Spawner.calls; faults = g.P.Spawner.faults; before = c.args.kids.now; after = c.obey.new.kids })
     c.number.result c.obey.result c.in-Ok.command c.number.ensures c.obey.ensures.obeys options
     (c.one_reading.ensures (map string_bytes c.args.words.now) c.in-Ok.command (command.Call options) c.in-Ok.ensures.said asked)
@@ -57,7 +57,7 @@ returns-in-Ok-clause-pair g c = λ options asked.
     (record { told = g.S.Source.left; faults = g.S.Source.faults; before = c.args.input.now; after = c.obey.new.input })
     (record { told = g.O.Sink.written; faults = g.O.Sink.faults; before = c.args.out.now; after = c.obey.new.out })
     (record { told = g.F.KeyFiles.told; faults = g.F.KeyFiles.faults; before = c.args.files.now; after = c.obey.new.files })
-    (record { calls = g.N.Net.calls; faults = g.N.Net.faults; given = g.C.Clock.given; step = g.D.Draw.step; net = c.args.net.now; net_then = c.obey.new.net; clock = c.args.clock.now; clock_then = c.obey.new.clock; draw = c.args.draw.now; draw_then = c.obey.new.draw })
+    (record { calls = g.N.Net.calls; room = g.N.Net.room; faults = g.N.Net.faults; given = g.C.Clock.given; step = g.D.Draw.step; net = c.args.net.now; net_then = c.obey.new.net; clock = c.args.clock.now; clock_then = c.obey.new.clock; draw = c.args.draw.now; draw_then = c.obey.new.draw })
     (record { calls = g.P.Spawner.calls; faults = g.P.Spawner.faults; before = c.args.kids.now; after = c.obey.new.kids })
     c.number.result c.obey.result c.in-Ok.command c.number.ensures c.obey.ensures.obeys options
     (c.one_reading.ensures (map string_bytes c.args.words.now) c.in-Ok.command (command.Pair options) c.in-Ok.ensures.said asked)
@@ -68,7 +68,7 @@ returns-in-Ok-clause-check g c = λ asked.
     (record { told = g.S.Source.left; faults = g.S.Source.faults; before = c.args.input.now; after = c.obey.new.input })
     (record { told = g.O.Sink.written; faults = g.O.Sink.faults; before = c.args.out.now; after = c.obey.new.out })
     (record { told = g.F.KeyFiles.told; faults = g.F.KeyFiles.faults; before = c.args.files.now; after = c.obey.new.files })
-    (record { calls = g.N.Net.calls; faults = g.N.Net.faults; given = g.C.Clock.given; step = g.D.Draw.step; net = c.args.net.now; net_then = c.obey.new.net; clock = c.args.clock.now; clock_then = c.obey.new.clock; draw = c.args.draw.now; draw_then = c.obey.new.draw })
+    (record { calls = g.N.Net.calls; room = g.N.Net.room; faults = g.N.Net.faults; given = g.C.Clock.given; step = g.D.Draw.step; net = c.args.net.now; net_then = c.obey.new.net; clock = c.args.clock.now; clock_then = c.obey.new.clock; draw = c.args.draw.now; draw_then = c.obey.new.draw })
     (record { calls = g.P.Spawner.calls; faults = g.P.Spawner.faults; before = c.args.kids.now; after = c.obey.new.kids })
     c.number.result c.obey.result c.in-Ok.command c.number.ensures c.obey.ensures.obeys
     (c.one_reading.ensures (map string_bytes c.args.words.now) c.in-Ok.command command.Check c.in-Ok.ensures.said asked)
@@ -79,7 +79,7 @@ returns-in-Ok-clause-relay g c = λ options asked.
     (record { told = g.S.Source.left; faults = g.S.Source.faults; before = c.args.input.now; after = c.obey.new.input })
     (record { told = g.O.Sink.written; faults = g.O.Sink.faults; before = c.args.out.now; after = c.obey.new.out })
     (record { told = g.F.KeyFiles.told; faults = g.F.KeyFiles.faults; before = c.args.files.now; after = c.obey.new.files })
-    (record { calls = g.N.Net.calls; faults = g.N.Net.faults; given = g.C.Clock.given; step = g.D.Draw.step; net = c.args.net.now; net_then = c.obey.new.net; clock = c.args.clock.now; clock_then = c.obey.new.clock; draw = c.args.draw.now; draw_then = c.obey.new.draw })
+    (record { calls = g.N.Net.calls; room = g.N.Net.room; faults = g.N.Net.faults; given = g.C.Clock.given; step = g.D.Draw.step; net = c.args.net.now; net_then = c.obey.new.net; clock = c.args.clock.now; clock_then = c.obey.new.clock; draw = c.args.draw.now; draw_then = c.obey.new.draw })
     (record { calls = g.P.Spawner.calls; faults = g.P.Spawner.faults; before = c.args.kids.now; after = c.obey.new.kids })
     c.number.result c.obey.result c.in-Ok.command c.number.ensures c.obey.ensures.obeys options
     (c.one_reading.ensures (map string_bytes c.args.words.now) c.in-Ok.command (command.Relay options) c.in-Ok.ensures.said asked)
@@ -90,7 +90,7 @@ returns-in-Ok-clause-help g c = λ page asked.
     (record { told = g.S.Source.left; faults = g.S.Source.faults; before = c.args.input.now; after = c.obey.new.input })
     (record { told = g.O.Sink.written; faults = g.O.Sink.faults; before = c.args.out.now; after = c.obey.new.out })
     (record { told = g.F.KeyFiles.told; faults = g.F.KeyFiles.faults; before = c.args.files.now; after = c.obey.new.files })
-    (record { calls = g.N.Net.calls; faults = g.N.Net.faults; given = g.C.Clock.given; step = g.D.Draw.step; net = c.args.net.now; net_then = c.obey.new.net; clock = c.args.clock.now; clock_then = c.obey.new.clock; draw = c.args.draw.now; draw_then = c.obey.new.draw })
+    (record { calls = g.N.Net.calls; room = g.N.Net.room; faults = g.N.Net.faults; given = g.C.Clock.given; step = g.D.Draw.step; net = c.args.net.now; net_then = c.obey.new.net; clock = c.args.clock.now; clock_then = c.obey.new.clock; draw = c.args.draw.now; draw_then = c.obey.new.draw })
     (record { calls = g.P.Spawner.calls; faults = g.P.Spawner.faults; before = c.args.kids.now; after = c.obey.new.kids })
     c.number.result c.obey.result c.in-Ok.command c.number.ensures c.obey.ensures.obeys page
     (c.one_reading.ensures (map string_bytes c.args.words.now) c.in-Ok.command (command.Help page) c.in-Ok.ensures.said asked)
@@ -101,7 +101,7 @@ returns-in-Ok-clause-version g c = λ asked.
     (record { told = g.S.Source.left; faults = g.S.Source.faults; before = c.args.input.now; after = c.obey.new.input })
     (record { told = g.O.Sink.written; faults = g.O.Sink.faults; before = c.args.out.now; after = c.obey.new.out })
     (record { told = g.F.KeyFiles.told; faults = g.F.KeyFiles.faults; before = c.args.files.now; after = c.obey.new.files })
-    (record { calls = g.N.Net.calls; faults = g.N.Net.faults; given = g.C.Clock.given; step = g.D.Draw.step; net = c.args.net.now; net_then = c.obey.new.net; clock = c.args.clock.now; clock_then = c.obey.new.clock; draw = c.args.draw.now; draw_then = c.obey.new.draw })
+    (record { calls = g.N.Net.calls; room = g.N.Net.room; faults = g.N.Net.faults; given = g.C.Clock.given; step = g.D.Draw.step; net = c.args.net.now; net_then = c.obey.new.net; clock = c.args.clock.now; clock_then = c.obey.new.clock; draw = c.args.draw.now; draw_then = c.obey.new.draw })
     (record { calls = g.P.Spawner.calls; faults = g.P.Spawner.faults; before = c.args.kids.now; after = c.obey.new.kids })
     c.number.result c.obey.result c.in-Ok.command c.number.ensures c.obey.ensures.obeys
     (c.one_reading.ensures (map string_bytes c.args.words.now) c.in-Ok.command command.Version c.in-Ok.ensures.said asked)
@@ -114,7 +114,7 @@ returns-in-Ok-clause-unread g c = λ not.
     reads-not
     (record { told = g.S.Source.left; faults = g.S.Source.faults; before = c.args.input.now; after = c.obey.new.input })
     (record { told = g.F.KeyFiles.told; faults = g.F.KeyFiles.faults; before = c.args.files.now; after = c.obey.new.files })
-    (record { calls = g.N.Net.calls; faults = g.N.Net.faults; given = g.C.Clock.given; step = g.D.Draw.step; net = c.args.net.now; net_then = c.obey.new.net; clock = c.args.clock.now; clock_then = c.obey.new.clock; draw = c.args.draw.now; draw_then = c.obey.new.draw })
+    (record { calls = g.N.Net.calls; room = g.N.Net.room; faults = g.N.Net.faults; given = g.C.Clock.given; step = g.D.Draw.step; net = c.args.net.now; net_then = c.obey.new.net; clock = c.args.clock.now; clock_then = c.obey.new.clock; draw = c.args.draw.now; draw_then = c.obey.new.draw })
     (record { calls = g.P.Spawner.calls; faults = g.P.Spawner.faults; before = c.args.kids.now; after = c.obey.new.kids })
     (map string_bytes c.args.words.now) c.in-Ok.command c.in-Ok.ensures.said c.obey.ensures.stays not
 
@@ -124,7 +124,7 @@ returns-in-Ok-clause-offline g c = λ not.
     stays-apart
     (record { told = g.S.Source.left; faults = g.S.Source.faults; before = c.args.input.now; after = c.obey.new.input })
     (record { told = g.F.KeyFiles.told; faults = g.F.KeyFiles.faults; before = c.args.files.now; after = c.obey.new.files })
-    (record { calls = g.N.Net.calls; faults = g.N.Net.faults; given = g.C.Clock.given; step = g.D.Draw.step; net = c.args.net.now; net_then = c.obey.new.net; clock = c.args.clock.now; clock_then = c.obey.new.clock; draw = c.args.draw.now; draw_then = c.obey.new.draw })
+    (record { calls = g.N.Net.calls; room = g.N.Net.room; faults = g.N.Net.faults; given = g.C.Clock.given; step = g.D.Draw.step; net = c.args.net.now; net_then = c.obey.new.net; clock = c.args.clock.now; clock_then = c.obey.new.clock; draw = c.args.draw.now; draw_then = c.obey.new.draw })
     (record { calls = g.P.Spawner.calls; faults = g.P.Spawner.faults; before = c.args.kids.now; after = c.obey.new.kids })
     (map string_bytes c.args.words.now) c.in-Ok.command c.in-Ok.ensures.said c.obey.ensures.stays not in
     (apart.files_stay, apart.idle.offline.net, apart.idle.offline.clock, apart.idle.draw)
@@ -134,7 +134,7 @@ returns-in-Ok-clause-alone g c = λ not.
     stays-alone
     (record { told = g.S.Source.left; faults = g.S.Source.faults; before = c.args.input.now; after = c.obey.new.input })
     (record { told = g.F.KeyFiles.told; faults = g.F.KeyFiles.faults; before = c.args.files.now; after = c.obey.new.files })
-    (record { calls = g.N.Net.calls; faults = g.N.Net.faults; given = g.C.Clock.given; step = g.D.Draw.step; net = c.args.net.now; net_then = c.obey.new.net; clock = c.args.clock.now; clock_then = c.obey.new.clock; draw = c.args.draw.now; draw_then = c.obey.new.draw })
+    (record { calls = g.N.Net.calls; room = g.N.Net.room; faults = g.N.Net.faults; given = g.C.Clock.given; step = g.D.Draw.step; net = c.args.net.now; net_then = c.obey.new.net; clock = c.args.clock.now; clock_then = c.obey.new.clock; draw = c.args.draw.now; draw_then = c.obey.new.draw })
     (record { calls = g.P.Spawner.calls; faults = g.P.Spawner.faults; before = c.args.kids.now; after = c.obey.new.kids })
     (map string_bytes c.args.words.now) c.in-Ok.command c.in-Ok.ensures.said c.obey.ensures.stays not
 
