@@ -41,7 +41,7 @@ pub record RunsWith {N O D : Type 0} (step : D → ℕ × D) (options : ServeOpt
 -- the connections are served with this ring, and end so
 pub record ServesWith {D : Type 0} (step : D → ℕ × D) (options : ServeOptions) (ring : List RingKey) (calls calls_then : Option (List NetCall)) (moments : Moments) (draws : Draws D) (ending : Ending) : Type 0 where
   pub connections : List (Connection D Registers)
-  pub are : IsServed (rules_of step registers.step (outside_of ring)) (first_of options moments draws.before) options.conns moments.after connections ending
+  pub are : IsServed (rules_of step registers.step (outside_of ring)) (first_of options moments draws.before) options.conns moments.after draws.after connections ending
   pub noted : IfSome calls_then (λ after. IsSomeAnd calls (λ before. (made : List NetCall) × (after ≡ before ++ made) × AreNotedBy ending connections made))
 
 -- ---- between connections

@@ -114,11 +114,13 @@ pub record Calls {D N : Type 0} (port : ℕ) (net : Part (List NetCall) N) (cour
 -- ---- the connections
 
 -- The trace of the server: it begins with no sessions, a fresh service, and as many packets to answer as the options say; as many
--- connections are served as the options say, unless they ended before; and the clock gave what they asked it for.
-pub record IsServed {D : Type 0} (rules : Rules D Registers) (first : Between D Registers) (conns : ℕ) (given : Option (List ℕ)) (connections : List (Connection D Registers)) (ending : Ending) : Type 0 where
+-- connections are served as the options say, unless they ended before; and the clock gave what they asked it for, and the draw too.
+pub record IsServed {D : Type 0} (rules : Rules D Registers) (first : Between D Registers) (conns : ℕ) (given : Option (List ℕ)) (drawn : D) (connections : List (Connection D Registers)) (ending : Ending) : Type 0 where
   pub are : AreConnections rules first connections
   pub ended : EndsBy conns ending connections
   pub moments : given ≡ (behind_all first connections).given
+  -- the words that were drawn are those of the connections, and no more
+  pub words : drawn ≡ (behind_all first connections).draw
 
 -- what the clock gave before a run and after it, where it tells
 pub record Moments : Type 0 where
@@ -145,7 +147,7 @@ ServesBy step options moments draws Unbegun = IsUnasked moments draws
 ServesBy step options moments draws (Deaf ring) = IsUnasked moments draws
 ServesBy step options moments draws (Mute ring) = IsUnasked moments draws
 ServesBy step options moments draws (Serves ring connections ending) =
-    IsServed (rules_of step registers.step (outside_of ring)) (first_of options moments draws.before) options.conns moments.after connections ending
+    IsServed (rules_of step registers.step (outside_of ring)) (first_of options moments draws.before) options.conns moments.after draws.after connections ending
 
 -- ---- the status, and what is written
 

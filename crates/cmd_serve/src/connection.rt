@@ -34,6 +34,7 @@ pub(crate) fn serve_next<N: Net, K: Desk, V: Service, C: Clock>(
     ensures left { LeavesCount result left.old left.new }
     ensures no_journal { IsNoJournal result }
     ensures same_keys { K.keys desk.new ≡ K.keys desk.old }
+    ensures same_reference { K.draw_name desk.new ≡ K.draw_name desk.old }
 {
     match net.accept() {
         Linked::Link(link) => {

@@ -32,6 +32,7 @@ pub(crate) fn serve_all<N: Net, K: Desk, V: Service, C: Clock>(
         (record { desk = K.StandsFor desk.new; drawn = K.drawn desk.new; service = service.new; given = C.given clock.new; left = left.new; calls = N.calls net.new }) }
     ensures counted { CountsEnding result (N.faults net.old) (N.faults net.new) }
     ensures first_fault { IsSome (N.calls net.old) → N.faults net.old ≡ 0 → IsSome (N.calls net.new) }
+    ensures same_reference { K.draw_name desk.new ≡ K.draw_name desk.old }
 {
     'connections: for _served in 0..conns {
         let end = serve_next(alloc, net, desk, service, clock, left);

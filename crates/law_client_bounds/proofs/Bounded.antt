@@ -1,5 +1,5 @@
 -- How much a client keeps, event by event.
-use Rattle.std.proofs.Common.{◌≡◌, ◌≤◌, ◌<◌, ◌+◌, ℕ, Bool, true, false, List, [], ◌∷◌, ◌++◌, fold, length, Option, None, Some, if◌then◌else◌, refl, subst, sym, arith, inl, inr}
+use Rattle.std.proofs.Common.{◌≤◌, ◌<◌, ℕ, List, [], ◌∷◌, ◌++◌, fold, length, Option, None, Some, refl, subst, sym, arith, inl, inr}
 use Rattle.std.specs.Prelude.{is_none}
 use Rattle.std.proofs.lemmas.List.{length-append}
 use Rattle.envelope.specs.declared.parts.Envelope.{Envelope}
@@ -17,7 +17,7 @@ use Rattle.client_rules.specs.Taking.{is_for, message_in, messages_of, take, tak
 use Rattle.law_client_bounds.specs.Bounds.{IsBounded}
 use Rattle.law_client_bounds.proofs.Keeping.{Keeps, if-so}
 use Rattle.law_client_bounds.proofs.Sending.{Flows, flows-so, flush-flows}
-use Rattle.law_client_bounds.proofs.Taking.{Learns, Moves, Notes, message-moves}
+use Rattle.law_client_bounds.proofs.Taking.{Moves, message-moves}
 
 -- ---- events that aren't a packet or another session
 

@@ -1,5 +1,5 @@
 -- What leaves a client's salt, the unique numbers that it learnt and the packets that it remembers.
-use Rattle.std.proofs.Common.{◌≡◌, ◌∙◌, ℕ, Bool, true, false, List, [], ◌∷◌, fold, if◌then◌else◌, refl}
+use Rattle.std.proofs.Common.{◌≡◌, ◌∙◌, Bool, true, false, List, [], ◌∷◌, fold, if◌then◌else◌, refl}
 use Rattle.client_rules.specs.Client.{Client}
 
 pub record Keeps (one other : Client) : Type 0 where

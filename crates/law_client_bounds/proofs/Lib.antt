@@ -3,3 +3,4 @@ mod Sending
 mod Taking
 mod Bounded
 mod Salted
+mod Due

@@ -1,5 +1,5 @@
 -- Where a client's salt comes from, event by event.
-use Rattle.std.proofs.Common.{◌≡◌, ◌∙◌, ◌⊎◌, ℕ, Bool, true, false, List, [], ◌∷◌, ◌++◌, fold, Option, None, Some, if◌then◌else◌, refl, subst, sym, ap, append_assoc, append-nil, inl, inr}
+use Rattle.std.proofs.Common.{◌≡◌, ◌∙◌, ℕ, Bool, true, false, List, [], ◌∷◌, ◌++◌, fold, Option, None, Some, if◌then◌else◌, refl, subst, sym, ap, append_assoc, append-nil, inl, inr}
 use Rattle.std.specs.List.{AllByRecursion, list_any}
 use Rattle.std.proofs.lemmas.Bool.{cases_Bool}
 use Rattle.envelope.specs.declared.parts.Envelope.{Envelope}
@@ -14,9 +14,9 @@ use Rattle.client_rules.specs.Sending.{Setting}
 use Rattle.client_rules.specs.Taking.{is_for, message_in, messages_of, take, takes_message, without_idle_wish}
 use Rattle.law_client_bounds.specs.Salts.{CameIn, GoesOn, IsCreation, IsNotice, IsOpenSalt, IsOpeningSalt}
 use Rattle.law_client_bounds.proofs.Bounded.{drop-keeps, submit-keeps}
-use Rattle.law_client_bounds.proofs.Keeping.{Keeps, stays}
+use Rattle.law_client_bounds.proofs.Keeping.{Keeps}
 use Rattle.law_client_bounds.proofs.Sending.{Flows, flush-flows}
-use Rattle.law_client_bounds.proofs.Taking.{Learns, Moves, Notes, message-moves}
+use Rattle.law_client_bounds.proofs.Taking.{Moves, message-moves}
 
 -- salt and learnt numbers stay
 pub record Same (one other : Client) : Type 0 where

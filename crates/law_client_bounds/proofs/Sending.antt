@@ -1,5 +1,5 @@
 -- A flush leaves the salt and the learnt numbers, and remembers at most one packet more.
-use Rattle.std.proofs.Common.{◌≡◌, ◌≤◌, ◌+◌, ◌-◌, ◌&&◌, ℕ, Bool, true, false, List, [], ◌∷◌, ◌++◌, fold, length, Option, None, Some, if◌then◌else◌, refl, subst, sym, arith}
+use Rattle.std.proofs.Common.{◌≡◌, ◌≤◌, ◌-◌, ◌&&◌, ℕ, Bool, true, false, List, [], ◌∷◌, ◌++◌, fold, length, Option, None, Some, if◌then◌else◌, refl, subst, sym, arith}
 use Rattle.std.specs.Prelude.{is_some, nat_lt}
 use Rattle.std.proofs.lemmas.List.{length-drop}
 use Rattle.service_tl.specs.declared.lists.Message.{Message}
@@ -10,11 +10,10 @@ use Rattle.containers.specs.Container.{container_of}
 use Rattle.msg_ids.specs.Counters.{room}
 use Rattle.packing.specs.Packing.{is_within}
 use Rattle.call_table.specs.declared.call.CallNo.{CallNo}
-use Rattle.call_table.specs.declared.call.Fate.TheVariants as fate
 use Rattle.call_table.specs.declared.call.Group.TheVariants as group
 use Rattle.call_table.specs.declared.packet.Packet.{Packet}
-use Rattle.call_table.specs.Table.{Call, at, group_of, newest, owner, remembered, settled}
-use Rattle.client_rules.specs.Client.{Client, Asked, Temporary, States, after_message, at_moment, calls_of, is_open, numbered, with_binding, with_call}
+use Rattle.call_table.specs.Table.{Call, at, group_of, newest, owner}
+use Rattle.client_rules.specs.Client.{Client, Temporary, States, after_message, at_moment, calls_of, is_open, numbered, with_call}
 use Rattle.client_rules.specs.Sending.{Setting, binding_body}
 use Rattle.client_rules.specs.Filling.{Filling, Goes, Never, Turn, Waits, asks_binding, asks_states, body_behind, changes, empty, fills, goes, is_needed, number_of, outstanding, says, says_acks, says_binding, says_call, says_call_at, says_destroyed, says_drop, says_drop_of, says_ping, says_resent, says_salts, says_states, says_told, sends_call, takes_turn, turn_of, undropped}
 use Rattle.client_rules.specs.Flush.{Marked, binding_alone, filled, first_marked, flush, gone_again, has_any, remembers, remembers_lone, room_min, sends, unless_binding, unless_call}

@@ -9,12 +9,11 @@ use Rattle.service_tl.specs.declared.item.Item.TheVariants as item
 use Rattle.service_tl.specs.declared.item.Item.TheVariants.{AuthBindTempAuthKey, BadMsgNotification, BadServerSalt, Broken, DestroySession, DestroySessionNone, DestroySessionOk, FutureSalts, GetFutureSalts, InvokeAfterMsg, InvokeAfterMsgs, MsgContainer, MsgDetailedInfo, MsgNewDetailedInfo, MsgResendReq, MsgsAck, MsgsAllInfo, MsgsStateInfo, MsgsStateReq, NewSessionCreated, Packed, Ping, PingDelayDisconnect, Pong, RpcAnswerDropped, RpcAnswerDroppedRunning, RpcAnswerUnknown, RpcDropAnswer, RpcError, RpcResult}
 use Rattle.service_tl.specs.ItemOf.{item_of}
 use Rattle.call_table.specs.declared.call.CallNo.{CallNo}
-use Rattle.call_table.specs.declared.packet.Packet.{Packet}
 use Rattle.call_table.specs.Table.{acknowledged, inner_of, owner}
-use Rattle.client_rules.specs.Client.{Client, StateRequest, Temporary, calls_of, is_open}
+use Rattle.client_rules.specs.Client.{Client, StateRequest, calls_of}
 use Rattle.client_rules.specs.Filling.{numbers_max}
 use Rattle.client_rules.specs.Learning.{ended, learn, learns, learnt_max, with_clock}
-use Rattle.client_rules.specs.Taking.{Notice, acknowledges, alone_among, alone_call, alone_number, answered_by, asks_answer, goes_again, has_asked, is_odd, noticed, noticed_by, packet_noticed, row, takes_message, told_of, told_state, told_states, with_notice_clock}
+use Rattle.client_rules.specs.Taking.{acknowledges, alone_among, alone_call, alone_number, answered_by, asks_answer, goes_again, has_asked, is_odd, noticed, noticed_by, packet_noticed, row, takes_message, told_of, told_state, told_states, with_notice_clock}
 use Rattle.law_client_bounds.specs.Salts.{IsCreation, IsNotice, IsOwn}
 use Rattle.law_client_bounds.proofs.Keeping.{Keeps, both, fold-keeps, if-so, stays}
 

@@ -1,6 +1,6 @@
 -- Where a client's salt comes from (core.telegram.org/mtproto/description, "Server Salt";
 -- core.telegram.org/mtproto/service_messages_about_messages, "Notice of Ignored Error Message").
-use Rattle.std.specs.Prelude.{◌≡◌, ◌≢◌, ◌⊎◌, ℕ, Bool, true, false, Option, None, Some, List, [], ◌∷◌, ◌++◌, fold}
+use Rattle.std.specs.Prelude.{◌≡◌, ◌≢◌, ◌⊎◌, ℕ, Bool, true, false, None, Some, List, ◌∷◌, ◌++◌, fold}
 use Rattle.std.specs.List.{AllByRecursion}
 use Rattle.envelope.specs.declared.parts.Envelope.{Envelope}
 use Rattle.service_tl.specs.declared.item.Item.{Item}

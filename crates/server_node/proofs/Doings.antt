@@ -209,7 +209,7 @@ did_under step serve lock ring other side later due end same did = subst (λ (ke
 
 -- ---- work
 
-runs_more : (now count : ℕ) → runs now count ++ Run now ∷ [] ≡ runs now (count + 1)
+pub runs_more : (now count : ℕ) → runs now count ++ Run now ∷ [] ≡ runs now (count + 1)
 runs_more now zero = refl
 runs_more now (suc count) = let e : suc count + 1 ≡ suc (count + 1) = omega arith in rw e (ap (λ acts. Run now ∷ acts) (runs_more now count))
 

@@ -16,3 +16,5 @@ pub mod Spelling
 pub mod Starting
 pub mod Turning
 pub mod Writing
+pub mod DeskCounts
+pub mod Idling

@@ -57,7 +57,7 @@ none_left earlier packets first left last before after some spent = record {
 
 -- ---- events that went on
 
-done_stands : {S V : Type 0} (step : S → ℕ × S) (serve : Step V) (lock : Lock) (ring : List RingKey) (side later : Side S V) (due : Due S V) (outside : Outside) (talk : Talk S V)
+pub done_stands : {S V : Type 0} (step : S → ℕ × S) (serve : Step V) (lock : Lock) (ring : List RingKey) (side later : Side S V) (due : Due S V) (outside : Outside) (talk : Talk S V)
     → IsOutside lock ring outside → Stands side talk → Did step serve lock ring side due None later → Stands later (after_acts (rules_of step serve outside) talk (due (rules_of step serve outside) talk))
 done_stands step serve lock ring side later due outside talk is stands did =
     let one = did.follows outside talk is stands in
@@ -175,7 +175,7 @@ piece_done {S} {V} step serve lock ring other side middle later piece now outsid
       packets = whole.packets;
       runs = worked.count;
       more = whole.more ++ did.bytes;
-      is = λ size. record { size = size; whole = whole.whole; goes_on = more_left (length (place.packets ++ whole.packets)) first left_then whole.left some; idle = worked.idle (turned rules turn place).talk.server talk.serves.server };
+      is = λ size. record { size = size; whole = whole.whole; goes_on = more_left (length (place.packets ++ whole.packets)) first left_then whole.left some; idle = worked.idle outside there.talk (subst (λ (keys : List RingKey). IsOutside lock keys outside) (sym same) is) whole.stands.talk };
       stands = record {
         talk = talk;
         line = subst (λ (all : List ℕ). IsLine later.line there.came there.packets (turned rules turn place).talk.sent all) (append_assoc bytes whole.more did.bytes)

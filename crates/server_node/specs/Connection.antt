@@ -128,13 +128,9 @@ turned rules turn place = worked rules turn (hears rules turn.now turn.packets (
 abbrev pub IsPieceSize : List ℕ → Type 0
 IsPieceSize piece = (0 < length piece) × (length piece ≤ piece_bytes)
 
--- the most runs after a piece: 256 sessions have 4,096 jobs each at most
-abbrev pub runs_max : ℕ
-runs_max = 1048576
-
--- no job is ready any more, or as many ran as there may be
-abbrev pub IsIdle : ℕ → Server → Type 0
-IsIdle runs server = (ready_count server.jobs ≡ 0) ⊎ (runs ≡ runs_max)
+-- no job is ready any more
+abbrev pub IsIdle : Server → Type 0
+IsIdle server = ready_count server.jobs ≡ 0
 
 -- On a connection at whose begin so many packets were left to be answered: with its own packets fewer were answered than that. So
 -- behind the packet that brings the count to 0 there is no tick, and no turn has it.
@@ -142,7 +138,7 @@ pub record IsTurn {S V : Type 0} (rules : Rules S V) (left : Option ℕ) (place 
   pub size : IsPieceSize turn.piece
   pub whole : AreWhole (place.came ++ turn.piece) (place.packets ++ turn.packets)
   pub goes_on : MayAnswerMore (length (place.packets ++ turn.packets)) left
-  pub idle : IsIdle turn.runs (turned rules turn place).talk.server
+  pub idle : IsIdle (turned rules turn place).talk.server
 
 -- a list of turns, the last one first
 abbrev pub turns_from : {S V : Type 0} → Rules S V → Place S V → List Turn → Place S V

@@ -122,16 +122,17 @@ pub record DidThen {S V : Type 0} (step : S → ℕ × S) (serve : Step V) (lock
 
 -- ---- work
 
--- where it goes on, no job is ready then, or as many ran as there may be
-abbrev pub IsIdleBy : Option ConnEnd → ℕ → (Server → Type 0) → Type 0
-IsIdleBy None count desk = (server : Server) → desk server → IsIdle count server
-IsIdleBy (Some end) count desk = ⊤
+-- where it goes on, no job is ready then
+abbrev pub IsIdleBy : Option ConnEnd → Server → Type 0
+IsIdleBy None server = IsIdle server
+IsIdleBy (Some end) server = ⊤
 
 -- A tick came, and so many runs.
 pub record Worked {S V : Type 0} (step : S → ℕ × S) (serve : Step V) (lock : Lock) (ring : List RingKey) (side : Side S V) (now : ℕ) (end : Option ConnEnd) (later : Side S V) : Type 0 where
   pub count : ℕ
   pub did : Did step serve lock ring side (λ rules talk. work_acts now count) end later
-  pub idle : IsIdleBy end count later.desk
+  pub idle : (outside : Outside) (talk : Talk S V) → IsOutside lock ring outside → Stands side talk
+      → IsIdleBy end (after_acts (rules_of step serve outside) talk (work_acts now count)).server
 
 -- ---- how events end a connection
 

@@ -2,6 +2,7 @@
 use Rattle.std.specs.Prelude.{◌≡◌, ◌≢◌, ℕ, List, [], ◌∷◌, ◌++◌, Option, Some, None, IfSome, IsSome, IsSomeAnd, Result, Ok, Err}
 use Rattle.mt_edge.specs.Faults.{one_more}
 use Rattle.mt_edge.specs.Links.{Standing, Told}
+use Rattle.server_core.specs.Desks.{CountsFault}
 use Rattle.server_node.specs.declared.conn.ConnEnd.{ConnEnd}
 use Rattle.server_node.specs.declared.conn.ConnEnd.TheVariants as ends
 
@@ -55,6 +56,19 @@ CountsBy (Some ends.TurnsSpent) before after = after ≡ before
 CountsBy (Some ends.Stopped) before after = after ≡ before
 CountsBy (Some (ends.Journal fault)) before after = after ≡ before
 CountsBy (Some ends.Memory) before after = after ≡ before
+
+-- the count of the failed calls of what the desk keeps its events on: it rose where the connection ended by one of them; else it is
+-- the same
+abbrev pub CountsDesk : Option ConnEnd → ℕ → ℕ → Type 0
+CountsDesk (Some (ends.Journal fault)) before after = CountsFault fault before after
+CountsDesk None before after = after ≡ before
+CountsDesk (Some ends.LinkFault) before after = after ≡ before
+CountsDesk (Some ends.Ended) before after = after ≡ before
+CountsDesk (Some (ends.Frame fault)) before after = after ≡ before
+CountsDesk (Some ends.Start) before after = after ≡ before
+CountsDesk (Some ends.TurnsSpent) before after = after ≡ before
+CountsDesk (Some ends.Stopped) before after = after ≡ before
+CountsDesk (Some ends.Memory) before after = after ≡ before
 
 -- nothing was read, and bytes may have been written
 pub record OnlyWrites (before after : Told) : Type 0 where

@@ -10,7 +10,7 @@ ghost use Rattle.server_node.specs.Record.{Answered, ReadTo, Turned};
 ghost use Rattle.server_node.specs.Served.{Begins};
 ghost use Rattle.server_node.specs.Trace.{IsOutside, Outside, Talk, rules_of};
 ghost use Rattle.server_node.specs.Turns.{TookPiece, TookTurn};
-ghost use Rattle.server_node.specs.Writes.{CountsBy, Goes, end_in};
+ghost use Rattle.server_node.specs.Writes.{CountsBy, CountsDesk, Goes, end_in};
 
 use crate::conn::{Conn, ConnEnd};
 use crate::heard::HeardSessions;
@@ -52,6 +52,8 @@ fn take_whole<L: Link, K: Desk, V: Service>(
     ensures ends { IsPacketsEnd K.MayAnswer (end_in result) }
     ensures left { Answered (end_in result) left.old left.new }
     ensures same_keys { K.keys desk.new ≡ K.keys desk.old }
+    ensures same_reference { K.draw_name desk.new ≡ K.draw_name desk.old }
+    ensures desk_counted { CountsDesk (end_in result) (K.fault_count desk.old) (K.fault_count desk.new) }
 {
     match line {
         Line::Raw(_) => Ok(()),
@@ -62,7 +64,7 @@ fn take_whole<L: Link, K: Desk, V: Service>(
 }
 
 // All that a piece brings.
-#[tactic(auto, using(crate::proofs::Goings::goes_both, crate::proofs::Goings::feed_goes, crate::proofs::Goings::feed_is_piece_end, crate::proofs::Goings::packets_is_piece_end, crate::proofs::Goings::feed_answered, crate::proofs::Goings::event_is_piece_end, crate::proofs::Goings::answered_then))]
+#[tactic(auto, using(crate::proofs::Goings::goes_both, crate::proofs::Goings::feed_goes, crate::proofs::Goings::feed_is_piece_end, crate::proofs::Goings::packets_is_piece_end, crate::proofs::Goings::feed_answered, crate::proofs::Goings::event_is_piece_end, crate::proofs::Goings::answered_then, crate::proofs::DeskCounts::desk_after, crate::proofs::DeskCounts::desk_feeds))]
 fn take_piece<L: Link, K: Desk, V: Service>(
     alloc: Global,
     line: Line,
@@ -84,6 +86,8 @@ fn take_piece<L: Link, K: Desk, V: Service>(
     ensures ends { IsPieceEnd K.MayAnswer (end_in result) }
     ensures left { Answered (end_in result) left.old left.new }
     ensures same_keys { K.keys desk.new ≡ K.keys desk.old }
+    ensures same_reference { K.draw_name desk.new ≡ K.draw_name desk.old }
+    ensures desk_counted { CountsDesk (end_in result) (K.fault_count desk.old) (K.fault_count desk.new) }
 {
     let mut line = match feed(line, alloc, piece) {
         Ok(line) => line,
@@ -125,6 +129,8 @@ fn take_turn<L: Link, K: Desk, V: Service, C: Clock>(
     ensures ends { IsTurnEnd K.MayAnswer (end_in result) }
     ensures left { Answered (end_in result) left.old left.new }
     ensures same_keys { K.keys desk.new ≡ K.keys desk.old }
+    ensures same_reference { K.draw_name desk.new ≡ K.draw_name desk.old }
+    ensures desk_counted { CountsDesk (end_in result) (K.fault_count desk.old) (K.fault_count desk.new) }
 {
     match link.read(into) {
         Got::Bytes(count) => {
@@ -140,7 +146,7 @@ fn take_turn<L: Link, K: Desk, V: Service, C: Clock>(
 }
 
 // The pieces of a connection, one after the other.
-#[tactic(auto, using(crate::proofs::Turning::none_read, crate::proofs::Turning::one_more_read, crate::proofs::Turning::read_to_end, crate::proofs::Turning::all_read, crate::proofs::Turning::journal_in, crate::proofs::Goings::fewer_both))]
+#[tactic(auto, using(crate::proofs::Turning::none_read, crate::proofs::Turning::one_more_read, crate::proofs::Turning::read_to_end, crate::proofs::Turning::all_read, crate::proofs::Turning::journal_in, crate::proofs::Goings::fewer_both, crate::proofs::DeskCounts::desk_after))]
 fn take_turns<L: Link, K: Desk, V: Service, C: Clock>(
     alloc: Global,
     into: &mut [u8],
@@ -162,6 +168,8 @@ fn take_turns<L: Link, K: Desk, V: Service, C: Clock>(
     ensures left { Answered (Some result) left.old left.new }
     ensures journal { (fault : DeskFault) → result ≡ ConnEnd.Journal fault → K.MayAnswer fault × (fault ≢ faults.Memory) }
     ensures same_keys { K.keys desk.new ≡ K.keys desk.old }
+    ensures same_reference { K.draw_name desk.new ≡ K.draw_name desk.old }
+    ensures desk_counted { CountsDesk (Some result) (K.fault_count desk.old) (K.fault_count desk.new) }
 {
     let mut heard = HeardSessions::new(alloc);
     let mut text = Octets::new(alloc);
@@ -206,6 +214,9 @@ pub fn serve_one<L: Link, K: Desk, V: Service, C: Clock>(
     ensures left { Answered (Some result.1) left.old left.new }
     ensures journal { (fault : DeskFault) → result.1 ≡ ConnEnd.Journal fault → K.MayAnswer fault × (fault ≢ faults.Memory) }
     ensures same_keys { K.keys desk.new ≡ K.keys desk.old }
+    ensures same_reference { K.draw_name desk.new ≡ K.draw_name desk.old }
+    // The count of the faults of what the desk keeps its events on rose where it ended by one, and else it is the same.
+    ensures desk_counted { CountsDesk (Some result.1) (K.fault_count desk.old) (K.fault_count desk.new) }
 {
     let Conn { link } = conn;
     let mut link = link;

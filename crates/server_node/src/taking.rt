@@ -7,7 +7,7 @@ ghost use Rattle.server_node.specs.Doing.{Did, IsEventEnd, IsPacketEnd, IsPacket
 ghost use Rattle.server_node.specs.Record.{Answered, counted_down};
 ghost use Rattle.server_node.specs.Steps.{IsSameIn, IsSendEnd};
 ghost use Rattle.server_node.specs.Trace.{Attach};
-ghost use Rattle.server_node.specs.Writes.{Goes, end_in};
+ghost use Rattle.server_node.specs.Writes.{CountsDesk, Goes, end_in};
 
 use crate::conn::ConnEnd;
 use crate::heard::{HeardSessions, SessionName};
@@ -34,7 +34,7 @@ pub(crate) fn end_of(fault: DeskFault) -> ConnEnd
 }
 
 // A connection is opened for the session of this name, and what it owes is sent.
-#[tactic(auto, using(crate::proofs::Events::fault_is_end, crate::proofs::Events::send_is_end))]
+#[tactic(auto, using(crate::proofs::Events::fault_is_end, crate::proofs::Events::send_is_end, crate::proofs::DeskCounts::desk_sends, crate::proofs::DeskCounts::desk_fails))]
 fn attach<L: Link, K: Desk, V: Service>(
     alloc: Global,
     desk: &mut K,
@@ -53,6 +53,8 @@ fn attach<L: Link, K: Desk, V: Service>(
     ensures ends { IsEventEnd K.MayAnswer (end_in result) }
     ensures same_in { IsSameIn wire.old wire.new }
     ensures same_keys { K.keys desk.new ≡ K.keys desk.old }
+    ensures same_reference { K.draw_name desk.new ≡ K.draw_name desk.old }
+    ensures desk_counted { CountsDesk (end_in result) (K.fault_count desk.old) (K.fault_count desk.new) }
 {
     opens_what_it_sealed::<K::S>();
     match desk.attach(alloc, name.key, name.session, now) {
@@ -78,7 +80,7 @@ fn are_bytes(packet: &[u8])
 {}
 
 // The desk takes the next packet of the connection, where one is whole.
-#[tactic(auto, using(crate::proofs::Events::fault_is_packet_end))]
+#[tactic(auto, using(crate::proofs::Events::fault_is_packet_end, crate::proofs::DeskCounts::desk_fails))]
 fn take_next<K: Desk>(
     alloc: Global,
     desk: &mut K,
@@ -90,6 +92,8 @@ fn take_next<K: Desk>(
     ensures ends { IsPacketEnd K.MayAnswer (end_in result) }
     ensures no_fault { IfErr result (λ end. end ≢ ConnEnd.LinkFault) }
     ensures same_keys { K.keys desk.new ≡ K.keys desk.old }
+    ensures same_reference { K.draw_name desk.new ≡ K.draw_name desk.old }
+    ensures desk_counted { CountsDesk (end_in result) (K.fault_count desk.old) (K.fault_count desk.new) }
 {
     match wire.next() {
         Next::Packet(packet) => {
@@ -152,7 +156,7 @@ fn came_of(is_first: bool, name: SessionName) -> Came
 }
 
 // The desk takes the next packet of the connection, where one is whole, and what it owes is sent.
-#[tactic(auto, using(crate::proofs::Goings::goes_none, crate::proofs::Goings::goes_same, crate::proofs::Events::send_is_packet_end))]
+#[tactic(auto, using(crate::proofs::Goings::goes_none, crate::proofs::Goings::goes_same, crate::proofs::Events::send_is_packet_end, crate::proofs::DeskCounts::desk_sends))]
 fn hear<L: Link, K: Desk, V: Service>(
     alloc: Global,
     desk: &mut K,
@@ -170,6 +174,8 @@ fn hear<L: Link, K: Desk, V: Service>(
     ensures ends { IsPacketEnd K.MayAnswer (end_in result) }
     ensures same_form { wire.new.form ≡ wire.old.form }
     ensures same_keys { K.keys desk.new ≡ K.keys desk.old }
+    ensures same_reference { K.draw_name desk.new ≡ K.draw_name desk.old }
+    ensures desk_counted { CountsDesk (end_in result) (K.fault_count desk.old) (K.fault_count desk.new) }
 {
     opens_what_it_sealed::<K::S>();
     one_refusal();
@@ -182,7 +188,7 @@ fn hear<L: Link, K: Desk, V: Service>(
 
 // The next packet of the connection comes, and what it owes is sent; directly after a session's first packet comes its
 // attach. It says whether there was a packet.
-#[tactic(auto, using(crate::proofs::Goings::event_is_packet_end, crate::proofs::Goings::goes_both))]
+#[tactic(auto, using(crate::proofs::Goings::event_is_packet_end, crate::proofs::Goings::goes_both, crate::proofs::DeskCounts::desk_after))]
 fn take_packet<L: Link, K: Desk, V: Service>(
     alloc: Global,
     desk: &mut K,
@@ -200,6 +206,8 @@ fn take_packet<L: Link, K: Desk, V: Service>(
     ensures ends { IsPacketEnd K.MayAnswer (end_in result) }
     ensures same_form { wire.new.form ≡ wire.old.form }
     ensures same_keys { K.keys desk.new ≡ K.keys desk.old }
+    ensures same_reference { K.draw_name desk.new ≡ K.draw_name desk.old }
+    ensures desk_counted { CountsDesk (end_in result) (K.fault_count desk.old) (K.fault_count desk.new) }
 {
     match hear::<L, K, V>(alloc, desk, now, wire, link, heard, text) {
         Ok(Came::Nothing) => Ok(false),
@@ -240,7 +248,7 @@ const PACKETS_MAX: u64 = 65_536_000_001;
 /// # Errors
 ///
 /// Why the connection ends.
-#[tactic(auto, using(crate::proofs::Goings::goes_both, crate::proofs::Goings::one_fewer, crate::proofs::Goings::still_left, crate::proofs::Goings::packet_is_packets_end))]
+#[tactic(auto, using(crate::proofs::Goings::goes_both, crate::proofs::Goings::one_fewer, crate::proofs::Goings::still_left, crate::proofs::Goings::packet_is_packets_end, crate::proofs::DeskCounts::desk_after, crate::proofs::DeskCounts::desk_stops))]
 pub(crate) fn take_packets<L: Link, K: Desk, V: Service>(
     alloc: Global,
     desk: &mut K,
@@ -261,6 +269,8 @@ pub(crate) fn take_packets<L: Link, K: Desk, V: Service>(
     ensures left { Answered (end_in result) left.old left.new }
     ensures same_form { wire.new.form ≡ wire.old.form }
     ensures same_keys { K.keys desk.new ≡ K.keys desk.old }
+    ensures same_reference { K.draw_name desk.new ≡ K.draw_name desk.old }
+    ensures desk_counted { CountsDesk (end_in result) (K.fault_count desk.old) (K.fault_count desk.new) }
 {
     'packets: for _count in 0..PACKETS_MAX {
         match take_packet::<L, K, V>(alloc, desk, now, wire, link, heard, text) {

@@ -4,7 +4,7 @@ ghost use Rattle.std.specs.Prelude.{◌≡◌, ◌<◌, ◌∷◌, []};
 ghost use Rattle.server_node.specs.Doing.{Did, IsEventEnd, Worked};
 ghost use Rattle.server_node.specs.Steps.{HearsAlike};
 ghost use Rattle.server_node.specs.Trace.{Run, Tick};
-ghost use Rattle.server_node.specs.Writes.{Goes, end_in};
+ghost use Rattle.server_node.specs.Writes.{CountsDesk, Goes, end_in};
 
 use crate::conn::ConnEnd;
 use crate::heard::HeardSessions;
@@ -17,13 +17,11 @@ use mt_edge::Link;
 use octets::Octets;
 use regs_service::Service;
 use server_core::Desk;
+use server_core::order_laws::runs_leave_fewer_jobs;
 use std::alloc::Global;
 
-/// The most jobs that run after a piece: 256 sessions have 4,096 each at most.
-const RUNS_MAX: u32 = 1_048_576;
-
 // A tick, and what it owes is sent.
-#[tactic(auto, using(crate::proofs::Events::did_tick, crate::proofs::Events::did_fail, crate::proofs::Events::fault_is_end, crate::proofs::Events::send_is_end))]
+#[tactic(auto, using(crate::proofs::Events::did_tick, crate::proofs::Events::did_fail, crate::proofs::Events::fault_is_end, crate::proofs::Events::send_is_end, crate::proofs::DeskCounts::desk_sends, crate::proofs::DeskCounts::desk_fails))]
 fn tick<L: Link, K: Desk, V: Service>(
     alloc: Global,
     desk: &mut K,
@@ -41,6 +39,8 @@ fn tick<L: Link, K: Desk, V: Service>(
     ensures ends { IsEventEnd K.MayAnswer (end_in result) }
     ensures same_in { HearsAlike line.old line.new }
     ensures same_keys { K.keys desk.new ≡ K.keys desk.old }
+    ensures same_reference { K.draw_name desk.new ≡ K.draw_name desk.old }
+    ensures desk_counted { CountsDesk (end_in result) (K.fault_count desk.old) (K.fault_count desk.new) }
 {
     opens_what_it_sealed::<K::S>();
     match desk.tick(alloc, now) {
@@ -50,7 +50,7 @@ fn tick<L: Link, K: Desk, V: Service>(
 }
 
 // The first ready job runs, and what that owes is sent.
-#[tactic(auto, using(crate::proofs::Events::did_run, crate::proofs::Events::did_fail, crate::proofs::Events::fault_is_end, crate::proofs::Events::send_is_end))]
+#[tactic(auto, using(crate::proofs::Events::did_run, crate::proofs::Events::did_fail, crate::proofs::Events::fault_is_end, crate::proofs::Events::send_is_end, crate::proofs::DeskCounts::desk_sends, crate::proofs::DeskCounts::desk_fails))]
 fn run_first<L: Link, K: Desk, V: Service>(
     alloc: Global,
     desk: &mut K,
@@ -70,6 +70,8 @@ fn run_first<L: Link, K: Desk, V: Service>(
     ensures ends { IsEventEnd K.MayAnswer (end_in result) }
     ensures same_in { HearsAlike line.old line.new }
     ensures same_keys { K.keys desk.new ≡ K.keys desk.old }
+    ensures same_reference { K.draw_name desk.new ≡ K.draw_name desk.old }
+    ensures desk_counted { CountsDesk (end_in result) (K.fault_count desk.old) (K.fault_count desk.new) }
 {
     opens_what_it_sealed::<K::S>();
     match desk.work(alloc, 0, service, now) {
@@ -78,12 +80,12 @@ fn run_first<L: Link, K: Desk, V: Service>(
     }
 }
 
-/// A tick, and then the first ready job runs until none is ready.
+/// A tick, and then the first ready job runs until none is ready: each run leaves fewer jobs.
 ///
 /// # Errors
 ///
 /// Why the connection ends.
-#[tactic(auto, using(crate::proofs::Goings::goes_both, crate::proofs::Goings::goes_none))]
+#[tactic(auto, using(crate::proofs::Goings::goes_both, crate::proofs::Goings::goes_none, crate::proofs::DeskCounts::desk_after))]
 pub(crate) fn work_all<L: Link, K: Desk, V: Service>(
     alloc: Global,
     desk: &mut K,
@@ -102,11 +104,15 @@ pub(crate) fn work_all<L: Link, K: Desk, V: Service>(
     ensures ends { IsEventEnd K.MayAnswer (end_in result) }
     ensures same_in { HearsAlike line.old line.new }
     ensures same_keys { K.keys desk.new ≡ K.keys desk.old }
+    ensures same_reference { K.draw_name desk.new ≡ K.draw_name desk.old }
+    ensures desk_counted { CountsDesk (end_in result) (K.fault_count desk.old) (K.fault_count desk.new) }
 {
     if let Err(end) = tick::<L, K, V>(alloc, desk, now, line, link, heard, text) {
         return Err(end);
     }
-    'runs: for _count in 0..RUNS_MAX {
+    runs_leave_fewer_jobs::<K::D, V>();
+    let most = desk.unfinished();
+    'runs: for _count in 0..most {
         if desk.ready() == 0 {
             return Ok(());
         }

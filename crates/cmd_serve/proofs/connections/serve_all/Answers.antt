@@ -12,6 +12,7 @@ connections-init g c = record {
   tells = λ is none. is;
   some = c.requires.some;
   same_keys = refl;
+  same_reference = refl;
 }
 
 pub connections-preserved : goal.connections-preserved
@@ -28,6 +29,7 @@ connections-preserved g c =
       tells = λ is none. c.serve_next-end.ensures.first_fault (before.tells is none) (before.faults ∙ none);
       some = left-going c.serve_next-end.result c.connections.left c.serve_next-end.new.left none before.some c.serve_next-end.ensures.left;
       same_keys = c.serve_next-end.ensures.same_keys ∙ before.same_keys;
+      same_reference = c.serve_next-end.ensures.same_reference ∙ before.same_reference;
     }
 
 pub returns-in-Some-clause-served : goal.returns-in-Some-clause-served

@@ -1,10 +1,13 @@
-use Rattle.std.proofs.Common.{List, refl, sym, subst, ◌∙◌}
+use Rattle.std.proofs.Common.{◌≡◌, List, refl, rules, sym, subst, ◌∙◌}
 use Rattle.auth_keys.specs.declared.ring.RingKey.{RingKey}
 use Rattle.envelope.specs.Lock.{mt_lock}
 use Rattle.server_node.specs.Trace.{IsOutside}
 use Rattle.cmd_serve.specs.Packets.{outside_of}
 use Rattle.cmd_serve.specs.Runs.{first_of}
 use Rattle.cmd_serve.proofs.running.serve.Goals as goal
+
+joined : {X : Type 0} (one two three : X) → one ≡ two → two ≡ three → one ≡ three
+joined one two three first second = first ∙ second
 
 pub returns-clause-served : goal.returns-clause-served
 returns-clause-served g c =
@@ -14,6 +17,6 @@ returns-clause-served g c =
     (record { server = (c.new-server.ensures.stands, c.events_keep_order.ensures.fresh); draw = refl; served = c.fresh-service.ensures; gave = refl; count = refl }) in
     record {
       connections = all.connections;
-      are = record { are = all.are; ended = all.ended; moments = all.stands.gave };
+      are = record { are = all.are; ended = all.ended; moments = all.stands.gave; words = joined _ c.serve_all.new.desk.draw.now _ (search rules) all.stands.draw };
       noted = all.noted;
     }

@@ -18,6 +18,8 @@ turns-init g c = record {
   fewer = same_fewer c.args.left.now;
   some = c.requires.some;
   same_keys = refl;
+  same_reference = refl;
+  desk_counted = refl;
 }
 
 pub returns-in-Err-clause-record : goal.returns-in-Err-clause-record
@@ -59,4 +61,6 @@ turns-preserved g c =
       fewer = fewer_both c.args.left.now c.turns.left c.take_turn.new.left so_far.fewer turn.left.fewer;
       some = turn.left.stops;
       same_keys = c.take_turn.ensures.same_keys ∙ so_far.same_keys;
+      same_reference = c.take_turn.ensures.same_reference ∙ so_far.same_reference;
+      desk_counted = turn.desk_counted ∙ so_far.desk_counted;
     }

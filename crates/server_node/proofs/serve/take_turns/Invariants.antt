@@ -22,4 +22,6 @@ invariant-turns g l = record {
   fewer : IsFewer l.fn.left l.left;
   some : l.left ≢ Some 0;
   same_keys : g.K.Desk.keys l.desk ≡ g.K.Desk.keys l.fn.desk;
+  same_reference : g.K.Desk.draw_name l.desk ≡ g.K.Desk.draw_name l.fn.desk;
+  desk_counted : g.K.Desk.fault_count l.desk ≡ g.K.Desk.fault_count l.fn.desk;
 }

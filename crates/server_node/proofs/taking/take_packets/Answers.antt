@@ -10,6 +10,8 @@ packets-init g c = record {
   fewer = same_fewer c.args.left.now;
   some = c.requires.some;
   same_keys = refl;
+  same_reference = refl;
+  desk_counted = refl;
 }
 
 pub returns-in-Ok-false-clause-took : goal.returns-in-Ok-false-clause-took
@@ -47,6 +49,8 @@ packets-preserved g c =
       fewer = one_fewer c.args.left.now c.packets.left c.count_down.new.left c.count_down.ensures.counted so_far.fewer;
       some = goes_on_left c.count_down.new.left (sym c.in_default.ensures.stops);
       same_keys = c.take_packet.ensures.same_keys ∙ so_far.same_keys;
+      same_reference = c.take_packet.ensures.same_reference ∙ so_far.same_reference;
+      desk_counted = c.in-Ok-true.ensures.desk_counted ∙ so_far.desk_counted;
     }
 
 pub returns-in-Ok-false-clause-same_form : goal.returns-in-Ok-false-clause-same_form
