@@ -1,14 +1,19 @@
 -- All flushes, one after the other.
-use Rattle.std.proofs.Common.{◌≡◌, ◌+◌, ℕ, Bool, false, List, ◌++◌, length, Result, Ok, Err, inl, inr, refl, sym, ap, subst, ◌∙◌, length-append}
+use Rattle.std.proofs.Common.{◌≡◌, ◌<◌, ◌≤◌, ◌+◌, ◌*◌, ℕ, Bool, false, List, [], ◌∷◌, ◌++◌, length, Result, Ok, Err, refl, sym, ap, subst, ◌∙◌, length-append, arith}
 use Rattle.auth_keys.specs.declared.ring.RingKey.{RingKey}
 use Rattle.envelope.specs.Packet.{Lock}
 use Rattle.client_node.specs.Writes.{Seen}
 use Rattle.transport.specs.Wires.{Line}
-use Rattle.client_rules.specs.Sending.{Setting}
+use Rattle.client_rules.specs.Client.{Client, calls_of}
+use Rattle.client_rules.specs.Flush.{Answer, Nothing, Spent, Sends, flush}
+use Rattle.client_rules.specs.Sending.{Packet, Setting}
+use Rattle.law_client_bounds.specs.Due.{due_of}
+use Rattle.client_core.specs.Flushed.{TellsFlush}
+use Rattle.client_core.specs.declared.flush.Flush.TheVariants as told
 use Rattle.client_core.specs.declared.holder.Holder.{Holder}
-use Rattle.client_node.specs.Course.{Course, is_decided, sends_all}
+use Rattle.client_node.specs.Course.{AreSent, Course, Phase, Opening, Open, Ended, flush_of, flushed_in, flushes, is_decided, sends_all}
 use Rattle.client_node.specs.Flow.{AllFlushes, Flow, OneFlush, SoFar, Stops, went_on}
-use Rattle.client_node.specs.Standing.{StandsAs}
+use Rattle.client_node.specs.Standing.{StandsAs, StandsFor}
 use Rattle.client_node.specs.declared.end.End.{End}
 use Rattle.client_node.specs.declared.end.End.TheVariants as ends
 use Rattle.client_node.proofs.Flowing.{stands_first, flow_both, no_flow, stops_both}
@@ -72,21 +77,55 @@ all_done setting lock keys now kept draw line link times middle between line_bet
     record {
       flow = record { sent = whole.sent; framed = whole.framed; all = whole.all; is_done = whole.is_done; bytes = whole.bytes; course = whole.course; form = whole.form; tells = whole.tells; written = whole.written };
       stops = stopped setting lock keys now kept draw line link times middle between line_between link_between all_well one.flow.sent one.flow.is_done before one.stops;
-      all = inl one.one.0;
+      all = λ course stands some. one.one.0;
     }
 
--- as many packets were sent as there may be
-pub all_sent : {S : Type 0} (setting : Setting S) (lock : Lock) (keys : List RingKey) (now : ℕ) (kept : Holder) (draw : S) (line : Line) (link : Seen) (times : ℕ)
+-- what a flush that sends a packet leaves waits to be sent, and is less
+abbrev pub LeavesLess : Type 0 → Type 0
+LeavesLess S = (setting : Setting S) (now : ℕ) (client : Client) (draw : S) (packet : Packet) → (flush setting now client draw).answer ≡ Sends packet
+    → due_of (flush setting now client draw).client < due_of client
+
+sends_of : (lock : Lock) (keys : List RingKey) (answer : Answer) (bytes : List ℕ) → TellsFlush lock keys answer (told.Packet bytes) → (packet : Packet) × (answer ≡ Sends packet)
+sends_of lock keys Nothing bytes tells = absurd tells
+sends_of lock keys Spent bytes tells = absurd tells
+sends_of lock keys (Sends packet) bytes tells = (packet, refl)
+
+none_sent : (packet : Packet) → Nothing ≡ Sends packet → ⊥
+none_sent packet same = cc
+
+one_less : {S : Type 0} (less : LeavesLess S) (phase : Phase) (setting : Setting S) (now : ℕ) (client : Client) (draw : S) (packet : Packet)
+    → (flushed_in phase setting now client draw).answer ≡ Sends packet → due_of (flushed_in phase setting now client draw).client < due_of client
+one_less less Opening setting now client draw packet is = less setting now client draw packet is
+one_less less Open setting now client draw packet is = less setting now client draw packet is
+one_less less Ended setting now client draw packet is = absurd (none_sent packet is)
+
+sent_less : {S : Type 0} (less : LeavesLess S) (setting : Setting S) (lock : Lock) (keys : List RingKey) (now : ℕ) (course : Course S) (packets : List (List ℕ))
+    → AreSent setting lock keys now course packets → length packets ≤ due_of course.client
+sent_less less setting lock keys now course [] are = omega arith
+sent_less less setting lock keys now course (packet ∷ packets) are =
+    let gave = sends_of lock keys (flush_of setting now course).answer packet are.0.1 in
+    let first = one_less less course.phase setting now course.client course.draw gave.0 gave.1 in
+    let rest = sent_less less setting lock keys now (flushes setting now course) packets are.1 in
+    omega (arith, first, rest)
+
+-- so many packets aren't sent: there is less that waits
+pub too_many : {S : Type 0} (setting : Setting S) (lock : Lock) (keys : List RingKey) (now : ℕ) (kept : Holder) (draw : S) (line : Line) (link : Seen) (times calls : ℕ)
     (left : Holder) (drawn : S) (line_then : Line) (link_then : Seen)
-    → times ≡ 262144
+    → LeavesLess S → ((client : Client) → due_of client ≤ 9 + 3 * length (calls_of client)) → ((client : Client) → StandsFor kept client → calls ≡ length (calls_of client))
+    → times ≡ 10 + 3 * calls
     → SoFar setting lock keys now kept draw line link times left drawn line_then link_then
     → AllFlushes setting lock keys now kept draw line link (Ok tt) left drawn line_then link_then
-all_sent setting lock keys now kept draw line link times left drawn line_then link_then most before =
+too_many setting lock keys now kept draw line link times calls left drawn line_then link_then less few counted most before =
     let whole = before.flow in
     record {
       flow = record { sent = whole.sent; framed = whole.framed; all = whole.all; is_done = whole.is_done; bytes = whole.bytes; course = whole.course; form = whole.form; tells = whole.tells; written = whole.written };
       stops = subst (λ is_done. Stops setting lock keys now kept draw before.flow.sent is_done went_on) (sym before.goes) before.undecided;
-      all = inr (before.count ∙ most);
+      all = λ course stands some.
+          let sent = sent_less less setting lock keys now course whole.sent (whole.course course stands some).sent in
+          let waits = few course.client in
+          let its = counted course.client stands.client in
+          let none : ⊥ = omega (arith, sent, waits, its, most, before.count) in
+          absurd none;
     }
 
 -- a flush failed

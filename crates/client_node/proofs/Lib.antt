@@ -2,6 +2,7 @@ pub mod AllFlowing
 pub mod Connecting
 pub mod Counting
 pub mod Conversing
+pub mod Fitting
 pub mod Flowing
 pub mod HearingSteps
 pub mod HolderLemmas

@@ -1,5 +1,5 @@
 -- One turn more of a connection, and how it ends.
-use Rattle.std.proofs.Common.{◌≡◌, ◌<◌, ◌≤◌, ◌+◌, ℕ, Bool, false, List, [], ◌∷◌, ◌++◌, length, Option, Ok, Err, inl, inr, refl, sym, ap, subst, ◌∙◌, append_assoc, append-nil, arith}
+use Rattle.std.proofs.Common.{◌≡◌, ◌<◌, ◌≤◌, ◌+◌, ℕ, Bool, false, List, [], ◌∷◌, ◌++◌, ◌*◌, length, length-append, Option, Ok, Err, inl, inr, refl, sym, ap, subst, ◌∙◌, append_assoc, append-nil, arith}
 use Rattle.auth_keys.specs.declared.ring.RingKey.{RingKey}
 use Rattle.envelope.specs.Packet.{Lock}
 use Rattle.cipher_modes.specs.CounterMode.{CtrState}
@@ -18,11 +18,12 @@ use Rattle.client_node.specs.Flow.{AllFlushes, BreaksLast, FlowedBy, Follows, Fr
 use Rattle.client_node.specs.Runs.{Gave, GotPiece, MissedPiece, ReadsBy, Talked, TookTurn, TurnsSoFar}
 use Rattle.client_node.specs.Standing.{IsReading, StandsAs}
 use Rattle.client_node.specs.Talks.{AreFramed, AreWhole, EndsHearing, FailsLast, Heard, IsNoPiece, IsReady, IsSaid, IsText, Loses, Passes, Place, Rules, Said, ShowsClose, Stopped, Turn, TurnsDone, Unread, gets, hears_all, reads, rules_of, says, turned, turns_from, turns_max}
-use Rattle.client_node.specs.Took.{CameAll, IsDone, IsLost, TookAll, takes_all}
+use Rattle.client_node.specs.Took.{CameAll, IsDone, IsLost, TookAll, packets_max, takes_all}
 use Rattle.client_node.specs.Writes.{Seen, Spells, frames_of}
 use Rattle.client_node.specs.declared.end.End.{End}
 use Rattle.client_node.specs.declared.end.End.TheVariants as ends
 use Rattle.client_node.proofs.Passing.{begins_by, fails_read, fails_said, gave_more, gave_none, hears_as, passes_none, passes_read, passes_said, spells_as}
+use Rattle.client_node.proofs.Fitting.{packets_fit}
 use Rattle.client_node.proofs.Undecided.{all_undecided}
 
 -- ---- the packets of what came
@@ -34,18 +35,21 @@ begins_as line opening packets bytes same hears =
     (begins_by (framing_of line.form) line.held.fault packets line.held.left (through opening.down bytes) hears.stands.text)
 
 -- by how a piece came
-whole_by : (first last : Line) (opening : Opening) (packets heard : List (List ℕ)) (bytes : List ℕ) (size : ℕ)
-    → first.form ≡ opening.form → last.form ≡ opening.form → IsDone first opening.down packets bytes heard size last
-    → AreWhole opening (packets ++ heard) bytes (length heard) size
-whole_by first last opening packets heard bytes size form form_then (inl idle) =
-    inl (idle.rest, subst (λ one. Stream (framing_of one) (packets ++ heard) idle.rest (through opening.down bytes)) form idle.stream)
-whole_by first last opening packets heard bytes size form form_then (inr (count, hears)) =
-    inr (count, begins_as last opening (packets ++ heard) bytes form_then hears)
+whole_by : (first last : Line) (opening : Opening) (packets heard : List (List ℕ)) (bytes : List ℕ)
+    → first.form ≡ opening.form → last.form ≡ opening.form → length bytes < packets_max → IsDone first opening.down packets bytes heard last
+    → AreWhole opening (packets ++ heard) bytes
+whole_by first last opening packets heard bytes form form_then few (inl idle) =
+    (idle.rest, subst (λ one. Stream (framing_of one) (packets ++ heard) idle.rest (through opening.down bytes)) form idle.stream)
+whole_by first last opening packets heard bytes form form_then few (inr (count, hears)) =
+    let begins = begins_as last opening (packets ++ heard) bytes form_then hears in
+    let fit = packets_fit opening.form opening.down (packets ++ heard) bytes begins in
+    let none : ⊥ = omega (arith, fit, length-append packets heard, few, count) in
+    absurd none
 
-hears_by : (first last : Line) (from : Option CtrState) (packets heard : List (List ℕ)) (bytes : List ℕ) (size : ℕ)
-    → IsDone first from packets bytes heard size last → Hears last from (packets ++ heard) bytes
-hears_by first last from packets heard bytes size (inl idle) = idle.hears
-hears_by first last from packets heard bytes size (inr (count, hears)) = hears
+hears_by : (first last : Line) (from : Option CtrState) (packets heard : List (List ℕ)) (bytes : List ℕ)
+    → IsDone first from packets bytes heard last → Hears last from (packets ++ heard) bytes
+hears_by first last from packets heard bytes (inl idle) = idle.hears
+hears_by first last from packets heard bytes (inr (count, hears)) = hears
 
 loses_by : (line : Line) (opening : Opening) (packets : List (List ℕ)) (bytes : List ℕ) → line.form ≡ opening.form → IsLost line opening.down packets bytes → Loses opening packets bytes
 loses_by line opening packets bytes form (inl lost) =
@@ -76,7 +80,7 @@ is_ready : {S : Type 0} (step : S → ℕ × S) (lock : Lock) (keys : List RingK
 is_ready step lock keys reading place kept draw line link left drawn line_then link_then stands some flushes =
     record {
       sent = is_said step lock keys reading place flushes.flow.sent flushes.flow.is_done left drawn (flushes.flow.course place.course stands some);
-      all = flushes.all;
+      all = flushes.all place.course stands some;
       undecided = flushes.stops place.course stands some;
     }
 
@@ -91,6 +95,7 @@ no_turns rules opening place kept draw line link given came reads heard sent mom
       turns = [];
       bytes = [];
       count = refl;
+      few = omega (arith, ap (λ (bytes : List ℕ). length bytes) came);
       are = tt;
       moment = refl;
       stands = stands;
@@ -106,6 +111,7 @@ pub turn_more : {S : Type 0} (step : S → ℕ × S) (lock : Lock) (keys : List 
     (kept : Holder) (draw : S) (line : Line) (link : Seen) (given : Option (List ℕ)) (link_first : Seen) (given_first : Option (List ℕ))
     (middle : Holder) (between : S) (line_between : Line) (link_between : Seen)
     (piece : List ℕ) (moment : ℕ) (left : Holder) (drawn : S) (line_then : Line) (link_then : Seen) (given_then : Option (List ℕ))
+    → times < turns_max
     → IsReading lock keys reading
     → TurnsSoFar (rules_of step lock keys reading) opening place times now kept draw line link given link_first given_first
     → AllFlushes (setting_of step keys) lock keys now kept draw line link (Ok tt) middle between line_between link_between
@@ -113,7 +119,7 @@ pub turn_more : {S : Type 0} (step : S → ℕ × S) (lock : Lock) (keys : List 
     → GotPiece step lock keys middle between line_between link_between given piece moment (Ok tt) left drawn line_then link_then given_then
     → (line_then.form ≡ line_between.form) × (line_then.writing ≡ line_between.writing) × (line_then.number ≡ line_between.number)
     → TurnsSoFar (rules_of step lock keys reading) opening place (times + 1) moment left drawn line_then link_then given_then link_first given_first
-turn_more step lock keys reading opening place times now kept draw line link given link_first given_first middle between line_between link_between piece moment left drawn line_then link_then given_then read_so before flushes same_in gets_it same_out =
+turn_more step lock keys reading opening place times now kept draw line link given link_first given_first middle between line_between link_between piece moment left drawn line_then link_then given_then few read_so before flushes same_in gets_it same_out =
     let rules = rules_of step lock keys reading in
     let here = turns_from rules place before.turns in
     let flushed = subst (λ (at : ℕ). AllFlushes (setting_of step keys) lock keys at kept draw line link (Ok tt) middle between line_between link_between) (sym before.moment) flushes in
@@ -128,10 +134,12 @@ turn_more step lock keys reading opening place times now kept draw line link giv
     let tells = subst (λ (all : List (List ℕ)). Spells line_between opening.up (here.sent ++ all) (before.bytes ++ flushed.flow.bytes)) (sym flushed.flow.all)
     (flushed.flow.tells opening.up here.sent before.bytes before.tells) in
     let turn : Turn = record { said = said; piece = piece; moment = moment; heard = heard } in
+    let longer : length (here.came ++ piece) ≤ (times + 1) * 65536 = omega (arith, length-append here.came piece, before.few, gets_it.most) in
     record {
       turns = turn ∷ before.turns;
       bytes = before.bytes ++ flushed.flow.bytes;
       count = omega (arith, before.count);
+      few = longer;
       are = (
         before.are,
         record {
@@ -140,13 +148,13 @@ turn_more step lock keys reading opening place times now kept draw line link giv
           most = gets_it.most;
           sizes = gets_it.took.sizes;
           none = took.0;
-          whole = whole_by line_between line_then opening here.heard heard (here.came ++ piece) (length piece) form form_then came;
+          whole = whole_by line_between line_then opening here.heard heard (here.came ++ piece) form form_then (omega (arith, longer, few)) came;
         },
       );
       moment = refl;
       stands = took.1;
       undecided = all_undecided step reading moment mid.course heard took.0 (flushed.stops here.course before.stands before.undecided);
-      hears = hears_by line_between line_then opening.down here.heard heard (here.came ++ piece) (length piece) came;
+      hears = hears_by line_between line_then opening.down here.heard heard (here.came ++ piece) came;
       tells = spells_as line_between line_then opening.up (here.sent ++ flushed.flow.sent) (before.bytes ++ flushed.flow.bytes) same_out tells;
       form = form_then;
       passes = passes_read (before.bytes ++ flushed.flow.bytes) piece (got.Bytes (length piece)) mid (turned rules turn here) refl refl link_first link_between link_then
@@ -292,20 +300,20 @@ heard_stands step reading now course heard ends.Memory kept draw took = took.1
 heard_stands step reading now course heard ends.TurnsSpent kept draw took = absurd took
 heard_stands step reading now course heard ends.Spent kept draw took = absurd took
 
-ends_hearing : {S : Type 0} (step : S → ℕ × S) (lock : Lock) (keys : List RingKey) (reading : Reading) (opening : Opening) (place : Place S) (first last : Line) (heard : List (List ℕ)) (size : ℕ) (end : End) (kept : Holder) (draw : S)
+ends_hearing : {S : Type 0} (step : S → ℕ × S) (lock : Lock) (keys : List RingKey) (reading : Reading) (opening : Opening) (place : Place S) (first last : Line) (heard : List (List ℕ)) (end : End) (kept : Holder) (draw : S)
     → first.form ≡ opening.form → last.form ≡ opening.form
     → TookAll step reading place.now place.course heard (Err end) kept draw
-    → CameAll first opening.down place.heard place.came heard size (Err end) last
+    → CameAll first opening.down place.heard place.came heard (Err end) last
     → EndsHearing (rules_of step lock keys reading) opening place heard end
-ends_hearing step lock keys reading opening place first last heard size ends.Decided kept draw form form_then took came =
+ends_hearing step lock keys reading opening place first last heard ends.Decided kept draw form form_then took came =
     (took.0, took.1, took.2, took.3, took.4, begins_as last opening (place.heard ++ heard) place.came form_then came)
-ends_hearing step lock keys reading opening place first last heard size ends.Lost kept draw form form_then took came =
+ends_hearing step lock keys reading opening place first last heard ends.Lost kept draw form form_then took came =
     (took.0, loses_by first opening (place.heard ++ heard) place.came form came)
-ends_hearing step lock keys reading opening place first last heard size ends.Memory kept draw form form_then took (inl none) = (took.0, inl none)
-ends_hearing step lock keys reading opening place first last heard size ends.Memory kept draw form form_then took (inr begins) =
+ends_hearing step lock keys reading opening place first last heard ends.Memory kept draw form form_then took (inl none) = (took.0, inl none)
+ends_hearing step lock keys reading opening place first last heard ends.Memory kept draw form form_then took (inr begins) =
     (took.0, inr (subst (λ one. Begins (framing_of one) (place.heard ++ heard) (through opening.down place.came)) form begins))
-ends_hearing step lock keys reading opening place first last heard size ends.TurnsSpent kept draw form form_then took came = absurd took
-ends_hearing step lock keys reading opening place first last heard size ends.Spent kept draw form form_then took came = absurd took
+ends_hearing step lock keys reading opening place first last heard ends.TurnsSpent kept draw form form_then took came = absurd took
+ends_hearing step lock keys reading opening place first last heard ends.Spent kept draw form form_then took came = absurd took
 
 -- the piece that was read behind the flushes ended it
 pub heard_last : {S : Type 0} (step : S → ℕ × S) (lock : Lock) (keys : List RingKey) (reading : Reading) (opening : Opening) (place : Place S) (times now : ℕ)
@@ -344,7 +352,7 @@ heard_last step lock keys reading opening place times now kept draw line link gi
           gets_it.some,
           gets_it.most,
           gets_it.took.sizes,
-          ends_hearing step lock keys reading opening got_it line_between line_then heard (length piece) end left drawn form (same_out ∙ form) took came,
+          ends_hearing step lock keys reading opening got_it line_between line_then heard end left drawn form (same_out ∙ form) took came,
         );
         framed = ap (λ (all : List (List ℕ)). here.sent ++ all) (sym flushed.flow.all);
         text = text_by line_between opening framed bytes form (flushed.flow.tells opening.up here.sent before.bytes before.tells);

@@ -107,14 +107,6 @@ abbrev pub IsOne : Bool → Bool → List (List ℕ) → Type 0
 IsOne true is_done sent = (is_done ≡ false) × (length sent ≡ 1)
 IsOne false is_done sent = (is_done ≡ true) × (sent ≡ [])
 
--- the most packets that are sent before the next piece is read
-abbrev pub flushes_max : ℕ
-flushes_max = 262144
-
--- flushes until nothing is due, or the most that there may be
-abbrev pub IsAll : Bool → List (List ℕ) → Type 0
-IsAll is_done sent = (is_done ≡ true) ⊎ (length sent ≡ flushes_max)
-
 -- What one flush did over a wire.
 pub record OneFlush {S : Type 0} (setting : Setting S) (lock : Lock) (keys : List RingKey) (now : ℕ) (kept : Holder) (draw : S) (wire : Line) (link : Seen) (result : Result Bool End) (kept_then : Holder) (draw_then : S) (wire_then : Line) (link_then : Seen) : Type 0 where
   pub flow : Flow setting lock keys now kept draw wire link result kept_then draw_then wire_then link_then
@@ -136,7 +128,8 @@ pub record SoFar {S : Type 0} (setting : Setting S) (lock : Lock) (keys : List R
 pub record AllFlushes {S : Type 0} (setting : Setting S) (lock : Lock) (keys : List RingKey) (now : ℕ) (kept : Holder) (draw : S) (wire : Line) (link : Seen) (result : Result Unit End) (kept_then : Holder) (draw_then : S) (wire_then : Line) (link_then : Seen) : Type 0 where
   pub flow : Flow setting lock keys now kept draw wire link result kept_then draw_then wire_then link_then
   pub stops : Stops setting lock keys now kept draw flow.sent flow.is_done result
-  pub all : OnOk result (IsAll flow.is_done flow.sent)
+  -- the last one found nothing due
+  pub all : OnOk result ((course : Course S) → StandsAs kept draw course → is_decided course.client ≡ false → flow.is_done ≡ true)
 
 -- the count of the link's faults by how the flushes ended: the connection is lost exactly where a write failed, unless each
 -- call is decided by then

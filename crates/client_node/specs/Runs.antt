@@ -1,5 +1,5 @@
 -- What the parts of a connection do: scaffolding of private functions, and no promise.
-use Rattle.std.specs.Prelude.{◌≡◌, ◌<◌, ◌≤◌, ◌⊎◌, ℕ, false, List, [], ◌∷◌, ◌++◌, length, Option, IfSome, IsSomeAnd, Result, Ok, Err}
+use Rattle.std.specs.Prelude.{◌≡◌, ◌<◌, ◌≤◌, ◌*◌, ◌⊎◌, ℕ, false, List, [], ◌∷◌, ◌++◌, length, Option, IfSome, IsSomeAnd, Result, Ok, Err}
 use Rattle.auth_keys.specs.declared.ring.RingKey.{RingKey}
 use Rattle.envelope.specs.Packet.{Lock}
 use Rattle.transport.specs.Starts.{Opening}
@@ -74,6 +74,7 @@ pub record TurnsSoFar {S : Type 0} (rules : Rules S) (opening : Opening) (place 
   pub turns : List Turn
   pub bytes : List ℕ
   pub count : length turns ≡ times
+  pub few : length (turns_from rules place turns).came ≤ times * piece_bytes
   pub are : AreTurns rules opening place turns
   pub moment : (turns_from rules place turns).now ≡ now
   pub stands : StandsAs kept draw (turns_from rules place turns).course

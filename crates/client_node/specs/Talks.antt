@@ -18,7 +18,7 @@ use Rattle.client_rules.specs.Client.{Client}
 use Rattle.client_rules.specs.Sending.{Setting}
 use Rattle.client_core.specs.Flushed.{setting_of}
 use Rattle.client_node.specs.Course.{AreSent, Course, Reading, attaches, is_decided, renews, sends_all}
-use Rattle.client_node.specs.Flow.{FoundNothing, IsAll, StoppedBy, flowed}
+use Rattle.client_node.specs.Flow.{FoundNothing, StoppedBy, flowed}
 use Rattle.client_node.specs.Took.{IsNoError, NoneDecides, decides, error_bytes, takes_all}
 use Rattle.client_node.specs.Writes.{Seen, frames_of}
 use Rattle.client_node.specs.declared.end.End.{End}
@@ -75,7 +75,7 @@ pub record IsSaid {S : Type 0} (rules : Rules S) (place : Place S) (said : Said)
 -- nothing more is due, and a call isn't decided: a piece is read next
 pub record IsReady {S : Type 0} (rules : Rules S) (place : Place S) (said : Said) : Type 0 where
   pub sent : IsSaid rules place said
-  pub all : IsAll said.is_done said.packets
+  pub all : said.is_done ≡ true
   pub undecided : is_decided (says rules said place).course.client ≡ false
 
 -- a read
@@ -111,12 +111,9 @@ pub record Turn : Type 0 where
 abbrev pub turned : {S : Type 0} → Rules S → Turn → Place S → Place S
 turned rules turn place = hears_all rules turn.heard (gets turn.piece turn.moment (says rules turn.said place))
 
--- The packets of what came, where no further one is whole; or these are the first ones of it, and as many were heard with the
--- last piece as that has bytes.
-abbrev pub AreWhole : Opening → List (List ℕ) → List ℕ → ℕ → ℕ → Type 0
-AreWhole opening packets came count size =
-    ((rest : List ℕ) × Stream (framing_of opening.form) packets rest (through opening.down came))
-    ⊎ ((count ≡ size) × Begins (framing_of opening.form) packets (through opening.down came))
+-- these are all packets of what came, and no further one is whole
+abbrev pub AreWhole : Opening → List (List ℕ) → List ℕ → Type 0
+AreWhole opening packets came = (rest : List ℕ) × Stream (framing_of opening.form) packets rest (through opening.down came)
 
 pub record IsTurn {S : Type 0} (rules : Rules S) (opening : Opening) (place : Place S) (turn : Turn) : Type 0 where
   pub ready : IsReady rules place turn.said
@@ -125,7 +122,7 @@ pub record IsTurn {S : Type 0} (rules : Rules S) (opening : Opening) (place : Pl
   -- none is a transport error, and none decides each call
   pub sizes : All IsNoError turn.heard
   pub none : NoneDecides rules.setting.step rules.reading turn.moment (says rules turn.said place).course turn.heard
-  pub whole : AreWhole opening (place.heard ++ turn.heard) (place.came ++ turn.piece) (length turn.heard) (length turn.piece)
+  pub whole : AreWhole opening (place.heard ++ turn.heard) (place.came ++ turn.piece)
 
 -- a list of turns, the last one first
 abbrev pub turns_from : {S : Type 0} → Rules S → Place S → List Turn → Place S

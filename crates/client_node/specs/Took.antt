@@ -130,23 +130,28 @@ TookAll step reading now course heard (Err Decided) kept draw =
 TookAll step reading now course heard (Err TurnsSpent) kept draw = ⊥
 TookAll step reading now course heard (Err Spent) kept draw = ⊥
 
--- no further packet is whole, or as many were as the piece has bytes
-abbrev pub IsDone : Line → Option CtrState → List (List ℕ) → List ℕ → List (List ℕ) → ℕ → Line → Type 0
-IsDone line from packets bytes heard size line_then =
-    IsIdle line from (packets ++ heard) bytes line_then
-    ⊎ ((length heard ≡ size) × Hears line_then from (packets ++ heard) bytes)
+-- Scaffolding of private functions, and no promise: more packets than one connection has bytes, which are at most 1,000,000 pieces
+-- of 65,536 bytes.
+abbrev pub packets_max : ℕ
+packets_max = 65536000001
 
-abbrev pub CameAll : Line → Option CtrState → List (List ℕ) → List ℕ → List (List ℕ) → ℕ → Result Unit End → Line → Type 0
-CameAll line from packets bytes heard size (Ok done) line_then = IsDone line from packets bytes heard size line_then
-CameAll line from packets bytes heard size (Err Decided) line_then = Hears line_then from (packets ++ heard) bytes
-CameAll line from packets bytes heard size (Err Lost) line_then = IsLost line from (packets ++ heard) bytes
-CameAll line from packets bytes heard size (Err Memory) line_then = (heard ≡ []) ⊎ Begins (framing_of line.form) (packets ++ heard) (through from bytes)
-CameAll line from packets bytes heard size (Err TurnsSpent) line_then = ⊥
-CameAll line from packets bytes heard size (Err Spent) line_then = ⊥
+-- no further packet is whole, or so many came
+abbrev pub IsDone : Line → Option CtrState → List (List ℕ) → List ℕ → List (List ℕ) → Line → Type 0
+IsDone line from packets bytes heard line_then =
+    IsIdle line from (packets ++ heard) bytes line_then
+    ⊎ ((length heard ≡ packets_max) × Hears line_then from (packets ++ heard) bytes)
+
+abbrev pub CameAll : Line → Option CtrState → List (List ℕ) → List ℕ → List (List ℕ) → Result Unit End → Line → Type 0
+CameAll line from packets bytes heard (Ok done) line_then = IsDone line from packets bytes heard line_then
+CameAll line from packets bytes heard (Err Decided) line_then = Hears line_then from (packets ++ heard) bytes
+CameAll line from packets bytes heard (Err Lost) line_then = IsLost line from (packets ++ heard) bytes
+CameAll line from packets bytes heard (Err Memory) line_then = (heard ≡ []) ⊎ Begins (framing_of line.form) (packets ++ heard) (through from bytes)
+CameAll line from packets bytes heard (Err TurnsSpent) line_then = ⊥
+CameAll line from packets bytes heard (Err Spent) line_then = ⊥
 
 -- What the client heard of a piece.
 pub record TookPiece {S : Type 0} (step : S → ℕ × S) (lock : Lock) (keys : List RingKey) (now : ℕ) (kept : Holder) (draw : S) (line : Line) (piece : List ℕ) (result : Result Unit End) (kept_then : Holder) (draw_then : S) (line_then : Line) : Type 0 where
   pub heard : List (List ℕ)
   pub sizes : All IsNoError heard
   pub took : (reading : Reading) (course : Course S) → IsReading lock keys reading → StandsAs kept draw course → TookAll step reading now course heard result kept_then draw_then
-  pub came : (from : Option CtrState) (packets : List (List ℕ)) (bytes : List ℕ) → Hears line from packets bytes → CameAll line from packets (bytes ++ piece) heard (length piece) result line_then
+  pub came : (from : Option CtrState) (packets : List (List ℕ)) (bytes : List ℕ) → Hears line from packets bytes → CameAll line from packets (bytes ++ piece) heard result line_then

@@ -1,6 +1,6 @@
 //! What a client sends before the next piece is read.
 
-ghost use Rattle.std.specs.Prelude.{◌≡◌, IfOk, IsSome, OnOk};
+ghost use Rattle.std.specs.Prelude.{◌≡◌, ◌+◌, ◌*◌, IfOk, IsSome, OnOk};
 ghost use Rattle.client_rules.specs.Client.{Client};
 ghost use Rattle.client_core.specs.Flushed.{setting_of};
 ghost use Rattle.client_node.specs.Course.{is_decided};
@@ -8,7 +8,7 @@ ghost use Rattle.client_node.specs.Flow.{AllFlushes, CountsEnd, OneFlush, ended_
 ghost use Rattle.client_node.specs.Standing.{DecidedBy, HasKeys, StandsFor, count_of};
 ghost use Rattle.client_node.specs.Writes.{seen};
 
-use crate::calls::{Cursor, is_decided};
+use crate::calls::{Cursor, count, is_decided};
 use crate::end::End;
 use crate::holding::flush;
 use crate::sending::send_packet;
@@ -16,15 +16,19 @@ use client_core::{Flush, Holder};
 use draws::Draw;
 use envelope::Seal;
 use envelope::laws::opens_what_it_sealed;
+use law_client_bounds::laws::flushes_leave_less;
 use msg_ids::Moment;
 use mt_edge::Link;
 use octets::Octets;
 use std::alloc::Global;
 use transport::{Framed, Wire};
 
-/// The most packets that are sent before the next piece is read. More should never be due, which isn't proved: each call is
-/// sent, sent again and dropped once at most, and beside that a client has only a few items that wait.
-const FLUSHES_MAX: u32 = 262_144;
+/// More flushes than find something due: each packet leaves less that waits, at most nine things beside three for each call.
+fn most_flushes(calls: u32) -> u64
+    ensures { result ≡ 10 + 3 * calls }
+{
+    10 + 3 * calls as u64
+}
 
 /// How a flush that gave a packet ends, by whether each call is decided now and what its write came to.
 fn end_of(is_decided: bool, sent: Result<(), End>) -> Result<bool, End>
@@ -92,7 +96,7 @@ fn flush_once<L: Link, S: Seal, D: Draw>(
 /// # Errors
 ///
 /// Why the connection ends.
-#[tactic(auto, using(crate::proofs::AllFlowing::so_far_none, crate::proofs::AllFlowing::so_far_more, crate::proofs::AllFlowing::all_done, crate::proofs::AllFlowing::all_sent, crate::proofs::AllFlowing::all_failed, crate::proofs::Flowing::counts_from))]
+#[tactic(auto, using(crate::proofs::AllFlowing::so_far_none, crate::proofs::AllFlowing::so_far_more, crate::proofs::AllFlowing::all_done, crate::proofs::AllFlowing::all_failed, crate::proofs::Flowing::counts_from))]
 pub(crate) fn flush_all<L: Link, S: Seal, D: Draw>(
     client: &mut Holder,
     alloc: Global,
@@ -115,7 +119,9 @@ pub(crate) fn flush_all<L: Link, S: Seal, D: Draw>(
     ensures same_standing { L.standing link.new ≡ L.standing link.old }
     ensures same_in { (wire.new.form ≡ wire.old.form) × (wire.new.held ≡ wire.old.held) × (wire.new.reading ≡ wire.old.reading) }
 {
-    'flushes: for _count in 0..FLUSHES_MAX {
+    flushes_leave_less::<D>();
+    let most = most_flushes(count(client));
+    'flushes: for _count in 0..most {
         match flush_once(client, alloc, now, wire, link, frame, cursor, seal, draw) {
             Ok(true) => {}
             Ok(false) => return Ok(()),

@@ -91,8 +91,10 @@ fn take_next<S: Seal, D: Draw>(
     }
 }
 
-/// The client hears the packets that are whole with this piece, as many as it has bytes. There should never be more, which isn't
-/// proved: a frame has more than a byte.
+/// More packets than one connection has bytes: pieces of 65,536 bytes, 1,000,000 of them.
+const PACKETS_MAX: u64 = 65_536_000_001;
+
+/// The client hears the packets that are whole with this piece.
 ///
 /// # Errors
 ///
@@ -118,7 +120,7 @@ pub(crate) fn take_piece<S: Seal, D: Draw>(
         return (client, Err(End::Memory));
     }
     let mut client = client;
-    'packets: for _count in 0..piece.len() {
+    'packets: for _count in 0..PACKETS_MAX {
         let (next, taken) = take_next(client, alloc, now, wire, cursor, seal, draw);
         client = next;
         match taken {

@@ -29,7 +29,7 @@ turns-preserved g c =
           c.flush_all.new.client c.flush_all.new.draw c.flush_all.new.wire (seen (g.L.Link.told c.flush_all.new.link) (g.L.Link.faults c.flush_all.new.link))
           took.0 c.in-Ok.moment c.take_turn-next.result.0 c.take_turn-next.new.draw c.take_turn-next.new.wire
           (seen (g.L.Link.told c.take_turn-next.new.link) (g.L.Link.faults c.take_turn-next.new.link)) (g.C.Clock.given c.take_turn-next.new.clock)
-          read_so (c.turns.invariant.so_far course reading opening read_so stands some opens) c.in_default.ensures.flow c.in_default.ensures.same_in took.1 turn.same_out;
+          c.turns-test.true read_so (c.turns.invariant.so_far course reading opening read_so stands some opens) c.in_default.ensures.flow c.in_default.ensures.same_in took.1 turn.same_out;
     }
 
 pub turns-init : goal.turns-init
