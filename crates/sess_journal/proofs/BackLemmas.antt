@@ -34,7 +34,7 @@ left_has : (P : List ℕ → Type 0) (was then : DiskTold) (left : List ℕ) →
 left_has P was then left leaves (inl h) = leaves.each left h
 left_has P was then left leaves (inr is) = subst P (sym is) leaves.read
 
-spells_left : (left seed : List ℕ) (entries : List Record) (t : Option DiskTold) → IfSome t (λ b. Spells seed entries b.contents) → IsSomeAnd t (λ f. f.contents ≡ left) → Spells seed entries left
+pub spells_left : (left seed : List ℕ) (entries : List Record) (t : Option DiskTold) → IfSome t (λ b. Spells seed entries b.contents) → IsSomeAnd t (λ f. f.contents ≡ left) → Spells seed entries left
 spells_left left seed entries None h bytes = absurd bytes
 spells_left left seed entries (Some file) h bytes = subst (λ (l : List ℕ). Spells seed entries l) bytes h
 

@@ -1,9 +1,9 @@
 -- An event of a desk, and its record.
-use Rattle.std.proofs.Common.{◌≡◌, ◌≤◌, ◌<◌, ◌^◌, ℕ, Option, None, Some, Result, Ok, Err, List, [], ◌∷◌, ◌++◌, length, max, sym, ap, subst, refl, ◌∙◌, arith, Bool, true, false}
+use Rattle.std.proofs.Common.{◌≡◌, ◌≤◌, ◌<◌, ◌^◌, ℕ, Option, None, Some, Result, Ok, Err, List, [], ◌∷◌, ◌++◌, inl, max, sym, ap, subst, refl, ◌∙◌, arith, Bool, true, false}
 use Rattle.std.specs.Prelude.{IfSome, IsErr, IsErrAnd, IsSomeAnd}
 use Rattle.std.specs.List.{All}
-use Rattle.disks.specs.Crash.{MayLeave, synced_at}
-use Rattle.disks.specs.Told.{DiskTold, MayHaveLeft, now}
+use Rattle.disks.specs.Crash.{MayLeave}
+use Rattle.disks.specs.Told.{DiskTold, now}
 use Rattle.auth_keys.specs.declared.ring.RingKey.{RingKey}
 use Rattle.draws.specs.Draws.{draw_after}
 use Rattle.envelope.specs.Packet.{Lock}
@@ -24,7 +24,7 @@ use Rattle.server_core.specs.Effects.{Gives}
 use Rattle.server_output.specs.declared.outs.Out.{Out}
 use Rattle.server_output.specs.Outs.{AreSent}
 use Rattle.server_core.specs.Packets.{brought_in}
-use Rattle.server_core.specs.Server.{Stands}
+use Rattle.server_core.specs.Server.{Kept, Stands}
 use Rattle.server_rules.specs.Answer.{Answer, after_attach, after_packet, after_tick, after_work, is_spent}
 use Rattle.server_rules.specs.Event.{Envelope, Sent, Setting}
 use Rattle.server_rules.specs.Server.{Name, Server}
@@ -33,7 +33,8 @@ use Rattle.law_server_replay.specs.Quiet.{quiet}
 use Rattle.sess_journal.specs.Keeping.{Added, Adds, Book, GivesNothing, HasRecorded, IsRecorded, Journals, KeepsFor, LeavesSome, Seen, disk_by, disk_in, entry_at}
 use Rattle.sess_replay.specs.Replay.{Bases, Basis, LeadsTo, Plays, Reached, Replays, after_interruption, after_reply, always, at_first, reached_by, run_interrupted, setting_at}
 use Rattle.sess_journal.proofs.NextLemmas.{replays_more}
-use Rattle.sess_journal.proofs.PlayLemmas.{Goes, IsSeeded, Places, seeded}
+use Rattle.sess_journal.specs.Staging.{RowLaws, Stage}
+use Rattle.sess_journal.proofs.PlayLemmas.{IsSeeded, seeded}
 use Rattle.sess_journal.proofs.ResumeLemmas.{append_none}
 
 -- ---- room for events
@@ -79,17 +80,6 @@ module _ {D : Type 0} (law : LeaveRoom D) (basis : Basis D) where
 
 -- ---- what a crash leaves
 
--- laws of what the calls of a journal leave
-pub record RowLaws : Type 0 where
-  pub at_once : (told : DiskTold) (left : List ℕ) → MayHaveLeft (length told.acts) told left → MayLeave (now told) left
-  pub synced : (bytes left : List ℕ) → MayLeave (synced_at bytes) left → left ≡ bytes
-  pub spells : (seed : List ℕ) (entries : List Record) (len : ℕ) (told : DiskTold) → Settled seed entries len told → Spells seed entries told.contents
-  pub one : (seed : List ℕ) (entries : List Record) (entry : Record) (before after : DiskTold)
-      → LeavesOnly before after (SpellsOneOf seed entries entry) → LeavesOnly before after (SpellsSome seed entries (entry ∷ []))
-  pub more : (seed : List ℕ) (entries some others : List Record) (before between after : DiskTold)
-      → LeavesOnly before between (SpellsSome seed entries some) → LeavesOnly between after (SpellsSome seed (entries ++ some) others)
-      → LeavesOnly before after (SpellsSome seed entries (some ++ others))
-
 module _ (laws : RowLaws) where
   -- nothing is done
   calm : (seed : List ℕ) (entries : List Record) (len : ℕ) (told : Option DiskTold) → IfSome told (λ file. Settled seed entries len file)
@@ -110,11 +100,12 @@ module _ (laws : RowLaws) where
             let is : left ≡ file.contents =
             laws.synced file.contents left (subst (λ s. MayLeave s left) settled.sure (laws.at_once file left h)) in
             subst (λ (l : List ℕ). SpellsSome seed entries [] l) (sym is) spelt;
+        earlier = λ since left h. inl h;
         read = spelt;
       }
 
   some_of : (P : List ℕ → Type 0) (was is : DiskTold) → LeavesOnly was is P → LeavesSome was is P
-  some_of P was is only = record { each = only.each; read = only.read }
+  some_of P was is only = record { each = only.each; earlier = only.earlier.adds; read = only.read }
 
   -- one record is added
   pub one_left : (seed : List ℕ) (entries : List Record) (entry : Record) (was is : Option DiskTold)
@@ -130,16 +121,6 @@ module _ (laws : RowLaws) where
   only_some seed entries more None is h = tt
   only_some seed entries more (Some was) None h = absurd h
   only_some seed entries more (Some was) (Some is) h = some_of (SpellsSome seed entries more) was is h
-
-  -- one record is added, and then another
-  pub two_left : (seed : List ℕ) (entries : List Record) (one other : Record) (was between is : Option DiskTold)
-      → IfSome was (λ before. IsSomeAnd between (λ after. LeavesOnly before after (SpellsSome seed entries (one ∷ []))))
-      → IfSome between (λ before. IsSomeAnd is (λ after. LeavesOnly before after (SpellsSome seed (entries ++ one ∷ []) (other ∷ []))))
-      → IfSome was (λ before. IsSomeAnd is (λ after. LeavesOnly before after (SpellsSome seed entries (one ∷ other ∷ []))))
-  two_left seed entries one other None between is h k = tt
-  two_left seed entries one other (Some was) None is h k = absurd h
-  two_left seed entries one other (Some was) (Some between) None h k = absurd k
-  two_left seed entries one other (Some was) (Some between) (Some is) h k = laws.more seed entries (one ∷ []) (other ∷ []) was between is h k
 
 -- ---- what a desk stands for
 
@@ -171,132 +152,6 @@ module _ {K S D : Type 0} (bases : Bases S D) (told : K → Option DiskTold) whe
           drawn = subst (λ (b : Basis D). desk.draw ≡ b.at after.place) (sym same_basis) drawn;
         };
       }
-
-module _ {K S D : Type 0} (bases : Bases S D) (told : K → Option DiskTold) (entries : List Record) (old : Seen K S D) (server : Server) (keeps : KeepsFor bases told entries old server) where
-  abbrev its : HasRecorded bases told old.server.seal entries old.book old.latest old.draw server
-  its = keeps.recorded
-
-  abbrev basis : Basis D
-  basis = bases old.server.seal keeps.recorded.file.seed
-
-  -- nothing changes but the moment
-  pub keeps_quiet : (new : Seen K S D) (moment : ℕ) → new.server.seal ≡ old.server.seal → Stands new.server (record server { now = moment })
-      → IsBetweenEvents (record server { now = moment }) → server.now ≤ moment → new.latest ≡ moment → new.draw ≡ old.draw → new.book ≡ old.book
-      → KeepsFor bases told entries new (record server { now = moment })
-  keeps_quiet new moment seal stands between later latest draw book =
-      record {
-        stands = stands;
-        between = between;
-        recorded = record {
-          file = its.file;
-          opened = ap (λ (b : Book K). b.journal) book ∙ its.opened;
-          holds = its.holds;
-          reached = its.reached;
-          replays = subst (λ (s : S). Replays (bases s its.file.seed) entries at_first its.reached) (sym seal) its.replays;
-          same = ap (λ (s : Server). record s { now = moment }) its.same;
-          later = let before : its.reached.server.now ≤ server.now = its.later in omega (arith, before, later);
-          latest_is = latest;
-          place = its.place;
-          drawn = draw ∙ subst (λ (s : S). old.draw ≡ (bases s its.file.seed).at its.reached.place) (sym seal) its.drawn;
-        };
-      }
-
-  -- nothing is added
-  pub adds_none : RowLaws → (new : Seen K S D) → new.book ≡ old.book → Adds bases told entries [] old new
-  adds_none laws new book =
-      record {
-        file = its.file;
-        opened = its.opened;
-        disk = its.file.disk;
-        stands = ap (λ (b : Book K). disk_in b) book ∙ ap (λ (j : Option (File K)). disk_by j old.book.lost) its.opened;
-        reached = its.reached;
-        replays = subst (λ (l : List Record). Replays basis l at_first its.reached) (sym (append_none entries)) its.replays;
-        leaves = calm laws its.file.seed entries its.file.len (told its.file.disk) its.holds;
-      }
-
-  -- one record is added
-  pub adds_one : RowLaws → (new : Seen K S D) (entry : Record) (after : Reached) (disk : K) → Plays basis entry its.reached after → disk_in new.book ≡ Some disk
-      → LeavesOneOf told entries entry its.file disk → Adds bases told entries (entry ∷ []) old new
-  adds_one laws new entry after disk plays stands left =
-      record {
-        file = its.file;
-        opened = its.opened;
-        disk = disk;
-        stands = stands;
-        reached = after;
-        replays = replays_more basis entries entry its.reached after its.replays plays;
-        leaves = only_some laws its.file.seed entries (entry ∷ []) (told its.file.disk) (told disk) (one_left laws its.file.seed entries entry (told its.file.disk) (told disk) left);
-      }
-
-  -- each session has room for an event
-  pub keeps_room : LeaveRoom D → HaveRoom server
-  keeps_room law = subst HaveRoom (sym its.same) (first_room law basis entries its.reached its.replays)
-
-  -- the draw of its place
-  pub draw_back : Places basis → (Q : File K → Type 0) (draw : D) (seed : List ℕ) (place : ℕ) → draw ≡ (bases old.server.seal seed).at place
-      → IsSomeAnd old.book.journal (λ file. (seed ≡ file.seed) × Q file) → place ≡ basis.place_of old.draw → draw ≡ old.draw
-  draw_back places Q draw seed place is found there =
-      let own : (seed ≡ its.file.seed) × Q its.file = subst (λ (j : Option (File K)). IsSomeAnd j (λ file. (seed ≡ file.seed) × Q file)) its.opened found in
-      is ∙ ap (λ (s : List ℕ). (bases old.server.seal s).at place) own.0
-      ∙ ap basis.at (there ∙ ap basis.place_of its.drawn ∙ places its.reached.place its.place) ∙ sym its.drawn
-
-  -- ---- an event at a moment
-
-  module _ (goes : Goes basis) (places : Places basis) (moment : ℕ) (early : moment ≤ latest_moment) where
-    abbrev pub time : ℕ
-    time = max server.now moment
-
-    pub time_early : time ≤ latest_moment
-    time_early = let at : server.now ≤ latest_moment = keeps.between.at in omega (arith, at, early)
-
-    pub time_is : max old.latest moment ≡ time
-    time_is = ap (λ (n : ℕ). max n moment) its.latest_is
-
-    place_is : basis.place_of old.draw ≡ its.reached.place
-    place_is = ap basis.place_of its.drawn ∙ places its.reached.place its.place
-
-    -- its record is lawful
-    pub plays_at : (event : Event (List ℕ)) (after : Reached) → LeadsTo basis (max old.latest moment) (basis.place_of old.draw) event its.reached after
-        → Plays basis (entry_at basis.place_of old moment event) its.reached after
-    plays_at event after leads =
-        let before : its.reached.server.now ≤ server.now = its.later in
-        let latest : old.latest ≡ server.now = its.latest_is in
-        let place : basis.place_of old.draw ≡ its.reached.place = place_is in
-        record {
-          moment = omega (arith, before, latest);
-          place = omega (arith, place);
-          leads = leads;
-        }
-
-    pub time_of : moment_of (max old.latest moment) ≡ time
-    time_of = let within : time ≤ latest_moment = time_early in ap moment_of time_is ∙ omega (arith, within)
-
-    -- what the event gives is what its record gives
-    pub same_event : (F : ℕ → Server → D → Answer D) → ((at : ℕ) (one : Server) (n : ℕ) (draw : D) → F at (record one { now = n }) draw ≡ F at one draw)
-        → F time server old.draw ≡ F (moment_of (max old.latest moment)) its.reached.server (basis.at (basis.place_of old.draw))
-    same_event F blind =
-        let is : moment_of (max old.latest moment) ≡ time = time_of in
-        ap (λ (s : Server). F time s old.draw) its.same ∙ blind time its.reached.server server.now old.draw
-        ∙ ap (λ (d : D). F time its.reached.server d) (its.drawn ∙ ap basis.at (sym place_is))
-        ∙ ap (λ (n : ℕ). F n its.reached.server (basis.at (basis.place_of old.draw))) (sym is)
-
-    -- the draw of what it gives
-    pub draws : (answer : Answer D) (words : ℕ) → answer.draw ≡ draw_after basis.step words old.draw → IsSeeded basis answer.draw
-    draws answer words is =
-        seeded basis goes places its.reached.place answer.draw words its.place (is ∙ ap (draw_after basis.step words) its.drawn)
-
-    -- the event is recorded
-    pub keeps_event : (event : Event (List ℕ)) (answer : Answer D) (words : ℕ) (new : Seen K S D) (added : File K)
-        → LeadsTo basis (max old.latest moment) (basis.place_of old.draw) event its.reached (reached_by basis answer)
-        → answer.draw ≡ draw_after basis.step words old.draw → new.server.seal ≡ old.server.seal → Stands new.server answer.server → IsBetweenEvents answer.server
-        → answer.server.now ≡ time → new.latest ≡ max old.latest moment → new.draw ≡ answer.draw → new.book.journal ≡ Some added
-        → Added told its.file (entry_at basis.place_of old moment event) added
-        → KeepsFor bases told (entries ++ entry_at basis.place_of old moment event ∷ []) new answer.server
-    keeps_event event answer words new added leads drew seal stands between at latest draw opened adds =
-        let entry : Record = entry_at basis.place_of old moment event in
-        let seed : IsSeeded basis answer.draw = draws answer words drew in
-        keeps_more bases told old.server.seal entries its.file added its.reached (reached_by basis answer) new entry answer.server its.holds its.replays seal opened adds
-        (plays_at event (reached_by basis answer) leads) stands between refl (omega arith) (latest ∙ time_is ∙ sym at) seed.place (draw ∙ seed.drawn)
 
 -- ---- what a call comes to
 
@@ -344,116 +199,232 @@ none_sent lock keys [] outs h is = refl
 none_sent lock keys (one ∷ sent) [] h is = absurd h
 none_sent lock keys (one ∷ sent) (out ∷ outs) h is = let e : out ∷ outs ≡ [] = is in absurd (cc)
 
-module _ {K S D A : Type 0} (bases : Bases S D) (told : K → Option DiskTold) (entries : List Record) (old : Seen K S D) (server : Server) (keeps : KeepsFor bases told entries old server)
-    (laws : RowLaws) where
-  -- the desk is as it was
-  pub none_journals : {all : List Record} {P : A → List Record → Type 0} (new : Seen K S D) (fault : DeskFault) → new ≡ old → Journals bases told entries all [] server old new (Err fault) P
-  none_journals {all} {P} new fault same =
+-- ---- an event of a desk at a moment
+
+module _ {K S D : Type 0} {bases : Bases S D} {told : K → Option DiskTold} {entries : List Record} {old : Seen K S D} {server : Server} {moment : ℕ} (stage : Stage bases told entries old server moment) where
+  abbrev pub its : HasRecorded bases told old.server.seal entries old.book old.latest old.draw server
+  its = stage.keeps.recorded
+
+  abbrev pub basis : Basis D
+  basis = bases old.server.seal stage.keeps.recorded.file.seed
+
+  abbrev pub time : ℕ
+  time = max server.now moment
+
+  pub time_early : time ≤ latest_moment
+  time_early =
+      let at : server.now ≤ latest_moment = stage.keeps.between.at in
+      let early : moment ≤ latest_moment = stage.early in omega (arith, at, early)
+
+  pub time_is : max old.latest moment ≡ time
+  time_is = ap (λ (n : ℕ). max n moment) its.latest_is
+
+  pub time_of : moment_of (max old.latest moment) ≡ time
+  time_of = let within : time ≤ latest_moment = time_early in ap moment_of time_is ∙ omega (arith, within)
+
+  place_is : basis.place_of old.draw ≡ its.reached.place
+  place_is = ap basis.place_of its.drawn ∙ stage.places its.reached.place its.place
+
+  -- each session has room for an event
+  pub keeps_room : LeaveRoom D → HaveRoom server
+  keeps_room law = subst HaveRoom (sym its.same) (first_room law basis entries its.reached its.replays)
+
+  -- the draw of its place
+  pub draw_back : (Q : File K → Type 0) (draw : D) (seed : List ℕ) (place : ℕ) → draw ≡ (bases old.server.seal seed).at place
+      → IsSomeAnd old.book.journal (λ file. (seed ≡ file.seed) × Q file) → place ≡ basis.place_of old.draw → draw ≡ old.draw
+  draw_back Q draw seed place is found there =
+      let own : (seed ≡ its.file.seed) × Q its.file = subst (λ (j : Option (File K)). IsSomeAnd j (λ file. (seed ≡ file.seed) × Q file)) its.opened found in
+      is ∙ ap (λ (s : List ℕ). (bases old.server.seal s).at place) own.0
+      ∙ ap basis.at (there ∙ place_is) ∙ sym its.drawn
+
+  -- its record is lawful
+  pub plays_at : (event : Event (List ℕ)) (after : Reached) → LeadsTo basis (max old.latest moment) (basis.place_of old.draw) event its.reached after
+      → Plays basis (entry_at basis.place_of old moment event) its.reached after
+  plays_at event after leads =
+      let before : its.reached.server.now ≤ server.now = its.later in
+      let latest : old.latest ≡ server.now = its.latest_is in
+      let place : basis.place_of old.draw ≡ its.reached.place = place_is in
       record {
+        moment = omega (arith, before, latest);
+        place = omega (arith, place);
+        leads = leads;
+      }
+
+  -- what the event gives is what its record gives
+  pub same_event : (F : ℕ → Server → D → Answer D) → ((at : ℕ) (one : Server) (n : ℕ) (draw : D) → F at (record one { now = n }) draw ≡ F at one draw)
+      → F time server old.draw ≡ F (moment_of (max old.latest moment)) its.reached.server (basis.at (basis.place_of old.draw))
+  same_event F blind =
+      let is : moment_of (max old.latest moment) ≡ time = time_of in
+      ap (λ (s : Server). F time s old.draw) its.same ∙ blind time its.reached.server server.now old.draw
+      ∙ ap (λ (d : D). F time its.reached.server d) (its.drawn ∙ ap basis.at (sym place_is))
+      ∙ ap (λ (n : ℕ). F n its.reached.server (basis.at (basis.place_of old.draw))) (sym is)
+
+  -- nothing changes but the moment
+  pub keeps_quiet : (new : Seen K S D) → new.server.seal ≡ old.server.seal → Stands new.server (record server { now = time })
+      → IsBetweenEvents (record server { now = time }) → new.latest ≡ max old.latest moment → new.draw ≡ old.draw → new.book ≡ old.book
+      → KeepsFor bases told entries new (record server { now = time })
+  keeps_quiet new seal stands between latest draw book =
+      record {
+        stands = stands;
+        between = between;
+        recorded = record {
+          file = its.file;
+          opened = ap (λ (b : Book K). b.journal) book ∙ its.opened;
+          holds = its.holds;
+          reached = its.reached;
+          replays = subst (λ (s : S). Replays (bases s its.file.seed) entries at_first its.reached) (sym seal) its.replays;
+          same = ap (λ (s : Server). record s { now = time }) its.same;
+          later = let before : its.reached.server.now ≤ server.now = its.later in omega (arith, before);
+          latest_is = latest ∙ time_is;
+          place = its.place;
+          drawn = draw ∙ subst (λ (s : S). old.draw ≡ (bases s its.file.seed).at its.reached.place) (sym seal) its.drawn;
+        };
+      }
+
+  -- nothing is added
+  pub adds_none : (new : Seen K S D) → new.book ≡ old.book → Adds bases told entries [] old new
+  adds_none new book =
+      record {
+        file = its.file;
+        opened = its.opened;
+        disk = its.file.disk;
+        stands = ap (λ (b : Book K). disk_in b) book ∙ ap (λ (j : Option (File K)). disk_by j old.book.lost) its.opened;
+        reached = its.reached;
+        replays = subst (λ (l : List Record). Replays basis l at_first its.reached) (sym (append_none entries)) its.replays;
+        leaves = calm stage.laws its.file.seed entries its.file.len (told its.file.disk) its.holds;
+      }
+
+-- ---- a record that is added
+
+module _ {K S D : Type 0} {bases : Bases S D} {told : K → Option DiskTold} {entries : List Record} {old : Seen K S D} {server : Server} {moment : ℕ} (stage : Stage bases told entries old server moment)
+    (event : Event (List ℕ)) (after : Reached) (leads : LeadsTo (basis stage) (max old.latest moment) ((basis stage).place_of old.draw) event (its stage).reached after) where
+  abbrev due : Record
+  due = entry_at (basis stage).place_of old moment event
+
+  adds_one : (new : Seen K S D) → LeftIn told entries due (its stage).file new.book → Adds bases told entries (due ∷ []) old new
+  adds_one new (disk, stands, left) =
+      record {
+        file = (its stage).file;
+        opened = (its stage).opened;
+        disk = disk;
+        stands = stands;
+        reached = after;
+        replays = replays_more (basis stage) entries due (its stage).reached after (its stage).replays (plays_at stage event after leads);
+        leaves =
+            only_some stage.laws (its stage).file.seed entries (due ∷ []) (told (its stage).file.disk) (told disk)
+            (one_left stage.laws (its stage).file.seed entries due (told (its stage).file.disk) (told disk) left);
+      }
+
+  -- its disk failed as the record was added
+  pub failed_journals : {A : Type 0} {P : A → List Record → Type 0} (new : Seen K S D) (r : Result A DeskFault) → r ≡ Err faults.Disk → LeftIn told entries due (its stage).file new.book
+      → Journals bases told entries (due ∷ []) [] server old new r P
+  failed_journals {A} {P} new r is left =
+      subst (λ (r : Result A DeskFault). Journals bases told entries (due ∷ []) [] server old new r P) (sym is)
+      (record {
+        more = due ∷ [];
+        back = [];
+        front = refl;
+        adds = adds_one new left;
+        answers = tt;
+        memory = λ same. let e : faults.Disk ≡ faults.Memory = same in absurd (cc);
+      })
+
+  -- the record was added
+  pub added_journals : {A : Type 0} {P : A → List Record → Type 0} (new : Seen K S D) (value : A) → LeftIn told entries due (its stage).file new.book → P value (due ∷ [])
+      → Journals bases told entries (due ∷ []) [] server old new (Ok value) P
+  added_journals {A} {P} new value left answers =
+      record {
+        more = due ∷ [];
+        back = [];
+        front = refl;
+        adds = adds_one new left;
+        answers = answers;
+        memory = tt;
+      }
+
+-- What an event gives to the server, by the laws on events: its record leads to that.
+pub record Occurs {K S D : Type 0} {bases : Bases S D} {told : K → Option DiskTold} {entries : List Record} {old : Seen K S D} {server : Server} {moment : ℕ} (stage : Stage bases told entries old server moment)
+    (event : Event (List ℕ)) (answer : Answer D) : Type 0 where
+  pub leads : LeadsTo (basis stage) (max old.latest moment) ((basis stage).place_of old.draw) event (its stage).reached (reached_by (basis stage) answer)
+  pub draws : (words : ℕ) × (answer.draw ≡ draw_after (basis stage).step words old.draw)
+  pub between : IsBetweenEvents answer.server
+  pub at : answer.server.now ≡ max server.now moment
+
+-- its record is added, and the desk stands for what it gives
+pub does_recorded : {K S D : Type 0} {bases : Bases S D} {told : K → Option DiskTold} {entries : List Record} {old : Seen K S D} {server : Server} {moment : ℕ} (stage : Stage bases told entries old server moment) (event : Event (List ℕ)) (answer : Answer D) → Occurs stage event answer
+    → (lock : Lock) (keys : List RingKey) (new : Seen K S D) (effects : Effects) (added : File K) → Gives lock keys new.server new.draw effects answer
+    → new.server.seal ≡ old.server.seal → new.latest ≡ max old.latest moment → new.book.journal ≡ Some added → Added told (its stage).file (entry_at (basis stage).place_of old moment event) added
+    → Does (KeepsFor bases told (entries ++ entry_at (basis stage).place_of old moment event ∷ []) new) lock keys new.draw effects answer
+does_recorded {K} {S} {D} {bases} {told} {entries} {old} {server} {moment} stage event answer occurs lock keys new effects added gives seal latest opened adds =
+    let words = occurs.draws in
+    let seed : IsSeeded (basis stage) answer.draw =
+    seeded (basis stage) stage.goes stage.places (its stage).reached.place answer.draw words.0 (its stage).place (words.1 ∙ ap (draw_after (basis stage).step words.0) (its stage).drawn) in
+    record {
+      stands =
+          keeps_more bases told old.server.seal entries (its stage).file added (its stage).reached (reached_by (basis stage) answer) new (entry_at (basis stage).place_of old moment event) answer.server
+          (its stage).holds (its stage).replays seal opened adds (plays_at stage event (reached_by (basis stage) answer) occurs.leads) gives.stands occurs.between refl (omega arith)
+          (latest ∙ time_is stage ∙ sym occurs.at) seed.place (gives.drawn ∙ seed.drawn);
+      drawn = gives.drawn;
+      sent = gives.sent;
+      entered = gives.entered;
+    }
+
+-- ---- what a call comes to without a record
+
+module _ {K S D : Type 0} {bases : Bases S D} {told : K → Option DiskTold} {entries : List Record} {old : Seen K S D} {server : Server} {moment : ℕ} (stage : Stage bases told entries old server moment) where
+  -- the desk is as it was
+  pub none_journals : {A : Type 0} {all : List Record} {P : A → List Record → Type 0} (new : Seen K S D) (fault : DeskFault) (r : Result A DeskFault) → r ≡ Err fault → new ≡ old
+      → Journals bases told entries all [] server old new r P
+  none_journals {A} {all} {P} new fault r is same =
+      subst (λ (r : Result A DeskFault). Journals bases told entries all [] server old new r P) (sym is)
+      (record {
         more = [];
         back = all;
         front = refl;
-        adds = adds_none bases told entries old server keeps laws new (ap (λ (d : Seen K S D). d.book) same);
+        adds = adds_none stage new (ap (λ (d : Seen K S D). d.book) same);
         answers = tt;
         memory = λ _. (
           refl,
-          subst (λ (l : List Record). KeepsFor bases told l new server) (sym (append_none entries)) (subst (λ (d : Seen K S D). KeepsFor bases told entries d server) (sym same) keeps),
+          subst (λ (l : List Record). KeepsFor bases told l new server) (sym (append_none entries)) (subst (λ (d : Seen K S D). KeepsFor bases told entries d server) (sym same) stage.keeps),
         );
-      }
-
-  -- its disk failed as a record was added
-  pub failed_journals : {P : A → List Record → Type 0} (entry : Record) (after : Reached) (new : Seen K S D) → Plays (bases old.server.seal keeps.recorded.file.seed) entry keeps.recorded.reached after
-      → LeftIn told entries entry keeps.recorded.file new.book → Journals bases told entries (entry ∷ []) [] server old new (Err faults.Disk) P
-  failed_journals {P} entry after new plays (disk, stands, left) =
-      record {
-        more = entry ∷ [];
-        back = [];
-        front = refl;
-        adds = adds_one bases told entries old server keeps laws new entry after disk plays stands left;
-        answers = tt;
-        memory = λ is. let e : faults.Disk ≡ faults.Memory = is in absurd (cc);
-      }
-
-  -- a record was added
-  pub added_journals : {P : A → List Record → Type 0} (entry : Record) (after : Reached) (new : Seen K S D) (value : A) → Plays (bases old.server.seal keeps.recorded.file.seed) entry keeps.recorded.reached after
-      → LeftIn told entries entry keeps.recorded.file new.book → P value (entry ∷ []) → Journals bases told entries (entry ∷ []) [] server old new (Ok value) P
-  added_journals {P} entry after new value plays (disk, stands, left) answers =
-      record {
-        more = entry ∷ [];
-        back = [];
-        front = refl;
-        adds = adds_one bases told entries old server keeps laws new entry after disk plays stands left;
-        answers = answers;
-        memory = tt;
-      }
+      })
 
   -- no record was added
-  pub quiet_journals : {all : List Record} {P : A → List Record → Type 0} (new : Seen K S D) (value : A) → new.book ≡ old.book → P value [] → Journals bases told entries all [] server old new (Ok value) P
-  quiet_journals {all} {P} new value book answers =
+  pub quiet_journals : {A : Type 0} {all : List Record} {P : A → List Record → Type 0} (new : Seen K S D) (value : A) → new.book ≡ old.book → P value [] → Journals bases told entries all [] server old new (Ok value) P
+  quiet_journals {A} {all} {P} new value book answers =
       record {
         more = [];
         back = all;
         front = refl;
-        adds = adds_none bases told entries old server keeps laws new book;
+        adds = adds_none stage new book;
         answers = answers;
         memory = tt;
       }
 
--- ---- an event that may give nothing
+  -- ---- a tick, an attach and a run, which ask nothing of the ring's keys
 
-module _ {K S D : Type 0} (bases : Bases S D) (told : K → Option DiskTold) (entries : List Record) (old : Seen K S D) (server : Server) (keeps : KeepsFor bases told entries old server)
-    (goes : Goes (bases old.server.seal keeps.recorded.file.seed)) (places : Places (bases old.server.seal keeps.recorded.file.seed)) (moment : ℕ) (early : moment ≤ latest_moment)
-    (lock : Lock) (keys : List RingKey) (answer : Keys → Answer D) (event : Event (List ℕ)) where
-  abbrev due : Record
-  due = entry_at (bases old.server.seal keeps.recorded.file.seed).place_of old moment event
+  -- an event that gives nothing to a server that has room for it changes nothing but the moment
+  pub does_quiet : (lock : Lock) (keys : List RingKey) (new : Seen K S D) (effects : Effects) (answer : Answer D) → Gives lock keys new.server new.draw effects answer
+      → answer ≡ quiet (max server.now moment) server old.draw → IsBetweenEvents answer.server → new.server.seal ≡ old.server.seal → new.latest ≡ max old.latest moment → new.book ≡ old.book
+      → Does (KeepsFor bases told (entries ++ []) new) lock keys new.draw effects answer
+  does_quiet lock keys new effects answer given is_quiet between seal latest book =
+      let then : Server = record server { now = max server.now moment } in
+      let server_is : answer.server ≡ then = ap (λ (a : Answer D). a.server) is_quiet in
+      let draw_is : new.draw ≡ old.draw = given.drawn ∙ ap (λ (a : Answer D). a.draw) is_quiet in
+      let stands : KeepsFor bases told entries new then =
+      keeps_quiet stage new seal (subst (λ (s : Server). Stands new.server s) server_is given.stands) (subst IsBetweenEvents server_is between) latest draw_is book in
+      record {
+        stands = subst (λ (l : List Record). KeepsFor bases told l new answer.server) (sym (append_none entries)) (subst (λ (s : Server). KeepsFor bases told entries new s) (sym server_is) stands);
+        drawn = given.drawn;
+        sent = given.sent;
+        entered = given.entered;
+      }
 
-  -- what a tick and an attach come to
-  abbrev pub May : Seen K S D → Effects → List Record → Type 0
-  May new effects more = IsRecorded (GivesNothing effects) due more × ((ring : Keys) → Does (KeepsFor bases told (entries ++ more) new) lock keys new.draw effects (answer ring))
-
-  -- it gave nothing
-  pub may_quiet : (new : Seen K S D) (effects : Effects) → GivesNothing effects → ((ring : Keys) → Gives lock keys new.server new.draw effects (answer ring))
-      → ((ring : Keys) → answer ring ≡ quiet (max server.now moment) server old.draw) → ((ring : Keys) → IsBetweenEvents (answer ring).server)
-      → new.server.seal ≡ old.server.seal → new.latest ≡ max old.latest moment → new.book ≡ old.book → May new effects []
-  may_quiet new effects nothing gives is_quiet between seal latest book = (
-    record { none = λ _. refl; one = λ some. absurd (some nothing) },
-    λ ring.
-        let given = gives ring in
-        let then : Server = record server { now = max server.now moment } in
-        let server_is : (answer ring).server ≡ then = ap (λ (a : Answer D). a.server) (is_quiet ring) in
-        let draw_is : new.draw ≡ old.draw = given.drawn ∙ ap (λ (a : Answer D). a.draw) (is_quiet ring) in
-        let stands : KeepsFor bases told entries new then =
-        keeps_quiet bases told entries old server keeps new (max server.now moment) seal (subst (λ (s : Server). Stands new.server s) server_is given.stands)
-        (subst IsBetweenEvents server_is (between ring)) (omega arith) (latest ∙ time_is bases told entries old server keeps goes places moment early) draw_is book in
-        record {
-          stands = subst (λ (l : List Record). KeepsFor bases told l new (answer ring).server) (sym (append_none entries)) (subst (λ (s : Server). KeepsFor bases told entries new s) (sym server_is) stands);
-          drawn = given.drawn;
-          sent = given.sent;
-          entered = given.entered;
-        },
-  )
-
-  -- it gave something, and was recorded
-  pub may_added : (new : Seen K S D) (effects : Effects) (added : File K) → (GivesNothing effects → ⊥) → ((ring : Keys) → Gives lock keys new.server new.draw effects (answer ring))
-      → ((ring : Keys) → LeadsTo (bases old.server.seal keeps.recorded.file.seed) (max old.latest moment) ((bases old.server.seal keeps.recorded.file.seed).place_of old.draw) event keeps.recorded.reached
-      (reached_by (bases old.server.seal keeps.recorded.file.seed) (answer ring)))
-      → ((ring : Keys) → (words : ℕ) × ((answer ring).draw ≡ draw_after (bases old.server.seal keeps.recorded.file.seed).step words old.draw)) → ((ring : Keys) → IsBetweenEvents (answer ring).server)
-      → ((ring : Keys) → (answer ring).server.now ≡ max server.now moment) → new.server.seal ≡ old.server.seal → new.latest ≡ max old.latest moment → new.book.journal ≡ Some added
-      → Added told keeps.recorded.file due added → May new effects (due ∷ [])
-  may_added new effects added some gives leads drew between at seal latest opened adds = (
-    record { none = λ nothing. absurd (some nothing); one = λ _. refl },
-    λ ring.
-        let given = gives ring in
-        let words = drew ring in
-        record {
-          stands =
-              keeps_event bases told entries old server keeps goes places moment early event (answer ring) words.0 new added (leads ring) words.1 seal given.stands (between ring) (at ring) latest given.drawn
-              opened adds;
-          drawn = given.drawn;
-          sent = given.sent;
-          entered = given.entered;
-        },
-  )
+  -- what it gives at the moment of the kept server is what it gives at its own
+  pub gives_now : (lock : Lock) (keys : List RingKey) (kept : Kept S) (draw : D) (effects : Effects) (F : ℕ → Answer D) → Gives lock keys kept draw effects (F (max old.server.moment moment))
+      → Gives lock keys kept draw effects (F (max server.now moment))
+  gives_now lock keys kept draw effects F gives =
+      subst (λ (n : ℕ). Gives lock keys kept draw effects (F (max n moment))) stage.keeps.stands.moment gives
 
 -- what a tick and an attach come to, by the desk before
 abbrev pub MayJournals : {K S D : Type 0} → Bases S D → (K → Option DiskTold) → (D → ℕ) → Lock → (S → List RingKey) → (D → Keys → Answer D) → List Record → Server → ℕ → Event (List ℕ) → Seen K S D

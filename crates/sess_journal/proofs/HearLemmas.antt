@@ -1,5 +1,5 @@
 -- A packet that a desk hears, and its record.
-use Rattle.std.proofs.Common.{◌≡◌, ◌≤◌, ℕ, Result, List, [], ◌∷◌, ◌++◌, max, sym, ap, subst, refl, ◌∙◌, arith, Option}
+use Rattle.std.proofs.Common.{◌≡◌, ◌≤◌, ℕ, Result, List, [], ◌∷◌, ◌++◌, max, sym, ap, subst, refl, arith, Option}
 use Rattle.auth_keys.specs.declared.ring.RingKey.{RingKey}
 use Rattle.disks.specs.Told.{DiskTold}
 use Rattle.envelope.specs.declared.parts.Dir.TheVariants.{Up}
@@ -7,7 +7,6 @@ use Rattle.envelope.specs.declared.parts.Envelope.{Envelope as Sealed}
 use Rattle.envelope.specs.declared.refusal.Refusal.{Refusal}
 use Rattle.envelope.specs.Opening.{Opens}
 use Rattle.envelope.specs.Packet.{Lock}
-use Rattle.msg_ids.specs.Moments.{latest_moment}
 use Rattle.sess_records.specs.declared.records.Event.TheVariants.{Packet}
 use Rattle.sess_records.specs.declared.records.Record.{Record}
 use Rattle.server_core.specs.declared.desk.DeskFault.{DeskFault}
@@ -24,10 +23,10 @@ use Rattle.server_rules.specs.Server.{Server, Session}
 use Rattle.server_session.specs.declared.session.SessionState.{SessionState}
 use Rattle.server_session.specs.Says.{Keys}
 use Rattle.server_session.specs.SessionState.{Stands as SessionStands}
+use Rattle.sess_journal.specs.Staging.{Stage}
 use Rattle.sess_journal.specs.Keeping.{ByHeard, Journals, KeepsFor, Seen, entry_at}
 use Rattle.sess_replay.specs.Replay.{Bases}
 use Rattle.sess_journal.proofs.DeskLemmas.{keeps_quiet, time_early}
-use Rattle.sess_journal.proofs.PlayLemmas.{Goes, Places}
 
 abbrev pub Later : Type 0
 Later = (now later : ℕ) (standing : SessionState) (session : Session) → now ≤ later → SessionStands now standing session → SessionStands later standing session
@@ -56,34 +55,30 @@ HearJournals bases told place_of lock ring_of answer entries server now packet n
     × ((ring : Keys) (envelope : Sealed) → AreOf (ring_of old.server.seal) ring → Opens lock (ring_of old.server.seal) (max server.now now) Up packet envelope
     → Does (KeepsFor bases told (entries ++ more) new) lock (ring_of old.server.seal) new.draw (effects_in reply) (answer old.draw ring envelope))))
 
-module _ {K S D : Type 0} (bases : Bases S D) (told : K → Option DiskTold) (entries : List Record) (old : Seen K S D) (server : Server) (keeps : KeepsFor bases told entries old server)
-    (goes : Goes (bases old.server.seal keeps.recorded.file.seed)) (places : Places (bases old.server.seal keeps.recorded.file.seed)) (moment : ℕ) (early : moment ≤ latest_moment) where
+module _ {K S D : Type 0} {bases : Bases S D} {told : K → Option DiskTold} {entries : List Record} {old : Seen K S D} {server : Server} {moment : ℕ} (stage : Stage bases told entries old server moment) where
   -- a packet that doesn't open
   pub hears_nothing : Later → (new : Seen K S D) (reply : Reply) → NothingIsDone (max old.server.moment moment) old.server new.server old.draw new.draw reply
       → new.latest ≡ max old.latest moment → new.book ≡ old.book
       → DoesNothing (KeepsFor bases told entries new) old.draw new.draw reply (record server { now = max server.now moment })
   hears_nothing law new reply nothing latest book =
-      let at : old.server.moment ≡ server.now = keeps.stands.moment in
-      let time : ℕ = max old.server.moment moment in
-      let le : old.server.moment ≤ time = omega arith in
-      let stood : Stands (record old.server { moment = time }) (record server { now = time }) =
+      let at : old.server.moment ≡ server.now = stage.keeps.stands.moment in
+      let then : ℕ = max old.server.moment moment in
+      let le : old.server.moment ≤ then = omega arith in
+      let stood : Stands (record old.server { moment = then }) (record server { now = then }) =
       record {
         moment = refl;
-        sessions = kept_later law old.server.moment time old.server.sessions server.sessions le keeps.stands.sessions;
-        jobs = keeps.stands.jobs;
-        bindings = keeps.stands.bindings;
+        sessions = kept_later law old.server.moment then old.server.sessions server.sessions le stage.keeps.stands.sessions;
+        jobs = stage.keeps.stands.jobs;
+        bindings = stage.keeps.stands.bindings;
       }
       in
       let stands : Stands new.server (record server { now = max server.now moment }) =
       subst (λ (n : ℕ). Stands new.server (record server { now = max n moment })) at
-      (subst (λ (k : Kept S). Stands k (record server { now = time })) (sym nothing.same) stood) in
-      let early_so = time_early bases told entries old server keeps goes places moment early in
-      let is_latest : old.latest ≡ server.now = keeps.recorded.latest_is in
+      (subst (λ (k : Kept S). Stands k (record server { now = then })) (sym nothing.same) stood) in
       record {
         stands =
-            keeps_quiet bases told entries old server keeps new (max server.now moment) (ap (λ (k : Kept S). k.seal) nothing.same) stands
-            (record { at = early_so; order = keeps.between.order; replies = keeps.between.replies; jobs = keeps.between.jobs })
-            (omega arith) (latest ∙ ap (λ (n : ℕ). max n moment) is_latest) nothing.drawn book;
+            keeps_quiet stage new (ap (λ (k : Kept S). k.seal) nothing.same) stands
+            (record { at = time_early stage; order = stage.keeps.between.order; replies = stage.keeps.between.replies; jobs = stage.keeps.between.jobs }) latest nothing.drawn book;
         drawn = nothing.drawn;
         sent = nothing.sent;
         entered = nothing.entered;

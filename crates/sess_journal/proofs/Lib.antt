@@ -1,6 +1,11 @@
+mod AgainLemmas
 mod BackLemmas
 mod DeskLemmas
+mod EventLemmas
 mod HearLemmas
 mod NextLemmas
 mod PlayLemmas
+mod ReopenLemmas
 mod ResumeLemmas
+mod RunLemmas
+mod TraitLemmas

@@ -24,15 +24,9 @@ use Rattle.server_rules.specs.Event.{Setting}
 use Rattle.server_rules.specs.Server.{Server}
 use Rattle.waits.specs.declared.job.Job.{Job}
 use Rattle.waits.specs.Jobs.{ready_job}
+use Rattle.sess_journal.specs.Staging.{Goes, Places}
 use Rattle.sess_journal.specs.Playing.{Leads, Player, StandsAt, basis_for}
 use Rattle.sess_replay.specs.Replay.{Bases, Basis, IsLawful, LeadsTo, Plays, Reached, after_interruption, after_reply, always, reached_by, run_interrupted, setting_at}
-
--- the draws of a seed go through its places
-abbrev pub Goes : {D : Type 0} → Basis D → Type 0
-Goes basis = (place words : ℕ) → place < 2 ^ 64 → draw_after basis.step words (basis.at place) ≡ basis.at ((place + words) % 2 ^ 64)
-
-abbrev pub Places : {D : Type 0} → Basis D → Type 0
-Places basis = (place : ℕ) → place < 2 ^ 64 → basis.place_of (basis.at place) ≡ place
 
 -- a draw some words later stands at its own place
 pub record IsSeeded {D : Type 0} (basis : Basis D) (draw : D) : Type 0 where
@@ -69,7 +63,7 @@ pub refused_only : (lock : Lock) (keys : List RingKey) (now : ℕ) (packet : Lis
 refused_only lock keys now packet heard refusal unseals is h envelope opens =
     unseals.not_both keys now Up packet envelope refusal opens (subst (λ (one : Heard). IsHeardOf lock keys now packet one) is h)
 
-run_now : {D V : Type 0} → (setting : Setting D) (place : ℕ) (found : Option Job) (serve : Step V) (service : V) (server : Server) (draw : D)
+pub run_now : {D V : Type 0} → (setting : Setting D) (place : ℕ) (found : Option Job) (serve : Step V) (service : V) (server : Server) (draw : D)
     → (after_run setting place found serve service server draw).0.server.now ≡ setting.now
 run_now setting place None serve service server draw = refl
 run_now setting place (Some job) serve service server draw = refl

@@ -34,3 +34,10 @@ pub record ComesBack {K S D : Type 0} (bases : Bases S D) (told : K → Option D
   pub reached : Reached
   pub replays : Replays (bases before.server.seal file.seed) (entries ++ front) at_first reached
   pub resumed : Resumed bases told file.seed now reached ((entries ++ front) ++ ending now reached) desk
+
+-- Behind these records, which lead there, the run that was cut off is answered, at the moment of the first opening or of the
+-- one behind it.
+pub record ComesAgain {K S D : Type 0} (bases : Bases S D) (told : K → Option DiskTold) (seed : List ℕ) (entries : List Record) (reached : Reached) (first then : ℕ) (desk : Seen K S D) : Type 0 where
+  pub when : ℕ
+  pub when_is : (when ≡ first) ⊎ (when ≡ then)
+  pub resumed : Resumed bases told seed when reached (entries ++ ending when reached) desk

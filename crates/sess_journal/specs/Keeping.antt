@@ -1,5 +1,5 @@
 -- What contracts see of a server that keeps a journal, and what it stands for.
-use Rattle.std.specs.Prelude.{◌≡◌, ℕ, ◌≤◌, ◌<◌, ◌+◌, ◌^◌, ◌↔◌, max, length, is_some, Option, Some, None, Result, Err, List, [], ◌∷◌, ◌++◌, IfErr, IfOk, IfSome, IsSomeAnd}
+use Rattle.std.specs.Prelude.{◌≡◌, ℕ, ◌≤◌, ◌<◌, ◌+◌, ◌^◌, ◌↔◌, max, length, is_some, Option, Some, None, Result, Err, List, [], ◌∷◌, ◌++◌, ◌⊎◌, IfErr, IfOk, IfSome, IsSomeAnd}
 use Rattle.disks.specs.Told.{DiskTold, MayHaveLeft}
 use Rattle.mt_edge.specs.Faults.{Rose}
 use Rattle.sess_records.specs.declared.records.Event.{Event}
@@ -8,6 +8,7 @@ use Rattle.sess_records.specs.declared.records.Record.{Record}
 use Rattle.sess_records.specs.Format.{Spells, size_of}
 use Rattle.sess_records.specs.Seen.{File}
 use Rattle.sess_records.specs.Standing.{Holds, SpellsSome}
+use Rattle.regs_service.specs.Served.{Step}
 use Rattle.server_core.specs.declared.desk.DeskFault.{DeskFault}
 use Rattle.server_core.specs.declared.desk.DeskFault.TheVariants as faults
 use Rattle.server_core.specs.declared.desk.Heard.{Heard}
@@ -17,6 +18,8 @@ use Rattle.server_core.specs.Desks.{IsBetweenEvents}
 use Rattle.server_core.specs.Server.{Kept, Stands}
 use Rattle.server_rules.specs.Server.{Server}
 use Rattle.sess_replay.specs.Replay.{Bases, Reached, Replays, at_first}
+use Rattle.waits.specs.declared.job.Job.{Job}
+use Rattle.waits.specs.Jobs.{Queue, ready_job}
 
 -- the journal, until a call of its disk fails, and the disk from then on
 pub record Book (K : Type 0) : Type 0 where
@@ -67,6 +70,22 @@ pub record KeepsFor {K S D : Type 0} (bases : Bases S D) (told : K → Option Di
 abbrev pub StandsFor : {K S D : Type 0} → Bases S D → (K → Option DiskTold) → Seen K S D → Server → Type 0
 StandsFor bases told desk server = (entries : List Record) × KeepsFor bases told entries desk server
 
+-- ---- a run
+
+-- The last of these records is the begin of a run of this job.
+pub record HasBegun {K S D : Type 0} (bases : Bases S D) (told : K → Option DiskTold) (entries : List Record) (job : ℕ) (desk : Seen K S D) (server : Server) : Type 0 where
+  pub keeps : KeepsFor bases told entries desk server
+  pub begun : keeps.recorded.reached.begun ≡ Some job
+
+-- a service's reply to a job, where there is one
+abbrev pub reply_by : {V : Type 0} → Step V → V → Option Job → List ℕ
+reply_by serve service None = []
+reply_by serve service (Some job) = (serve service job.request).0
+
+-- its reply to the ready job of this place
+abbrev pub reply_at : {V : Type 0} → Step V → V → ℕ → Queue → List ℕ
+reply_at serve service place jobs = reply_by serve service (ready_job place jobs)
+
 -- ---- a run that was cut off
 
 -- what an opening at this moment adds behind what was reached: the end of a run that was cut off, where one began last
@@ -109,6 +128,10 @@ pub record Refuses {K A : Type 0} (bytes : ℕ) (book : Book K) (result : Result
   pub closed : IsClosed book ↔ (result ≡ Err faults.Closed)
   pub full : (len : ℕ) → (IsFull book bytes len ↔ (result ≡ Err (faults.Full len)))
 
+-- behind a begin no call is refused but for memory or by the disk
+abbrev pub IsAfterBegin : DeskFault → Type 0
+IsAfterBegin fault = (fault ≡ faults.Memory) ⊎ (fault ≡ faults.Disk)
+
 -- P says something of its disk before and after a call
 abbrev pub OfDisks : {K : Type 0} → Book K → Book K → (K → K → Type 0) → Type 0
 OfDisks before after P = IfSome (disk_in before) (λ one. IsSomeAnd (disk_in after) (λ other. P one other))
@@ -123,9 +146,11 @@ pub record IsSameDisk {K : Type 0} (told : K → Option DiskTold) (place : K →
   pub tells : is_some (told after) ≡ is_some (told before)
   pub place_is : place after ≡ place before
 
--- Whatever a crash at any moment of a call leaves, from the one before it to the one after it, has P; and so does the call.
+-- Whatever a crash at any moment of a call leaves, from the one before it to the one after it, has P; and so does the call. What
+-- a crash since an earlier moment may have left, it may have left before the call, or it has P.
 pub record LeavesSome (before after : DiskTold) (P : List ℕ → Type 0) : Type 0 where
   pub each : (left : List ℕ) → MayHaveLeft (length before.acts) after left → P left
+  pub earlier : (since : ℕ) (left : List ℕ) → MayHaveLeft since after left → MayHaveLeft since before left ⊎ P left
   pub read : P after.contents
 
 -- These records are added behind the others, and are lawful there. A crash at any moment of the call leaves the records from

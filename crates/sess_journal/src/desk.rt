@@ -4,7 +4,6 @@ ghost use Rattle.std.specs.Prelude.{◌≡◌, ◌≤◌, ◌+◌, ◌++◌, ◌
 ghost use Rattle.envelope.specs.declared.parts.Dir.TheVariants.{Up};
 ghost use Rattle.envelope.specs.declared.parts.Envelope.{Envelope as Sealed};
 ghost use Rattle.envelope.specs.Opening.{Opens};
-ghost use Rattle.msg_ids.specs.Moments.{latest_moment};
 ghost use Rattle.sess_records.specs.declared.records.Event.TheVariants.{Attach, Packet, Tick};
 ghost use Rattle.sess_records.specs.declared.records.Record.{Record};
 ghost use Rattle.server_dispatch.specs.Rings.{AreOf};
@@ -19,9 +18,8 @@ ghost use Rattle.sess_replay.specs.Replay.{bases_of};
 use crate::kept::Kept;
 use crate::played::later;
 use crate::recorded::Recorded;
+use crate::staging::{events_begin, is_early};
 use disks::Disk;
-use disks::laws::{crashes_after_a_sync, crashes_by_acts};
-use draws::laws::seeded_draws_go_on;
 use draws::{Draw, Seeded};
 use envelope::Seal;
 use law_server_replay::laws::{
@@ -34,7 +32,6 @@ use server_core::order_laws::events_keep_order;
 use server_core::{DeskFault, Effects, Heard, Reply};
 use server_session::laws::sessions_stand_later;
 use sess_records::Event;
-use sess_records::laws::calls_in_a_row;
 use std::alloc::Global;
 
 /// How many bytes the record of a packet has beside it, with the gate behind it, and that of a tick.
@@ -60,15 +57,12 @@ impl<K: Disk + Drop, S: Seal + Drop, D: Seeded + Drop> Kept<K, S, D> {
         ensures same_disk { OfDisks self.old.book self.new.book (IsSameDisk K.told K.place) }
         ensures same_seal { self.new.server.seal ≡ self.old.server.seal }
     {
-        crashes_by_acts();
-        crashes_after_a_sync();
-        calls_in_a_row();
+        events_begin::<K, S, D>();
         events_keep_order::<D>();
         events_draw_words::<D, Recorded>();
         events_leave_room::<D, Recorded>();
         keys_are_asked_by_packets_alone::<D, Recorded>();
         quiet_events_change_nothing::<D>();
-        seeded_draws_go_on::<D>();
         is_early(now);
         let seed = self.book.seed_with_room(SHORT_BYTES)?;
         let place = self.draw.place();
@@ -107,15 +101,12 @@ impl<K: Disk + Drop, S: Seal + Drop, D: Seeded + Drop> Kept<K, S, D> {
         ensures same_disk { OfDisks self.old.book self.new.book (IsSameDisk K.told K.place) }
         ensures same_seal { self.new.server.seal ≡ self.old.server.seal }
     {
-        crashes_by_acts();
-        crashes_after_a_sync();
-        calls_in_a_row();
+        events_begin::<K, S, D>();
         events_keep_order::<D>();
         events_draw_words::<D, Recorded>();
         events_leave_room::<D, Recorded>();
         keys_are_asked_by_packets_alone::<D, Recorded>();
         quiet_events_change_nothing::<D>();
-        seeded_draws_go_on::<D>();
         is_early(now);
         let seed = self.book.seed_with_room(ATTACH_BYTES)?;
         let place = self.draw.place();
@@ -158,13 +149,10 @@ impl<K: Disk + Drop, S: Seal + Drop, D: Seeded + Drop> Kept<K, S, D> {
         ensures same_disk { OfDisks self.old.book self.new.book (IsSameDisk K.told K.place) }
         ensures same_seal { self.new.server.seal ≡ self.old.server.seal }
     {
-        crashes_by_acts();
-        crashes_after_a_sync();
-        calls_in_a_row();
+        events_begin::<K, S, D>();
         events_keep_order::<D>();
         events_draw_words::<D, Recorded>();
         sessions_stand_later();
-        seeded_draws_go_on::<D>();
         rings_have_keys();
         rings_say_one_thing();
         is_early(now);
@@ -185,13 +173,6 @@ impl<K: Disk + Drop, S: Seal + Drop, D: Seeded + Drop> Kept<K, S, D> {
             }
         }
     }
-}
-
-// A moment is at most the latest one.
-fn is_early(now: Moment)
-    ensures { now ≤ latest_moment }
-{
-    let _ = now.seconds();
 }
 
 /// Whether an event gave a packet or an entry.

@@ -1,12 +1,16 @@
 //! A server that keeps a journal.
 
-ghost use Rattle.std.specs.Prelude.{◌≡◌, ◌≤◌, ◌<◌, ℕ, List, [], ◌++◌, None, Some, IfOk, IfErr, IfSome, OnOk};
+ghost use Rattle.std.specs.Prelude.{◌≡◌, ◌≤◌, ◌<◌, ℕ, List, [], ◌++◌, None, Some, Option, IfOk, IfErr, IfSome, IsSomeAnd, OnOk};
 ghost use Rattle.mt_edge.specs.Faults.{Rose};
 ghost use Rattle.sess_records.specs.declared.records.Record.{Record};
+ghost use Rattle.disks.specs.Told.{DiskTold};
 ghost use Rattle.sess_records.specs.Calls.{HasCause, IfNotJournal};
+ghost use Rattle.sess_records.specs.Crashes.{Leaves};
+ghost use Rattle.sess_records.specs.Format.{Spells};
 ghost use Rattle.sess_records.specs.Standing.{HasNext, Holds};
 ghost use Rattle.server_rules.specs.Server.{fresh_server};
 ghost use Rattle.sess_journal.specs.Keeping.{KeepsFor, Opened, Resumed, disk_in, ending};
+ghost use Rattle.sess_journal.specs.Reopening.{IsAgain, OpensOver, disk_opened};
 ghost use Rattle.sess_replay.specs.Files.{IsNoJournalAt};
 ghost use Rattle.sess_journal.specs.Playing.{Follows, IsReady, StandsAt, basis_for};
 ghost use Rattle.sess_replay.specs.Replay.{Reached, Replays, at_first, bases_of};
@@ -88,6 +92,9 @@ impl<K: Disk + Drop, S: Seal + Drop, D: Seeded + Drop> Kept<K, S, D> {
         ensures refused { IfErr result (λ back. IfNotJournal back.1 (λ at. IfSome (K.told disk) (λ before.
             IsNoJournalAt (bases_of S.lock S.keys D.step D.standing_at D.place_of seal) at before.contents))) }
         ensures cause { IfErr result (λ back. HasCause back.1 (K.faults disk) (K.faults back.0)) }
+        // Whatever a crash at any moment of this call leaves is the file as it was, or spells its records, with the end of a run
+        // that was cut off or without; and so does the call, whatever it comes to.
+        ensures any_moment { OpensOver K.told (bases_of S.lock S.keys D.step D.standing_at D.place_of seal) now disk result }
     {
         calls_in_a_row();
         let mut opening = match Opening::new(disk) {
@@ -217,6 +224,11 @@ fn resume<K: Disk + Drop, S: Seal + Drop, D: Seeded + Drop>(
         → Resumed (bases_of S.lock S.keys D.step D.standing_at D.place_of) K.told journal.seed now reached (entries ++ ending now reached) kept) }
     ensures seal { IfOk result (λ kept. kept.server.seal ≡ played.server.seal) }
     ensures cause { IfErr result (λ back. (IfNotJournal back.1 (λ at. ⊥)) × HasCause back.1 (K.faults journal.disk) (K.faults back.0)) }
+    ensures any_moment { (entries : List Record) (reached : Reached) (before : Option DiskTold) → Holds K.told entries journal
+        → played.seed ≡ journal.seed → Replays (basis_for (bases_of S.lock S.keys D.step D.standing_at D.place_of) played) entries at_first reached → StandsAt (bases_of S.lock S.keys D.step D.standing_at D.place_of) reached played
+        → IfSome before (λ file. Spells journal.seed entries file.contents)
+        → IfSome before (λ file. IsSomeAnd (K.told journal.disk) (λ mid. Leaves file mid (IsAgain (bases_of S.lock S.keys D.step D.standing_at D.place_of played.server.seal) now file.contents)))
+        → IfSome before (λ file. IsSomeAnd (disk_opened result) (λ back. IsSomeAnd (K.told back) (λ after. Leaves file after (IsAgain (bases_of S.lock S.keys D.step D.standing_at D.place_of played.server.seal) now file.contents)))) }
 {
     let Some(_job) = played.begun else {
         return Ok(kept_by(journal, played));

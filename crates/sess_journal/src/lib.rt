@@ -2,16 +2,20 @@
 //! plays the records again.
 //!
 //! [`Kept::create`] makes one with a new journal, and [`Kept::open`] plays the records that a disk spells, and answers a run
-//! that was cut off. A packet, a tick and an attach are stepped, recorded, and then answered. `sess_replay` says which record
-//! is lawful in its place and which server records lead to. Whatever a crash at any moment of such an event leaves is a
-//! journal, and whoever opens it has the server of every event that was answered ([`laws::what_comes_back`]).
+//! that was cut off. A packet, a tick and an attach are stepped, recorded, and then answered; of a run its begin is recorded
+//! before it and its reply behind it. `sess_replay` says which record is lawful in its place and which server records lead to.
+//! Whatever a crash at any moment of such a call leaves is a journal, and whoever opens it has the server of every event that
+//! was answered ([`laws::what_comes_back`]); so is what a crash in an opening leaves ([`laws::openings_come_back`]).
 #![tactic(auto)]
 
+mod as_desk;
 mod book;
 mod desk;
 mod kept;
 pub mod laws;
 mod played;
 mod recorded;
+mod runs;
+mod staging;
 
 pub use kept::Kept;

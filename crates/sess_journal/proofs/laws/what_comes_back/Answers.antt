@@ -1,7 +1,9 @@
-use Rattle.std.proofs.Common.{List, ap}
+use Rattle.std.proofs.Common.{◌≤◌, List, ap, arith, refl}
+use Rattle.msg_ids.specs.Moments.{latest_moment}
 use Rattle.auth_keys.specs.declared.ring.RingKey.{RingKey}
 use Rattle.sess_replay.specs.Replay.{Bases, Basis, bases_of}
 use Rattle.sess_journal.proofs.BackLemmas.{FileLaws, comes_back, not_refused}
+use Rattle.sess_journal.proofs.DeskLemmas.{adds_none}
 use Rattle.sess_journal.proofs.laws.what_comes_back.Goals as goal
 
 pub returns-clause-back : goal.returns-clause-back
@@ -29,3 +31,8 @@ returns-clause-is_journal g c = λ entries more before after left seal at adds h
     not_refused laws bases g.K.Disk.told entries more before after adds left holds seal at
     (λ seed. ap (λ (k : List RingKey). let b : Basis g.row.D.Denot = record { lock = g.S.Seal.lock; keys = k; step = g.D.Draw.step; at = g.D.Seeded.standing_at seed; place_of = g.D.Seeded.place_of } in b) keys)
     c.opens_what_it_sealed.ensures
+
+pub returns-clause-at_rest : goal.returns-clause-at_rest
+returns-clause-at_rest g c = λ entries desk server keeps.
+    let early : 0 ≤ latest_moment = omega arith in
+    adds_none (c.events_begin.ensures.at entries desk server 0 keeps early) desk refl

@@ -1,0 +1,38 @@
+use Rattle.std.proofs.Common.{◌++◌, max}
+use Rattle.server_rules.specs.Answer.{after_packet}
+use Rattle.server_core.specs.Packets.{brought_in, effects_in}
+use Rattle.server_session.specs.Says.{setting_of}
+use Rattle.sess_replay.specs.Replay.{Bases, bases_of}
+use Rattle.sess_journal.proofs.TraitLemmas.{by_opened, by_refused, does_nothing_so, does_so, ok_map, still_stands}
+use Rattle.sess_journal.proofs.as_desk.KeptDesk.on_packet.Goals as goal
+
+pub returns-clause-heard : goal.returns-clause-heard
+returns-clause-heard g c = λ server stands. ok_map c.on_packet.result (λ reply h. h.0) (c.on_packet.ensures.journal stands.0 server stands.1).answers
+
+pub returns-clause-refused : goal.returns-clause-refused
+returns-clause-refused g c = λ server refusal stands refused.
+    let bases : Bases g.row.S.Denot g.row.D.Denot = bases_of g.S.Seal.lock g.S.Seal.keys g.D.Draw.step g.D.Seeded.standing_at g.D.Seeded.place_of in
+    let old = c.args.self.now in
+    let journal = c.on_packet.ensures.journal stands.0 server stands.1 in
+    ok_map c.on_packet.result
+    (λ reply h.
+    let nothing = by_refused _ _ g.S.Seal.lock (g.S.Seal.keys old.server.seal) (max server.now c.args.now) c.args.packet.now reply.heard refusal c.opens_what_it_sealed.ensures h.0 h.1 refused in
+    does_nothing_so bases g.K.Disk.told c.on_packet.new.self stands.0 old.draw c.on_packet.new.self.draw reply _ nothing.1) journal.answers
+
+pub returns-clause-given : goal.returns-clause-given
+returns-clause-given g c = λ ring server envelope of stands opens.
+    let bases : Bases g.row.S.Denot g.row.D.Denot = bases_of g.S.Seal.lock g.S.Seal.keys g.D.Draw.step g.D.Seeded.standing_at g.D.Seeded.place_of in
+    let old = c.args.self.now in
+    let lock = g.S.Seal.lock in
+    let keys = g.S.Seal.keys old.server.seal in
+    let journal = c.on_packet.ensures.journal stands.0 server stands.1 in
+    ok_map c.on_packet.result
+    (λ reply h.
+    let judged = by_opened _ _ lock keys (max server.now c.args.now) c.args.packet.now reply.heard envelope c.opens_what_it_sealed.ensures h.0 h.1 opens in
+    does_so bases g.K.Disk.told c.on_packet.new.self (stands.0 ++ journal.more) lock keys c.on_packet.new.self.draw (effects_in reply)
+    (after_packet (setting_of (max server.now c.args.now) g.D.Draw.step ring) (brought_in envelope) server old.draw) (judged.1 ring envelope of opens)) journal.answers
+
+pub returns-clause-unchanged_on_memory : goal.returns-clause-unchanged_on_memory
+returns-clause-unchanged_on_memory g c = λ server stands.
+    let bases : Bases g.row.S.Denot g.row.D.Denot = bases_of g.S.Seal.lock g.S.Seal.keys g.D.Draw.step g.D.Seeded.standing_at g.D.Seeded.place_of in
+    still_stands bases g.K.Disk.told c.on_packet.new.self stands.0 _ _ server c.args.self.now c.on_packet.result _ (c.on_packet.ensures.journal stands.0 server stands.1)

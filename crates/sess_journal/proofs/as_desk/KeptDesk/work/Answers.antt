@@ -1,0 +1,24 @@
+use Rattle.std.proofs.Common.{◌++◌, max}
+use Rattle.server_rules.specs.Answer.{after_work}
+use Rattle.server_session.specs.Says.{setting_of}
+use Rattle.sess_replay.specs.Replay.{Bases, bases_of}
+use Rattle.sess_journal.proofs.TraitLemmas.{does_so, ok_map, on_ok_by, still_stands}
+use Rattle.sess_journal.proofs.as_desk.KeptDesk.work.Goals as goal
+
+pub returns-clause-given : goal.returns-clause-given
+returns-clause-given g c = λ ring server stands.
+    let bases : Bases g.row.S.Denot g.row.D.Denot = bases_of g.S.Seal.lock g.S.Seal.keys g.D.Draw.step g.D.Seeded.standing_at g.D.Seeded.place_of in
+    let journal = c.work.ensures.journal stands.0 server stands.1 in
+    ok_map c.work.result
+    (λ effects h. does_so bases g.K.Disk.told c.work.new.self (stands.0 ++ journal.more) g.S.Seal.lock (g.S.Seal.keys c.args.self.now.server.seal) c.work.new.self.draw effects
+    ((after_work (setting_of (max server.now c.args.now) g.D.Draw.step ring) c.args.k g.V.Service.step c.args.service.now server c.args.self.now.draw).0) ((h.1 ring).0)) journal.answers
+
+pub returns-clause-served : goal.returns-clause-served
+returns-clause-served g c = λ ring server stands.
+    let journal = c.work.ensures.journal stands.0 server stands.1 in
+    on_ok_by c.work.result (λ effects h. (h.1 ring).1) journal.answers
+
+pub returns-clause-unchanged_on_memory : goal.returns-clause-unchanged_on_memory
+returns-clause-unchanged_on_memory g c = λ server stands.
+    let bases : Bases g.row.S.Denot g.row.D.Denot = bases_of g.S.Seal.lock g.S.Seal.keys g.D.Draw.step g.D.Seeded.standing_at g.D.Seeded.place_of in
+    still_stands bases g.K.Disk.told c.work.new.self stands.0 _ _ server c.args.self.now c.work.result _ (c.work.ensures.journal stands.0 server stands.1)
