@@ -1,3 +1,4 @@
 pub mod Back
 pub mod Keeping
+pub mod Opening
 pub mod Playing

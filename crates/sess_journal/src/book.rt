@@ -45,6 +45,14 @@ impl<K: Disk + Drop> Book<K> {
         }
     }
 
+    /// The length of the journal in bytes, while it is open.
+    pub(crate) fn len(&self) -> Option<u64>
+        ensures { MatchOption self.now.journal (result ≡ None) (λ file. result ≡ Some file.len) }
+    {
+        let journal = self.journal.as_ref()?;
+        Some(journal.len())
+    }
+
     /// The seed, where the journal is open and has room for so many bytes more.
     ///
     /// # Errors

@@ -15,3 +15,4 @@ mod played;
 mod recorded;
 
 pub use kept::Kept;
+pub use sess_records::JournalFault;
