@@ -1,33 +1,54 @@
 //! What comes back, as contracts of functions that do nothing.
 
-ghost use Rattle.std.specs.Prelude.{◌≡◌, ℕ, List};
+ghost use Rattle.std.specs.Prelude.{◌≡◌, ◌++◌, [], ℕ, List};
+ghost use Rattle.disks.specs.Told.{DiskTold};
 ghost use Rattle.sess_records.specs.declared.records.Record.{Record};
-ghost use Rattle.sess_journal.specs.Back.{ComesBack, HoldsBytes, MayHold};
-ghost use Rattle.sess_journal.specs.Keeping.{Adds, Opened, Seen};
+ghost use Rattle.sess_records.specs.Crashes.{Leaves};
+ghost use Rattle.server_rules.specs.Server.{Server as Rules};
+ghost use Rattle.sess_journal.specs.Back.{ComesBack, HoldsBytes, HoldsSome, MayHold, MayLeaveIn, ReturnsAfter};
+ghost use Rattle.sess_journal.specs.Keeping.{Adds, KeepsFor, Opened, Seen};
+ghost use Rattle.sess_journal.specs.Opening.{MayBecome};
 ghost use Rattle.sess_replay.specs.Files.{IsNoJournalAt};
-ghost use Rattle.sess_replay.specs.Replay.{bases_of};
+ghost use Rattle.sess_replay.specs.Replay.{Reached, Replays, at_first, bases_of};
 
 use disks::Disk;
+use disks::laws::{crashes_after_a_sync, crashes_by_acts};
 use draws::Seeded;
 use envelope::Seal;
-use sess_records::laws::files_spell_one_list;
+use sess_records::laws::{calls_in_a_row, files_spell_one_list};
 use sess_replay::laws::{lawful_files_are_opened, records_lead_to_one_server};
 
 /// After a crash at any moment of a call of a [`Kept`](crate::Kept), or after the call alone, whoever opens what is left under the
 /// same ring has the server of all records from before the call and of the first ones that it added, with a run that was cut
-/// off answered as such; and what is left is a journal. So whatever was answered before the crash is there.
+/// off answered as such; and what is left is a journal. After a crash between two calls it is the server of all records, so
+/// whatever was answered before a crash is there. After a crash in an opening it is the server of what was there, and of the
+/// end that the opening gave to a run that was cut off, or not.
 pub fn what_comes_back<K: Disk, S: Seal, D: Seeded>()
     ensures back { (entries more : List Record) (before after desk : Seen K S D) (left : List ℕ) (disk : K) (now : ℕ)
         → Adds (bases_of S.lock S.keys D.step D.standing_at D.place_of) K.told entries more before after → MayHold K.told before.book after.book left
         → HoldsBytes K.told disk left → S.keys desk.server.seal ≡ S.keys before.server.seal
         → Opened (bases_of S.lock S.keys D.step D.standing_at D.place_of) K.told disk now desk
         → ComesBack (bases_of S.lock S.keys D.step D.standing_at D.place_of) K.told entries more now before desk }
+    ensures at_rest { (entries : List Record) (server : Rules) (before desk : Seen K S D) (left : List ℕ) (disk : K) (now : ℕ)
+        → KeepsFor (bases_of S.lock S.keys D.step D.standing_at D.place_of) K.told entries before server → MayHold K.told before.book before.book left
+        → HoldsBytes K.told disk left → S.keys desk.server.seal ≡ S.keys before.server.seal
+        → Opened (bases_of S.lock S.keys D.step D.standing_at D.place_of) K.told disk now desk
+        → ComesBack (bases_of S.lock S.keys D.step D.standing_at D.place_of) K.told entries [] now before desk }
+    ensures in_open { (seal : S) (seed : List ℕ) (entries more : List Record) (reached : Reached) (before after : DiskTold) (earlier now : ℕ) (desk : Seen K S D) (left : List ℕ) (disk : K)
+        → Replays (bases_of S.lock S.keys D.step D.standing_at D.place_of seal seed) (entries ++ more) at_first reached → HoldsSome seed entries more before
+        → Leaves before after (MayBecome (bases_of S.lock S.keys D.step D.standing_at D.place_of seal) earlier before.contents) → MayLeaveIn before after left
+        → HoldsBytes K.told disk left → S.keys desk.server.seal ≡ S.keys seal
+        → Opened (bases_of S.lock S.keys D.step D.standing_at D.place_of) K.told disk now desk
+        → ReturnsAfter (bases_of S.lock S.keys D.step D.standing_at D.place_of) K.told seal seed entries more earlier now desk }
     ensures is_journal { (entries more : List Record) (before after : Seen K S D) (left : List ℕ) (seal : S) (at : ℕ)
         → Adds (bases_of S.lock S.keys D.step D.standing_at D.place_of) K.told entries more before after → MayHold K.told before.book after.book left
         → S.keys seal ≡ S.keys before.server.seal
         → IsNoJournalAt (bases_of S.lock S.keys D.step D.standing_at D.place_of seal) at left → ⊥ }
 {
     S::opens_what_it_sealed();
+    crashes_by_acts();
+    crashes_after_a_sync();
+    calls_in_a_row();
     files_spell_one_list();
     lawful_files_are_opened::<D>();
     records_lead_to_one_server::<D>();
