@@ -1,11 +1,10 @@
-mod AgainLemmas
 mod BackLemmas
 mod DeskLemmas
 mod EventLemmas
 mod HearLemmas
 mod NextLemmas
+mod OpenLemmas
 mod PlayLemmas
-mod ReopenLemmas
 mod ResumeLemmas
 mod RunLemmas
 mod TraitLemmas

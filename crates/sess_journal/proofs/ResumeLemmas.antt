@@ -8,7 +8,7 @@ use Rattle.sess_records.specs.Seen.{File}
 use Rattle.sess_records.specs.Format.{Spells, open_gate}
 use Rattle.sess_records.specs.Standing.{Behind, Holds}
 use Rattle.server_core.specs.Server.{Kept, Stands}
-use Rattle.sess_journal.specs.Keeping.{Book, KeepsFor, Resumed, Seen, ending, ending_by}
+use Rattle.sess_journal.specs.Keeping.{Book, KeepsFor, Resumed, Seen, disk_in, ending, ending_by}
 use Rattle.sess_journal.specs.Playing.{Leads, Player, StandsAt, basis_for}
 use Rattle.sess_replay.specs.Replay.{Bases, Reached, Replays, at_first}
 use Rattle.sess_journal.proofs.NextLemmas.{replays_more}
@@ -17,6 +17,22 @@ use Rattle.sess_journal.proofs.PlayLemmas.{plays_of}
 pub append_none : (entries : List Record) → entries ++ [] ≡ entries
 append_none [] = refl
 append_none (entry ∷ entries) = ap (λ (l : List Record). entry ∷ l) (append_none entries)
+
+-- the end of a run that began in the last record
+pub ending_is : (now job : ℕ) (reached : Reached) (moment place : ℕ) → reached.begun ≡ Some job → moment ≡ max reached.server.now now → place ≡ reached.place
+    → ending now reached ≡ record { moment = moment; place = place; event = Interrupted } ∷ []
+ending_is now job reached moment place begun is_moment is_place =
+    let entry : Record = record { moment = moment; place = place; event = Interrupted } in
+    let same_entry : entry ≡ record { moment = max reached.server.now now; place = reached.place; event = Interrupted } =
+    (λ i. record { moment = is_moment i; place = is_place i; event = Interrupted }) in
+    ap (ending_by now reached.server.now reached.place) begun ∙ ap (λ (r : Record). r ∷ []) (sym same_entry)
+
+-- the disk of a journal that is open
+pub disk_is : {K : Type 0} → (book : Book K) (file : File K) → book ≡ record { journal = Some file; lost = None } → disk_in book ≡ Some file.disk
+disk_is book file is = ap disk_in is
+
+pub at_disk : {K : Type 0} → (found : Option K) (disk : K) (P : K → Type 0) → found ≡ Some disk → P disk → IsSomeAnd found P
+at_disk {K} found disk P is h = subst (λ (o : Option K). IsSomeAnd o P) (sym is) h
 
 module _ {K S D : Type 0} (bases : Bases S D) (told : K → Option DiskTold) where
   -- a server and its journal stand for what was reached
@@ -78,10 +94,7 @@ module _ {K S D : Type 0} (bases : Bases S D) (told : K → Option DiskTold) whe
       let all : Replays (basis_for bases new) (entries ++ entry ∷ []) at_first after =
       subst (λ (s : List ℕ). Replays (bases new.server.seal s) (entries ++ entry ∷ []) at_first after) (sym seed) sealed in
       let begun_too : reached.begun ≡ Some job = sym stands.begun_is ∙ begun in
-      let same_entry : entry ≡ record { moment = max reached.server.now now; place = reached.place; event = Interrupted } =
-      (λ i. record { moment = is_moment i; place = is_place i; event = Interrupted }) in
-      let ends : ending now reached ≡ entry ∷ [] =
-      ap (ending_by now reached.server.now reached.place) begun_too ∙ ap (λ (r : Record). r ∷ []) (sym same_entry) in
+      let ends : ending now reached ≡ entry ∷ [] = ending_is now job reached moment place begun_too is_moment is_place in
       let desk_seal : desk.server.seal ≡ old.server.seal = ap (λ (kept : Kept S). kept.seal) server ∙ seal in
       let last : Replays (bases old.server.seal old.seed) (entry ∷ []) reached after = (after, its.1, refl) in
       let last_sealed : Replays (bases desk.server.seal old.seed) (entry ∷ []) reached after =

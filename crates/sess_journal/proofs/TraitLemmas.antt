@@ -1,5 +1,7 @@
 -- What a desk's clauses say, by what its calls come to in the journal.
-use Rattle.std.proofs.Common.{◌≡◌, ℕ, Option, Result, Ok, Err, IfErr, IfOk, OnOk, List, ◌++◌}
+use Rattle.std.proofs.Common.{◌≡◌, ℕ, Option, Some, None, Result, Ok, Err, IfErr, IfOk, OnOk, List, ◌++◌}
+use Rattle.std.specs.Prelude.{IfSome, IsSome, IsSomeAnd, is_none, is_some}
+use Rattle.std.proofs.lemmas.Bool.{false≢true}
 use Rattle.auth_keys.specs.declared.ring.RingKey.{RingKey}
 use Rattle.disks.specs.Told.{DiskTold}
 use Rattle.envelope.specs.declared.parts.Dir.TheVariants.{Up}
@@ -8,18 +10,20 @@ use Rattle.envelope.specs.declared.refusal.Refusal.{Refusal}
 use Rattle.envelope.specs.Lawful.{OpensWhatItSealed}
 use Rattle.envelope.specs.Opening.{IsRefused, Opens}
 use Rattle.envelope.specs.Packet.{Lock}
+use Rattle.mt_edge.specs.Faults.{Rose}
 use Rattle.sess_records.specs.declared.records.Record.{Record}
+use Rattle.sess_records.specs.Seen.{File}
 use Rattle.server_core.specs.declared.desk.DeskFault.{DeskFault}
 use Rattle.server_core.specs.declared.desk.DeskFault.TheVariants as faults
 use Rattle.server_core.specs.declared.desk.Heard.{Heard}
 use Rattle.server_core.specs.declared.desk.Heard.TheVariants.{Judged, NotOpened}
 use Rattle.server_core.specs.declared.desk.Reply.{Reply}
 use Rattle.server_core.specs.declared.effects.Effects.{Effects}
-use Rattle.server_core.specs.Desks.{Does, DoesNothing}
+use Rattle.server_core.specs.Desks.{Counts, Does, DoesNothing}
 use Rattle.server_core.specs.Packets.{IsHeardOf}
 use Rattle.server_rules.specs.Answer.{Answer}
 use Rattle.server_rules.specs.Server.{Server}
-use Rattle.sess_journal.specs.Keeping.{ByHeard, Journals, KeepsFor, Seen, StandsFor}
+use Rattle.sess_journal.specs.Keeping.{Book, ByHeard, HasCounted, Journals, KeepsFor, Seen, StandsFor, count_of, disk_by, disk_in}
 use Rattle.sess_replay.specs.Replay.{Bases}
 
 pub ok_map : {A E : Type 0} {P Q : A → Type 0} (r : Result A E) → ((value : A) → P value → Q value) → IfOk r P → IfOk r Q
@@ -33,6 +37,29 @@ on_ok_by (Err fault) f h = tt
 pub err_map : {A E : Type 0} {P Q : E → Type 0} (r : Result A E) → ((fault : E) → P fault → Q fault) → IfErr r P → IfErr r Q
 err_map (Ok value) f h = tt
 err_map (Err fault) f h = f fault h
+
+-- a journal or the disk of one is there
+
+pub disk_there : {K : Type 0} (journal : Option (File K)) (lost : Option K) → is_some lost ≡ is_none journal → IsSome (disk_by journal lost)
+disk_there (Some file) lost is = tt
+disk_there None (Some disk) is = tt
+disk_there None None is = absurd (false≢true is)
+
+-- what its disks count is what it counts
+
+of_disks : {K : Type 0} (count : K → ℕ) (P : ℕ → ℕ → Type 0) (before after : Option K) → IsSome before
+    → IfSome before (λ one. IsSomeAnd after (λ other. P (count one) (count other))) → P (count_of count before) (count_of count after)
+of_disks count P (Some one) (Some other) there h = h
+of_disks count P (Some one) None there h = absurd h
+of_disks count P None after there h = absurd there
+
+pub counts_so : {K A : Type 0} (count : K → ℕ) (r : Result A DeskFault) (before after : Book K) → IsSome (disk_in before) → HasCounted count r before after
+    → Counts r (count_of count (disk_in before)) (count_of count (disk_in after))
+counts_so count (Ok value) before after there h = of_disks count (λ one other. other ≡ one) (disk_in before) (disk_in after) there h
+counts_so count (Err faults.Disk) before after there h = of_disks count Rose (disk_in before) (disk_in after) there h.1
+counts_so count (Err faults.Memory) before after there h = of_disks count (λ one other. other ≡ one) (disk_in before) (disk_in after) there h
+counts_so count (Err faults.Closed) before after there h = of_disks count (λ one other. other ≡ one) (disk_in before) (disk_in after) there h
+counts_so count (Err (faults.Full len)) before after there h = of_disks count (λ one other. other ≡ one) (disk_in before) (disk_in after) there h
 
 -- a packet that is refused wasn't judged, and one that opens was
 

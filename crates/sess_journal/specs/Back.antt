@@ -1,8 +1,10 @@
 -- What comes back after a crash.
 use Rattle.std.specs.Prelude.{◌≡◌, ℕ, Option, Some, List, ◌++◌, ◌⊎◌, length, IsSomeAnd}
-use Rattle.disks.specs.Told.{DiskTold, MayHaveLeft}
+use Rattle.disks.specs.Crash.{MayLeave}
+use Rattle.disks.specs.Told.{DiskTold, MayHaveLeft, now as moment_now}
 use Rattle.sess_records.specs.declared.records.Record.{Record}
 use Rattle.sess_records.specs.Seen.{File}
+use Rattle.sess_records.specs.Standing.{SpellsSome}
 use Rattle.sess_journal.specs.Keeping.{Book, Resumed, Seen, disk_in, ending}
 use Rattle.sess_replay.specs.Replay.{Bases, Reached, Replays, at_first}
 
@@ -23,21 +25,38 @@ pub record MayHold {K : Type 0} (told : K → Option DiskTold) (before after : B
 abbrev pub HoldsBytes : {K : Type 0} → (K → Option DiskTold) → K → List ℕ → Type 0
 HoldsBytes told disk bytes = IsSomeAnd (told disk) (λ file. file.contents ≡ bytes)
 
--- After a call that adds some records behind others, there is the server of the others and the first ones of the added, with a
--- run that was cut off answered as such.
-pub record ComesBack {K S D : Type 0} (bases : Bases S D) (told : K → Option DiskTold) (entries more : List Record) (now : ℕ) (before desk : Seen K S D) : Type 0 where
+-- There is the server of some records and of the first ones of others, with a run that was cut off answered as such.
+pub record Returns {K S D : Type 0} (bases : Bases S D) (told : K → Option DiskTold) (seal : S) (seed : List ℕ) (entries more : List Record) (now : ℕ) (desk : Seen K S D) : Type 0 where
   pub front : List Record
   pub back : List Record
   pub split : more ≡ front ++ back
+  pub reached : Reached
+  pub replays : Replays (bases seal seed) (entries ++ front) at_first reached
+  pub resumed : Resumed bases told seed now reached ((entries ++ front) ++ ending now reached) desk
+
+-- so it is after a call that adds some records behind others
+pub record ComesBack {K S D : Type 0} (bases : Bases S D) (told : K → Option DiskTold) (entries more : List Record) (now : ℕ) (before desk : Seen K S D) : Type 0 where
   pub file : File K
   pub opened : before.book.journal ≡ Some file
-  pub reached : Reached
-  pub replays : Replays (bases before.server.seal file.seed) (entries ++ front) at_first reached
-  pub resumed : Resumed bases told file.seed now reached ((entries ++ front) ++ ending now reached) desk
+  pub returns : Returns bases told before.server.seal file.seed entries more now desk
 
--- Behind these records, which lead there, the run that was cut off is answered, at the moment of the first opening or of the
--- one behind it.
-pub record ComesAgain {K S D : Type 0} (bases : Bases S D) (told : K → Option DiskTold) (seed : List ℕ) (entries : List Record) (reached : Reached) (first then : ℕ) (desk : Seen K S D) : Type 0 where
-  pub when : ℕ
-  pub when_is : (when ≡ first) ⊎ (when ≡ then)
-  pub resumed : Resumed bases told seed when reached (entries ++ ending when reached) desk
+-- ---- a crash in an opening
+
+-- a read of the file gives some records and the first ones of others, and so does whatever a crash now may leave
+pub record HoldsSome (seed : List ℕ) (entries more : List Record) (file : DiskTold) : Type 0 where
+  pub read : SpellsSome seed entries more file.contents
+  pub each : (left : List ℕ) → MayLeave (moment_now file) left → SpellsSome seed entries more left
+
+-- a crash at any moment of a call may leave this, or the call alone
+abbrev pub MayLeaveIn : DiskTold → DiskTold → List ℕ → Type 0
+MayLeaveIn before after left = MayHaveLeft (length before.acts) after left ⊎ (left ≡ after.contents)
+
+-- After an opening at an earlier moment there is the server of some records and of the first ones of others, as above, and of
+-- the end that the opening gave to a run that was cut off, or not.
+pub record ReturnsAfter {K S D : Type 0} (bases : Bases S D) (told : K → Option DiskTold) (seal : S) (seed : List ℕ) (entries more : List Record) (earlier now : ℕ) (desk : Seen K S D) : Type 0 where
+  pub front : List Record
+  pub back : List Record
+  pub split : more ≡ front ++ back
+  pub reached : Reached
+  pub replays : Replays (bases seal seed) (entries ++ front) at_first reached
+  pub returns : Returns bases told seal seed (entries ++ front) (ending earlier reached) now desk

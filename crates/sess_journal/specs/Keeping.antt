@@ -34,6 +34,11 @@ disk_by (Some file) lost = Some file.disk
 abbrev pub disk_in : {K : Type 0} → Book K → Option K
 disk_in book = disk_by book.journal book.lost
 
+-- how many calls of its disk have failed, by the disk's own count
+abbrev pub count_of : {K : Type 0} → (K → ℕ) → Option K → ℕ
+count_of count None = 0
+count_of count (Some disk) = count disk
+
 -- a record was added to a journal
 pub record Added {K : Type 0} (told : K → Option DiskTold) (before : File K) (entry : Record) (after : File K) : Type 0 where
   pub seed : after.seed ≡ before.seed

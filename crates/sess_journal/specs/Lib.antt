@@ -1,5 +1,5 @@
 pub mod Back
 pub mod Keeping
+pub mod Opening
 pub mod Playing
-pub mod Reopening
 pub mod Staging

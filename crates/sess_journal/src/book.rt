@@ -1,6 +1,6 @@
 //! The journal of a desk, until a call of its disk fails.
 
-ghost use Rattle.std.specs.Prelude.{◌≡◌, ◌≤◌, ◌<◌, ◌+◌, true, None, Some, List, IfOk, IfErr, IfSome, IsSomeAnd, OnOk, MatchOption, is_some};
+ghost use Rattle.std.specs.Prelude.{◌≡◌, ◌≤◌, ◌<◌, ◌+◌, true, None, Some, List, IfOk, IfErr, IfSome, IsSome, IsSomeAnd, OnOk, MatchOption, is_some};
 ghost use Rattle.server_core.specs.declared.desk.DeskFault.TheVariants as faults;
 ghost use Rattle.sess_records.specs.declared.records.Record.{Record};
 ghost use Rattle.sess_records.specs.Calls.{event_in};
@@ -43,6 +43,22 @@ impl<K: Disk + Drop> Book<K> {
             journal: Some(journal),
             lost: None,
         }
+    }
+
+    /// Its disk is there, whether the journal is open or closed. Does nothing.
+    #[tactic(auto, using(crate::proofs::TraitLemmas::disk_there))]
+    pub(crate) fn has_disk(&self)
+        ensures { IsSome (disk_in self.now) }
+    {
+        let _ = self.lost.is_some();
+    }
+
+    /// The length of the journal in bytes, while it is open.
+    pub(crate) fn len(&self) -> Option<u64>
+        ensures { MatchOption self.now.journal (result ≡ None) (λ file. result ≡ Some file.len) }
+    {
+        let journal = self.journal.as_ref()?;
+        Some(journal.len())
     }
 
     /// The seed, where the journal is open and has room for so many bytes more.

@@ -5,7 +5,7 @@
 //! that was cut off. A packet, a tick and an attach are stepped, recorded, and then answered; of a run its begin is recorded
 //! before it and its reply behind it. `sess_replay` says which record is lawful in its place and which server records lead to.
 //! Whatever a crash at any moment of such a call leaves is a journal, and whoever opens it has the server of every event that
-//! was answered ([`laws::what_comes_back`]); so is what a crash in an opening leaves ([`laws::openings_come_back`]).
+//! was answered, and so is what a crash in an opening leaves ([`laws::what_comes_back`]).
 #![tactic(auto)]
 
 mod as_desk;
@@ -19,3 +19,4 @@ mod runs;
 mod staging;
 
 pub use kept::Kept;
+pub use sess_records::JournalFault;

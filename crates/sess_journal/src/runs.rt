@@ -37,6 +37,13 @@ impl<K: Disk + Drop, S: Seal + Drop, D: Seeded + Drop> Kept<K, S, D> {
         self.server.ready()
     }
 
+    /// How many jobs are unfinished, ready or not.
+    pub fn unfinished(&self) -> usize
+        ensures { result ≡ length self.now.server.jobs }
+    {
+        self.server.unfinished()
+    }
+
     /// Runs the ready job of this place among the ready ones, from 0 in order of acceptance. That its run begins is recorded
     /// before it, and its reply behind it. The place has to be less than `ready()`.
     ///

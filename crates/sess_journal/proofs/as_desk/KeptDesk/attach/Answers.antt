@@ -3,7 +3,7 @@ use Rattle.server_rules.specs.Answer.{after_attach}
 use Rattle.server_rules.specs.Server.{Name}
 use Rattle.server_session.specs.Says.{setting_of}
 use Rattle.sess_replay.specs.Replay.{Bases, bases_of}
-use Rattle.sess_journal.proofs.TraitLemmas.{does_so, ok_map, still_stands}
+use Rattle.sess_journal.proofs.TraitLemmas.{counts_so, does_so, ok_map, still_stands}
 use Rattle.sess_journal.proofs.as_desk.KeptDesk.attach.Goals as goal
 
 pub returns-clause-given : goal.returns-clause-given
@@ -19,3 +19,6 @@ pub returns-clause-unchanged_on_memory : goal.returns-clause-unchanged_on_memory
 returns-clause-unchanged_on_memory g c = λ server stands.
     let bases : Bases g.row.S.Denot g.row.D.Denot = bases_of g.S.Seal.lock g.S.Seal.keys g.D.Draw.step g.D.Seeded.standing_at g.D.Seeded.place_of in
     still_stands bases g.K.Disk.told c.attach.new.self stands.0 _ _ server c.args.self.now c.attach.result _ (c.attach.ensures.journal stands.0 server stands.1)
+
+pub returns-clause-counted : goal.returns-clause-counted
+returns-clause-counted g c = counts_so g.K.Disk.faults c.attach.result c.args.self.now.book c.attach.new.self.book c.has_disk.ensures c.attach.ensures.counted

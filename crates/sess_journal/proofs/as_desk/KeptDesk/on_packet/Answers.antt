@@ -3,7 +3,7 @@ use Rattle.server_rules.specs.Answer.{after_packet}
 use Rattle.server_core.specs.Packets.{brought_in, effects_in}
 use Rattle.server_session.specs.Says.{setting_of}
 use Rattle.sess_replay.specs.Replay.{Bases, bases_of}
-use Rattle.sess_journal.proofs.TraitLemmas.{by_opened, by_refused, does_nothing_so, does_so, ok_map, still_stands}
+use Rattle.sess_journal.proofs.TraitLemmas.{by_opened, by_refused, counts_so, does_nothing_so, does_so, ok_map, still_stands}
 use Rattle.sess_journal.proofs.as_desk.KeptDesk.on_packet.Goals as goal
 
 pub returns-clause-heard : goal.returns-clause-heard
@@ -36,3 +36,6 @@ pub returns-clause-unchanged_on_memory : goal.returns-clause-unchanged_on_memory
 returns-clause-unchanged_on_memory g c = λ server stands.
     let bases : Bases g.row.S.Denot g.row.D.Denot = bases_of g.S.Seal.lock g.S.Seal.keys g.D.Draw.step g.D.Seeded.standing_at g.D.Seeded.place_of in
     still_stands bases g.K.Disk.told c.on_packet.new.self stands.0 _ _ server c.args.self.now c.on_packet.result _ (c.on_packet.ensures.journal stands.0 server stands.1)
+
+pub returns-clause-counted : goal.returns-clause-counted
+returns-clause-counted g c = counts_so g.K.Disk.faults c.on_packet.result c.args.self.now.book c.on_packet.new.self.book c.has_disk.ensures c.on_packet.ensures.counted

@@ -2,7 +2,7 @@ use Rattle.std.proofs.Common.{◌++◌, max}
 use Rattle.server_rules.specs.Answer.{after_tick}
 use Rattle.server_session.specs.Says.{setting_of}
 use Rattle.sess_replay.specs.Replay.{Bases, bases_of}
-use Rattle.sess_journal.proofs.TraitLemmas.{does_so, ok_map, still_stands}
+use Rattle.sess_journal.proofs.TraitLemmas.{counts_so, does_so, ok_map, still_stands}
 use Rattle.sess_journal.proofs.as_desk.KeptDesk.tick.Goals as goal
 
 pub returns-clause-given : goal.returns-clause-given
@@ -17,3 +17,6 @@ pub returns-clause-unchanged_on_memory : goal.returns-clause-unchanged_on_memory
 returns-clause-unchanged_on_memory g c = λ server stands.
     let bases : Bases g.row.S.Denot g.row.D.Denot = bases_of g.S.Seal.lock g.S.Seal.keys g.D.Draw.step g.D.Seeded.standing_at g.D.Seeded.place_of in
     still_stands bases g.K.Disk.told c.tick.new.self stands.0 _ _ server c.args.self.now c.tick.result _ (c.tick.ensures.journal stands.0 server stands.1)
+
+pub returns-clause-counted : goal.returns-clause-counted
+returns-clause-counted g c = counts_so g.K.Disk.faults c.tick.result c.args.self.now.book c.tick.new.self.book c.has_disk.ensures c.tick.ensures.counted
