@@ -16,7 +16,7 @@ returns-in-Ok-Broken-clause-status c = broken-of c.broken.result c.broken.ensure
 
 pub returns-in-Err-BadLine-clause-owed : goal.returns-in-Err-BadLine-clause-owed
 returns-in-Err-BadLine-clause-owed c =
-    bad-owes c.args.text.now _ c.in-Err-BadLine.line c.refusal.result c.requires c.in-Err-BadLine.field-0-is c.in-Err-BadLine.ensures.fault c.refusal.ensures.status c.refusal.ensures.text
+    bad-owes c.args.text.now _ c.in-Err-BadLine.line c.bad_line.result c.requires c.in-Err-BadLine.field-0-is c.in-Err-BadLine.ensures.fault c.bad_line.ensures.status c.bad_line.ensures.text
 
 pub returns-in-Err-BadLine-clause-status : goal.returns-in-Err-BadLine-clause-status
-returns-in-Err-BadLine-clause-status c = bad-of c.refusal.result c.refusal.ensures.status
+returns-in-Err-BadLine-clause-status c = bad-of c.bad_line.result c.bad_line.ensures.status
