@@ -1,6 +1,7 @@
 mod BackLemmas
 mod DeskLemmas
 mod HearLemmas
+mod HistoryLemmas
 mod NextLemmas
 mod OpenLemmas
 mod PlayLemmas

@@ -127,6 +127,7 @@ pub record IsSameDisk {K : Type 0} (told : K → Option DiskTold) (place : K →
 pub record LeavesSome (before after : DiskTold) (P : List ℕ → Type 0) : Type 0 where
   pub each : (left : List ℕ) → MayHaveLeft (length before.acts) after left → P left
   pub read : P after.contents
+  pub longer : length before.acts ≤ length after.acts
 
 -- These records are added behind the others, and are lawful there. A crash at any moment of the call leaves the records from
 -- before it, or these and the first ones of the added; and so does the call.
