@@ -1,5 +1,5 @@
 -- What contracts see of a server that keeps a journal, and what it stands for.
-use Rattle.std.specs.Prelude.{◌≡◌, ℕ, ◌≤◌, ◌<◌, ◌+◌, ◌^◌, ◌↔◌, max, length, is_some, Option, Some, None, Result, Err, List, [], ◌∷◌, ◌++◌, IfErr, IfOk, IfSome, IsSomeAnd}
+use Rattle.std.specs.Prelude.{◌≡◌, ℕ, ◌≤◌, ◌<◌, ◌+◌, ◌^◌, ◌↔◌, max, length, ⊤, is_some, Option, Some, None, Result, Err, List, [], ◌∷◌, ◌++◌, IfErr, IfOk, IfSome, IsSomeAnd}
 use Rattle.disks.specs.Told.{DiskTold, MayHaveLeft}
 use Rattle.mt_edge.specs.Faults.{Rose}
 use Rattle.sess_records.specs.declared.records.Event.{Event}
@@ -108,6 +108,12 @@ IsFull book bytes len = IsSomeAnd book.journal (λ file. (len ≡ file.len) × (
 pub record Refuses {K A : Type 0} (bytes : ℕ) (book : Book K) (result : Result A DeskFault) : Type 0 where
   pub closed : IsClosed book ↔ (result ≡ Err faults.Closed)
   pub full : (len : ℕ) → (IsFull book bytes len ↔ (result ≡ Err (faults.Full len)))
+
+-- P holds where a call was refused before anything was done
+abbrev pub IfNothingDone : Type 0 → DeskFault → Type 0
+IfNothingDone P faults.Closed = P
+IfNothingDone P (faults.Full len) = P
+IfNothingDone P fault = ⊤
 
 -- P says something of its disk before and after a call
 abbrev pub OfDisks : {K : Type 0} → Book K → Book K → (K → K → Type 0) → Type 0
