@@ -102,10 +102,11 @@ module _ (laws : RowLaws) where
             subst (λ (l : List ℕ). SpellsSome seed entries [] l) (sym is) spelt;
         earlier = λ since left h. inl h;
         read = spelt;
+        longer = omega arith;
       }
 
   some_of : (P : List ℕ → Type 0) (was is : DiskTold) → LeavesOnly was is P → LeavesSome was is P
-  some_of P was is only = record { each = only.each; earlier = only.earlier.adds; read = only.read }
+  some_of P was is only = record { each = only.each; earlier = only.earlier.adds; read = only.read; longer = only.earlier.longer }
 
   -- one record is added
   pub one_left : (seed : List ℕ) (entries : List Record) (entry : Record) (was is : Option DiskTold)

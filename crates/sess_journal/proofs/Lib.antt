@@ -2,6 +2,7 @@ mod BackLemmas
 mod DeskLemmas
 mod EventLemmas
 mod HearLemmas
+mod HistoryLemmas
 mod NextLemmas
 mod OpenLemmas
 mod PlayLemmas

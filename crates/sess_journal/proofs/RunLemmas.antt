@@ -138,6 +138,7 @@ leaves_up seed entries one two (Some was) (Some between) (Some is) h k =
           either_so (λ before. either_map (λ a. a) (first_some seed entries one two left) (h.earlier since left before)) (λ some. inr (then_some seed entries one two left some))
           (k.earlier since left may);
       read = then_some seed entries one two is.contents k.read;
+      longer = omega (arith, h.longer, k.longer);
     }
 
 module _ {K S D : Type 0} (bases : Bases S D) (told : K → Option DiskTold) (entries : List Record) (old mid new : Seen K S D) where

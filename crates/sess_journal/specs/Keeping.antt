@@ -1,5 +1,5 @@
 -- What contracts see of a server that keeps a journal, and what it stands for.
-use Rattle.std.specs.Prelude.{◌≡◌, ℕ, ◌≤◌, ◌<◌, ◌+◌, ◌^◌, ◌↔◌, max, length, is_some, Option, Some, None, Result, Err, List, [], ◌∷◌, ◌++◌, ◌⊎◌, IfErr, IfOk, IfSome, IsSomeAnd}
+use Rattle.std.specs.Prelude.{◌≡◌, ℕ, ◌≤◌, ◌<◌, ◌+◌, ◌^◌, ◌↔◌, max, length, ⊤, is_some, Option, Some, None, Result, Err, List, [], ◌∷◌, ◌++◌, ◌⊎◌, IfErr, IfOk, IfSome, IsSomeAnd}
 use Rattle.disks.specs.Told.{DiskTold, MayHaveLeft}
 use Rattle.mt_edge.specs.Faults.{Rose}
 use Rattle.sess_records.specs.declared.records.Event.{Event}
@@ -137,6 +137,12 @@ pub record Refuses {K A : Type 0} (bytes : ℕ) (book : Book K) (result : Result
 abbrev pub IsAfterBegin : DeskFault → Type 0
 IsAfterBegin fault = (fault ≡ faults.Memory) ⊎ (fault ≡ faults.Disk)
 
+-- P holds where a call was refused before anything was done
+abbrev pub IfNothingDone : Type 0 → DeskFault → Type 0
+IfNothingDone P faults.Closed = P
+IfNothingDone P (faults.Full len) = P
+IfNothingDone P fault = ⊤
+
 -- P says something of its disk before and after a call
 abbrev pub OfDisks : {K : Type 0} → Book K → Book K → (K → K → Type 0) → Type 0
 OfDisks before after P = IfSome (disk_in before) (λ one. IsSomeAnd (disk_in after) (λ other. P one other))
@@ -157,6 +163,7 @@ pub record LeavesSome (before after : DiskTold) (P : List ℕ → Type 0) : Type
   pub each : (left : List ℕ) → MayHaveLeft (length before.acts) after left → P left
   pub earlier : (since : ℕ) (left : List ℕ) → MayHaveLeft since after left → MayHaveLeft since before left ⊎ P left
   pub read : P after.contents
+  pub longer : length before.acts ≤ length after.acts
 
 -- These records are added behind the others, and are lawful there. A crash at any moment of the call leaves the records from
 -- before it, or these and the first ones of the added; and so does the call.

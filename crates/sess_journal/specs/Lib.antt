@@ -1,4 +1,5 @@
 pub mod Back
+pub mod Histories
 pub mod Keeping
 pub mod Opening
 pub mod Playing

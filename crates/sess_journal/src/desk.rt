@@ -1,6 +1,6 @@
 //! The events of a server that keeps a journal: each is stepped, recorded, and then answered.
 
-ghost use Rattle.std.specs.Prelude.{◌≡◌, ◌≤◌, ◌+◌, ◌++◌, ◌∷◌, ◌↔◌, [], ℕ, List, false, length, max};
+ghost use Rattle.std.specs.Prelude.{◌≡◌, ◌≤◌, ◌+◌, ◌++◌, ◌∷◌, ◌↔◌, [], ℕ, List, false, length, max, IfErr};
 ghost use Rattle.envelope.specs.declared.parts.Dir.TheVariants.{Up};
 ghost use Rattle.envelope.specs.declared.parts.Envelope.{Envelope as Sealed};
 ghost use Rattle.envelope.specs.Opening.{Opens};
@@ -12,7 +12,7 @@ ghost use Rattle.server_rules.specs.Server.{Server as Rules};
 ghost use Rattle.server_session.specs.Says.{Keys, setting_of};
 ghost use Rattle.server_core.specs.Desks.{Does, DoesNothing};
 ghost use Rattle.server_core.specs.Packets.{IsHeardOf, brought_in, effects_in};
-ghost use Rattle.sess_journal.specs.Keeping.{ByHeard, GivesNothing, HasCounted, IsRecorded, IsSameDisk, Journals, KeepsFor, OfDisks, Refuses, entry_at};
+ghost use Rattle.sess_journal.specs.Keeping.{ByHeard, GivesNothing, HasCounted, IfNothingDone, IsRecorded, IsSameDisk, Journals, KeepsFor, OfDisks, Refuses, entry_at};
 ghost use Rattle.sess_replay.specs.Replay.{bases_of};
 
 use crate::kept::Kept;
@@ -45,7 +45,8 @@ impl<K: Disk + Drop, S: Seal + Drop, D: Seeded + Drop> Kept<K, S, D> {
     ///
     /// # Errors
     ///
-    /// `Closed`, `Full`, `Memory` or `Disk`, in this order. After `Memory` the server is as it was.
+    /// `Closed`, `Full`, `Memory` or `Disk`, in this order. After `Closed` and `Full` nothing has changed, after `Memory` the
+    /// server is as it was.
     pub fn tick(&mut self, alloc: Global, now: Moment) -> Result<Effects, DeskFault>
         ensures refuses { Refuses 22 self.old.book result }
         ensures journal { (entries : List Record) (server : Rules) → KeepsFor (bases_of S.lock S.keys D.step D.standing_at D.place_of) K.told entries self.old server
@@ -53,6 +54,7 @@ impl<K: Disk + Drop, S: Seal + Drop, D: Seeded + Drop> Kept<K, S, D> {
             IsRecorded (GivesNothing effects) (entry_at D.place_of self.old now Tick) more
             × ((ring : Keys) → Does (KeepsFor (bases_of S.lock S.keys D.step D.standing_at D.place_of) K.told (entries ++ more) self.new) S.lock (S.keys self.old.server.seal) self.new.draw effects
             (after_tick (setting_of (max server.now now) D.step ring) server self.old.draw))) }
+        ensures unchanged { IfErr result (IfNothingDone (self.new ≡ self.old)) }
         ensures counted { HasCounted K.faults result self.old.book self.new.book }
         ensures same_disk { OfDisks self.old.book self.new.book (IsSameDisk K.told K.place) }
         ensures same_seal { self.new.server.seal ≡ self.old.server.seal }
@@ -83,7 +85,8 @@ impl<K: Disk + Drop, S: Seal + Drop, D: Seeded + Drop> Kept<K, S, D> {
     ///
     /// # Errors
     ///
-    /// `Closed`, `Full`, `Memory` or `Disk`, in this order. After `Memory` the server is as it was.
+    /// `Closed`, `Full`, `Memory` or `Disk`, in this order. After `Closed` and `Full` nothing has changed, after `Memory` the
+    /// server is as it was.
     pub fn attach(
         &mut self,
         alloc: Global,
@@ -97,6 +100,7 @@ impl<K: Disk + Drop, S: Seal + Drop, D: Seeded + Drop> Kept<K, S, D> {
             IsRecorded (GivesNothing effects) (entry_at D.place_of self.old now (Attach key session)) more
             × ((ring : Keys) → Does (KeepsFor (bases_of S.lock S.keys D.step D.standing_at D.place_of) K.told (entries ++ more) self.new) S.lock (S.keys self.old.server.seal) self.new.draw effects
             (after_attach (setting_of (max server.now now) D.step ring) (record { key = key; session = session }) server self.old.draw))) }
+        ensures unchanged { IfErr result (IfNothingDone (self.new ≡ self.old)) }
         ensures counted { HasCounted K.faults result self.old.book self.new.book }
         ensures same_disk { OfDisks self.old.book self.new.book (IsSameDisk K.told K.place) }
         ensures same_seal { self.new.server.seal ≡ self.old.server.seal }
@@ -128,7 +132,8 @@ impl<K: Disk + Drop, S: Seal + Drop, D: Seeded + Drop> Kept<K, S, D> {
     ///
     /// # Errors
     ///
-    /// `Closed`, `Full`, `Memory` or `Disk`, in this order. After `Memory` the server is as it was.
+    /// `Closed`, `Full`, `Memory` or `Disk`, in this order. After `Closed` and `Full` nothing has changed, after `Memory` the
+    /// server is as it was.
     pub fn on_packet(
         &mut self,
         alloc: Global,
@@ -145,6 +150,7 @@ impl<K: Disk + Drop, S: Seal + Drop, D: Seeded + Drop> Kept<K, S, D> {
             × ((ring : Keys) (envelope : Sealed) → AreOf (S.keys self.old.server.seal) ring → Opens S.lock (S.keys self.old.server.seal) (max server.now now) Up packet.now envelope
             → Does (KeepsFor (bases_of S.lock S.keys D.step D.standing_at D.place_of) K.told (entries ++ more) self.new) S.lock (S.keys self.old.server.seal) self.new.draw (effects_in reply)
             (after_packet (setting_of (max server.now now) D.step ring) (brought_in envelope) server self.old.draw)))) }
+        ensures unchanged { IfErr result (IfNothingDone (self.new ≡ self.old)) }
         ensures counted { HasCounted K.faults result self.old.book self.new.book }
         ensures same_disk { OfDisks self.old.book self.new.book (IsSameDisk K.told K.place) }
         ensures same_seal { self.new.server.seal ≡ self.old.server.seal }

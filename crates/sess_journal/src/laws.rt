@@ -1,12 +1,13 @@
 //! What comes back, as contracts of functions that do nothing.
 
-ghost use Rattle.std.specs.Prelude.{◌≡◌, ◌++◌, [], ℕ, List};
+ghost use Rattle.std.specs.Prelude.{◌≡◌, ◌++◌, [], true, ℕ, List, Some, IsSomeAnd, is_some};
 ghost use Rattle.disks.specs.Told.{DiskTold};
 ghost use Rattle.sess_records.specs.declared.records.Record.{Record};
 ghost use Rattle.sess_records.specs.Crashes.{Leaves};
-ghost use Rattle.server_rules.specs.Server.{Server as Rules};
+ghost use Rattle.server_rules.specs.Server.{Server as Rules, fresh_server};
 ghost use Rattle.sess_journal.specs.Back.{ComesBack, HoldsBytes, HoldsSome, MayHold, MayLeaveIn, ReturnsAfter};
-ghost use Rattle.sess_journal.specs.Keeping.{Adds, KeepsFor, Opened, Seen};
+ghost use Rattle.sess_journal.specs.Histories.{Comes};
+ghost use Rattle.sess_journal.specs.Keeping.{Adds, KeepsFor, Opened, Seen, disk_in};
 ghost use Rattle.sess_journal.specs.Opening.{MayBecome};
 ghost use Rattle.sess_replay.specs.Files.{IsNoJournalAt};
 ghost use Rattle.sess_replay.specs.Replay.{Reached, Replays, at_first, bases_of};
@@ -44,6 +45,25 @@ pub fn what_comes_back<K: Disk, S: Seal, D: Seeded>()
         → Adds (bases_of S.lock S.keys D.step D.standing_at D.place_of) K.told entries more before after → MayHold K.told before.book after.book left
         → S.keys seal ≡ S.keys before.server.seal
         → IsNoJournalAt (bases_of S.lock S.keys D.step D.standing_at D.place_of seal) at left → ⊥ }
+{
+    S::opens_what_it_sealed();
+    crashes_by_acts();
+    crashes_after_a_sync();
+    calls_in_a_row();
+    files_spell_one_list();
+    lawful_files_are_opened::<D>();
+    records_lead_to_one_server::<D>();
+}
+
+/// A disk that tells, and has a new journal, is a journal whatever happens to it: by calls of servers under one ring, whatever
+/// they answer, by openings under it, whatever they answer, and by crashes at any moment. So `open` never answers
+/// `NotJournal` on it.
+pub fn journals_stay_journals<K: Disk, S: Seal, D: Seeded>()
+    ensures { (seal : S) (desk : Seen K S D) (first last : K) (disks : List K) (at : ℕ)
+        → KeepsFor (bases_of S.lock S.keys D.step D.standing_at D.place_of) K.told [] desk fresh_server → disk_in desk.book ≡ Some first → is_some (K.told first) ≡ true
+        → S.keys desk.server.seal ≡ S.keys seal
+        → Comes (bases_of S.lock S.keys D.step D.standing_at D.place_of) K.told seal first disks last
+        → IsSomeAnd (K.told last) (λ file. IsNoJournalAt (bases_of S.lock S.keys D.step D.standing_at D.place_of seal) at file.contents → ⊥) }
 {
     S::opens_what_it_sealed();
     crashes_by_acts();

@@ -9,7 +9,7 @@ ghost use Rattle.server_rules.specs.Server.{Server as Rules};
 ghost use Rattle.server_session.specs.Says.{Keys, setting_of};
 ghost use Rattle.server_core.specs.declared.desk.DeskFault.TheVariants as faults;
 ghost use Rattle.server_core.specs.Desks.{Does};
-ghost use Rattle.sess_journal.specs.Keeping.{HasBegun, HasCounted, IsAfterBegin, IsSameDisk, Journals, KeepsFor, OfDisks, Refuses, entry_at, reply_at};
+ghost use Rattle.sess_journal.specs.Keeping.{HasBegun, HasCounted, IfNothingDone, IsAfterBegin, IsSameDisk, Journals, KeepsFor, OfDisks, Refuses, entry_at, reply_at};
 ghost use Rattle.sess_replay.specs.Replay.{bases_of};
 
 use crate::kept::Kept;
@@ -50,8 +50,8 @@ impl<K: Disk + Drop, S: Seal + Drop, D: Seeded + Drop> Kept<K, S, D> {
     /// # Errors
     ///
     /// `Closed`, `Full`, `Memory` or `Disk`, in this order, but that a fault of the disk at the begin comes before the run and
-    /// its want of memory. After `Memory` the server and the service are as they were; the journal may have the begin, which
-    /// has no effect unless it stands last when the journal is opened.
+    /// its want of memory. After `Closed` and `Full` nothing has changed. After `Memory` the server and the service are as they
+    /// were; the journal may have the begin, which has no effect unless it stands last when the journal is opened.
     pub fn work<V: Service>(
         &mut self,
         alloc: Global,
@@ -69,6 +69,7 @@ impl<K: Disk + Drop, S: Seal + Drop, D: Seeded + Drop> Kept<K, S, D> {
             × ((ring : Keys) → Does (KeepsFor (bases_of S.lock S.keys D.step D.standing_at D.place_of) K.told (entries ++ more) self.new) S.lock (S.keys self.old.server.seal) self.new.draw effects
             ((after_work (setting_of (max server.now now) D.step ring) k V.step service.old server self.old.draw).0)
             × (service.new ≡ (after_work (setting_of (max server.now now) D.step ring) k V.step service.old server self.old.draw).1))) }
+        ensures unchanged { IfErr result (IfNothingDone (self.new ≡ self.old)) }
         ensures same_service_on_memory { IfErr result (λ fault. fault ≡ faults.Memory → service.new ≡ service.old) }
         ensures counted { HasCounted K.faults result self.old.book self.new.book }
         ensures same_disk { OfDisks self.old.book self.new.book (IsSameDisk K.told K.place) }
@@ -87,6 +88,7 @@ impl<K: Disk + Drop, S: Seal + Drop, D: Seeded + Drop> Kept<K, S, D> {
             (more ≡ entry_at D.place_of self.old now (Begin k) ∷ [])
             × HasBegun (bases_of S.lock S.keys D.step D.standing_at D.place_of) K.told (entries ++ entry_at D.place_of self.old now (Begin k) ∷ []) k self.new server) }
         ensures not_memory { IfErr result (λ fault. fault ≡ faults.Memory → ⊥) }
+        ensures unchanged { IfErr result (IfNothingDone (self.new ≡ self.old)) }
         ensures seed { IfOk result (λ seed. IsSomeAnd self.old.book.journal (λ file. (seed ≡ file.seed) × (file.len + 262196 ≤ 268435456))) }
         ensures open { IfOk result (λ seed. IsSomeAnd self.new.book.journal (λ file. (seed ≡ file.seed) × (file.len + 262166 ≤ 268435456))) }
         ensures same { self.new ≡ record self.old { book = self.new.book } }
