@@ -1,5 +1,5 @@
 -- A run of a desk: its begin, its end, and both in a row.
-use Rattle.std.proofs.Common.{◌≡◌, ◌<◌, ℕ, Option, Some, None, Result, Err, List, [], ◌∷◌, ◌++◌, ◌⊎◌, inl, inr, length, max, option_map, sym, ap, subst, refl, ◌∙◌, append_assoc}
+use Rattle.std.proofs.Common.{◌≡◌, ◌<◌, ℕ, Option, Some, None, Result, Err, List, [], ◌∷◌, ◌++◌, ◌⊎◌, inl, inr, length, max, option_map, sym, ap, subst, refl, ◌∙◌, append_assoc, arith}
 use Rattle.std.specs.Prelude.{IfSome, IsSomeAnd}
 use Rattle.disks.specs.Told.{DiskTold}
 use Rattle.auth_keys.specs.declared.ring.RingKey.{RingKey}
