@@ -2,3 +2,4 @@ pub mod Worlds
 pub mod Steps
 pub mod Shown
 pub mod Toy
+pub mod Runs

@@ -11,15 +11,12 @@ use Rattle.server_node.specs.Trace.{Attach, Hear, Run, Tick}
 use Rattle.world_rules.specs.Premises.{OpensOnly}
 use Rattle.world_rules.specs.Setting.{Setting}
 use Rattle.world_rules.specs.World.{Packet, World, counted}
+use Rattle.law_connections.specs.Computed.{are_new, is_made, is_way}
 use Rattle.law_connections.specs.Joint.{Joint, Step, Attaches, Begins, Does, Draws, Flushes, Hears, Renews, Serves, Starts, Submits, at_client_moment, at_moment, steps_on}
 use Rattle.law_connections.specs.Premises.{IsStepByNoChance, NoChance}
 use Rattle.law_connections.specs.Witness.{Down, Goes, Turn, Up, bytes_in, step_in, steps_in}
 
 -- ---- words
-
-abbrev pub are_new : List ℕ → Bool
-are_new [] = true
-are_new (word ∷ words) = not (word == 0) && (not (list_any (λ other. word == other) words) && are_new words)
 
 pub both : (one other : Bool) → (one && other) ≡ true → (one ≡ true) × (other ≡ true)
 both true other is = (refl, is)
@@ -52,16 +49,6 @@ new-words (word ∷ words) is =
 
 -- ---- packets
 
-abbrev pub is_way : Dir → Dir → Bool
-is_way way.Up way.Up = true
-is_way way.Up way.Down = false
-is_way way.Down way.Up = false
-is_way way.Down way.Down = true
-
-abbrev pub is_made : Dir → Option Packet → Bool
-is_made dir None = false
-is_made dir (Some packet) = is_way packet.dir dir
-
 -- nothing comes to an end
 abbrev pub is_quiet : Step ℕ → Bool
 is_quiet (Serves (Hear now packet)) = false
@@ -93,7 +80,7 @@ counted-there : (number : ℕ) (bag : List Packet) (packet : Packet) → counted
 counted-there zero bag packet is = absurd (let e : None ≡ Some packet = is in cc)
 counted-there (suc place) bag packet is = get-there bag packet place is
 
-made-opens : {V : Type 0} (setting : Setting ℕ V) (world : World ℕ V) (now number : ℕ) (dir : Dir) (found : Option Packet) → counted number world.bag ≡ found → is_made dir found ≡ true
+pub made-opens : {V : Type 0} (setting : Setting ℕ V) (world : World ℕ V) (now number : ℕ) (dir : Dir) (found : Option Packet) → counted number world.bag ≡ found → is_made dir found ≡ true
     → OpensOnly setting world now dir (bytes_in setting found)
 made-opens setting world now number dir None is made = absurd (let e : false ≡ true = made in cc)
 made-opens setting world now number dir (Some packet) is made = λ envelope opened.

@@ -1,5 +1,5 @@
 -- Each step of a joint run keeps what is kept of its world.
-use Rattle.std.proofs.Common.{◌≡◌, ℕ, Option, Some, None, List, [], ◌∷◌, true}
+use Rattle.std.proofs.Common.{◌≡◌, ℕ, Option, Some, None, List, true}
 use Rattle.std.specs.Prelude.{IfSome}
 use Rattle.auth_keys.specs.declared.ring.RingKey.{RingKey}
 use Rattle.envelope.specs.Packet.{Lock}
@@ -13,31 +13,31 @@ use Rattle.world_rules.specs.Premises.{Fresh, IsSealed, IsSound}
 use Rattle.world_rules.specs.Run.{after, joins}
 use Rattle.law_packets.specs.Lawful.{is_held}
 use Rattle.law_once.specs.Served.{IsServed}
-use Rattle.law_connections.specs.Joint.{Deed, Joint, Step, Attaches, Begins, Does, Draws, Flushes, Hears, Renews, Serves, Starts, Submits, at_client_moment, at_moment, begun, did, does, drawing, joint_from, served, started, steps_on, temporary_in}
+use Rattle.law_connections.specs.Joint.{Deed, Joint, Step, Attaches, Begins, Does, Draws, Flushes, Hears, Renews, Serves, Starts, Submits, at_client_moment, at_moment, begun, did, does, drawing, served, started, steps_on, temporary_in}
 use Rattle.law_connections.specs.Keeping.{Keeps}
-use Rattle.law_connections.specs.Premises.{AreOf, IsByNoChanceDown, IsByNoChanceUp, IsOfBytes, IsStepByNoChance, IsStepOf, NoChance}
-use Rattle.law_connections.proofs.Worlds.{Laws, attach_kept, clock_kept, drawn_kept, event_kept, keys_back, keys_kept, sealed_with, sound_with, started_kept}
+use Rattle.law_connections.specs.Premises.{IsByNoChanceDown, IsByNoChanceUp, IsOfBytes, IsStepByNoChance, IsStepOf}
+use Rattle.law_connections.proofs.Worlds.{Growing, Laws, attach_kept, clock_kept, drawn_kept, event_kept, keys_back, keys_kept, sealed_with, sound_with, started_kept}
 
 -- the keys of a world that a client comes with
 abbrev keys_with : ℕ → Option BoundTo → WorldKeys
 keys_with key None = record { permanent = key; temporary = key; expires = 0 }
 keys_with key (Some one) = record { permanent = one.perm; temporary = key; expires = one.expires }
 
-module _ {S V : Type 0} (lock : Lock) (ring : List RingKey) (laws : Laws S V lock ring) (setting : Setting S V) where
+module _ {S V : Type 0} (grows : Growing S V) (setting : Setting S V) where
   -- ---- the server is in order
 
   again : (world : World S V) (draw : S) (now : ℕ) → IsServed setting world → IsServed setting (record world { draw = draw; clock = now })
   again world draw now h = record { ordered = h.ordered; past = h.past; now = h.now; later = h.later }
 
   served_by : (act : Act) (world : World S V) → IsServed setting world → IsServed setting (served setting act world)
-  served_by (Hear now packet) world h = laws.served setting (at_moment now world) (line.ForeignServer packet) (again world world.draw now h)
-  served_by (Attach now name) world h = laws.served_attached setting (at_moment now world) (record { key = name.key; session = name.session }) (again world world.draw now h)
-  served_by (Tick now) world h = laws.served setting (at_moment now world) line.TickServer (again world world.draw now h)
-  served_by (Run now) world h = laws.served setting (at_moment now world) (line.Work 1) (again world world.draw now h)
+  served_by (Hear now packet) world h = grows.served setting (at_moment now world) (line.ForeignServer packet) (again world world.draw now h)
+  served_by (Attach now name) world h = grows.served_attached setting (at_moment now world) (record { key = name.key; session = name.session }) (again world world.draw now h)
+  served_by (Tick now) world h = grows.served setting (at_moment now world) line.TickServer (again world world.draw now h)
+  served_by (Run now) world h = grows.served setting (at_moment now world) (line.Work 1) (again world world.draw now h)
 
   served_started : (draw : S) (world : World S V) → IsServed setting world → IsServed setting (started setting draw world)
   served_started draw world h =
-      let on = laws.served setting world line.Restart h in
+      let on = grows.served setting world line.Restart h in
       record { ordered = on.ordered; past = on.past; now = on.now; later = on.later }
 
   served_begun : (key : ℕ) (bound : Option BoundTo) (world : World S V) → IsServed setting world → IsServed setting (joins setting key (temporary_in bound) world)
@@ -45,14 +45,14 @@ module _ {S V : Type 0} (lock : Lock) (ring : List RingKey) (laws : Laws S V loc
   served_begun key (Some one) world h = record { ordered = h.ordered; past = h.past; now = h.now; later = h.later }
 
   served_did : (number : ℕ) (deed : Deed) (world : World S V) → IsServed setting world → IsServed setting (did setting number deed world)
-  served_did number (Submits body earlier) world h = laws.served setting world (line.Call number body earlier) h
+  served_did number (Submits body earlier) world h = grows.served setting world (line.Call number body earlier) h
   served_did number (Draws words) world h = again world (draw_after setting.step words world.draw) world.clock h
-  served_did number Attaches world h = laws.served setting world (line.AttachClient number) h
-  served_did number Renews world h = laws.served setting world (line.Renew number) h
+  served_did number Attaches world h = grows.served setting world (line.AttachClient number) h
+  served_did number Renews world h = grows.served setting world (line.Renew number) h
   served_did number (Flushes now) world h =
-      laws.served setting (at_client_moment setting number now world) (line.Flush number) (laws.served setting world (line.ClockClient number now) h)
+      grows.served setting (at_client_moment setting number now world) (line.Flush number) (grows.served setting world (line.ClockClient number now) h)
   served_did number (Hears now packet) world h =
-      laws.served setting (at_client_moment setting number now world) (line.ForeignClient number packet) (laws.served setting world (line.ClockClient number now) h)
+      grows.served setting (at_client_moment setting number now world) (line.ForeignClient number packet) (grows.served setting world (line.ClockClient number now) h)
 
   served_does : (number : ℕ) (deed : Deed) (found : Option S) (joint : Joint S V) → IsServed setting joint.world → IsServed setting (does setting number deed found joint).world
   served_does number deed None joint h = h
@@ -80,35 +80,35 @@ module _ {S V : Type 0} (lock : Lock) (ring : List RingKey) (laws : Laws S V loc
   Ordered world = IsServed setting world
 
   fresh_served : (act : Act) (world : World S V) → Ordered world → Fresh (served setting act world) → Fresh world
-  fresh_served (Hear now packet) world h fresh = fresh_again world world.draw now (laws.words setting (at_moment now world) (line.ForeignServer packet) h.ordered fresh)
-  fresh_served (Attach now name) world h fresh = fresh_again world world.draw now (laws.words_attached setting (at_moment now world) (record { key = name.key; session = name.session }) h.ordered fresh)
-  fresh_served (Tick now) world h fresh = fresh_again world world.draw now (laws.words setting (at_moment now world) line.TickServer h.ordered fresh)
-  fresh_served (Run now) world h fresh = fresh_again world world.draw now (laws.words setting (at_moment now world) (line.Work 1) h.ordered fresh)
+  fresh_served (Hear now packet) world h fresh = fresh_again world world.draw now (grows.words setting (at_moment now world) (line.ForeignServer packet) h.ordered fresh)
+  fresh_served (Attach now name) world h fresh = fresh_again world world.draw now (grows.words_attached setting (at_moment now world) (record { key = name.key; session = name.session }) h.ordered fresh)
+  fresh_served (Tick now) world h fresh = fresh_again world world.draw now (grows.words setting (at_moment now world) line.TickServer h.ordered fresh)
+  fresh_served (Run now) world h fresh = fresh_again world world.draw now (grows.words setting (at_moment now world) (line.Work 1) h.ordered fresh)
 
   fresh_restarted : (draw : S) (world : World S V) → Fresh (started setting draw world) → Fresh (after setting world line.Restart)
   fresh_restarted draw world fresh = record { some = fresh.some; apart = fresh.apart }
 
   fresh_started : (draw : S) (world : World S V) → Ordered world → Fresh (started setting draw world) → Fresh world
-  fresh_started draw world h fresh = laws.words setting world line.Restart h.ordered (fresh_restarted draw world fresh)
+  fresh_started draw world h fresh = grows.words setting world line.Restart h.ordered (fresh_restarted draw world fresh)
 
   fresh_begun : (key : ℕ) (bound : Option BoundTo) (world : World S V) → Ordered world → Fresh (joins setting key (temporary_in bound) world) → Fresh world
-  fresh_begun key None world h fresh = laws.words (record setting { keys = keys_with key None }) world line.Client h.ordered fresh
-  fresh_begun key (Some one) world h fresh = laws.words (record setting { keys = keys_with key (Some one) }) world line.ClientTemp h.ordered fresh
+  fresh_begun key None world h fresh = grows.words (record setting { keys = keys_with key None }) world line.Client h.ordered fresh
+  fresh_begun key (Some one) world h fresh = grows.words (record setting { keys = keys_with key (Some one) }) world line.ClientTemp h.ordered fresh
 
   fresh_timed : (number now : ℕ) (world : World S V) → Ordered world → Fresh (at_client_moment setting number now world) → Fresh world
-  fresh_timed number now world h fresh = laws.words setting world (line.ClockClient number now) h.ordered fresh
+  fresh_timed number now world h fresh = grows.words setting world (line.ClockClient number now) h.ordered fresh
 
   fresh_did : (number : ℕ) (deed : Deed) (world : World S V) → Ordered world → Fresh (did setting number deed world) → Fresh world
-  fresh_did number (Submits body earlier) world h fresh = laws.words setting world (line.Call number body earlier) h.ordered fresh
+  fresh_did number (Submits body earlier) world h fresh = grows.words setting world (line.Call number body earlier) h.ordered fresh
   fresh_did number (Draws words) world h fresh = fresh_again world (draw_after setting.step words world.draw) world.clock fresh
-  fresh_did number Attaches world h fresh = laws.words setting world (line.AttachClient number) h.ordered fresh
-  fresh_did number Renews world h fresh = laws.words setting world (line.Renew number) h.ordered fresh
+  fresh_did number Attaches world h fresh = grows.words setting world (line.AttachClient number) h.ordered fresh
+  fresh_did number Renews world h fresh = grows.words setting world (line.Renew number) h.ordered fresh
   fresh_did number (Flushes now) world h fresh =
-      let timed = laws.served setting world (line.ClockClient number now) h in
-      fresh_timed number now world h (laws.words setting (at_client_moment setting number now world) (line.Flush number) timed.ordered fresh)
+      let timed = grows.served setting world (line.ClockClient number now) h in
+      fresh_timed number now world h (grows.words setting (at_client_moment setting number now world) (line.Flush number) timed.ordered fresh)
   fresh_did number (Hears now packet) world h fresh =
-      let timed = laws.served setting world (line.ClockClient number now) h in
-      fresh_timed number now world h (laws.words setting (at_client_moment setting number now world) (line.ForeignClient number packet) timed.ordered fresh)
+      let timed = grows.served setting world (line.ClockClient number now) h in
+      fresh_timed number now world h (grows.words setting (at_client_moment setting number now world) (line.ForeignClient number packet) timed.ordered fresh)
 
   fresh_does : (number : ℕ) (deed : Deed) (found : Option S) (joint : Joint S V) → Ordered joint.world → Fresh (does setting number deed found joint).world → Fresh joint.world
   fresh_does number deed None joint h fresh = fresh
@@ -129,7 +129,7 @@ module _ {S V : Type 0} (lock : Lock) (ring : List RingKey) (laws : Laws S V loc
 
   -- ---- all is kept
 
-  module _ (so : IsSealed lock ring setting) (sound : IsSound ring setting) where
+  module _ (lock : Lock) (ring : List RingKey) (laws : Laws S V lock ring) (so : IsSealed lock ring setting) (sound : IsSound ring setting) where
     abbrev Kept : World S V → Type 0
     Kept world = Keeps lock ring setting world
 
@@ -178,14 +178,14 @@ module _ {S V : Type 0} (lock : Lock) (ring : List RingKey) (laws : Laws S V loc
     kept_did number Renews world bytes chance fresh k = event_kept lock ring laws setting so sound world (line.Renew number) tt tt fresh k
     kept_did number (Flushes now) world bytes chance fresh k =
         let here = at_client_moment setting number now world in
-        let timed = laws.served setting world (line.ClockClient number now) k.served in
+        let timed = grows.served setting world (line.ClockClient number now) k.served in
         event_kept lock ring laws setting so sound here (line.Flush number) tt tt fresh
-        (timed_kept number now world (laws.words setting here (line.Flush number) timed.ordered fresh) k)
+        (timed_kept number now world (grows.words setting here (line.Flush number) timed.ordered fresh) k)
     kept_did number (Hears now packet) world bytes chance fresh k =
         let here = at_client_moment setting number now world in
-        let timed = laws.served setting world (line.ClockClient number now) k.served in
+        let timed = grows.served setting world (line.ClockClient number now) k.served in
         event_kept lock ring laws setting so sound here (line.ForeignClient number packet) tt chance fresh
-        (timed_kept number now world (laws.words setting here (line.ForeignClient number packet) timed.ordered fresh) k)
+        (timed_kept number now world (grows.words setting here (line.ForeignClient number packet) timed.ordered fresh) k)
 
     kept_does : (number : ℕ) (deed : Deed) (found : Option S) (joint : Joint S V) → IfSome found (λ draw. IsOfBytes deed) → IsByNoChanceDown setting joint.world number deed
         → Fresh (does setting number deed found joint).world → Kept joint.world → Kept (does setting number deed found joint).world
@@ -209,18 +209,3 @@ module _ {S V : Type 0} (lock : Lock) (ring : List RingKey) (laws : Laws S V loc
         drawn_kept lock ring laws setting there joint.world.draw
         (kept_begun keys.key keys.bound_to here of.key of.perm (fresh_again there joint.world.draw there.clock fresh) (drawn_kept lock ring laws setting joint.world draw k))
     kept_on (Does number deed) joint of chance fresh k = kept_does number deed (counted number joint.draws) joint of chance fresh k
-
-    -- ---- all steps
-
-    fresh_from : (joint : Joint S V) (steps : List (Step S)) → Ordered joint.world → Fresh (joint_from setting joint steps).world → Fresh joint.world
-    fresh_from joint [] h fresh = fresh
-    fresh_from joint (step ∷ steps) h fresh =
-        fresh_on step joint h (fresh_from (steps_on setting joint step) steps (served_on step joint h) fresh)
-
-    pub kept_from : (joint : Joint S V) (steps : List (Step S)) → AreOf ring setting joint steps → NoChance setting joint steps → Fresh (joint_from setting joint steps).world
-        → Kept joint.world → Kept (joint_from setting joint steps).world
-    kept_from joint [] of chance fresh k = k
-    kept_from joint (step ∷ steps) of chance fresh k =
-        let later = steps_on setting joint step in
-        kept_from later steps of.1 chance.1 fresh
-        (kept_on step joint of.0 chance.0 (fresh_from later steps (served_on step joint k.served) fresh) k)

@@ -23,25 +23,29 @@ use Rattle.law_order.specs.Keeping.{KeepsOrder, WaitingInOrder}
 use Rattle.law_connections.specs.Joint.{at_moment, attaches, drawing, started}
 use Rattle.law_connections.specs.Keeping.{Keeps}
 
--- what is known of each event of a world, and of the attach of a session of any name
+-- what is known of each event of a world, and of the attach of a session of any name: what ran in each start, and words that differ
+pub record Growing (S V : Type 0) : Type 0 where
+  pub words : (setting : Setting S V) (world : World S V) (event : Event) → AreOrdered world.server.sessions world.server.jobs
+      → Fresh (after setting world event) → Fresh world
+  pub words_attached : (setting : Setting S V) (world : World S V) (name : Name) → AreOrdered world.server.sessions world.server.jobs
+      → Fresh (attaches setting name world) → Fresh world
+  pub served : (setting : Setting S V) (world : World S V) (event : Event) → IsServed setting world → IsServed setting (after setting world event)
+  pub served_attached : (setting : Setting S V) (world : World S V) (name : Name) → IsServed setting world → IsServed setting (attaches setting name world)
+
+-- and what is kept
 pub record Laws (S V : Type 0) (lock : Lock) (ring : List RingKey) : Type 0 where
+  pub growing : Growing S V
   pub seals : OpensWhatItSealed lock
   pub sizes : KeepsSizes lock
   pub steady : (setting : Setting S V) (world : World S V) (event : Event) → IsSealed lock ring setting → IsSound ring setting → IsOfBytes event
       → IsSteady lock ring setting world → IsSteady lock ring setting (after setting world event)
   pub steady_attached : (setting : Setting S V) (world : World S V) (name : Name) → IsSealed lock ring setting → IsSound ring setting
       → IsSteady lock ring setting world → IsSteady lock ring setting (attaches setting name world)
-  pub words : (setting : Setting S V) (world : World S V) (event : Event) → AreOrdered world.server.sessions world.server.jobs
-      → Fresh (after setting world event) → Fresh world
-  pub words_attached : (setting : Setting S V) (world : World S V) (name : Name) → AreOrdered world.server.sessions world.server.jobs
-      → Fresh (attaches setting name world) → Fresh world
   pub moves : (setting : Setting S V) (w : Moved) (world : World S V) (event : Event) → IsSealed lock ring setting → Fits setting → WorldStands w world
       → AreLawfulPackets lock ring setting world → IsByNoChance setting world event → Fresh (after setting world event)
       → AreLawfulPackets lock ring setting (after setting world event) → MovesOn w (after setting world event)
   pub moves_attached : (setting : Setting S V) (w : Moved) (world : World S V) (name : Name) → Fits setting → WorldStands w world
       → Fresh (attaches setting name world) → AreLawfulPackets lock ring setting (attaches setting name world) → MovesOn w (attaches setting name world)
-  pub served : (setting : Setting S V) (world : World S V) (event : Event) → IsServed setting world → IsServed setting (after setting world event)
-  pub served_attached : (setting : Setting S V) (world : World S V) (name : Name) → IsServed setting world → IsServed setting (attaches setting name world)
   pub order : (setting : Setting S V) (world : World S V) (event : Event) → IsSealed lock ring setting → HasMoves world
       → AreLawfulPackets lock ring setting world → IsByNoChance setting world event → KeepsOrder world → KeepsOrder (after setting world event)
   pub order_attached : (setting : Setting S V) (world : World S V) (name : Name) → HasMoves world → KeepsOrder world → KeepsOrder (attaches setting name world)
@@ -70,7 +74,7 @@ module _ {S V : Type 0} (lock : Lock) (ring : List RingKey) (laws : Laws S V loc
         let steady = laws.steady setting world event so sound bytes k.steady in
         let on = laws.moves setting k.moves.0 world event so fits k.moves.1 k.steady.bag chance fresh steady.bag in
         let moves : HasMoves behind = (_, on.2) in
-        let served = laws.served setting world event k.served in
+        let served = laws.growing.served setting world event k.served in
         let order = laws.order setting world event so k.moves k.steady.bag chance k.order in
         let once = laws.once setting k.moves.0 world k.moves.1 k.served.past in
         let once_on = laws.once setting moves.0 behind moves.1 served.past in
@@ -89,7 +93,7 @@ module _ {S V : Type 0} (lock : Lock) (ring : List RingKey) (laws : Laws S V loc
         let steady = laws.steady_attached setting world name so sound k.steady in
         let on = laws.moves_attached setting k.moves.0 world name fits k.moves.1 fresh steady.bag in
         let moves : HasMoves behind = (_, on.2) in
-        let served = laws.served_attached setting world name k.served in
+        let served = laws.growing.served_attached setting world name k.served in
         let order = laws.order_attached setting world name k.moves k.order in
         let once = laws.once setting k.moves.0 world k.moves.1 k.served.past in
         let once_on = laws.once setting moves.0 behind moves.1 served.past in

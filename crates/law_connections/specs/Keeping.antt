@@ -1,4 +1,4 @@
--- What each step of a joint run keeps of its world: scaffolding of proofs, and no promise.
+-- What each step of a joint run keeps of its world, for the laws that go on from it: no promise of a program.
 use Rattle.std.specs.Prelude.{List}
 use Rattle.auth_keys.specs.declared.ring.RingKey.{RingKey}
 use Rattle.envelope.specs.Packet.{Lock}

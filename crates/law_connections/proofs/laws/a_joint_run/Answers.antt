@@ -16,7 +16,8 @@ use Rattle.world_rules.specs.Premises.{Fresh, names_drawn}
 use Rattle.law_connections.specs.Joint.{joint_of, nobody_yet}
 use Rattle.law_connections.specs.Premises.{AreOf, NoChance}
 use Rattle.law_connections.specs.Witness.{lossy, lossy_turns, ring, setting}
-use Rattle.law_connections.proofs.Shown.{are_new, new-words, no-chance, turns_made}
+use Rattle.law_connections.specs.Computed.{are_new}
+use Rattle.law_connections.proofs.Shown.{new-words, no-chance, turns_made}
 use Rattle.law_connections.proofs.Toy.{is-sealed, is-sound, is_turn_of, turns-of}
 use Rattle.law_connections.proofs.laws.a_joint_run.Goals as goal
 

@@ -3,55 +3,35 @@ use Rattle.auth_keys.specs.declared.ring.RingKey.{RingKey}
 use Rattle.envelope.specs.Lawful.{OpensWhatItSealed}
 use Rattle.envelope.specs.Packet.{Lock}
 use Rattle.world_rules.specs.Setting.{Setting}
-use Rattle.world_rules.specs.World.{begins}
-use Rattle.law_moves.specs.World.{start}
+use Rattle.world_rules.specs.Premises.{Fresh, IsSealed, IsSound}
 use Rattle.law_packet_parts.specs.Sizes.{KeepsSizes}
-use Rattle.law_connections.specs.Joint.{nobody_yet}
+use Rattle.law_connections.specs.Joint.{Step, joint_of, nobody_yet}
 use Rattle.law_connections.specs.Keeping.{Keeps}
-use Rattle.law_connections.proofs.Worlds.{Laws}
-use Rattle.law_connections.proofs.Steps.{kept_from}
+use Rattle.law_connections.specs.Premises.{AreOf, NoChance}
+use Rattle.law_connections.proofs.Runs.{OfSteps, kept_from}
 use Rattle.law_connections.proofs.laws.connections_execute_once.Goals as goal
 
-module _ (g : Rattle.law_connections.proofs.laws.connections_execute_once.Given.Over) (c : goal.After-calls_run_in_order g) where
-  known : (lock : Lock) (ring : List RingKey) → OpensWhatItSealed lock → KeepsSizes lock → Laws g.row.D.Denot g.row.V.Denot lock ring
-  known lock ring seals sizes = record {
-    seals = seals;
-    sizes = sizes;
-    steady = λ setting world event so sound bytes s. c.packets_of_worlds_are_lawful.ensures.event lock ring setting world event sizes so sound bytes s;
-    steady_attached = λ setting world name so sound s. c.packets_of_worlds_are_lawful.ensures.attach lock ring setting world name sizes so sound s;
-    words = c.worlds_only_grow.ensures.words;
-    words_attached = c.worlds_only_grow.ensures.words_attached;
-    moves = λ setting w world event so fits h sealed chance fresh behind.
-        c.worlds_are_moves.ensures.event lock ring setting w world event seals so fits h sealed chance fresh behind;
-    moves_attached = λ setting w world name fits h fresh behind. c.worlds_are_moves.ensures.attach lock ring setting w world name seals fits h fresh behind;
-    served = c.starts_are_served.ensures.event;
-    served_attached = c.starts_are_served.ensures.attach;
-    order = λ setting world event so moves sealed chance kept. c.worlds_keep_order.ensures.event lock ring setting world event seals so moves sealed chance kept;
-    order_attached = c.worlds_keep_order.ensures.attach;
-    in_order = c.calls_run_in_order.ensures.event;
-    in_order_attached = c.calls_run_in_order.ensures.attach;
-    once = c.calls_execute_once.ensures.standing;
-    waiting = c.calls_that_wait_run_in_order.ensures.standing;
-  }
-
-  begun : (lock : Lock) (ring : List RingKey) (setting : Setting g.row.D.Denot g.row.V.Denot) (draw : g.row.D.Denot) → Keeps lock ring setting (begins setting draw)
-  begun lock ring setting draw = record {
-    moves = (start, c.worlds_are_moves.ensures.begins setting draw);
-    steady = c.packets_of_worlds_are_lawful.ensures.begins lock ring setting draw;
-    order = c.worlds_keep_order.ensures.begins setting draw;
-    served = c.starts_are_served.ensures.begins setting draw;
-    in_order = c.calls_run_in_order.ensures.begins setting draw;
-  }
+module _ (g : Rattle.law_connections.proofs.laws.connections_execute_once.Given.Over) (c : goal.After-worlds_keep_what_holds g) where
+  kept : (lock : Lock) (ring : List RingKey) (setting : Setting g.row.D.Denot g.row.V.Denot) (draw : g.row.D.Denot) (steps : List (Step g.row.D.Denot))
+      → OpensWhatItSealed lock → KeepsSizes lock → IsSealed lock ring setting → IsSound ring setting → AreOf ring setting (nobody_yet setting draw) steps
+      → NoChance setting (nobody_yet setting draw) steps → Fresh (joint_of setting draw steps).world → Keeps lock ring setting (joint_of setting draw steps).world
+  kept lock ring setting draw steps seals sizes so sound of chance fresh =
+      let known : OfSteps lock ring setting = record {
+        kept = λ joint step of chance fresh k. c.worlds_keep_what_holds.ensures.step lock ring setting joint step seals sizes so sound of chance fresh k;
+        served = c.worlds_keep_what_holds.ensures.served setting;
+        words = c.worlds_keep_what_holds.ensures.words setting;
+      } in
+      kept_from lock ring setting known (nobody_yet setting draw) steps of chance fresh (c.worlds_keep_what_holds.ensures.begins lock ring setting draw)
 
 pub returns-clause-moves : goal.returns-clause-moves
 returns-clause-moves g c = λ lock ring setting draw steps seals sizes so sound of chance fresh.
-    (kept_from lock ring (known g c lock ring seals sizes) setting so sound (nobody_yet setting draw) steps of chance fresh (begun g c lock ring setting draw)).moves
+    (kept g c lock ring setting draw steps seals sizes so sound of chance fresh).moves
 
 pub returns-clause-once : goal.returns-clause-once
 returns-clause-once g c = λ lock ring setting draw steps seals sizes so sound of chance fresh.
-    let k = kept_from lock ring (known g c lock ring seals sizes) setting so sound (nobody_yet setting draw) steps of chance fresh (begun g c lock ring setting draw) in
+    let k = kept g c lock ring setting draw steps seals sizes so sound of chance fresh in
     c.calls_execute_once.ensures.standing setting k.moves.0 _ k.moves.1 k.served.past
 
 pub returns-clause-in_order : goal.returns-clause-in_order
 returns-clause-in_order g c = λ lock ring setting draw steps seals sizes so sound of chance fresh.
-    (kept_from lock ring (known g c lock ring seals sizes) setting so sound (nobody_yet setting draw) steps of chance fresh (begun g c lock ring setting draw)).in_order
+    (kept g c lock ring setting draw steps seals sizes so sound of chance fresh).in_order

@@ -1,0 +1,4 @@
+pub mod Records
+pub mod Crashes
+pub mod Premises
+pub mod Witness
