@@ -351,6 +351,18 @@ pub record Occurs {K S D : Type 0} {bases : Bases S D} {told : K → Option Disk
   pub between : IsBetweenEvents answer.server
   pub at : answer.server.now ≡ max server.now moment
 
+module _ {K S D : Type 0} {bases : Bases S D} {told : K → Option DiskTold} {entries : List Record} {old : Seen K S D} {server : Server} {moment : ℕ} {stage : Stage bases told entries old server moment}
+    {event : Event (List ℕ)} {answer : Answer D} (occurs : Occurs stage event answer) where
+  -- its record was to be added, and the disk failed
+  pub failed_by : {A : Type 0} {P : A → List Record → Type 0} (new : Seen K S D) (r : Result A DeskFault) → r ≡ Err faults.Disk
+      → LeftIn told entries (entry_at (basis stage).place_of old moment event) (its stage).file new.book → Journals bases told entries (entry_at (basis stage).place_of old moment event ∷ []) [] server old new r P
+  failed_by {A} {P} new r is left = failed_journals stage event (reached_by (basis stage) answer) occurs.leads new r is left
+
+  -- its record was added
+  pub added_by : {A : Type 0} {P : A → List Record → Type 0} (new : Seen K S D) (value : A) → LeftIn told entries (entry_at (basis stage).place_of old moment event) (its stage).file new.book
+      → P value (entry_at (basis stage).place_of old moment event ∷ []) → Journals bases told entries (entry_at (basis stage).place_of old moment event ∷ []) [] server old new (Ok value) P
+  added_by {A} {P} new value left answers = added_journals stage event (reached_by (basis stage) answer) occurs.leads new value left answers
+
 -- its record is added, and the desk stands for what it gives
 pub does_recorded : {K S D : Type 0} {bases : Bases S D} {told : K → Option DiskTold} {entries : List Record} {old : Seen K S D} {server : Server} {moment : ℕ} (stage : Stage bases told entries old server moment) (event : Event (List ℕ)) (answer : Answer D) → Occurs stage event answer
     → (lock : Lock) (keys : List RingKey) (new : Seen K S D) (effects : Effects) (added : File K) → Gives lock keys new.server new.draw effects answer

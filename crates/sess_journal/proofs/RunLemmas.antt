@@ -37,6 +37,11 @@ pub reply_is : {V : Type 0} (serve : Step V) (service : V) (found : Option Job) 
 reply_is serve service None request is = let e : Some request ≡ None = is in absurd (cc)
 reply_is serve service (Some job) request is = ap (λ (r : List ℕ). (serve service r).0) (some_is request job.request is)
 
+-- the record of a reply
+pub same_ran : (one other at there : ℕ) (reply due : List ℕ) → one ≡ other → at ≡ there → reply ≡ due
+    → (let a : Record = record { moment = one; place = at; event = Ran reply } in a) ≡ (let b : Record = record { moment = other; place = there; event = Ran due } in b)
+same_ran one other at there reply due moment place is = λ i. record { moment = moment i; place = place i; event = Ran (is i) }
+
 -- ---- the begin
 
 module _ {K S D : Type 0} {bases : Bases S D} {told : K → Option DiskTold} {entries : List Record} {old : Seen K S D} {server : Server} {moment : ℕ} (stage : Stage bases told entries old server moment)

@@ -10,8 +10,8 @@ use Rattle.server_rules.specs.Server.{Name}
 use Rattle.server_session.specs.Says.{Keys, setting_of}
 use Rattle.sess_journal.specs.Keeping.{GivesNothing, KeepsFor, Seen, entry_at}
 use Rattle.sess_journal.specs.Staging.{Stage}
-use Rattle.sess_replay.specs.Replay.{Bases, Reached, bases_of, reached_by}
-use Rattle.sess_journal.proofs.DeskLemmas.{LeaveRoom, MayJournals, Occurs, added_in, added_journals, basis, does_quiet, does_recorded, draw_back, err_is, failed_journals, gives_now, iff_no, its, keeps_room, left_in, none_journals, none_sent, quiet_journals, same_record}
+use Rattle.sess_replay.specs.Replay.{Bases, bases_of}
+use Rattle.sess_journal.proofs.DeskLemmas.{LeaveRoom, MayJournals, Occurs, added_by, added_in, basis, does_quiet, does_recorded, draw_back, err_is, failed_by, gives_now, iff_no, its, keeps_room, left_in, none_journals, none_sent, quiet_journals, same_record}
 use Rattle.sess_journal.proofs.EventLemmas.{attach_occurs}
 use Rattle.sess_journal.proofs.kept.Kept.attach.Goals as goal
 
@@ -81,11 +81,10 @@ returns-in_err-add-clause-journal g c = λ entries server keeps.
     let due_is : entry ≡ due =
     same_record c.seconds.result (max inside.latest c.args.now) c.place-place.result (g.D.Seeded.place_of inside.draw) event (c.seconds.ensures.value ∙ c.later-moment.ensures) c.place-place.ensures in
     let own : Keys = keys_of (basis stage).keys in
-    let after : Reached = reached_by (basis stage) (answer inside.draw own) in
     let disk : c.from_residual-in_err-add.result ≡ Err faults.Disk =
     err_is c.from_residual-in_err-add.result c.in_err-add.field-0.0 _ c.from_residual-in_err-add.ensures (λ e h. cc) ∙ ap Err c.in_err-add.ensures.disk in
     subst (λ (d : Seen g.row.K.Denot g.row.S.Denot g.row.D.Denot). MayJournals bases g.K.Disk.told g.D.Seeded.place_of g.S.Seal.lock g.S.Seal.keys answer entries server c.args.now (Attach c.args.key c.args.session) new (c.from_residual-in_err-add.result) d) c.self.view_is
-    (failed_journals stage event after (occurs own).leads new c.from_residual-in_err-add.result disk
+    (failed_by (occurs own) new c.from_residual-in_err-add.result disk
     (left_in g.K.Disk.told entries entry due (its stage).file inside.book.journal c.add.new.self (its stage).opened due_is (its stage).holds c.in_err-add.ensures.any_moment))
 
 pub returns-clause-journal : goal.returns-clause-journal
@@ -107,11 +106,10 @@ returns-clause-journal g c = λ entries server keeps.
     let due_is : entry ≡ due =
     same_record c.seconds.result (max inside.latest c.args.now) c.place-place.result (g.D.Seeded.place_of inside.draw) event (c.seconds.ensures.value ∙ c.later-moment.ensures) c.place-place.ensures in
     let own : Keys = keys_of (basis stage).keys in
-    let after : Reached = reached_by (basis stage) (answer inside.draw own) in
     let added = added_in g.K.Disk.told entry due (its stage).file inside.book.journal c.add.new.self.journal (its stage).opened due_is c.in_ok-add.ensures.added in
     let some : GivesNothing c.in-Ok.effects → ⊥ = λ nothing. iff_no c.gives_something.result (GivesNothing c.in-Ok.effects) c.gives_something.ensures.1 c.if-not-gives_something.false nothing in
     subst (λ (d : Seen g.row.K.Denot g.row.S.Denot g.row.D.Denot). MayJournals bases g.K.Disk.told g.D.Seeded.place_of g.S.Seal.lock g.S.Seal.keys answer entries server c.args.now (Attach c.args.key c.args.session) new (Ok c.in-Ok.effects) d) c.self.view_is
-    (added_journals stage event after (occurs own).leads new c.in-Ok.effects
+    (added_by (occurs own) new c.in-Ok.effects
     (left_in g.K.Disk.told entries entry due (its stage).file inside.book.journal c.add.new.self (its stage).opened due_is (its stage).holds c.in_ok-add.ensures.any_moment) (
       record { none = λ nothing. absurd (some nothing); one = λ _. refl },
       λ ring.
