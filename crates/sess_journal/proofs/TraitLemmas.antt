@@ -1,6 +1,6 @@
 -- What a desk's clauses say, by what its calls come to in the journal.
-use Rattle.std.proofs.Common.{◌≡◌, ℕ, Option, Some, None, Result, Ok, Err, IfErr, IfOk, OnOk, List, ◌++◌}
-use Rattle.std.specs.Prelude.{IfSome, IsSome, IsSomeAnd, is_none, is_some}
+use Rattle.std.proofs.Common.{◌≡◌, ℕ, Option, Some, None, Result, Ok, Err, IfErr, IfOk, OnOk, List, ◌++◌, refl}
+use Rattle.std.specs.Prelude.{IfSome, IsSomeAnd, is_none, is_some, true}
 use Rattle.std.proofs.lemmas.Bool.{false≢true}
 use Rattle.auth_keys.specs.declared.ring.RingKey.{RingKey}
 use Rattle.disks.specs.Told.{DiskTold}
@@ -40,20 +40,20 @@ err_map (Err fault) f h = f fault h
 
 -- a journal or the disk of one is there
 
-pub disk_there : {K : Type 0} (journal : Option (File K)) (lost : Option K) → is_some lost ≡ is_none journal → IsSome (disk_by journal lost)
-disk_there (Some file) lost is = tt
-disk_there None (Some disk) is = tt
+pub disk_there : {K : Type 0} (journal : Option (File K)) (lost : Option K) → is_some lost ≡ is_none journal → is_some (disk_by journal lost) ≡ true
+disk_there (Some file) lost is = refl
+disk_there None (Some disk) is = refl
 disk_there None None is = absurd (false≢true is)
 
 -- what its disks count is what it counts
 
-of_disks : {K : Type 0} (count : K → ℕ) (P : ℕ → ℕ → Type 0) (before after : Option K) → IsSome before
+of_disks : {K : Type 0} (count : K → ℕ) (P : ℕ → ℕ → Type 0) (before after : Option K) → is_some before ≡ true
     → IfSome before (λ one. IsSomeAnd after (λ other. P (count one) (count other))) → P (count_of count before) (count_of count after)
 of_disks count P (Some one) (Some other) there h = h
 of_disks count P (Some one) None there h = absurd h
-of_disks count P None after there h = absurd there
+of_disks count P None after there h = absurd (false≢true there)
 
-pub counts_so : {K A : Type 0} (count : K → ℕ) (r : Result A DeskFault) (before after : Book K) → IsSome (disk_in before) → HasCounted count r before after
+pub counts_so : {K A : Type 0} (count : K → ℕ) (r : Result A DeskFault) (before after : Book K) → is_some (disk_in before) ≡ true → HasCounted count r before after
     → Counts r (count_of count (disk_in before)) (count_of count (disk_in after))
 counts_so count (Ok value) before after there h = of_disks count (λ one other. other ≡ one) (disk_in before) (disk_in after) there h
 counts_so count (Err faults.Disk) before after there h = of_disks count Rose (disk_in before) (disk_in after) there h.1

@@ -1,6 +1,6 @@
 //! The journal of a desk, until a call of its disk fails.
 
-ghost use Rattle.std.specs.Prelude.{◌≡◌, ◌≤◌, ◌<◌, ◌+◌, true, None, Some, List, IfOk, IfErr, IfSome, IsSome, IsSomeAnd, OnOk, MatchOption, is_some};
+ghost use Rattle.std.specs.Prelude.{◌≡◌, ◌≤◌, ◌<◌, ◌+◌, true, None, Some, List, IfOk, IfErr, IfSome, IsSomeAnd, OnOk, MatchOption, is_some};
 ghost use Rattle.server_core.specs.declared.desk.DeskFault.TheVariants as faults;
 ghost use Rattle.sess_records.specs.declared.records.Record.{Record};
 ghost use Rattle.sess_records.specs.Calls.{event_in};
@@ -48,7 +48,7 @@ impl<K: Disk + Drop> Book<K> {
     /// Its disk is there, whether the journal is open or closed. Does nothing.
     #[tactic(auto, using(crate::proofs::TraitLemmas::disk_there))]
     pub(crate) fn has_disk(&self)
-        ensures { IsSome (disk_in self.now) }
+        ensures { is_some (disk_in self.now) ≡ true }
     {
         let _ = self.lost.is_some();
     }

@@ -1,6 +1,6 @@
 //! A server that keeps a journal.
 
-ghost use Rattle.std.specs.Prelude.{◌≡◌, ◌≤◌, ◌<◌, ◌^◌, ℕ, List, [], ◌++◌, None, Some, IfOk, IfErr, IfSome, IsSome, IsSomeAnd, OnOk};
+ghost use Rattle.std.specs.Prelude.{◌≡◌, ◌≤◌, ◌<◌, ◌^◌, ℕ, List, [], ◌++◌, None, Some, IfOk, IfErr, IfSome, IsSomeAnd, OnOk, is_some, true};
 ghost use Rattle.disks.specs.Told.{DiskTold};
 ghost use Rattle.mt_edge.specs.Faults.{Rose};
 ghost use Rattle.sess_records.specs.declared.records.Record.{Record};
@@ -63,7 +63,7 @@ impl<K: Disk + Drop, S: Seal + Drop, D: Seeded + Drop> fmt::Debug for Kept<K, S,
 impl<K: Disk + Drop, S: Seal + Drop, D: Seeded + Drop> Kept<K, S, D> {
     /// It has its disk, whether its journal is open or closed. Does nothing.
     pub(crate) fn has_disk(&self)
-        ensures { IsSome (disk_in self.now.book) }
+        ensures { is_some (disk_in self.now.book) ≡ true }
     {
         self.book.has_disk();
     }
