@@ -1,5 +1,5 @@
 -- What contracts see of a server that keeps a journal, and what it stands for.
-use Rattle.std.specs.Prelude.{◌≡◌, ℕ, ◌≤◌, ◌<◌, ◌+◌, ◌^◌, ◌↔◌, max, length, is_some, Option, Some, None, Result, Err, List, [], ◌∷◌, ◌++◌, ◌⊎◌, IfErr, IfOk, IfSome, IsSomeAnd}
+use Rattle.std.specs.Prelude.{◌≡◌, ℕ, ◌≤◌, ◌<◌, ◌+◌, ◌^◌, ◌↔◌, max, length, is_some, Option, Some, None, Result, Err, List, [], ◌∷◌, ◌++◌, ◌⊎◌, IfErr, IfOk, IfSome, IsSomeAnd, ⊤}
 use Rattle.disks.specs.Told.{DiskTold, MayHaveLeft}
 use Rattle.mt_edge.specs.Faults.{Rose}
 use Rattle.sess_records.specs.declared.records.Event.{Event}
@@ -127,6 +127,13 @@ IsFull book bytes len = IsSomeAnd book.journal (λ file. (len ≡ file.len) × (
 pub record Refuses {K A : Type 0} (bytes : ℕ) (book : Book K) (result : Result A DeskFault) : Type 0 where
   pub closed : IsClosed book ↔ (result ≡ Err faults.Closed)
   pub full : (len : ℕ) → (IsFull book bytes len ↔ (result ≡ Err (faults.Full len)))
+
+-- it was closed, or had no room: a fault that comes before anything is done
+abbrev pub ComesFirst : DeskFault → Type 0
+ComesFirst faults.Closed = ⊤
+ComesFirst (faults.Full len) = ⊤
+ComesFirst faults.Memory = ⊥
+ComesFirst faults.Disk = ⊥
 
 -- behind a begin no call is refused but for memory or by the disk
 abbrev pub IsAfterBegin : DeskFault → Type 0

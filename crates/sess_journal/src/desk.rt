@@ -1,6 +1,6 @@
 //! The events of a server that keeps a journal: each is stepped, recorded, and then answered.
 
-ghost use Rattle.std.specs.Prelude.{◌≡◌, ◌≤◌, ◌+◌, ◌++◌, ◌∷◌, ◌↔◌, [], ℕ, List, false, length, max};
+ghost use Rattle.std.specs.Prelude.{◌≡◌, ◌≤◌, ◌+◌, ◌++◌, ◌∷◌, ◌↔◌, [], ℕ, List, false, length, max, IfErr};
 ghost use Rattle.envelope.specs.declared.parts.Dir.TheVariants.{Up};
 ghost use Rattle.envelope.specs.declared.parts.Envelope.{Envelope as Sealed};
 ghost use Rattle.envelope.specs.Opening.{Opens};
@@ -12,7 +12,7 @@ ghost use Rattle.server_rules.specs.Server.{Server as Rules};
 ghost use Rattle.server_session.specs.Says.{Keys, setting_of};
 ghost use Rattle.server_core.specs.Desks.{Does, DoesNothing};
 ghost use Rattle.server_core.specs.Packets.{IsHeardOf, brought_in, effects_in};
-ghost use Rattle.sess_journal.specs.Keeping.{ByHeard, GivesNothing, HasCounted, IsRecorded, IsSameDisk, Journals, KeepsFor, OfDisks, Refuses, entry_at};
+ghost use Rattle.sess_journal.specs.Keeping.{ByHeard, ComesFirst, GivesNothing, HasCounted, IsRecorded, IsSameDisk, Journals, KeepsFor, OfDisks, Refuses, entry_at};
 ghost use Rattle.sess_replay.specs.Replay.{bases_of};
 
 use crate::kept::Kept;
@@ -48,6 +48,7 @@ impl<K: Disk + Drop, S: Seal + Drop, D: Seeded + Drop> Kept<K, S, D> {
     /// `Closed`, `Full`, `Memory` or `Disk`, in this order. After `Memory` the server is as it was.
     pub fn tick(&mut self, alloc: Global, now: Moment) -> Result<Effects, DeskFault>
         ensures refuses { Refuses 22 self.old.book result }
+        ensures nothing_done { IfErr result (λ fault. ComesFirst fault → self.new ≡ self.old) }
         ensures journal { (entries : List Record) (server : Rules) → KeepsFor (bases_of S.lock S.keys D.step D.standing_at D.place_of) K.told entries self.old server
             → Journals (bases_of S.lock S.keys D.step D.standing_at D.place_of) K.told entries (entry_at D.place_of self.old now Tick ∷ []) [] server self.old self.new result (λ effects more.
             IsRecorded (GivesNothing effects) (entry_at D.place_of self.old now Tick) more
@@ -92,6 +93,7 @@ impl<K: Disk + Drop, S: Seal + Drop, D: Seeded + Drop> Kept<K, S, D> {
         now: Moment,
     ) -> Result<Effects, DeskFault>
         ensures refuses { Refuses 38 self.old.book result }
+        ensures nothing_done { IfErr result (λ fault. ComesFirst fault → self.new ≡ self.old) }
         ensures journal { (entries : List Record) (server : Rules) → KeepsFor (bases_of S.lock S.keys D.step D.standing_at D.place_of) K.told entries self.old server
             → Journals (bases_of S.lock S.keys D.step D.standing_at D.place_of) K.told entries (entry_at D.place_of self.old now (Attach key session) ∷ []) [] server self.old self.new result (λ effects more.
             IsRecorded (GivesNothing effects) (entry_at D.place_of self.old now (Attach key session)) more
@@ -136,6 +138,7 @@ impl<K: Disk + Drop, S: Seal + Drop, D: Seeded + Drop> Kept<K, S, D> {
         packet: &[u8],
     ) -> Result<Reply, DeskFault>
         ensures refuses { Refuses (22 + length packet.now) self.old.book result }
+        ensures nothing_done { IfErr result (λ fault. ComesFirst fault → self.new ≡ self.old) }
         ensures journal { (entries : List Record) (server : Rules) → KeepsFor (bases_of S.lock S.keys D.step D.standing_at D.place_of) K.told entries self.old server
             → Journals (bases_of S.lock S.keys D.step D.standing_at D.place_of) K.told entries (entry_at D.place_of self.old now (Packet packet.now) ∷ []) [] server self.old self.new result (λ reply more.
             IsHeardOf S.lock (S.keys self.old.server.seal) (max server.now now) packet.now reply.heard

@@ -9,7 +9,7 @@ ghost use Rattle.server_rules.specs.Server.{Server as Rules};
 ghost use Rattle.server_session.specs.Says.{Keys, setting_of};
 ghost use Rattle.server_core.specs.declared.desk.DeskFault.TheVariants as faults;
 ghost use Rattle.server_core.specs.Desks.{Does};
-ghost use Rattle.sess_journal.specs.Keeping.{HasBegun, HasCounted, IsAfterBegin, IsSameDisk, Journals, KeepsFor, OfDisks, Refuses, entry_at, reply_at};
+ghost use Rattle.sess_journal.specs.Keeping.{ComesFirst, HasBegun, HasCounted, IsAfterBegin, IsSameDisk, Journals, KeepsFor, OfDisks, Refuses, entry_at, reply_at};
 ghost use Rattle.sess_replay.specs.Replay.{bases_of};
 
 use crate::kept::Kept;
@@ -54,6 +54,7 @@ impl<K: Disk + Drop, S: Seal + Drop, D: Seeded + Drop> Kept<K, S, D> {
     ) -> Result<Effects, DeskFault>
         requires ready { k < ready_count self.old.server.jobs }
         ensures refuses { Refuses 262196 self.old.book result }
+        ensures nothing_done { IfErr result (λ fault. ComesFirst fault → self.new ≡ self.old) }
         ensures journal { (entries : List Record) (server : Rules) → KeepsFor (bases_of S.lock S.keys D.step D.standing_at D.place_of) K.told entries self.old server
             → Journals (bases_of S.lock S.keys D.step D.standing_at D.place_of) K.told entries
             (entry_at D.place_of self.old now (Begin k) ∷ entry_at D.place_of self.old now (Ran (reply_at V.step service.old k server.jobs)) ∷ [])
@@ -75,6 +76,7 @@ impl<K: Disk + Drop, S: Seal + Drop, D: Seeded + Drop> Kept<K, S, D> {
     fn begins(&mut self, k: usize, now: Moment) -> Result<[u8; 32], DeskFault>
         requires ready { k < ready_count self.old.server.jobs }
         ensures refuses { Refuses 262196 self.old.book result }
+        ensures nothing_done { IfErr result (λ fault. ComesFirst fault → self.new ≡ self.old) }
         ensures journal { (entries : List Record) (server : Rules) → KeepsFor (bases_of S.lock S.keys D.step D.standing_at D.place_of) K.told entries self.old server
             → Journals (bases_of S.lock S.keys D.step D.standing_at D.place_of) K.told entries (entry_at D.place_of self.old now (Begin k) ∷ []) [] server self.old self.new result (λ seed more.
             (more ≡ entry_at D.place_of self.old now (Begin k) ∷ [])
