@@ -1,11 +1,11 @@
 -- What is read before a server is started, and why none is.
-use Rattle.std.specs.Prelude.{◌≡◌, ◌<◌, ℕ, Some, None, codes, List, length}
+use Rattle.std.specs.Prelude.{◌≡◌, ◌<◌, ℕ, Some, None, List, length}
 use Rattle.auth_keys.specs.KeyFile.{IsRingOf}
 use Rattle.auth_keys.specs.declared.ring.RingKey.{RingKey}
 use Rattle.call_script.specs.Scripts.{HasBadLine, Spells}
 use Rattle.call_script.specs.declared.script.ScriptCall.{ScriptCall}
 use Rattle.cmd_call.specs.Keys.{keys_for}
-use Rattle.cmd_call.specs.Owed.{AskedFor, FileFault, Files, Gave, IsRead}
+use Rattle.cmd_call.specs.Owed.{AskedFor, FileFault, Files, Gave, IsRead, no_key_text}
 use Rattle.cmd_call.specs.Script.{untaken}
 use Rattle.client_core.specs.Keys.{Keys}
 use Rattle.client_rules.specs.Asking.{Fault}

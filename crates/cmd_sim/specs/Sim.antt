@@ -1,5 +1,5 @@
 -- What `sim` owes to the bytes of its input.
-use Rattle.std.specs.Prelude.{◌≡◌, ◌<◌, ◌≤◌, ◌⊎◌, ℕ, Bool, Some, None, codes, List, length}
+use Rattle.std.specs.Prelude.{◌≡◌, ◌<◌, ◌≤◌, ◌⊎◌, ℕ, Bool, Some, None, List, length}
 use Rattle.sched_text.specs.declared.schedule.Placed.{Placed}
 use Rattle.sched_text.specs.Schedule.{HasBadLine, Spells}
 use Rattle.world_rules.specs.Once.{InOrder, Once}

@@ -14,7 +14,6 @@ use Rattle.commands.specs.declared.command.Command.TheVariants as command
 use Rattle.commands.specs.declared.command.PairOptions.{PairOptions}
 use Rattle.commands.specs.declared.command.RelayOptions.{RelayOptions}
 use Rattle.commands.specs.declared.command.ServeOptions.{ServeOptions}
-use Rattle.mt_edge.specs.Files.{FilesTold}
 use Rattle.mt_edge.specs.declared.net_call.NetCall.{NetCall}
 use Rattle.cmd_sim.specs.Runs.{LoadRun, SimRun}
 use Rattle.cmd_serve.specs.Runs.{Draws, Moments, ServeRun}
