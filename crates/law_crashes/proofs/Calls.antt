@@ -1,5 +1,5 @@
 -- What the calls of a server make of a world, and what the records that a crash leaves of one make of it.
-use Rattle.std.proofs.Common.{◌≡◌, ◌∙◌, ◌≤◌, ℕ, suc, min, max, Option, Some, None, List, [], ◌∷◌, ◌++◌, map, take, refl, sym, ap, subst, is_some, arith}
+use Rattle.std.proofs.Common.{◌≡◌, ◌≤◌, ℕ, suc, max, Option, Some, None, List, ◌++◌, map, take, refl, sym, subst, is_some, arith}
 use Rattle.auth_keys.specs.declared.ring.RingKey.{RingKey}
 use Rattle.envelope.specs.declared.parts.Dir.TheVariants.{Up}
 use Rattle.envelope.specs.Packet.{Lock}
@@ -16,7 +16,7 @@ use Rattle.waits.specs.Jobs.{ready_job}
 use Rattle.world_rules.specs.Ends.{course_in, said_by_work, sent_down}
 use Rattle.world_rules.specs.Setting.{Setting, at_server}
 use Rattle.world_rules.specs.World.{World, lost_in, server_now}
-use Rattle.world_rules.specs.Premises.{Fresh, IsSealed, IsSound, OpensOnly}
+use Rattle.world_rules.specs.Premises.{Fresh, IsSealed, IsSound}
 use Rattle.law_once.specs.Served.{IsServed}
 use Rattle.law_connections.specs.Joint.{at_moment}
 use Rattle.law_connections.specs.Keeping.{Keeps}

@@ -1,5 +1,5 @@
 -- A run that was cut off: the server answers its call by lawful moves, and nothing ran.
-use Rattle.std.proofs.Common.{◌≡◌, ◌∙◌, ℕ, suc, ◌<◌, Bool, true, false, List, [], ◌∷◌, ◌++◌, map, refl, sym, ap, subst}
+use Rattle.std.proofs.Common.{◌≡◌, ◌∙◌, ℕ, suc, Bool, true, false, List, [], map, refl, sym, ap, subst}
 use Rattle.std.specs.Prelude.{◌&&◌, ◌==◌}
 use Rattle.std.specs.List.{AllByRecursion}
 use Rattle.auth_keys.specs.declared.ring.RingKey.{RingKey}
@@ -8,11 +8,11 @@ use Rattle.regs_service.specs.Served.{Ran, Served, requests_of, state_after}
 use Rattle.sched_text.specs.declared.event.Event.{Event}
 use Rattle.sched_text.specs.declared.event.Event.TheVariants as line
 use Rattle.server_rules.specs.Event.{Entry}
-use Rattle.server_rules.specs.Server.{Name, name_of}
+use Rattle.server_rules.specs.Server.{name_of}
 use Rattle.sess_replay.specs.Replay.{run_interrupted}
 use Rattle.world_rules.specs.Setting.{Setting}
 use Rattle.world_rules.specs.World.{Entered, World}
-use Rattle.world_rules.specs.Once.{InOrder, ran_in}
+use Rattle.world_rules.specs.Once.{InOrder}
 use Rattle.world_rules.specs.Premises.{Fresh, IsSealed, IsSound}
 use Rattle.world_rules.specs.Run.{after}
 use Rattle.law_moves.specs.Reached.{after_all}
@@ -20,14 +20,14 @@ use Rattle.law_packets.specs.Lawful.{IsSteady}
 use Rattle.law_once.specs.Served.{IsServed}
 use Rattle.law_once.specs.Small.{Fits}
 use Rattle.law_once.specs.Standing.{HasMoves, WorldStands}
-use Rattle.law_order.specs.After.{AreInTurn, HasRun, IsAnswer, IsWaiting, Pair, is_run, is_run_well}
+use Rattle.law_order.specs.After.{AreInTurn, IsAnswer, IsWaiting, Pair}
 use Rattle.law_order.specs.Keeping.{ArePacketsFor, KeepsOrder, entries_in}
 use Rattle.law_server_moves.specs.Servers.{lives_of}
 use Rattle.law_server_moves.specs.Worlds.{past_in}
 use Rattle.law_connections.specs.Joint.{at_moment}
 use Rattle.law_crashes.specs.Records.{cut_off, entered_by, replying, unran_in}
 use Rattle.law_crashes.proofs.Lists.{all_front, in_front}
-use Rattle.law_crashes.proofs.Entries.{IsOf, entered_in, entry_in, honest_behind, map_behind, none_ran, none_ran_in, runs_are, same_runs, still_entered, well_behind}
+use Rattle.law_crashes.proofs.Entries.{IsOf, entry_in, honest_behind, map_behind, none_ran, none_ran_in, runs_are, same_runs, still_entered, well_behind}
 use Rattle.law_crashes.proofs.Interruption.{is_bad, is_bytes, is_reply}
 use Rattle.law_crashes.proofs.Worlds.{Carries, Growing, Known, Lived, fresh_at}
 
@@ -128,23 +128,25 @@ module _ {S V : Type 0} (grows : Growing S V) (setting : Setting S V) (moment pl
           let on = known.moves given k.moves.0 here event given_so given_fits stands_here k.steady.bag tt (fresh_done fresh) steady_done.bag in
           let w = after_all k.moves.0 on.0 in
           let d : WorldStands w done = on.2 in
-          let s = d.server in
-          (w, record {
-            reached = d.reached;
-            seats = d.seats;
-            server = record {
-              standing = s.standing;
-              working = s.working;
-              gone = s.gone;
-              apart = s.apart;
-              only = s.only;
-              entered = still_entered (lives_of (past_in done) done.server.sessions) world.start world.entries more w.entries s.entered;
-            };
-            ordered = d.ordered;
-            keys = d.keys;
-            bag = d.bag;
-            kept = d.kept;
-          })
+          let s = d.server in (
+            w,
+            record {
+              reached = d.reached;
+              seats = d.seats;
+              server = record {
+                standing = s.standing;
+                working = s.working;
+                gone = s.gone;
+                apart = s.apart;
+                only = s.only;
+                entered = still_entered (lives_of (past_in done) done.server.sessions) world.start world.entries more w.entries s.entered;
+              };
+              ordered = d.ordered;
+              keys = d.keys;
+              bag = d.bag;
+              kept = d.kept;
+            },
+          )
 
       order_here : KeepsOrder here
       order_here = record { clients = k.order.clients; bag = k.order.bag; served = k.order.served }
@@ -163,7 +165,7 @@ module _ {S V : Type 0} (grows : Growing S V) (setting : Setting S V) (moment pl
             answers = subst (λ (b : Bool). AllByRecursion (λ session. name_of session ≡ pair.name → AllByRecursion (IsAnswer pair (b ≡ true)) session.replies) done.server.sessions) same t.answers;
             behind = λ before behind entry is ran.
                 let front = in_front (λ (one : Entry). one.ran) (entries_in world) (map entry_in (unran_in world.start more)) before behind entry
-                    (sym (map_behind world.entries (unran_in world.start more)) ∙ is) (none_ran_in world.start more) (last _ (entry.number == pair.call) entry.ran ran) in
+                (sym (map_behind world.entries (unran_in world.start more)) ∙ is) (none_ran_in world.start more) (last _ (entry.number == pair.call) entry.ran ran) in
                 (k.order.served pair before_it).behind before front.0 entry front.1 ran;
             honest = honest_behind run_interrupted is_bad world.start world.entries more runs t.honest;
           }

@@ -1,5 +1,5 @@
 -- The answer to a run that was cut off: a reply of a service, of bytes, and not a good one.
-use Rattle.std.proofs.Common.{◌≡◌, ◌<◌, ◌≤◌, ◌%◌, ℕ, zero, suc, true, false, List, [], ◌∷◌, length, refl, arith, ltb-true, codes}
+use Rattle.std.proofs.Common.{◌≡◌, ◌<◌, ℕ, zero, suc, true, false, List, [], ◌∷◌, length, refl, arith, ltb-true}
 use Rattle.std.specs.Prelude.{nat_lt, slice_index, ◌&&◌, Bool}
 use Rattle.std.specs.List.{list_all}
 use Rattle.tl_codec.specs.Spelling.{spelling}

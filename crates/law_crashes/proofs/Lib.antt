@@ -6,3 +6,6 @@ pub mod CutOff
 pub mod Calls
 pub mod Steps
 pub mod Shown
+pub mod Traces
+pub mod TracedCalls
+pub mod TracedSteps

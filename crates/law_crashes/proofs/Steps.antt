@@ -1,5 +1,5 @@
 -- Each step of a schedule with crashes keeps what is kept of its world.
-use Rattle.std.proofs.Common.{◌≡◌, ◌≤◌, ℕ, suc, min, max, Option, Some, None, List, [], ◌∷◌, ◌++◌, fold, take, refl, sym, subst, is_some, arith}
+use Rattle.std.proofs.Common.{◌≤◌, ℕ, max, Option, Some, None, List, [], ◌∷◌, ◌++◌, fold, take, sym, subst, is_some, arith}
 use Rattle.std.specs.List.{AllByRecursion}
 use Rattle.std.proofs.lemmas.List.Sums.{fold-append}
 use Rattle.std.proofs.lemmas.Bool.{cond_both}
@@ -20,11 +20,11 @@ use Rattle.law_once.specs.Served.{IsServed}
 use Rattle.law_connections.specs.Joint.{at_moment}
 use Rattle.law_connections.specs.Joint as joint
 use Rattle.law_connections.specs.Keeping.{Keeps}
-use Rattle.law_crashes.specs.Records.{Attach, Call, Hear, Tick, Work, answered, entry_of, has_more, owed, owed_by_run, played_all}
+use Rattle.law_crashes.specs.Records.{Attach, Call, Hear, Tick, Work, answered, has_more, owed, owed_by_run, played_all}
 use Rattle.law_crashes.specs.Crashes.{Answers, Begins, Crashes, Does, Living, Spares, Step, another_life, begun_in, goes_on, living_from, moment_by, moment_in, opened_with, owed_under_way}
-use Rattle.law_crashes.specs.Premises.{AreOf, IsCallByNoChance, IsLivingStepByNoChance, IsLivingStepOf, NoChance}
+use Rattle.law_crashes.specs.Premises.{AreOf, IsLivingStepByNoChance, IsLivingStepOf, NoChance}
 use Rattle.law_crashes.proofs.Lists.{all_taken, taken_none}
-use Rattle.law_crashes.proofs.Worlds.{Carries, Growing, Known, Lived, carries_of, fresh_reborn, keeps_of, lived_of, reborn, reborn_carried}
+use Rattle.law_crashes.proofs.Worlds.{Carries, Growing, Known, carries_of, fresh_reborn, keeps_of, lived_of, reborn, reborn_carried}
 use Rattle.law_crashes.proofs.CutOff.{cut_carried, cut_fresh, cut_served}
 use Rattle.law_crashes.proofs.Calls.{Goes, answered_fresh, answered_kept, answered_served, call_carried, call_left}
 

@@ -5,7 +5,7 @@ use Rattle.envelope.specs.Packet.{Lock}
 use Rattle.msg_ids.specs.Moments.{latest_moment}
 use Rattle.regs_service.specs.Served.{Ran, Served, requests_of, state_after}
 use Rattle.sched_text.specs.declared.event.Event.{Event}
-use Rattle.server_rules.specs.Server.{Name, Server}
+use Rattle.server_rules.specs.Server.{Name}
 use Rattle.world_rules.specs.Setting.{Setting}
 use Rattle.world_rules.specs.World.{World}
 use Rattle.world_rules.specs.Once.{InOrder, ran_in}

@@ -11,7 +11,7 @@ use Rattle.world_rules.specs.Setting.{Setting}
 use Rattle.world_rules.specs.World.{World}
 use Rattle.law_connections.specs.Joint.{Deed, Joint, nobody_yet, steps_on}
 use Rattle.law_connections.specs.Joint as joint
-use Rattle.law_crashes.specs.Records.{Call, Played, Work, answered, begun_of, owed, played_all}
+use Rattle.law_crashes.specs.Records.{Call, Work, answered, begun_of, owed, played_all}
 
 -- ---- steps
 
@@ -24,7 +24,9 @@ pub data Step (S : Type 0) : Type 0 where
   -- a run for which there is no memory once its begin is recorded: nothing else is done
   Spares : (now place : ℕ) → Step S
   -- A crash, inside a call or between calls, which leaves so many of the records that the call owes; and the server is opened
-  -- again at this moment. What clients do between the crash and the opening stands in front of this step.
+  -- again at this moment. A call that came to a fault of the disk is one that was cut off: nothing is done behind it before the
+  -- next opening. A crash inside an opening leaves what that found, or what it leaves. What clients do between the crash and the
+  -- opening stands in front of this step.
   Crashes : (call : Option Call) (left now : ℕ) → Step S
 
 -- ---- what records tell

@@ -1,4 +1,5 @@
 pub mod Records
 pub mod Crashes
 pub mod Premises
+pub mod Reached
 pub mod Witness

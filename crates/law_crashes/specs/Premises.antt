@@ -1,5 +1,5 @@
 -- What is taken for granted of a schedule with crashes.
-use Rattle.std.specs.Prelude.{ℕ, Option, Some, None, List, [], ◌∷◌}
+use Rattle.std.specs.Prelude.{ℕ, Some, None, List, [], ◌∷◌}
 use Rattle.auth_keys.specs.declared.ring.RingKey.{RingKey}
 use Rattle.sched_text.specs.declared.event.Event.TheVariants as line
 use Rattle.world_rules.specs.Setting.{Setting}

@@ -1,6 +1,6 @@
 //! Laws of schedules with crashes, each the contract of a function that does nothing.
 
-ghost use Rattle.std.specs.Prelude.{◌≡◌, List, ℕ, codes};
+ghost use Rattle.std.specs.Prelude.{◌≡◌, List, Option, ℕ, codes};
 ghost use Rattle.auth_keys.specs.declared.ring.RingKey.{RingKey};
 ghost use Rattle.envelope.specs.Lawful.{OpensWhatItSealed};
 ghost use Rattle.envelope.specs.Lock.{clear_lock};
@@ -10,12 +10,15 @@ ghost use Rattle.world_rules.specs.Premises.{Fresh, IsSealed, IsSound};
 ghost use Rattle.world_rules.specs.Once.{InOrder, Once};
 ghost use Rattle.law_packet_parts.specs.Sizes.{KeepsSizes};
 ghost use Rattle.law_once.specs.Standing.{HasMoves};
-ghost use Rattle.law_crashes.specs.Crashes.{Step, created, living_of};
+ghost use Rattle.law_crashes.specs.Crashes.{Crashes, Step, created, goes_on, living_of};
+ghost use Rattle.law_crashes.specs.Reached.{IsOpened, IsReached, SeesRing, basis_of};
+ghost use Rattle.law_crashes.specs.Records.{Call};
 ghost use Rattle.law_connections.specs.Witness.{ring, setting as shown_setting};
 ghost use Rattle.law_crashes.specs.Premises.{AreOf, NoChance};
 ghost use Rattle.law_crashes.specs.Witness as shown;
 
-use draws::{Draw, StepDraw};
+use draws::{Draw, Seeded, StepDraw};
+use octets::Octets;
 use regs_service::Regs;
 
 /// Over every schedule in which crashes cut a server with a journal off, each call executes at most once, as its client sent it,
@@ -45,6 +48,29 @@ pub fn crashes_execute_once<D: Draw, V>()
     law_once::laws::starts_are_served::<D, V>();
     law_once::laws::calls_execute_once::<D, V>();
     law_order::laws::worlds_keep_order::<D, V>();
+    law_connections::laws::worlds_keep_what_holds::<D, V>();
+}
+
+/// Over every schedule with crashes, whatever comes and whatever words are drawn, the records of the journal are lawful one behind
+/// the other, and lead to the server that stands: it is that one, but for a later moment, and draws the words of the journal's
+/// seed from the place that is reached. Behind a crash, the server that was opened is the one that they lead to: the records from
+/// before the crash and the first ones of the call under way, with a run that was cut off answered.
+pub fn records_lead_to_the_server<D: Seeded, V>()
+    ensures all { (lock : Lock) (ring : List RingKey) (seed : List ℕ) (setting : Setting D V) (steps : List (Step D)) → IsSealed lock ring setting
+        → SeesRing D.step ring setting
+        → IsReached (basis_of lock ring D.step (D.standing_at seed) D.place_of) (living_of setting D.place_of (D.standing_at seed 0) steps) }
+    ensures opened { (lock : Lock) (ring : List RingKey) (seed : List ℕ) (setting : Setting D V) (steps : List (Step D)) (call : Option Call) (left now : ℕ)
+        → IsSealed lock ring setting → SeesRing D.step ring setting
+        → IsOpened (basis_of lock ring D.step (D.standing_at seed) D.place_of)
+        (goes_on setting D.place_of (living_of setting D.place_of (D.standing_at seed 0) steps) (Crashes call left now)) }
+{
+    law_once::laws::worlds_only_grow::<D, V>();
+    law_once::laws::starts_are_served::<D, V>();
+    draws::laws::seeded_draws_go_on::<D>();
+    sess_replay::laws::records_lead_to_one_server::<D>();
+    law_server_replay::laws::events_draw_words::<D, Octets>();
+    law_server_replay::laws::events_leave_room::<D, Octets>();
+    law_server_replay::laws::quiet_events_change_nothing::<D>();
     law_connections::laws::worlds_keep_what_holds::<D, V>();
 }
 

@@ -13,7 +13,6 @@ use Rattle.service_tl.specs.Schema.{schema, service_numbers}
 use Rattle.envelope.specs.Lock.{clear_lock}
 use Rattle.envelope.specs.Packet.{plain_text}
 use Rattle.envelope.specs.Reading.{envelope_in}
-use Rattle.octets.specs.Bytes.{IsBytes}
 use Rattle.world_rules.specs.Premises.{Fresh, names_drawn}
 use Rattle.world_rules.specs.Witness.{add_x}
 use Rattle.law_connections.specs.Computed.{are_new}
