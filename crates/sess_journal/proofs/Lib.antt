@@ -4,3 +4,5 @@ mod HearLemmas
 mod NextLemmas
 mod PlayLemmas
 mod ResumeLemmas
+mod RunLemmas
+mod TraitLemmas

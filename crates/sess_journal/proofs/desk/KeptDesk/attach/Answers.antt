@@ -1,0 +1,21 @@
+use Rattle.std.proofs.Common.{◌++◌, max}
+use Rattle.server_rules.specs.Answer.{after_attach}
+use Rattle.server_rules.specs.Server.{Name}
+use Rattle.server_session.specs.Says.{setting_of}
+use Rattle.sess_replay.specs.Replay.{Bases, bases_of}
+use Rattle.sess_journal.proofs.TraitLemmas.{does_so, ok_map, still_stands}
+use Rattle.sess_journal.proofs.desk.KeptDesk.attach.Goals as goal
+
+pub returns-clause-given : goal.returns-clause-given
+returns-clause-given g c = λ ring server stands.
+    let bases : Bases g.row.S.Denot g.row.D.Denot = bases_of g.S.Seal.lock g.S.Seal.keys g.D.Draw.step g.D.Seeded.standing_at g.D.Seeded.place_of in
+    let name : Name = record { key = c.args.key; session = c.args.session } in
+    let journal = c.attach.ensures.journal stands.0 server stands.1 in
+    ok_map c.attach.result
+    (λ effects h. does_so bases g.K.Disk.told c.attach.new.self (stands.0 ++ journal.more) g.S.Seal.lock (g.S.Seal.keys c.args.self.now.server.seal) c.attach.new.self.draw effects
+    (after_attach (setting_of (max server.now c.args.now) g.D.Draw.step ring) name server c.args.self.now.draw) (h.1 ring)) journal.answers
+
+pub returns-clause-unchanged_on_memory : goal.returns-clause-unchanged_on_memory
+returns-clause-unchanged_on_memory g c = λ server stands.
+    let bases : Bases g.row.S.Denot g.row.D.Denot = bases_of g.S.Seal.lock g.S.Seal.keys g.D.Draw.step g.D.Seeded.standing_at g.D.Seeded.place_of in
+    still_stands bases g.K.Disk.told c.attach.new.self stands.0 _ _ server c.args.self.now c.attach.result _ (c.attach.ensures.journal stands.0 server stands.1)
