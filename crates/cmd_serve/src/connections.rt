@@ -1,8 +1,6 @@
 //! The connections of a run, one after the other.
 
 ghost use Rattle.std.specs.Prelude.{◌≡◌, ◌≢◌, IsSome, Some};
-ghost use Rattle.server_core.specs.declared.desk.DeskFault.{DeskFault};
-ghost use Rattle.server_core.specs.declared.desk.DeskFault.TheVariants as faults;
 ghost use Rattle.server_node.specs.Trace.{IsOutside, Outside, rules_of};
 ghost use Rattle.cmd_serve.specs.Connections.{Between, CountsEnding};
 ghost use Rattle.cmd_serve.specs.Inner.{ServedAll, StandsAt};
@@ -25,7 +23,6 @@ pub(crate) fn serve_all<N: Net, K: Desk, V: Service, C: Clock>(
     left: &mut Option<u64>,
 ) -> Ending
     requires some { left.old ≢ Some 0 }
-    requires no_journal { (fault : DeskFault) → K.MayAnswer fault → fault ≡ faults.Memory }
     ensures served { (outside : Outside) (first : Between K.D V) → IsOutside K.S.lock (K.keys desk.old) outside
         → StandsAt (K.StandsFor desk.old) (K.drawn desk.old) service.old (C.given clock.old) left.old first
         → ServedAll (rules_of K.D.step V.step outside) first conns (N.calls net.old) result

@@ -6,6 +6,7 @@
 mod connection;
 mod connections;
 mod ending;
+mod keeping;
 pub mod laws;
 mod lines;
 mod running;

@@ -1,36 +1,29 @@
 //! A run of `serve`.
 
-ghost use Rattle.std.specs.Prelude.{◌≡◌, ◌≢◌, IsSome, Some};
-ghost use Rattle.cmd_serve.specs.Connections.{CountsEnding};
-ghost use Rattle.cmd_serve.specs.Inner.{RunsWith, ServesWith};
-ghost use Rattle.cmd_serve.specs.Runs.{ServeRun};
-
 use crate::connections::serve_all;
 use crate::ending::Ending;
+use crate::keeping::keeping;
 use crate::laws::rings_say_as_worked_out;
 use crate::lines::{listening_line, say, served_line};
 use auth_keys::Ring;
 use auth_keys::laws::one_reading;
 use commands::ServeOptions;
-use draws::Draw;
+use disks::{DiskOpen, Disks};
+use draws::{Draw, Seeded};
 use envelope::MtSeal;
 use key_files::{KeysFault, read_ring, refused_line};
 use mt_edge::{Act, Clock, KeyFiles, Net, Sink, WriteFault, write_all};
 use regs_service::{Regs, Service};
 use server_core::order_laws::events_keep_order;
-use server_core::{Plain, Server};
+use server_core::{Desk, Plain, Server};
+use sess_records::JournalFault;
 use statuses::Status;
 use std::alloc::Global;
 
-/// Reads a key file, listens on a port and writes `listening P`; then serves connections with the keys of that file, one after
-/// the other, with one register service, and writes `served N`, or `stopped` where as many packets were answered as the options
-/// say. Each link is given back before the next connection is taken and at the end.
-///
-/// `Done`: both lines are written. `KeysRefused`: the key file can't be read (`key file not read`), or is no ring (`key file
-/// refused at line N`). `NotListening`: a listen or an accept failed (`not listening`, behind the first line where that is
-/// written). `WriteFault`: a write failed; after one of the first line no connection is taken. `Memory`: nothing is written, or
-/// the first line.
-pub fn run_serve<O: Sink, F: KeyFiles, N: Net, C: Clock, D: Draw>(
+/// What is written where a journal can't be opened or kept.
+const JOURNAL_FAULT: &[u8] = b"journal fault\n";
+
+pub fn run_serve<O: Sink, F: KeyFiles, N: Net, C: Clock, D: Seeded + Drop, K: Disks>(
     alloc: Global,
     options: &ServeOptions,
     out: &mut O,
@@ -38,18 +31,16 @@ pub fn run_serve<O: Sink, F: KeyFiles, N: Net, C: Clock, D: Draw>(
     net: &mut N,
     clock: &mut C,
     draw: &mut D,
+    disks: &mut K,
 ) -> Status
-    requires some { options.now.stop_after ≢ Some 0 }
-    ensures run { ServeRun D.step options.now
-        (record { told = F.told; faults = F.faults; before = files.old; after = files.new })
-        (record { told = N.calls; faults = N.faults; before = net.old; after = net.new })
-        (record { told = O.written; faults = O.faults; before = out.old; after = out.new })
-        (record { before = C.given clock.old; after = C.given clock.new })
-        (record { before = draw.old; after = draw.new }) result }
+where
+    K::K: Drop,
 {
-    one_reading();
     match read_ring(alloc, options.keys.as_str(), files) {
-        Ok(ring) => listen(alloc, ring, options, out, net, clock, draw),
+        Ok(ring) => match &options.journal {
+            None => plain(alloc, ring, options, out, net, clock, draw),
+            Some(name) => kept(alloc, ring, name.as_str(), options, out, net, clock, draw, disks),
+        },
         Err(KeysFault::Unread) => say(out, Status::KeysRefused, b"key file not read\n"),
         Err(KeysFault::Refused { line }) => match refused_line(alloc, line) {
             Ok(text) => say(out, Status::KeysRefused, text.as_slice()),
@@ -59,8 +50,8 @@ pub fn run_serve<O: Sink, F: KeyFiles, N: Net, C: Clock, D: Draw>(
     }
 }
 
-/// Listens on the port and serves connections with the keys of a ring.
-fn listen<O: Sink, N: Net, C: Clock, D: Draw>(
+/// Serves without a journal.
+fn plain<O: Sink, N: Net, C: Clock, D: Draw>(
     alloc: Global,
     ring: Ring,
     options: &ServeOptions,
@@ -69,12 +60,60 @@ fn listen<O: Sink, N: Net, C: Clock, D: Draw>(
     clock: &mut C,
     draw: &mut D,
 ) -> Status
-    requires some { options.now.stop_after ≢ Some 0 }
-    ensures run { RunsWith D.step options.now ring
-        (record { told = N.calls; faults = N.faults; before = net.old; after = net.new })
-        (record { told = O.written; faults = O.faults; before = out.old; after = out.new })
-        (record { before = C.given clock.old; after = C.given clock.new })
-        (record { before = draw.old; after = draw.new }) result }
+{
+    let mut server = Server::new(alloc, MtSeal::new(ring));
+    let mut desk = Plain {
+        server: &mut server,
+        draw,
+    };
+    serve(alloc, &mut desk, options, out, net, clock)
+}
+
+/// Opens the journal, serves with it, and gives its file back.
+fn kept<O: Sink, N: Net, C: Clock, D: Seeded + Drop, K: Disks>(
+    alloc: Global,
+    ring: Ring,
+    name: &str,
+    options: &ServeOptions,
+    out: &mut O,
+    net: &mut N,
+    clock: &mut C,
+    draw: &mut D,
+    disks: &mut K,
+) -> Status
+where
+    K::K: Drop,
+{
+    let disk = match disks.open(name) {
+        DiskOpen::Disk(disk) => disk,
+        DiskOpen::Failed => return say(out, Status::JournalFault, JOURNAL_FAULT),
+    };
+    match keeping(alloc, disk, ring, clock, draw) {
+        Ok(desk) => {
+            let mut desk = desk;
+            let status = serve(alloc, &mut desk, options, out, net, clock);
+            disks.done(desk.into_disk());
+            status
+        }
+        Err((disk, fault)) => {
+            disks.done(disk);
+            match fault {
+                JournalFault::Memory => Status::Memory,
+                _ => say(out, Status::JournalFault, JOURNAL_FAULT),
+            }
+        }
+    }
+}
+
+/// Listens on the port and serves connections with a desk.
+fn serve<O: Sink, N: Net, K: Desk, C: Clock>(
+    alloc: Global,
+    desk: &mut K,
+    options: &ServeOptions,
+    out: &mut O,
+    net: &mut N,
+    clock: &mut C,
+) -> Status
 {
     let Ok(first) = listening_line(alloc, options.port) else {
         return Status::Memory;
@@ -89,46 +128,13 @@ fn listen<O: Sink, N: Net, C: Clock, D: Draw>(
     if let Err(WriteFault) = write_all(out, first.as_slice()) {
         return Status::WriteFault;
     }
-    match serve(alloc, ring, options, net, clock, draw) {
+    let mut service = Regs::fresh(alloc);
+    let mut left = options.stop_after;
+    match serve_all(alloc, options.conns, net, desk, &mut service, clock, &mut left) {
         Ending::Served => say(out, Status::Done, last.as_slice()),
         Ending::Stopped => say(out, Status::Done, b"stopped\n"),
         Ending::NotTaken => say(out, Status::NotListening, b"not listening\n"),
+        Ending::Journal => say(out, Status::JournalFault, JOURNAL_FAULT),
         Ending::Memory => Status::Memory,
     }
-}
-
-/// Serves connections with the keys of a ring: a server that has no sessions yet, and a fresh register service.
-fn serve<N: Net, C: Clock, D: Draw>(
-    alloc: Global,
-    ring: Ring,
-    options: &ServeOptions,
-    net: &mut N,
-    clock: &mut C,
-    draw: &mut D,
-) -> Ending
-    requires some { options.now.stop_after ≢ Some 0 }
-    ensures served { ServesWith D.step options.now ring (N.calls net.old) (N.calls net.new)
-        (record { before = C.given clock.old; after = C.given clock.new })
-        (record { before = draw.old; after = draw.new }) result }
-    ensures counted { CountsEnding result (N.faults net.old) (N.faults net.new) }
-    ensures first_fault { IsSome (N.calls net.old) → N.faults net.old ≡ 0 → IsSome (N.calls net.new) }
-{
-    rings_say_as_worked_out();
-    events_keep_order::<D>();
-    let mut server = Server::new(alloc, MtSeal::new(ring));
-    let mut desk = Plain {
-        server: &mut server,
-        draw,
-    };
-    let mut service = Regs::fresh(alloc);
-    let mut left = options.stop_after;
-    serve_all(
-        alloc,
-        options.conns,
-        net,
-        &mut desk,
-        &mut service,
-        clock,
-        &mut left,
-    )
 }

@@ -33,6 +33,7 @@ use cmd_sim::laws::memory_may_run_out;
 use cmd_sim::{run_load, run_sim};
 use commands::laws::one_reading;
 use commands::{Command, WordsFault, read, version};
+use disks::Disks;
 use mt_edge::{Clock, KeyFiles, Net, Seeded, Sink, Source, Spawner};
 use statuses::{Answer, Status, tell};
 use std::alloc::Global;
@@ -44,7 +45,7 @@ const WORDS_REFUSED: &str = "words refused\n";
 ///
 /// - `sim [--wire]` reads a schedule to its end and writes the report of its world, with `--wire` also a line on all packets.
 /// - `load N` plays the large schedule of so many calls and writes one line that sums it up.
-/// - `serve --keys F --port P --conns N [--stop-after K]` serves connections of the net.
+/// - `serve --keys F --port P --conns N [--stop-after K] [--journal F]` serves connections of the net.
 /// - `call --keys F --key ID --port P --form FORM [--obfuscate] [--retries R] [--perm ID]` reads a script and runs it as one
 ///   batch over connections of the net.
 /// - `pair --keys F --key ID --port P --stop-after K` reads a script, starts a server that stops behind K packets, and runs it as
@@ -61,7 +62,7 @@ const WORDS_REFUSED: &str = "words refused\n";
 /// connections were lost than may be. 8: one connection gave as many pieces as it may. 9: memory ran out. 10: a client has
 /// something to send and fewer than 2,048 numbers left. 11: no connections can be taken, or a server can't be started, read or
 /// waited for. 13: a sentence about the trace doesn't hold.
-pub fn run<S: Source, O: Sink, F: KeyFiles, N: Net, P: Spawner, C: Clock, D: Seeded>(
+pub fn run<S: Source, O: Sink, F: KeyFiles, N: Net, P: Spawner, C: Clock, D: Seeded + Drop, K: Disks>(
     alloc: Global,
     words: &[String],
     input: &mut S,
@@ -71,7 +72,10 @@ pub fn run<S: Source, O: Sink, F: KeyFiles, N: Net, P: Spawner, C: Clock, D: See
     kids: &mut P,
     clock: &mut C,
     draw: &mut D,
+    disks: &mut K,
 ) -> u8
+where
+    K::K: Drop,
     ensures sim { (wire : Bool) → Says (map string_bytes words.now) (command.Sim wire) → EndsBy result (SimRun wire
         (record { told = S.left; faults = S.faults; before = input.old; after = input.new })
         (record { told = O.written; faults = O.faults; before = out.old; after = out.new })) }
@@ -128,14 +132,14 @@ pub fn run<S: Source, O: Sink, F: KeyFiles, N: Net, P: Spawner, C: Clock, D: See
     memory_may_end_a_check::<S, O>();
     memory_may_end_a_relay::<S, O>();
     match read(alloc, words) {
-        Ok(command) => obey(alloc, &command, input, out, files, net, kids, clock, draw).number(),
+        Ok(command) => obey(alloc, &command, input, out, files, net, kids, clock, draw, disks).number(),
         Err(WordsFault::Refused) => plain(alloc, Status::WordsRefused, WORDS_REFUSED, out).number(),
         Err(WordsFault::Memory) => Status::Memory.number(),
     }
 }
 
 /// Carries out a command.
-fn obey<S: Source, O: Sink, F: KeyFiles, N: Net, P: Spawner, C: Clock, D: Seeded>(
+fn obey<S: Source, O: Sink, F: KeyFiles, N: Net, P: Spawner, C: Clock, D: Seeded + Drop, K: Disks>(
     alloc: Global,
     command: &Command,
     input: &mut S,
@@ -145,7 +149,10 @@ fn obey<S: Source, O: Sink, F: KeyFiles, N: Net, P: Spawner, C: Clock, D: Seeded
     kids: &mut P,
     clock: &mut C,
     draw: &mut D,
+    disks: &mut K,
 ) -> Status
+where
+    K::K: Drop,
     requires { IsLawful command.now }
     ensures obeys { Obeys command.now
         (record { told = S.left; faults = S.faults; before = input.old; after = input.new })
@@ -163,7 +170,7 @@ fn obey<S: Source, O: Sink, F: KeyFiles, N: Net, P: Spawner, C: Clock, D: Seeded
     match command {
         Command::Sim { wire } => run_sim(alloc, *wire, input, out),
         Command::Load { calls } => run_load(alloc, *calls, out),
-        Command::Serve(options) => run_serve(alloc, options, out, files, net, clock, draw),
+        Command::Serve(options) => run_serve(alloc, options, out, files, net, clock, draw, disks),
         Command::Call(options) => run_call(alloc, options, input, out, files, net, clock, draw),
         Command::Pair(options) => run_pair(
             alloc, options, input, out, files, net, kids, clock, draw,

@@ -1,0 +1,40 @@
+//! The journal of a run.
+
+use auth_keys::Ring;
+use disks::{Disk, DiskLen};
+use draws::{Draw, Seeded, draw_bytes};
+use envelope::MtSeal;
+use mt_edge::Clock;
+use sess_journal::Kept;
+use sess_records::JournalFault;
+use std::alloc::Global;
+
+/// The server of the journal that an open file has: of a new one, whose seed is four words of the draw, where the file is empty;
+/// and else of the one that it spells, with the clock asked once.
+///
+/// # Errors
+///
+/// The file, and `Disk` where a call of it failed, `NotJournal` where it is neither empty nor a lawful journal, or `Memory`.
+pub(crate) fn keeping<K: Disk + Drop, C: Clock, D: Seeded + Drop>(
+    alloc: Global,
+    disk: K,
+    ring: Ring,
+    clock: &mut C,
+    draw: &mut D,
+) -> Result<Kept<K, MtSeal, D>, (K, JournalFault)>
+{
+    let mut disk = disk;
+    match disk.len() {
+        DiskLen::Len(0) => Kept::create(alloc, disk, MtSeal::new(ring), &new_seed(draw)),
+        DiskLen::Len(_) => Kept::open(alloc, disk, MtSeal::new(ring), clock.now()),
+        DiskLen::Failed => Err((disk, JournalFault::Disk)),
+    }
+}
+
+/// The seed of a new journal: the bytes of four words.
+fn new_seed<D: Draw>(draw: &mut D) -> [u8; 32]
+{
+    let mut seed = [0; 32];
+    draw_bytes(draw, &mut seed);
+    seed
+}
