@@ -13,7 +13,7 @@ use Rattle.server_node.specs.Writes.{CountsBy}
 use Rattle.server_node.specs.declared.conn.ConnEnd.{ConnEnd}
 use Rattle.server_node.specs.declared.conn.ConnEnd.TheVariants as ends
 use Rattle.cmd_serve.specs.declared.ending.Ending.{Ending}
-use Rattle.cmd_serve.specs.declared.ending.Ending.TheVariants.{Served, Stopped, NotTaken, Memory}
+use Rattle.cmd_serve.specs.declared.ending.Ending.TheVariants.{Served, Stopped, NotTaken, Journal, Memory}
 
 -- ---- between connections
 
@@ -66,6 +66,17 @@ GoesOn ends.Stopped = ⊥
 GoesOn (ends.Journal fault) = ⊥
 GoesOn ends.Memory = ⊥
 
+-- it ended by a fault of the desk that isn't want of memory
+abbrev pub IsJournalEnd : ConnEnd → Type 0
+IsJournalEnd (ends.Journal fault) = ⊤
+IsJournalEnd ends.Ended = ⊥
+IsJournalEnd ends.LinkFault = ⊥
+IsJournalEnd (ends.Frame fault) = ⊥
+IsJournalEnd ends.Start = ⊥
+IsJournalEnd ends.TurnsSpent = ⊥
+IsJournalEnd ends.Stopped = ⊥
+IsJournalEnd ends.Memory = ⊥
+
 -- ---- lists of connections, the last one first
 
 -- what stands behind all of them
@@ -83,12 +94,14 @@ AllGoOn [] = ⊤
 AllGoOn (last ∷ earlier) = AllGoOn earlier × GoesOn last.end
 
 -- How they ended, of so many that there should be: all were served; the last one answered as many packets as there were left;
--- memory ran out in the last one; or no further one could be taken.
+-- the desk came to a fault in the last one that isn't want of memory, or memory ran out in it; or no further one could be taken.
 abbrev pub EndsBy : {S V : Type 0} → ℕ → Ending → List (Connection S V) → Type 0
 EndsBy conns Served connections = AllGoOn connections × (length connections ≡ conns)
 EndsBy conns NotTaken connections = AllGoOn connections × (length connections < conns)
 EndsBy conns Stopped [] = ⊥
 EndsBy conns Stopped (last ∷ earlier) = AllGoOn earlier × (last.end ≡ ends.Stopped) × (length earlier < conns)
+EndsBy conns Journal [] = ⊥
+EndsBy conns Journal (last ∷ earlier) = AllGoOn earlier × IsJournalEnd last.end × (length earlier < conns)
 EndsBy conns Memory [] = ⊥
 EndsBy conns Memory (last ∷ earlier) = AllGoOn earlier × (last.end ≡ ends.Memory) × (length earlier < conns)
 
@@ -113,6 +126,7 @@ abbrev pub AreNotedBy : {S V : Type 0} → Ending → List (Connection S V) → 
 AreNotedBy NotTaken connections calls = (front : List NetCall) × AreNoted connections front × (calls ≡ front ++ Accept Failed ∷ [])
 AreNotedBy Served connections calls = AreNoted connections calls
 AreNotedBy Stopped connections calls = AreNoted connections calls
+AreNotedBy Journal connections calls = AreNoted connections calls
 AreNotedBy Memory connections calls = AreNoted connections calls
 
 -- that accept is one more fault of the net, and there is no other
@@ -120,4 +134,5 @@ abbrev pub CountsEnding : Ending → ℕ → ℕ → Type 0
 CountsEnding NotTaken before after = after ≡ one_more before
 CountsEnding Served before after = after ≡ before
 CountsEnding Stopped before after = after ≡ before
+CountsEnding Journal before after = after ≡ before
 CountsEnding Memory before after = after ≡ before

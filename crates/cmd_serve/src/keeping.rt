@@ -1,5 +1,9 @@
 //! The journal of a run.
 
+ghost use Rattle.std.specs.Prelude.{◌≡◌, IfErr, IfOk};
+ghost use Rattle.draws.specs.Draws.{draw_after, next_bytes};
+ghost use Rattle.cmd_serve.specs.Inner.{OpensFile, ShutsFile};
+
 use auth_keys::Ring;
 use disks::{Disk, DiskLen};
 use draws::{Draw, Seeded, draw_bytes};
@@ -22,6 +26,8 @@ pub(crate) fn keeping<K: Disk + Drop, C: Clock, D: Seeded + Drop>(
     clock: &mut C,
     draw: &mut D,
 ) -> Result<Kept<K, MtSeal, D>, (K, JournalFault)>
+    ensures opens { IfOk result (OpensFile (record { step = D.step; standing_at = D.standing_at; place_of = D.place_of }) ring K.told K.place K.faults disk (C.given clock.old) (C.given clock.new) draw.old draw.new) }
+    ensures shuts { IfErr result (ShutsFile (record { step = D.step; standing_at = D.standing_at; place_of = D.place_of }) ring K.told K.place K.faults disk (C.given clock.old) (C.given clock.new) draw.old draw.new) }
 {
     let mut disk = disk;
     match disk.len() {
@@ -33,6 +39,8 @@ pub(crate) fn keeping<K: Disk + Drop, C: Clock, D: Seeded + Drop>(
 
 /// The seed of a new journal: the bytes of four words.
 fn new_seed<D: Draw>(draw: &mut D) -> [u8; 32]
+    ensures seed { result ≡ next_bytes D.step 32 draw.old }
+    ensures after { draw.new ≡ draw_after D.step 4 draw.old }
 {
     let mut seed = [0; 32];
     draw_bytes(draw, &mut seed);

@@ -6,9 +6,11 @@
 mod connection;
 mod connections;
 mod ending;
+mod journal;
 mod keeping;
 pub mod laws;
 mod lines;
 mod running;
+mod serving;
 
 pub use running::run_serve;

@@ -1,10 +1,11 @@
 -- What contracts see of a server that keeps a journal, and what it stands for.
-use Rattle.std.specs.Prelude.{◌≡◌, ℕ, ◌≤◌, ◌<◌, ◌+◌, ◌^◌, ◌↔◌, max, length, is_some, Option, Some, None, Result, Err, List, [], ◌∷◌, ◌++◌, IfErr, IfOk, IfSome, IsSomeAnd}
+use Rattle.std.specs.Prelude.{◌≡◌, ℕ, ◌≤◌, ◌<◌, ◌+◌, ◌^◌, ◌↔◌, max, length, is_some, Option, Some, None, Result, Ok, Err, List, [], ◌∷◌, ◌++◌, IfErr, IfOk, IfSome, IsSomeAnd}
 use Rattle.disks.specs.Told.{DiskTold, MayHaveLeft}
 use Rattle.mt_edge.specs.Faults.{Rose}
 use Rattle.sess_records.specs.declared.records.Event.{Event}
 use Rattle.sess_records.specs.declared.records.Event.TheVariants.{Interrupted}
 use Rattle.sess_records.specs.declared.records.Record.{Record}
+use Rattle.sess_records.specs.declared.fault.JournalFault.{JournalFault}
 use Rattle.sess_records.specs.Format.{Spells, size_of}
 use Rattle.sess_records.specs.Seen.{File}
 use Rattle.sess_records.specs.Standing.{Holds, SpellsSome}
@@ -43,6 +44,11 @@ pub record Seen (K S D : Type 0) : Type 0 where
   pub latest : ℕ
   pub draw : D
   pub book : Book K
+
+-- the disk of a server with its journal, or the one that came back
+abbrev pub disk_of : {K S D : Type 0} → Result (Seen K S D) (K × JournalFault) → Option K
+disk_of (Ok kept) = disk_in kept.book
+disk_of (Err back) = Some back.0
 
 -- The journal is open and has these records; the server is the one that they lead to, but for a later moment, and so is the
 -- draw.

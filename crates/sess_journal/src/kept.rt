@@ -1,12 +1,12 @@
 //! A server that keeps a journal.
 
-ghost use Rattle.std.specs.Prelude.{◌≡◌, ◌≤◌, ◌<◌, ℕ, List, [], ◌++◌, None, Some, IfOk, IfErr, IfSome, OnOk};
+ghost use Rattle.std.specs.Prelude.{◌≡◌, ◌≤◌, ◌<◌, ℕ, List, [], ◌++◌, None, Some, IfOk, IfErr, IfSome, IsSomeAnd, OnOk};
 ghost use Rattle.mt_edge.specs.Faults.{Rose};
 ghost use Rattle.sess_records.specs.declared.records.Record.{Record};
 ghost use Rattle.sess_records.specs.Calls.{HasCause, IfNotJournal};
 ghost use Rattle.sess_records.specs.Standing.{HasNext, Holds};
 ghost use Rattle.server_rules.specs.Server.{fresh_server};
-ghost use Rattle.sess_journal.specs.Keeping.{KeepsFor, Opened, Resumed, disk_in, ending};
+ghost use Rattle.sess_journal.specs.Keeping.{IsSameDisk, KeepsFor, Opened, Resumed, disk_in, disk_of, ending};
 ghost use Rattle.sess_replay.specs.Files.{IsNoJournalAt};
 ghost use Rattle.sess_journal.specs.Playing.{Follows, IsReady, StandsAt, basis_for};
 ghost use Rattle.sess_replay.specs.Replay.{Reached, Replays, at_first, bases_of};
@@ -59,7 +59,10 @@ impl<K: Disk + Drop, S: Seal + Drop, D: Seeded + Drop> Kept<K, S, D> {
     ) -> Result<Kept<K, S, D>, (K, JournalFault)>
         ensures stands { IfOk result (λ kept. KeepsFor (bases_of S.lock S.keys D.step D.standing_at D.place_of) K.told [] kept fresh_server) }
         ensures seal { IfOk result (λ kept. kept.server.seal ≡ seal) }
+        ensures seed { IfOk result (λ kept. IsSomeAnd kept.book.journal (λ file. file.seed ≡ seed.now)) }
         ensures cause { IfErr result (λ back. (back.1 ≡ JournalFault.Disk) × Rose (K.faults disk) (K.faults back.0)) }
+        ensures counted { IfOk result (λ kept. IsSomeAnd (disk_in kept.book) (λ after. K.faults after ≡ K.faults disk)) }
+        ensures same_disk { IsSomeAnd (disk_of result) (IsSameDisk K.told K.place disk) }
     {
         let journal = match Journal::create(disk, seed) {
             Ok(journal) => journal,
@@ -87,7 +90,11 @@ impl<K: Disk + Drop, S: Seal + Drop, D: Seeded + Drop> Kept<K, S, D> {
         ensures seal { IfOk result (λ kept. kept.server.seal ≡ seal) }
         ensures refused { IfErr result (λ back. IfNotJournal back.1 (λ at. IfSome (K.told disk) (λ before.
             IsNoJournalAt (bases_of S.lock S.keys D.step D.standing_at D.place_of seal) at before.contents))) }
+        // A file that is no journal holds what it held.
+        ensures unharmed { IfErr result (λ back. IfNotJournal back.1 (λ at. IfSome (K.told disk) (λ before. IsSomeAnd (K.told back.0) (λ after. after.contents ≡ before.contents)))) }
         ensures cause { IfErr result (λ back. HasCause back.1 (K.faults disk) (K.faults back.0)) }
+        ensures counted { IfOk result (λ kept. IsSomeAnd (disk_in kept.book) (λ after. K.faults after ≡ K.faults disk)) }
+        ensures same_disk { IsSomeAnd (disk_of result) (IsSameDisk K.told K.place disk) }
     {
         calls_in_a_row();
         let mut opening = match Opening::new(disk) {
@@ -157,6 +164,7 @@ fn play_next<K: Disk, S: Seal + Drop, D: Seeded + Drop>(
     ensures counted { OnOk result (K.faults opening.new.disk ≡ K.faults opening.old.disk) }
     ensures nearer { OnOk result ((opening.old.at < opening.new.at) × (opening.new.at ≤ opening.new.len)) }
     ensures told { K.told opening.new.disk ≡ K.told opening.old.disk }
+    ensures same_place { K.place opening.new.disk ≡ K.place opening.old.disk }
     ensures same { (opening.new.seed ≡ opening.old.seed) × (opening.new.len ≡ opening.old.len) }
     ensures same_seal { played.new.server.seal ≡ played.old.server.seal }
 {
@@ -188,6 +196,7 @@ fn play_all<K: Disk, S: Seal + Drop, D: Seeded + Drop>(
     ensures cause { IfErr result (λ fault. HasCause fault (K.faults opening.old.disk) (K.faults opening.new.disk)) }
     ensures counted { OnOk result (K.faults opening.new.disk ≡ K.faults opening.old.disk) }
     ensures told { K.told opening.new.disk ≡ K.told opening.old.disk }
+    ensures same_place { K.place opening.new.disk ≡ K.place opening.old.disk }
     ensures same_seed { opening.new.seed ≡ opening.old.seed }
     ensures same_seal { played.new.server.seal ≡ played.old.server.seal }
 {
@@ -217,6 +226,8 @@ fn resume<K: Disk + Drop, S: Seal + Drop, D: Seeded + Drop>(
         → Resumed (bases_of S.lock S.keys D.step D.standing_at D.place_of) K.told journal.seed now reached (entries ++ ending now reached) kept) }
     ensures seal { IfOk result (λ kept. kept.server.seal ≡ played.server.seal) }
     ensures cause { IfErr result (λ back. (IfNotJournal back.1 (λ at. ⊥)) × HasCause back.1 (K.faults journal.disk) (K.faults back.0)) }
+    ensures counted { IfOk result (λ kept. IsSomeAnd (disk_in kept.book) (λ after. K.faults after ≡ K.faults journal.disk)) }
+    ensures same_disk { IsSomeAnd (disk_of result) (IsSameDisk K.told K.place journal.disk) }
 {
     let Some(_job) = played.begun else {
         return Ok(kept_by(journal, played));
