@@ -4,13 +4,14 @@ use Rattle.mt_edge.specs.declared.net_call.NetCall.{NetCall}
 use Rattle.mt_edge.specs.declared.net_call.NetCall.TheVariants.{Accept}
 use Rattle.mt_edge.specs.declared.net_call.Outcome.TheVariants.{Failed}
 use Rattle.mt_edge.specs.Faults.{one_more}
+use Rattle.server_core.specs.declared.desk.DeskFault.{DeskFault}
 use Rattle.server_node.specs.Trace.{Rules}
 use Rattle.server_node.specs.declared.conn.ConnEnd.{ConnEnd}
 use Rattle.server_node.specs.declared.conn.ConnEnd.TheVariants as ends
-use Rattle.cmd_serve.specs.Connections.{AreNoted, AreNotedBy, Between, Connection, CountsEnding, GoesOn, IsNoted, behind_all}
-use Rattle.cmd_serve.specs.Inner.{CountsTaking, IsAt, IsNoJournal, LeavesCount, ServedAll, ServedSoFar, Side, Took, TookNone, TookOne, ending_by}
+use Rattle.cmd_serve.specs.Connections.{AreNoted, AreNotedBy, Between, Connection, CountsEnding, GoesOn, IsJournalEnd, IsNoted, behind_all}
+use Rattle.cmd_serve.specs.Inner.{CountsTaking, IsAt, IsBehind, LeavesCount, ServedAll, ServedSoFar, Side, Took, TookNone, TookOne, ending_by}
 use Rattle.cmd_serve.specs.declared.ending.Ending.{Ending}
-use Rattle.cmd_serve.specs.declared.ending.Ending.TheVariants.{Served, Stopped, NotTaken, Memory}
+use Rattle.cmd_serve.specs.declared.ending.Ending.TheVariants.{Served, Stopped, NotTaken, Journal, Memory}
 use Rattle.cmd_serve.proofs.Taking.{still-left}
 
 -- ---- what is noted
@@ -59,32 +60,43 @@ none-so-far {S} {V} rules first side stands = record {
 }
 
 more-served : {S V : Type 0} (rules : Rules S V) (first : Between S V) (count : ℕ) (calls : Option (List NetCall)) (side later : Side S V) (end : ConnEnd)
-    → (so_far : ServedSoFar rules first count calls side) → GoesOn end → TookOne rules (behind_all first so_far.connections) side.calls end later
+    → (so_far : ServedSoFar rules first count calls side) → GoesOn end → (took : TookOne rules (behind_all first so_far.connections) side.calls end later) → IsAt later took.one.behind
     → ServedSoFar rules first (count + 1) calls later
-more-served rules first count calls side later end so_far goes took = record {
+more-served rules first count calls side later end so_far goes took stands = record {
   connections = took.one ∷ so_far.connections;
   are = (so_far.are, took.is);
   go_on = (so_far.go_on, subst GoesOn (sym took.ended) goes);
   count_is = omega (arith, so_far.count_is);
-  stands = took.stands;
+  stands = stands;
   noted = notes-more took.one so_far.connections calls side.calls later.calls so_far.noted took.noted;
 }
 
-goes-on : (end : ConnEnd) → IsNoJournal (Some end) → ending_by (Some end) ≡ None → GoesOn end
-goes-on ends.Ended own none = tt
-goes-on ends.LinkFault own none = tt
-goes-on (ends.Frame fault) own none = tt
-goes-on ends.Start own none = tt
-goes-on ends.TurnsSpent own none = tt
-goes-on ends.Stopped own none = cc
-goes-on (ends.Journal fault) own none = own
-goes-on ends.Memory own none = cc
+goes-on : (end : ConnEnd) → ending_by (Some end) ≡ None → GoesOn end
+goes-on ends.Ended none = tt
+goes-on ends.LinkFault none = tt
+goes-on (ends.Frame fault) none = tt
+goes-on ends.Start none = tt
+goes-on ends.TurnsSpent none = tt
+goes-on ends.Stopped none = cc
+goes-on (ends.Journal fault) none = cc
+goes-on ends.Memory none = cc
+
+stands-on : {S V : Type 0} (end : ConnEnd) (side : Side S V) (between : Between S V) → ending_by (Some end) ≡ None → IsBehind end side between → IsAt side between
+stands-on ends.Ended side between none stands = stands
+stands-on ends.LinkFault side between none stands = stands
+stands-on (ends.Frame fault) side between none stands = stands
+stands-on ends.Start side between none stands = stands
+stands-on ends.TurnsSpent side between none stands = stands
+stands-on ends.Stopped side between none stands = stands
+stands-on (ends.Journal fault) side between none stands = cc
+stands-on ends.Memory side between none stands = stands
 
 pub one-more-served : {S V : Type 0} (rules : Rules S V) (first : Between S V) (count : ℕ) (calls : Option (List NetCall)) (side later : Side S V) (end : Option ConnEnd)
-    → IsNoJournal end → ending_by end ≡ None → (so_far : ServedSoFar rules first count calls side) → Took rules (behind_all first so_far.connections) side.calls end later
+    → ending_by end ≡ None → (so_far : ServedSoFar rules first count calls side) → Took rules (behind_all first so_far.connections) side.calls end later
     → ServedSoFar rules first (count + 1) calls later
-one-more-served rules first count calls side later None own none so_far took = cc
-one-more-served rules first count calls side later (Some end) own none so_far took = more-served rules first count calls side later end so_far (goes-on end own none) took
+one-more-served rules first count calls side later None none so_far took = cc
+one-more-served rules first count calls side later (Some end) none so_far took =
+    more-served rules first count calls side later end so_far (goes-on end none) took (stands-on end later took.one.behind none took.stands)
 
 -- ---- how they end
 
@@ -121,6 +133,17 @@ without-memory rules first count conns calls side later few so_far took = record
   noted = notes-more took.one so_far.connections calls side.calls later.calls so_far.noted took.noted;
 }
 
+broken : {S V : Type 0} (rules : Rules S V) (first : Between S V) (count conns : ℕ) (calls : Option (List NetCall)) (side later : Side S V) (fault : DeskFault)
+    → count < conns → (so_far : ServedSoFar rules first count calls side) → TookOne rules (behind_all first so_far.connections) side.calls (ends.Journal fault) later
+    → ServedAll rules first conns calls Journal later
+broken rules first count conns calls side later fault few so_far took = record {
+  connections = took.one ∷ so_far.connections;
+  are = (so_far.are, took.is);
+  ended = (so_far.go_on, subst IsJournalEnd (sym took.ended) tt, omega (arith, few, so_far.count_is));
+  stands = took.stands;
+  noted = notes-more took.one so_far.connections calls side.calls later.calls so_far.noted took.noted;
+}
+
 ends-as : {S V : Type 0} (rules : Rules S V) (first : Between S V) (conns : ℕ) (calls : Option (List NetCall)) (later : Side S V) (due ending : Ending) → Some due ≡ Some ending
     → ServedAll rules first conns calls due later → ServedAll rules first conns calls ending later
 ends-as rules first conns calls later due ending same all = let is : due ≡ ending = cc in subst (λ (one : Ending). ServedAll rules first conns calls one later) is all
@@ -139,7 +162,8 @@ all-served rules first count conns calls side later (Some ends.LinkFault) ending
 all-served rules first count conns calls side later (Some (ends.Frame fault)) ending few same so_far took = cc
 all-served rules first count conns calls side later (Some ends.Start) ending few same so_far took = cc
 all-served rules first count conns calls side later (Some ends.TurnsSpent) ending few same so_far took = cc
-all-served rules first count conns calls side later (Some (ends.Journal fault)) ending few same so_far took = cc
+all-served rules first count conns calls side later (Some (ends.Journal fault)) ending few same so_far took =
+    ends-as rules first conns calls later Journal ending same (broken rules first count conns calls side later fault few so_far took)
 
 pub each-served : {S V : Type 0} (rules : Rules S V) (first : Between S V) (count conns : ℕ) (calls : Option (List NetCall)) (later : Side S V)
     → count ≡ conns → ServedSoFar rules first count calls later → ServedAll rules first conns calls Served later
@@ -165,7 +189,7 @@ counts-ending (Some ends.LinkFault) ending first before after same is counted = 
 counts-ending (Some (ends.Frame fault)) ending first before after same is counted = cc
 counts-ending (Some ends.Start) ending first before after same is counted = cc
 counts-ending (Some ends.TurnsSpent) ending first before after same is counted = cc
-counts-ending (Some (ends.Journal fault)) ending first before after same is counted = cc
+counts-ending (Some (ends.Journal fault)) ending first before after same is counted = counts-as Journal ending first after same (counted ∙ is)
 
 pub counts-going : (end : Option ConnEnd) (first before after : ℕ) → ending_by end ≡ None → before ≡ first → CountsTaking end before after → after ≡ first
 counts-going None first before after none is counted = cc

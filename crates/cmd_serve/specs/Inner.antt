@@ -10,6 +10,8 @@ use Rattle.disks.specs.Named.{NamesTold}
 use Rattle.disks.specs.Told.{DiskTold}
 use Rattle.commands.specs.declared.command.ServeOptions.{ServeOptions}
 use Rattle.regs_service.specs.Registers as registers
+use Rattle.server_core.specs.declared.desk.DeskFault.{DeskFault}
+use Rattle.server_core.specs.declared.desk.DeskFault.TheVariants as faults
 use Rattle.server_rules.specs.Server.{Server}
 use Rattle.sess_journal.specs.Keeping.{IsSameDisk, Seen, StandsFor, disk_in}
 use Rattle.sess_records.specs.Calls.{HasCause, IfNotJournal}
@@ -27,7 +29,7 @@ use Rattle.server_node.specs.declared.conn.ConnEnd.TheVariants as ends
 use Rattle.cmd_serve.specs.Connections.{AllGoOn, AreConnections, AreNoted, AreNotedBy, Between, Connection, CountsEnding, EndsBy, IsConnection, IsNoted, behind_all}
 use Rattle.cmd_serve.specs.Lines.{journal_fault, last_line, listening, not_listening}
 use Rattle.cmd_serve.specs.Journals.{AsksClock, Drawing, IsOpen, Keeping, SeedsBy, StartsBy, basis_of, Unopened, Faulty, Foreign, Cut, New, Old}
-use Rattle.cmd_serve.specs.Runs.{Calls, CountsDisks, Course, Unread, Refused, Unbegun, Shut, Deaf, Mute, Serves, Draws, Ends, FailsNever, FailsOnce, GoesBy, IfTold, IsServed, Moments, Part, Registers, ServesBy}
+use Rattle.cmd_serve.specs.Runs.{Calls, CountsDisks, Course, Unread, Refused, Unbegun, Shut, Deaf, Mute, Serves, Draws, Ends, FailsNever, FailsOnce, GoesBy, IfTold, IsBroken, IsServed, Moments, Part, Registers, ServesBy}
 use Rattle.cmd_serve.specs.declared.ending.Ending.{Ending}
 use Rattle.cmd_serve.specs.declared.ending.Ending.TheVariants.{Served, Stopped, NotTaken, Journal, Memory}
 
@@ -58,6 +60,7 @@ pub record RunsAlone {N O D : Type 0} (step : D → ℕ × D) (options : ServeOp
   pub own : IsBegun ring course
   pub calls : Calls options.port net course
   pub serves : ServesBy step options moments draws course
+  pub whole : IsBroken course → ⊥
   pub ends : Ends options out Unopened course result
 
 -- ---- behind the opening
@@ -110,11 +113,16 @@ LeavesDesk NotTaken desk server = desk server
 LeavesDesk Journal desk server = ⊤
 LeavesDesk Memory desk server = desk server
 
--- Connections are served with a desk that stands there.
-pub record ServesOn {N O D : Type 0} (rules : Rules D Registers) (options : ServeOptions) (first : Between D Registers) (net : Part (List NetCall) N) (out : Outside O) (given : Option (List ℕ)) (desk : Server → Type 0) (one : Status) : Type 0 where
+-- It ended by one of these faults, which isn't want of memory.
+abbrev pub BreaksBy : (DeskFault → Type 0) → Ending → Type 0
+BreaksBy may ending = ending ≡ Journal → (fault : DeskFault) × may fault × (fault ≢ faults.Memory)
+
+-- Connections are served with a desk that stands there, and which may answer these faults.
+pub record ServesOn {N O D : Type 0} (may : DeskFault → Type 0) (rules : Rules D Registers) (options : ServeOptions) (first : Between D Registers) (net : Part (List NetCall) N) (out : Outside O) (given : Option (List ℕ)) (desk : Server → Type 0) (one : Status) : Type 0 where
   pub connections : List (Connection D Registers)
   pub ending : Ending
   pub are : IsServed rules first options.conns given connections ending
+  pub breaks : BreaksBy may ending
   pub leaves : LeavesDesk ending desk (behind_all first connections).server
   pub noted : IfTold net (λ before after. (made : List NetCall) × (after ≡ before ++ made) × AreNotedBy ending connections made)
   pub counted : CountsEnding ending (net.faults net.before) (net.faults net.after)

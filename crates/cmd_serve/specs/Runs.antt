@@ -215,9 +215,24 @@ JournalsBy drawing options name disks moments draws keeping (Serves ring connect
     (keeps : Keeps drawing ring options name disks moments draws keeping connections)
     × IsServed (rules_of drawing.step registers.step (outside_of ring)) keeps.first options.conns moments.after connections ending
 
+-- its connections end by a fault of the desk that isn't want of memory
+abbrev pub IsBroken : {D : Type 0} → Course D → Type 0
+IsBroken Unread = ⊥
+IsBroken (Refused line) = ⊥
+IsBroken Unbegun = ⊥
+IsBroken (Shut ring) = ⊥
+IsBroken (Deaf ring) = ⊥
+IsBroken (Mute ring) = ⊥
+IsBroken (Serves ring connections Served) = ⊥
+IsBroken (Serves ring connections Stopped) = ⊥
+IsBroken (Serves ring connections NotTaken) = ⊥
+IsBroken (Serves ring connections Journal) = ⊤
+IsBroken (Serves ring connections Memory) = ⊥
+
 -- by what the options say
 abbrev pub GoesBy : {D K : Type 0} → Drawing D → ServeOptions → Option (List ℕ) → Part NamesTold K → Moments → Draws D → Keeping → Course D → Type 0
-GoesBy drawing options None disks moments draws keeping course = (keeping ≡ Unopened) × ServesBy drawing.step options moments draws course
+GoesBy drawing options None disks moments draws keeping course =
+    (keeping ≡ Unopened) × ServesBy drawing.step options moments draws course × (IsBroken course → ⊥)
 GoesBy drawing options (Some name) disks moments draws keeping course = JournalsBy drawing options name disks moments draws keeping course
 
 -- the last connection ended so: by a call of the disk that failed, or because the journal had no room

@@ -1,6 +1,8 @@
 //! One connection of a run.
 
 ghost use Rattle.std.specs.Prelude.{◌≡◌, ◌≢◌, IsSome, Some};
+ghost use Rattle.server_core.specs.declared.desk.DeskFault.{DeskFault};
+ghost use Rattle.server_core.specs.declared.desk.DeskFault.TheVariants as faults;
 ghost use Rattle.server_node.specs.Trace.{IsOutside, Outside, rules_of};
 ghost use Rattle.cmd_serve.specs.Connections.{Between};
 ghost use Rattle.cmd_serve.specs.Inner.{CountsTaking, LeavesCount, StandsAt, Took};
@@ -29,6 +31,7 @@ pub(crate) fn serve_next<N: Net, K: Desk, V: Service, C: Clock>(
     ensures counted { CountsTaking result (N.faults net.old) (N.faults net.new) }
     ensures first_fault { IsSome (N.calls net.old) → N.faults net.old ≡ 0 → IsSome (N.calls net.new) }
     ensures left { LeavesCount result left.old left.new }
+    ensures journal { (fault : DeskFault) → result ≡ Some (ConnEnd.Journal fault) → K.MayAnswer fault × (fault ≢ faults.Memory) }
     ensures same_keys { K.keys desk.new ≡ K.keys desk.old }
 {
     match net.accept() {

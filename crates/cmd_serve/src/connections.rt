@@ -3,7 +3,7 @@
 ghost use Rattle.std.specs.Prelude.{◌≡◌, ◌≢◌, IsSome, Some};
 ghost use Rattle.server_node.specs.Trace.{IsOutside, Outside, rules_of};
 ghost use Rattle.cmd_serve.specs.Connections.{Between, CountsEnding};
-ghost use Rattle.cmd_serve.specs.Inner.{ServedAll, StandsAt};
+ghost use Rattle.cmd_serve.specs.Inner.{BreaksBy, ServedAll, StandsAt};
 
 use crate::connection::serve_next;
 use crate::ending::{Ending, ending_of};
@@ -28,6 +28,7 @@ pub(crate) fn serve_all<N: Net, K: Desk, V: Service, C: Clock>(
         → ServedAll (rules_of K.D.step V.step outside) first conns (N.calls net.old) result
         (record { desk = K.StandsFor desk.new; drawn = K.drawn desk.new; service = service.new; given = C.given clock.new; left = left.new; calls = N.calls net.new }) }
     ensures counted { CountsEnding result (N.faults net.old) (N.faults net.new) }
+    ensures breaks { BreaksBy K.MayAnswer result }
     ensures first_fault { IsSome (N.calls net.old) → N.faults net.old ≡ 0 → IsSome (N.calls net.new) }
 {
     'connections: for _served in 0..conns {

@@ -64,7 +64,7 @@ pub(crate) fn serve<O: Sink, N: Net, K: Desk, C: Clock>(
     requires last { lines.now.last ≡ last_line options.now.conns Served }
     ensures serves { (outside : Outside) (first : Between K.D Registers) → IsOutside K.S.lock (K.keys desk.old) outside
         → StandsAt (K.StandsFor desk.old) (K.drawn desk.old) registers.fresh (C.given clock.old) options.now.stop_after first
-        → ServesOn (rules_of K.D.step registers.step outside) options.now first
+        → ServesOn K.MayAnswer (rules_of K.D.step registers.step outside) options.now first
         (record { told = N.calls; faults = N.faults; before = net.old; after = net.new })
         (record { told = O.written; faults = O.faults; before = out.old; after = out.new })
         (C.given clock.new) (K.StandsFor desk.new) result }

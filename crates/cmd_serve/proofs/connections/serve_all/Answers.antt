@@ -22,7 +22,7 @@ connections-preserved g c =
       so_far = λ outside first is stands.
           let so_far = before.so_far outside first is stands in
           one-more-served (rules_of g.K.D.Draw.step g.V.Service.step outside) first c.connections._served (g.N.Net.calls c.args.net.now) (record { desk = g.K.Desk.StandsFor c.connections.desk; drawn = g.K.Desk.drawn c.connections.desk; service = c.connections.service; given = g.C.Clock.given c.connections.clock; left = c.connections.left; calls = g.N.Net.calls c.connections.net }) (record { desk = g.K.Desk.StandsFor c.serve_next-end.new.desk; drawn = g.K.Desk.drawn c.serve_next-end.new.desk; service = c.serve_next-end.new.service; given = g.C.Clock.given c.serve_next-end.new.clock; left = c.serve_next-end.new.left; calls = g.N.Net.calls c.serve_next-end.new.net })
-          c.serve_next-end.result c.serve_next-end.ensures.no_journal none so_far
+          c.serve_next-end.result none so_far
           (c.serve_next-end.ensures.took outside (behind_all first so_far.connections) (subst (λ (ring : List RingKey). IsOutside g.K.S.Seal.lock ring outside) (sym before.same_keys) is) so_far.stands);
       faults = counts-going c.serve_next-end.result (g.N.Net.faults c.args.net.now) (g.N.Net.faults c.connections.net) (g.N.Net.faults c.serve_next-end.new.net) none before.faults c.serve_next-end.ensures.counted;
       tells = λ is none. c.serve_next-end.ensures.first_fault (before.tells is none) (before.faults ∙ none);
