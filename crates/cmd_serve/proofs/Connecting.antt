@@ -5,11 +5,12 @@ use Rattle.mt_edge.specs.declared.net_call.NetCall.TheVariants.{Accept}
 use Rattle.mt_edge.specs.declared.net_call.Outcome.TheVariants.{Failed}
 use Rattle.mt_edge.specs.Faults.{one_more}
 use Rattle.server_core.specs.declared.desk.DeskFault.{DeskFault}
+use Rattle.server_core.specs.declared.desk.DeskFault.TheVariants as faults
 use Rattle.server_node.specs.Trace.{Rules}
 use Rattle.server_node.specs.declared.conn.ConnEnd.{ConnEnd}
 use Rattle.server_node.specs.declared.conn.ConnEnd.TheVariants as ends
 use Rattle.cmd_serve.specs.Connections.{AreNoted, AreNotedBy, Between, Connection, CountsEnding, GoesOn, IsJournalEnd, IsNoted, behind_all}
-use Rattle.cmd_serve.specs.Inner.{CountsTaking, IsAt, IsBehind, LeavesCount, ServedAll, ServedSoFar, Side, Took, TookNone, TookOne, ending_by}
+use Rattle.cmd_serve.specs.Inner.{BreaksBy, CountsTaking, IsAt, IsBehind, LeavesCount, ServedAll, ServedSoFar, Side, Took, TookNone, TookOne, ending_by}
 use Rattle.cmd_serve.specs.declared.ending.Ending.{Ending}
 use Rattle.cmd_serve.specs.declared.ending.Ending.TheVariants.{Served, Stopped, NotTaken, Journal, Memory}
 use Rattle.cmd_serve.proofs.Taking.{still-left}
@@ -194,6 +195,19 @@ counts-ending (Some (ends.Journal fault)) ending first before after same is coun
 pub counts-going : (end : Option ConnEnd) (first before after : ℕ) → ending_by end ≡ None → before ≡ first → CountsTaking end before after → after ≡ first
 counts-going None first before after none is counted = cc
 counts-going (Some end) first before after none is counted = counted ∙ is
+
+-- ---- the fault by which they end
+
+pub breaks-by : (may : DeskFault → Type 0) (end : Option ConnEnd) (ending : Ending) → ending_by end ≡ Some ending → ((fault : DeskFault) → end ≡ Some (ends.Journal fault) → may fault × (fault ≢ faults.Memory)) → BreaksBy may ending
+breaks-by may None ending same so is = cc
+breaks-by may (Some ends.Stopped) ending same so is = cc
+breaks-by may (Some ends.Memory) ending same so is = cc
+breaks-by may (Some ends.Ended) ending same so is = cc
+breaks-by may (Some ends.LinkFault) ending same so is = cc
+breaks-by may (Some (ends.Frame fault)) ending same so is = cc
+breaks-by may (Some ends.Start) ending same so is = cc
+breaks-by may (Some ends.TurnsSpent) ending same so is = cc
+breaks-by may (Some (ends.Journal fault)) ending same so is = (fault, so fault refl)
 
 -- ---- packets that may still be answered
 

@@ -5,3 +5,4 @@ pub mod Taking
 pub mod Connecting
 pub mod Texts
 pub mod Ways
+pub mod Serving

@@ -522,21 +522,23 @@ pub idle-unbegun : {D K : Type 0} (drawing : Drawing D) (options : ServeOptions)
 idle-unbegun drawing options None told faults disks given draw = (refl, (refl, refl), λ broken. broken)
 idle-unbegun drawing options (Some name) told faults disks given draw = (refl, (refl, refl))
 
-module _ {F N O D K : Type 0} (drawing : Drawing D) (options : ServeOptions) (files : Part FilesTold F) (told : N → Option (List NetCall)) (faults : N → ℕ) (net : N) (out : Outside O) (given : Option (List ℕ)) (draw : D) (tells : K → Option NamesTold) (counts : K → ℕ) (disks : K) (one : Status) where
-  pub run-unread : IfTold files (AsksOnce options.keys) → FailsOnce files → Ends {D = D} {O = O} options out Unopened Unread one
-      → ServeRun drawing options files (record { told = told; faults = faults; before = net; after = net }) out (record { before = given; after = given }) (record { before = draw; after = draw }) (record { told = tells; faults = counts; before = disks; after = disks }) one
-  run-unread asked once ends =
-      run-of drawing options files (record { told = told; faults = faults; before = net; after = net }) out (record { before = given; after = given }) (record { before = draw; after = draw }) (record { told = tells; faults = counts; before = disks; after = disks }) one Unread Unopened
-      (reads-unread {D = D} options.keys files asked once) (calls-unread {D = D} options.port told faults net) (idle-unread drawing options options.journal tells counts disks given draw) refl ends
+pub run-unread : {F N O D K : Type 0} (drawing : Drawing D) (options : ServeOptions) (files : Part FilesTold F) (told : N → Option (List NetCall)) (faults : N → ℕ) (net : N) (out : Outside O) (given : Option (List ℕ)) (draw : D) (tells : K → Option NamesTold) (counts : K → ℕ) (disks : K) (one : Status)
+    → IfTold files (AsksOnce options.keys) → FailsOnce files → Ends {D = D} {O = O} options out Unopened Unread one
+    → ServeRun drawing options files (record { told = told; faults = faults; before = net; after = net }) out (record { before = given; after = given }) (record { before = draw; after = draw }) (record { told = tells; faults = counts; before = disks; after = disks }) one
+run-unread {F} {N} {O} {D} {K} drawing options files told faults net out given draw tells counts disks one asked once ends =
+    run-of drawing options files (record { told = told; faults = faults; before = net; after = net }) out (record { before = given; after = given }) (record { before = draw; after = draw }) (record { told = tells; faults = counts; before = disks; after = disks }) one Unread Unopened
+    (reads-unread {D = D} options.keys files asked once) (calls-unread {D = D} options.port told faults net) (idle-unread drawing options options.journal tells counts disks given draw) refl ends
 
-  pub run-refused : (line : ℕ) → OneReading → HasText (files.told files.before) options.keys (λ text. IsRefusedAt text line) → IfTold files (AsksOnce options.keys) → FailsNever files → Ends {D = D} {O = O} options out Unopened (Refused line) one
-      → ServeRun drawing options files (record { told = told; faults = faults; before = net; after = net }) out (record { before = given; after = given }) (record { before = draw; after = draw }) (record { told = tells; faults = counts; before = disks; after = disks }) one
-  run-refused line reading has asked never ends =
-      run-of drawing options files (record { told = told; faults = faults; before = net; after = net }) out (record { before = given; after = given }) (record { before = draw; after = draw }) (record { told = tells; faults = counts; before = disks; after = disks }) one (Refused line) Unopened
-      (reads-refused {D = D} options.keys files line reading has asked never) (calls-refused {D = D} options.port line told faults net) (idle-refused drawing options options.journal tells counts disks given draw line) refl ends
+pub run-refused : {F N O D K : Type 0} (drawing : Drawing D) (options : ServeOptions) (files : Part FilesTold F) (told : N → Option (List NetCall)) (faults : N → ℕ) (net : N) (out : Outside O) (given : Option (List ℕ)) (draw : D) (tells : K → Option NamesTold) (counts : K → ℕ) (disks : K) (one : Status) (line : ℕ)
+    → OneReading → HasText (files.told files.before) options.keys (λ text. IsRefusedAt text line) → IfTold files (AsksOnce options.keys) → FailsNever files → Ends {D = D} {O = O} options out Unopened (Refused line) one
+    → ServeRun drawing options files (record { told = told; faults = faults; before = net; after = net }) out (record { before = given; after = given }) (record { before = draw; after = draw }) (record { told = tells; faults = counts; before = disks; after = disks }) one
+run-refused {F} {N} {O} {D} {K} drawing options files told faults net out given draw tells counts disks one line reading has asked never ends =
+    run-of drawing options files (record { told = told; faults = faults; before = net; after = net }) out (record { before = given; after = given }) (record { before = draw; after = draw }) (record { told = tells; faults = counts; before = disks; after = disks }) one (Refused line) Unopened
+    (reads-refused {D = D} options.keys files line reading has asked never) (calls-refused {D = D} options.port line told faults net) (idle-refused drawing options options.journal tells counts disks given draw line) refl ends
 
-  pub run-unbegun : IfTold files (AsksOnce options.keys) → FailsNever files → Ends {D = D} {O = O} options out Unopened Unbegun one
-      → ServeRun drawing options files (record { told = told; faults = faults; before = net; after = net }) out (record { before = given; after = given }) (record { before = draw; after = draw }) (record { told = tells; faults = counts; before = disks; after = disks }) one
-  run-unbegun asked never ends =
-      run-of drawing options files (record { told = told; faults = faults; before = net; after = net }) out (record { before = given; after = given }) (record { before = draw; after = draw }) (record { told = tells; faults = counts; before = disks; after = disks }) one Unbegun Unopened
-      (reads-unbegun {D = D} options.keys files asked never) (calls-none {D = D} options.port told faults net) (idle-unbegun drawing options options.journal tells counts disks given draw) refl ends
+pub run-unbegun : {F N O D K : Type 0} (drawing : Drawing D) (options : ServeOptions) (files : Part FilesTold F) (told : N → Option (List NetCall)) (faults : N → ℕ) (net : N) (out : Outside O) (given : Option (List ℕ)) (draw : D) (tells : K → Option NamesTold) (counts : K → ℕ) (disks : K) (one : Status)
+    → IfTold files (AsksOnce options.keys) → FailsNever files → Ends {D = D} {O = O} options out Unopened Unbegun one
+    → ServeRun drawing options files (record { told = told; faults = faults; before = net; after = net }) out (record { before = given; after = given }) (record { before = draw; after = draw }) (record { told = tells; faults = counts; before = disks; after = disks }) one
+run-unbegun {F} {N} {O} {D} {K} drawing options files told faults net out given draw tells counts disks one asked never ends =
+    run-of drawing options files (record { told = told; faults = faults; before = net; after = net }) out (record { before = given; after = given }) (record { before = draw; after = draw }) (record { told = tells; faults = counts; before = disks; after = disks }) one Unbegun Unopened
+    (reads-unbegun {D = D} options.keys files asked never) (calls-none {D = D} options.port told faults net) (idle-unbegun drawing options options.journal tells counts disks given draw) refl ends

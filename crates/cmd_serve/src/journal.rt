@@ -35,7 +35,7 @@ where
     requires some { options.now.stop_after ≢ Some 0 }
     requires first { lines.now.first ≡ listening options.now.port }
     requires last { lines.now.last ≡ last_line options.now.conns Served }
-    requires name { options.now.journal ≡ Some name.now }
+    requires named { options.now.journal ≡ Some name.now }
     ensures run { RunsWith (record { step = D.step; standing_at = D.standing_at; place_of = D.place_of }) options.now ring
         (record { told = N.calls; faults = N.faults; before = net.old; after = net.new })
         (record { told = O.written; faults = O.faults; before = out.old; after = out.new })

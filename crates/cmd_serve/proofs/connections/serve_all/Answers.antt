@@ -2,7 +2,7 @@ use Rattle.std.proofs.Common.{List, refl, sym, subst, ◌∙◌, arith}
 use Rattle.auth_keys.specs.declared.ring.RingKey.{RingKey}
 use Rattle.server_node.specs.Trace.{IsOutside, rules_of}
 use Rattle.cmd_serve.specs.Connections.{behind_all}
-use Rattle.cmd_serve.proofs.Connecting.{all-served, counts-going, each-served, left-going, none-so-far, one-more-served}
+use Rattle.cmd_serve.proofs.Connecting.{all-served, breaks-by, counts-going, each-served, left-going, none-so-far, one-more-served}
 use Rattle.cmd_serve.proofs.connections.serve_all.Goals as goal
 
 pub connections-init : goal.connections-init
@@ -42,3 +42,7 @@ pub returns-clause-served : goal.returns-clause-served
 returns-clause-served g c outside first is stands =
     each-served (rules_of g.K.D.Draw.step g.V.Service.step outside) first c.connections._served c.args.conns (g.N.Net.calls c.args.net.now) (record { desk = g.K.Desk.StandsFor c.connections.desk; drawn = g.K.Desk.drawn c.connections.desk; service = c.connections.service; given = g.C.Clock.given c.connections.clock; left = c.connections.left; calls = g.N.Net.calls c.connections.net })
     (omega (arith, c.connections-test.false, c.connections.auto._served-end)) (c.connections.invariant.so_far outside first is stands)
+
+pub returns-in-Some-clause-breaks : goal.returns-in-Some-clause-breaks
+returns-in-Some-clause-breaks g c =
+    breaks-by g.K.Desk.MayAnswer c.serve_next-end.result c.in-Some.ending (sym c.ending_of.ensures ∙ c.in-Some.is) c.serve_next-end.ensures.journal
