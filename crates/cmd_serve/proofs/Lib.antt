@@ -6,3 +6,4 @@ pub mod Connecting
 pub mod Texts
 pub mod Ways
 pub mod Serving
+pub mod Openings

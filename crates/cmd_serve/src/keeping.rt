@@ -7,10 +7,11 @@ ghost use Rattle.cmd_serve.specs.Inner.{OpensFile, ShutsFile};
 use auth_keys::Ring;
 use disks::{Disk, DiskLen};
 use draws::{Draw, Seeded, draw_bytes};
-use envelope::MtSeal;
+use envelope::{MtSeal, Seal};
 use mt_edge::Clock;
 use sess_journal::Kept;
 use sess_records::JournalFault;
+use sess_replay::laws::records_lead_to_one_server;
 use std::alloc::Global;
 
 /// The server of the journal that an open file has: of a new one, whose seed is four words of the draw, where the file is empty;
@@ -29,6 +30,8 @@ pub(crate) fn keeping<K: Disk + Drop, C: Clock, D: Seeded + Drop>(
     ensures opens { IfOk result (OpensFile (record { step = D.step; standing_at = D.standing_at; place_of = D.place_of }) ring K.told K.place K.faults disk (C.given clock.old) (C.given clock.new) draw.old draw.new) }
     ensures shuts { IfErr result (ShutsFile (record { step = D.step; standing_at = D.standing_at; place_of = D.place_of }) ring K.told K.place K.faults disk (C.given clock.old) (C.given clock.new) draw.old draw.new) }
 {
+    MtSeal::opens_what_it_sealed();
+    records_lead_to_one_server::<D>();
     let mut disk = disk;
     match disk.len() {
         DiskLen::Len(0) => Kept::create(alloc, disk, MtSeal::new(ring), &new_seed(draw)),
