@@ -474,7 +474,7 @@ run-of drawing options files net out moments draws disks one course keeping read
   keeping = keeping;
   reads = reads;
   calls = calls;
-  goes = goes;
+  serves = goes;
   counts = counts;
   ends = ends;
   few = few-calls (net.told net.before) (net.told net.after) (1 + options.conns) (Makes options.port course) (λ made is. few-made drawing options disks moments draws keeping course made is goes) calls.made;

@@ -342,7 +342,7 @@ pub record ServeRun {F N O D K : Type 0} (drawing : Drawing D) (options : ServeO
   pub keeping : Keeping
   pub reads : Reads options.keys files course
   pub calls : Calls options.port net course
-  pub goes : GoesBy drawing options options.journal disks moments draws keeping course
+  pub serves : GoesBy drawing options options.journal disks moments draws keeping course
   pub counts : CountsDisks disks keeping course
   -- the status and what is written
   pub ends : Ends options out keeping course result
