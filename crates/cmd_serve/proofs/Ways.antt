@@ -301,12 +301,12 @@ broken-last disks conns (last ∷ earlier) ended counted = broken-by disks last.
 
 broken-kept : {D K : Type 0} (disks : Part NamesTold K) (ring : List RingKey) (connections : List (Connection D Registers)) (conns : ℕ) (keeping : Keeping) → IsOpen keeping → EndsBy conns Journal connections
     → CountsDisks disks keeping (Serves ring connections Journal) → Faulted disks ⊎ IsFullLast connections
-broken-kept disks ring connections conns Unopened open ended counted = absurd open
-broken-kept disks ring connections conns Faulty open ended counted = absurd open
-broken-kept disks ring connections conns (Foreign at) open ended counted = absurd open
-broken-kept disks ring connections conns Cut open ended counted = absurd open
-broken-kept disks ring connections conns (New seed) open ended counted = broken-last disks conns connections ended counted
-broken-kept disks ring connections conns (Old seed entries now) open ended counted = broken-last disks conns connections ended counted
+broken-kept disks ring connections conns Unopened opens ended counted = absurd opens
+broken-kept disks ring connections conns Faulty opens ended counted = absurd opens
+broken-kept disks ring connections conns (Foreign at) opens ended counted = absurd opens
+broken-kept disks ring connections conns Cut opens ended counted = absurd opens
+broken-kept disks ring connections conns (New seed) opens ended counted = broken-last disks conns connections ended counted
+broken-kept disks ring connections conns (Old seed entries now) opens ended counted = broken-last disks conns connections ended counted
 
 broken-run : {D K : Type 0} (drawing : Drawing D) (options : ServeOptions) (journal : Option (List ℕ)) (disks : Part NamesTold K) (moments : Moments) (draws : Draws D) (keeping : Keeping) (ring : List RingKey) (connections : List (Connection D Registers))
     → GoesBy drawing options journal disks moments draws keeping (Serves ring connections Journal) → CountsDisks disks keeping (Serves ring connections Journal) → Faulted disks ⊎ IsFullLast connections

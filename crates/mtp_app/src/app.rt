@@ -63,7 +63,16 @@ const WORDS_REFUSED: &str = "words refused\n";
 /// something to send and fewer than 2,048 numbers left. 11: no connections can be taken, or a server can't be started, read or
 /// waited for. 12: the file of the journal can't be opened, is neither empty nor a journal, or is full, or a call of it failed.
 /// 13: a sentence about the trace doesn't hold.
-pub fn run<S: Source, O: Sink, F: KeyFiles, N: Net, P: Spawner, C: Clock, D: Seeded + Drop, K: Disks>(
+pub fn run<
+    S: Source,
+    O: Sink,
+    F: KeyFiles,
+    N: Net,
+    P: Spawner,
+    C: Clock,
+    D: Seeded + Drop,
+    K: Disks,
+>(
     alloc: Global,
     words: &[String],
     input: &mut S,
@@ -136,7 +145,10 @@ where
     memory_may_end_a_check::<S, O>();
     memory_may_end_a_relay::<S, O>();
     match read(alloc, words) {
-        Ok(command) => obey(alloc, &command, input, out, files, net, kids, clock, draw, disks).number(),
+        Ok(command) => obey(
+            alloc, &command, input, out, files, net, kids, clock, draw, disks,
+        )
+        .number(),
         Err(WordsFault::Refused) => plain(alloc, Status::WordsRefused, WORDS_REFUSED, out).number(),
         Err(WordsFault::Memory) => Status::Memory.number(),
     }
