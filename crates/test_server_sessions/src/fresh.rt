@@ -1,6 +1,7 @@
 //! What a server does that no session has come to.
 
 ghost use Rattle.std.specs.Prelude.{◌≡◌, IfErr};
+ghost use Rattle.server_core.specs.Desks.{Counts};
 
 use draws::StepDraw;
 use envelope::{MtSeal, Seal};
@@ -49,6 +50,8 @@ fn serves<K: Desk, V: Service>(
     packet: &[u8],
 ) -> Result<usize, DeskFault>
     ensures same_keys { K.keys desk.new ≡ K.keys desk.old }
+    ensures same_reference { K.draw_name desk.new ≡ K.draw_name desk.old }
+    ensures counted { Counts result (K.fault_count desk.old) (K.fault_count desk.new) }
     ensures faults { IfErr result K.MayAnswer }
 {
     let reply = desk.on_packet(alloc, now, packet)?;
@@ -79,6 +82,6 @@ fn a_plain_desk_drops_what_does_not_open(rt: HostRuntime) -> Result<(), Fail> {
         b"too short",
     )?;
     same(sent, 0)?;
-    same(desk.ready(), 0)?;
+    same((desk.ready(), desk.unfinished()), (0, 0))?;
     Ok(())
 }
