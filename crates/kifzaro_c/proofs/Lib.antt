@@ -1,3 +1,4 @@
 pub mod Values
 pub mod ClientValues
 pub mod ServerValues
+pub mod Sending
