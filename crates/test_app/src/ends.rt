@@ -27,11 +27,11 @@ fn over_two(alloc: Global, first: &[u8], second: &[u8]) -> Result<Ended, Fail> {
 #[test]
 fn a_call_of_which_a_lost_session_knew(rt: HostRuntime) -> Result<(), Fail> {
     let alloc = rt.alloc();
-    let asked = ran(alloc, CALL, b"add x 5\n", &[], false, 1)?;
-    let first = ran(alloc, SERVE, &[], asked.sent.as_slice(), false, 2)?;
+    let asked = ran(alloc, CALL, b"add x 5\n", &[], 1)?;
+    let first = ran(alloc, SERVE, &[], asked.sent.as_slice(), 2)?;
     let again = over_two(alloc, first.sent.as_slice(), &[])?;
     same(again.status, 7)?;
-    let second = ran(alloc, SERVE, &[], again.sent.as_slice(), false, 3)?;
+    let second = ran(alloc, SERVE, &[], again.sent.as_slice(), 3)?;
     let last = over_two(alloc, first.sent.as_slice(), second.sent.as_slice())?;
     holds(last.out.as_slice() == b"call 1 unknown session\n".as_slice())?;
     same(last.status, 6)

@@ -1,11 +1,14 @@
-//! Both ends over links in memory: what each wrote is what the other reads, round for round.
+//! Runs of the program over links in memory.
 
-use crate::runs::status_of;
-use mt_edge::{MemFiles, MemLink, MemNet, MemSink, MemSource, NamedFile, NetCall, Outcome};
+use msg_ids::Moment;
+use mt_edge::{
+    ChaChaDraw, ListClock, MemFiles, MemKids, MemLink, MemNet, MemSink, MemSource, NamedFile,
+    NetCall, Outcome, Seeded,
+};
+use mtp_app::run;
 use octets::Octets;
 use std::alloc::{AllocError, Global};
 use std::test::Fail;
-use test_asserts::{holds_at, same_at};
 
 /// The bytes of the first answer and of the attach behind it, in frames: each read of a client gives so many at most.
 const PIECE_BYTES: usize = 280;
@@ -36,13 +39,10 @@ fn files(alloc: Global) -> Result<MemFiles, Fail> {
     Ok(MemFiles::new(alloc, files, &[], 2)?)
 }
 
-/// A net with a link over which these bytes come, and before it, where one is to be lost, one that ends at once.
-fn net(alloc: Global, come: &[u8], lost: bool) -> Result<MemNet, Fail> {
+/// A net with a link over which these bytes come.
+fn net(alloc: Global, come: &[u8]) -> Result<MemNet, Fail> {
     let mut links = Vec::new(alloc);
     links.push(MemLink::new(alloc, come, PIECE_BYTES, &[], ROOM_BYTES, 64)?)?;
-    if lost {
-        links.push(MemLink::new(alloc, &[], PIECE_BYTES, &[], ROOM_BYTES, 64)?)?;
-    }
     Ok(MemNet::new(alloc, links, &[], 4)?)
 }
 
@@ -70,6 +70,25 @@ fn words_of(alloc: Global, line: &str) -> Result<Vec<String>, AllocError> {
         .try_collect(alloc)
 }
 
+/// The status of these words with this input, output, files and net, where there are no children, at moment 0, with words
+/// drawn from this seed.
+fn status_of(
+    alloc: Global,
+    words: &[String],
+    input: &mut MemSource,
+    out: &mut MemSink,
+    files: &mut MemFiles,
+    net: &mut MemNet,
+    seed: u8,
+) -> Result<u8, Fail> {
+    let mut kids = MemKids::new(alloc, Vec::new(alloc), &[], 0, 0, 0)?;
+    let mut clock = ListClock::new(alloc, &[Moment::new(0)])?;
+    let mut draw = ChaChaDraw::at(&[seed; 32], 0);
+    Ok(run(
+        alloc, words, input, out, files, net, &mut kids, &mut clock, &mut draw,
+    ))
+}
+
 /// How a run of these words ended, what it wrote, and what it wrote over its last connection.
 #[derive(Drop)]
 pub(crate) struct Ended {
@@ -84,10 +103,9 @@ pub(crate) fn ran(
     line: &str,
     script: &[u8],
     come: &[u8],
-    lost: bool,
     seed: u8,
 ) -> Result<Ended, Fail> {
-    let mut net = net(alloc, come, lost)?;
+    let mut net = net(alloc, come)?;
     ended(alloc, line, script, &mut net, seed)
 }
 
@@ -116,65 +134,4 @@ pub(crate) fn ended(
         out: Octets::copy(alloc, out.written())?,
         sent: Octets::copy(alloc, written(net))?,
     })
-}
-
-/// A batch and a server: in each round the client hears what the server wrote in the round before, and the server what the
-/// client writes then. How the client's last run ended.
-fn both(alloc: Global, call: &str, lost: bool) -> Result<Ended, Fail> {
-    let script = b"add x 5\nadd x 7 after 1\n";
-    let serve = "serve --keys k --port 4430 --conns 1";
-    let mut client = ran(alloc, call, script, &[], lost, 1)?;
-    for _ in 0..3 {
-        let server = ran(alloc, serve, &[], client.sent.as_slice(), false, 2)?;
-        client = ran(alloc, call, script, server.sent.as_slice(), lost, 1)?;
-    }
-    Ok(client)
-}
-
-fn ends(alloc: Global, call: &str, lost: bool, status: u8, table: &str) -> Result<(), Fail> {
-    let client = both(alloc, call, lost)?;
-    holds_at(call, client.out.as_slice() == table.as_bytes())?;
-    same_at(call, client.status, status)?;
-    Ok(())
-}
-
-// In three forms, and behind a connection that is lost.
-#[test]
-fn batches_under_the_permanent_key(rt: HostRuntime) -> Result<(), Fail> {
-    let done = "call 1 done 5\ncall 2 done 12\n";
-    let rows = [
-        ("intermediate", false, 0, done),
-        ("full", false, 0, done),
-        ("padded --obfuscate", false, 0, done),
-        ("abridged --retries 1", true, 0, done),
-        ("abridged", true, 7, "call 1 sent\ncall 2 sent\nlink lost\n"),
-    ];
-    for (form, lost, status, table) in rows {
-        let call = format!(in rt.alloc();
-            "call --keys k --key 32d1586ea457dfc8 --port 4430 --form {form}"
-        )?;
-        ends(rt.alloc(), call.as_str(), lost, status, table)?;
-    }
-    Ok(())
-}
-
-// It is bound to the permanent key first, and refused where that one isn't named, or is none.
-#[test]
-fn batches_under_the_temporary_key(rt: HostRuntime) -> Result<(), Fail> {
-    let rows = [
-        (
-            " --perm 32d1586ea457dfc8",
-            0,
-            "call 1 done 5\ncall 2 done 12\n",
-        ),
-        (" --perm 96d1b10e8f724a13", 5, "no such key\n"),
-        ("", 5, "no such key\n"),
-    ];
-    for (perm, status, table) in rows {
-        let call = format!(in rt.alloc();
-            "call --keys k --key 96d1b10e8f724a13 --port 4430 --form full{perm}"
-        )?;
-        ends(rt.alloc(), call.as_str(), false, status, table)?;
-    }
-    Ok(())
 }

@@ -1,0 +1,268 @@
+//! A case: what a run is given, line by line, and what it comes to.
+
+use crate::outside::{Faults, Stream};
+use crate::running::{Ended, Given, ran, starts, words_of};
+use mt_edge::MemKids;
+use octets::{Memory, Octets};
+use std::alloc::{AllocError, Global};
+use std::test::Fail;
+use test_keys::{bytes_from_0_to_255, line as key_line};
+use test_lines::Line;
+
+/// The most bytes of a read and of a write where a case says no other.
+const PIECE_BYTES: usize = 4_096;
+
+/// The bytes of a server's first answer and of the attach behind it, in frames: each read over a link gives so many at most, where
+/// a case says no other.
+const ANSWER_BYTES: usize = 280;
+
+/// What a case has by now: what its run is given, what comes to it over its links and what it sent over them, and what is told.
+#[derive(Drop)]
+struct Case {
+    given: Given,
+    down: Stream,
+    up: Stream,
+    text: String,
+}
+
+impl Case {
+    // Nothing is given but the key file of both keys.
+    fn new(alloc: Global) -> Result<Case, Fail> {
+        Ok(Case {
+            given: Given {
+                words: Vec::new(alloc),
+                input: Octets::new(alloc),
+                keys: both_keys(alloc)?,
+                reads: (PIECE_BYTES, 0),
+                writes: (PIECE_BYTES, 0),
+                faults: Faults::none(),
+                piece_bytes: ANSWER_BYTES,
+            },
+            down: Stream::new(alloc),
+            up: Stream::new(alloc),
+            text: String::new(alloc),
+        })
+    }
+
+    // A run of the case's own words, over what came so far.
+    fn ran(&self, alloc: Global) -> Result<Ended, Fail> {
+        ran(
+            alloc,
+            &self.given,
+            self.given.words.as_slice(),
+            &self.down,
+            1,
+        )
+    }
+
+    // The run says what it says over what came so far.
+    fn sends(&mut self, alloc: Global) -> Result<(), Fail> {
+        let ended = self.ran(alloc)?;
+        self.up = ended.sent;
+        Ok(())
+    }
+
+    // A server of these words over the first link or the second one hears that, and what it says comes next.
+    fn serves(&mut self, line: &mut Line<'_>) -> Result<(), Fail> {
+        let alloc = line.alloc;
+        let is_first = line.word() == "first";
+        let words = words_of(alloc, line.rest())?;
+        // (each server draws other words)
+        let seed = if is_first { 2 } else { 3 };
+        let sent = answer(
+            alloc,
+            &self.given,
+            words.as_slice(),
+            self.up.over(is_first),
+            seed,
+        )?;
+        self.down.set(is_first, sent);
+        Ok(())
+    }
+
+    // How a run ends, what it writes, so many bytes of it at most, and the calls of its net and its spawner where they are asked for.
+    fn tells(&mut self, alloc: Global, most: usize, verb: &str) -> Result<(), Fail> {
+        let ended = self.ran(alloc)?;
+        let text = &mut self.text;
+        put_counted(text, alloc, u64::from(ended.status), "")?;
+        put_front(text, ended.out.as_slice(), most)?;
+        match verb {
+            "pairs" => put_starts(text, alloc, &ended.kids),
+            "serves" => put_served(text, alloc, &ended),
+            _ => Ok(()),
+        }
+    }
+
+    // A line that says what a run is given: whether it is one.
+    fn is_given(&mut self, line: &mut Line<'_>) -> Result<bool, Fail> {
+        let alloc = line.alloc;
+        let given = &mut self.given;
+        match line.verb {
+            "word" => given.words.push(String::from_str(alloc, line.rest())?)?,
+            "words" => given.words = words_of(alloc, line.rest())?,
+            "fill" => put(alloc, &mut given.input, line.bytes()?.as_slice())?,
+            "each" => put_each(&mut given.input, line)?,
+            "keys" => given.keys = keys_of(alloc, line.rest())?,
+            "file" => given.keys = line.bytes()?,
+            "read" => given.reads = piece_of(line)?,
+            "write" => given.writes = piece_of(line)?,
+            "fail" => given.faults.set(line)?,
+            "over" => given.piece_bytes = line.small()? as usize,
+            _ => return Ok(false),
+        }
+        Ok(true)
+    }
+
+    // A line of a case.
+    fn plays(&mut self, line: &mut Line<'_>) -> Result<(), Fail> {
+        if self.is_given(line)? {
+            return Ok(());
+        }
+        match line.verb {
+            "client" => self.sends(line.alloc),
+            "server" => self.serves(line),
+            "cut" => {
+                let most = line.small()? as usize;
+                Ok(cut(line.alloc, &mut self.down.first, most)?)
+            }
+            "turn" => {
+                self.down = std::mem::replace(&mut self.up, Stream::new(line.alloc));
+                Ok(())
+            }
+            "front" => {
+                let most = line.small()? as usize;
+                self.tells(line.alloc, most, "front")?;
+                Ok(self.text.push_str("\n")?)
+            }
+            "run" | "pairs" | "serves" => self.tells(line.alloc, usize::MAX, line.verb),
+            _ => Err(Fail::new("no such line")),
+        }
+    }
+}
+
+// What a server of these words writes that hears this over its one connection. The net of a server notes its listen first.
+fn answer(
+    alloc: Global,
+    given: &Given,
+    words: &[String],
+    heard: &Octets,
+    seed: u8,
+) -> Result<Octets, Fail> {
+    let come = Stream {
+        first: Octets::copy(alloc, heard.as_slice())?,
+        second: Octets::new(alloc),
+    };
+    let given = Given {
+        words: Vec::new(alloc),
+        input: Octets::new(alloc),
+        keys: Octets::copy(alloc, given.keys.as_slice())?,
+        reads: (PIECE_BYTES, 0),
+        writes: (PIECE_BYTES, 0),
+        faults: Faults::none(),
+        piece_bytes: given.piece_bytes,
+    };
+    let Ended { sent, .. } = ran(alloc, &given, words, &come, seed)?;
+    let Stream { second, .. } = sent;
+    Ok(second)
+}
+
+// Puts a number and a word behind it, and ends the line.
+fn put_counted(text: &mut String, alloc: Global, count: u64, word: &str) -> Result<(), Fail> {
+    let line = format!(in alloc; "{count}{word}\n")?;
+    Ok(text.push_str(line.as_str())?)
+}
+
+// Puts so many bytes of a text at most.
+fn put_front(text: &mut String, bytes: &[u8], most: usize) -> Result<(), Fail> {
+    let front = bytes.get(..most).unwrap_or(bytes);
+    Ok(text.push_str(str::from_utf8(front).unwrap_or("?"))?)
+}
+
+// Puts how many calls a spawner had, and its starts.
+fn put_starts(text: &mut String, alloc: Global, kids: &MemKids) -> Result<(), Fail> {
+    put_counted(text, alloc, kids.calls().len() as u64, " calls")?;
+    Ok(text.push_str(starts(alloc, kids)?.as_str())?)
+}
+
+// Puts how many calls a net had, and the frames that were written over the connection of its second one.
+fn put_served(text: &mut String, alloc: Global, ended: &Ended) -> Result<(), Fail> {
+    put_counted(text, alloc, ended.net_calls as u64, " calls")?;
+    put_frames(text, alloc, ended.sent.second.as_slice())
+}
+
+// Puts a line for each frame of the intermediate form: how many bytes its packet has.
+fn put_frames(text: &mut String, alloc: Global, bytes: &[u8]) -> Result<(), Fail> {
+    let mut left = bytes;
+    for _ in 0..bytes.len() {
+        let Some((size, rest)) = left.split_first_chunk::<4>() else {
+            break;
+        };
+        let size = u32::from_le_bytes(*size);
+        put_counted(text, alloc, u64::from(size), " bytes")?;
+        left = rest.get(size as usize..).unwrap_or(&[]);
+    }
+    Ok(())
+}
+
+// Leaves so many bytes at most.
+fn cut(alloc: Global, bytes: &mut Octets, most: usize) -> Result<(), Memory> {
+    let whole = bytes.as_slice();
+    *bytes = Octets::copy(alloc, whole.get(..most).unwrap_or(whole))?;
+    Ok(())
+}
+
+// Puts bytes at the end.
+fn put(alloc: Global, into: &mut Octets, bytes: &[u8]) -> Result<(), Fail> {
+    Ok(into.push_all(alloc, bytes)?)
+}
+
+// Puts lines at the end, as often as is said: the line says a number, by how much it grows, how often, and the lines, with `; `
+// between them, in which `#` stands for the number.
+fn put_each(into: &mut Octets, line: &mut Line<'_>) -> Result<(), Fail> {
+    let alloc = line.alloc;
+    let (mut number, step, count) = (line.number()?, line.number()?, line.number()?);
+    let lines = line.rest().replace(alloc, "; ", "\n")?;
+    for _ in 0..count {
+        let digits = format!(in alloc; "{number}")?;
+        let lines = lines.as_str().replace(alloc, "#", digits.as_str())?;
+        put(alloc, into, lines.as_bytes())?;
+        put(alloc, into, b"\n")?;
+        number = number.wrapping_add(step);
+    }
+    Ok(())
+}
+
+// The key file of the permanent key `00` to `ff` and the temporary one `ff` to `00`.
+fn both_keys(alloc: Global) -> Result<Octets, Fail> {
+    let perm = key_line(alloc, "perm")?;
+    let mut down = bytes_from_0_to_255();
+    down.reverse();
+    let temp = hex::encode(alloc, down.as_slice())?;
+    let text = format!(in alloc; "{perm}\ntemp 7200 {temp}\n")?;
+    Ok(Octets::copy(alloc, text.as_bytes())?)
+}
+
+// A key file of one line: these words, and the digits of the key `00` to `ff`.
+fn keys_of(alloc: Global, words: &str) -> Result<Octets, AllocError> {
+    let line = key_line(alloc, words)?;
+    match Octets::copy(alloc, line.as_bytes()) {
+        Ok(keys) => Ok(keys),
+        Err(_) => Err(AllocError),
+    }
+}
+
+// The most bytes of a call, and which call fails.
+fn piece_of(line: &mut Line<'_>) -> Result<(usize, u64), Fail> {
+    Ok((line.small()? as usize, line.number()?))
+}
+
+/// What is told of a case: its first line, and then what its other lines give.
+pub(crate) fn played(alloc: Global, case: &str) -> Result<String, Fail> {
+    let (title, lines) = case.split_once('\n').ok_or("no line")?;
+    let mut case = Case::new(alloc)?;
+    for line in lines.lines() {
+        case.plays(&mut Line::of(alloc, line))?;
+    }
+    let told = case.text.as_str();
+    Ok(format!(in alloc; "{title}\n{told}\n")?)
+}

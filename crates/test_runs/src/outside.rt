@@ -1,0 +1,156 @@
+//! The outside of a run, over memory.
+
+use mt_edge::{MemFiles, MemKid, MemKids, MemLink, MemNet, NamedFile, NetCall, Outcome};
+use octets::Octets;
+use std::alloc::Global;
+use std::test::Fail;
+use test_lines::Line;
+
+/// Room for what goes over a link, in bytes.
+const ROOM_BYTES: usize = 10_000;
+
+/// Room for the reads of a link.
+const READS: usize = 4_000;
+
+/// Which calls fail, counted from 1, and none by 0: of the key files, of the net, of its first link and of its second one, and
+/// of the spawner.
+#[derive(Clone, Copy)]
+pub(crate) struct Faults {
+    pub(crate) files: u64,
+    pub(crate) net: u64,
+    pub(crate) first: u64,
+    pub(crate) second: u64,
+    pub(crate) kids: u64,
+}
+
+impl Faults {
+    /// None fails.
+    pub(crate) fn none() -> Faults {
+        Faults {
+            files: 0,
+            net: 0,
+            first: 0,
+            second: 0,
+            kids: 0,
+        }
+    }
+
+    /// The call that a line names fails.
+    pub(crate) fn set(&mut self, line: &mut Line<'_>) -> Result<(), Fail> {
+        let kind = line.word();
+        let number = line.number()?;
+        match kind {
+            "files" => self.files = number,
+            "net" => self.net = number,
+            "first" => self.first = number,
+            "second" => self.second = number,
+            "kids" => self.kids = number,
+            _ => return Err(Fail::new("no such calls")),
+        }
+        Ok(())
+    }
+}
+
+/// What goes over the two links of a net, one way.
+#[derive(Drop)]
+pub(crate) struct Stream {
+    pub(crate) first: Octets,
+    pub(crate) second: Octets,
+}
+
+impl Stream {
+    /// Nothing.
+    pub(crate) fn new(alloc: Global) -> Stream {
+        Stream {
+            first: Octets::new(alloc),
+            second: Octets::new(alloc),
+        }
+    }
+
+    /// What goes over the first link, or the second one.
+    pub(crate) fn over(&self, is_first: bool) -> &Octets {
+        if is_first { &self.first } else { &self.second }
+    }
+
+    /// This goes over the first link, or the second one.
+    pub(crate) fn set(&mut self, is_first: bool, bytes: Octets) {
+        if is_first {
+            self.first = bytes;
+        } else {
+            self.second = bytes;
+        }
+    }
+}
+
+/// The one file that there is.
+pub(crate) fn files_of(alloc: Global, keys: &[u8], failing: u64) -> Result<MemFiles, Fail> {
+    let mut files = Vec::new(alloc);
+    files.push(NamedFile {
+        name: Octets::copy(alloc, b"k")?,
+        contents: Octets::copy(alloc, keys)?,
+    })?;
+    Ok(MemFiles::new(alloc, files, &[failing], 4)?)
+}
+
+// A link over which these bytes come, so many at most in each read and write.
+fn link(alloc: Global, come: &[u8], piece_bytes: usize, failing: u64) -> Result<MemLink, Fail> {
+    Ok(MemLink::new(
+        alloc,
+        come,
+        piece_bytes.max(1),
+        &[failing],
+        ROOM_BYTES,
+        READS,
+    )?)
+}
+
+/// A net with two links over which these bytes come, in order, so many at most in each read and write.
+pub(crate) fn net_of(
+    alloc: Global,
+    come: &Stream,
+    piece_bytes: usize,
+    faults: Faults,
+) -> Result<MemNet, Fail> {
+    let mut links = Vec::new(alloc);
+    links.push(link(alloc, come.second.as_slice(), piece_bytes, faults.second)?)?;
+    links.push(link(alloc, come.first.as_slice(), piece_bytes, faults.first)?)?;
+    Ok(MemNet::new(alloc, links, &[faults.net], 4)?)
+}
+
+/// Two children that write a line each and end with status 0.
+pub(crate) fn kids_of(alloc: Global, failing: u64) -> Result<MemKids, Fail> {
+    let mut kids = Vec::new(alloc);
+    for _ in 0..2 {
+        let mut lines = Vec::new(alloc);
+        lines.push(Octets::copy(alloc, b"listening")?)?;
+        kids.push(MemKid { lines, status: 0 })?;
+    }
+    Ok(MemKids::new(alloc, kids, &[failing], 8, 10, 20)?)
+}
+
+// What was written over the connection that a call of a net made.
+fn written(call: Option<&NetCall>) -> &[u8] {
+    match call {
+        Some(
+            NetCall::Connect {
+                outcome: Outcome::Done { told, .. },
+                ..
+            },
+        ) => told.written(),
+        Some(
+            NetCall::Accept {
+                outcome: Outcome::Done { told, .. },
+            },
+        ) => told.written(),
+        _ => &[],
+    }
+}
+
+/// What was written over the connections of a net, of which the first two calls made one each.
+pub(crate) fn sent_over(alloc: Global, net: &MemNet) -> Result<Stream, Fail> {
+    let calls = net.calls();
+    Ok(Stream {
+        first: Octets::copy(alloc, written(calls.first()))?,
+        second: Octets::copy(alloc, written(calls.get(1)))?,
+    })
+}

@@ -1,0 +1,131 @@
+//! A run of the program, and what it is told to do.
+
+use crate::outside::{Faults, Stream, files_of, kids_of, net_of, sent_over};
+use msg_ids::Moment;
+use mt_edge::{
+    ChaChaDraw, KidCall, ListClock, MemFiles, MemKids, MemNet, MemSink, MemSource, Seeded,
+};
+use mtp_app::run;
+use octets::Octets;
+use std::alloc::{AllocError, Global};
+use std::test::Fail;
+
+/// Room for what a run writes, in bytes.
+const OUT_BYTES: usize = 1_048_576;
+
+/// What a run is given: its words, its input and its key file, the most bytes of a read of its input and of a write, which of
+/// these calls fail, counted from 1, and which others do; the most bytes of a read and of a write over a link.
+#[derive(Drop)]
+pub(crate) struct Given {
+    pub(crate) words: Vec<String>,
+    pub(crate) input: Octets,
+    pub(crate) keys: Octets,
+    pub(crate) reads: (usize, u64),
+    pub(crate) writes: (usize, u64),
+    pub(crate) faults: Faults,
+    pub(crate) piece_bytes: usize,
+}
+
+/// How a run ended, what it wrote, and what it wrote over each link; the calls of its net and its spawner.
+#[derive(Drop)]
+pub(crate) struct Ended {
+    pub(crate) status: u8,
+    pub(crate) out: Octets,
+    pub(crate) sent: Stream,
+    pub(crate) net_calls: usize,
+    pub(crate) kids: MemKids,
+}
+
+// What a run reads and writes, but for its input and its output.
+#[derive(Drop)]
+struct Outside {
+    files: MemFiles,
+    net: MemNet,
+    kids: MemKids,
+}
+
+// The status of these words over these, at moment 0, with words drawn from this seed.
+fn status_of(
+    alloc: Global,
+    words: &[String],
+    input: &mut MemSource,
+    out: &mut MemSink,
+    outside: &mut Outside,
+    seed: u8,
+) -> Result<u8, Fail> {
+    let mut clock = ListClock::new(alloc, &[Moment::new(0)])?;
+    let mut draw = ChaChaDraw::at(&[seed; 32], 0);
+    Ok(run(
+        alloc,
+        words,
+        input,
+        out,
+        &mut outside.files,
+        &mut outside.net,
+        &mut outside.kids,
+        &mut clock,
+        &mut draw,
+    ))
+}
+
+// The input and the output of a run.
+fn streams(alloc: Global, given: &Given) -> Result<(MemSource, MemSink), Fail> {
+    let (read_bytes, failing_read) = given.reads;
+    let (write_bytes, failing_write) = given.writes;
+    let input = given.input.as_slice();
+    let input = MemSource::new(alloc, input, read_bytes.max(1), &[failing_read])?;
+    let out = MemSink::new(alloc, OUT_BYTES, write_bytes.max(1), &[failing_write])?;
+    Ok((input, out))
+}
+
+// The rest of its outside, where these bytes come over its links.
+fn outside_of(alloc: Global, given: &Given, come: &Stream) -> Result<Outside, Fail> {
+    Ok(Outside {
+        files: files_of(alloc, given.keys.as_slice(), given.faults.files)?,
+        net: net_of(alloc, come, given.piece_bytes, given.faults)?,
+        kids: kids_of(alloc, given.faults.kids)?,
+    })
+}
+
+/// A run over links over which these bytes come, with words drawn from this seed.
+pub(crate) fn ran(
+    alloc: Global,
+    given: &Given,
+    words: &[String],
+    come: &Stream,
+    seed: u8,
+) -> Result<Ended, Fail> {
+    let (mut input, mut out) = streams(alloc, given)?;
+    let mut outside = outside_of(alloc, given, come)?;
+    let status = status_of(alloc, words, &mut input, &mut out, &mut outside, seed)?;
+    Ok(Ended {
+        status,
+        out: Octets::copy(alloc, out.written())?,
+        sent: sent_over(alloc, &outside.net)?,
+        net_calls: outside.net.calls().len(),
+        kids: outside.kids,
+    })
+}
+
+/// The words of a line.
+pub(crate) fn words_of(alloc: Global, line: &str) -> Result<Vec<String>, AllocError> {
+    line.split(' ')
+        .map(|word| String::from_str(alloc, word))
+        .try_collect(alloc)
+}
+
+/// The starts of a spawner, a line for each: its words.
+pub(crate) fn starts(alloc: Global, kids: &MemKids) -> Result<String, Fail> {
+    let mut text = String::new(alloc);
+    for call in kids.calls() {
+        if let KidCall::Start { words, .. } = call {
+            text.push_str("start")?;
+            for word in words.words() {
+                text.push_str(" ")?;
+                text.push_str(str::from_utf8(word.as_slice()).unwrap_or("?"))?;
+            }
+            text.push_str("\n")?;
+        }
+    }
+    Ok(text)
+}
