@@ -1,4 +1,3 @@
 pub mod Values
 pub mod ClientValues
 pub mod ServerValues
-pub mod Sending

@@ -36,9 +36,6 @@ impl Model for ClientHandle {
     ghost also_owns = { λ h. box_owns (ghosts.dealloc_token h.alloc) the_row h.at h.value };
 }
 
-// What it owns is of no thread.
-unsafe impl Send for ClientHandle {}
-
 impl ClientHandle {
     fn of_loose(it: Loose<ClientSlot, Global>) -> ClientHandle
         ensures { result.value ≡ it.value }

@@ -36,9 +36,6 @@ impl Model for ServerHandle {
     ghost also_owns = { λ h. box_owns (ghosts.dealloc_token h.alloc) the_row h.at h.value };
 }
 
-// What it owns is of no thread.
-unsafe impl Send for ServerHandle {}
-
 impl ServerHandle {
     fn of_loose(it: Loose<ServerSlot, Global>) -> ServerHandle
         ensures { result.value ≡ it.value }
