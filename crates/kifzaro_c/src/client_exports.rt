@@ -1,7 +1,7 @@
 //! What C calls of a client. Numbers go out through references, which are written only where the status is `OK` or the comment
 //! says so.
 
-use crate::client_handle::{ClientHandle, ClientSlot, boxed};
+use crate::client_handle::{ClientHandle, boxed};
 use crate::seed::seed_of;
 use crate::status;
 use kifzaro::{CallId, CallState, Cause, Client, Error, Moment};
@@ -45,11 +45,11 @@ pub(crate) fn client_under_temp(
 fn boxes(alloc: Global, made: Result<Client, u32>, out: &mut *mut u8) -> u32 {
     match made {
         Ok(client) => match boxed(alloc, client) {
-            Ok(at) => {
+            Some(at) => {
                 *out = at;
                 status::OK
             }
-            Err(_) => status::MEMORY,
+            None => status::MEMORY,
         },
         Err(told) => told,
     }
@@ -149,29 +149,16 @@ pub extern "C" fn kfr_client_submit(
     after: u64,
     call: &mut u64,
 ) -> u32 {
-    let Ok(mut slot) = handle.take(alloc) else {
-        return status::MEMORY;
-    };
-    let told = match slot.as_mut() {
-        ClientSlot::Here(client) => status::tell(submit(alloc, client, body, after), call),
-        ClientSlot::Away => status::NO_HANDLE,
-    };
-    handle.put(slot);
-    told
+    handle.run(
+        alloc,
+        |client| status::tell(submit(alloc, client, body, after), call),
+    )
 }
 
 /// A connection was opened.
 #[unsafe(no_mangle)]
 pub extern "C" fn kfr_client_attach(alloc: Global, handle: &mut ClientHandle) -> u32 {
-    let Ok(mut slot) = handle.take(alloc) else {
-        return status::MEMORY;
-    };
-    let told = match slot.as_mut() {
-        ClientSlot::Here(client) => status::told(client.attach()),
-        ClientSlot::Away => status::NO_HANDLE,
-    };
-    handle.put(slot);
-    told
+    handle.run(alloc, |client| status::told(client.attach()))
 }
 
 /// A packet came at a moment. A status `REFUSED_..`: it doesn't open, and only the moment counts.
@@ -182,19 +169,10 @@ pub extern "C" fn kfr_client_handle_packet(
     now: u64,
     packet: &[u8],
 ) -> u32 {
-    let Ok(mut slot) = handle.take(alloc) else {
-        return status::MEMORY;
-    };
-    let told = match slot.as_mut() {
-        ClientSlot::Here(client) => status::told(client.handle_packet(
-            alloc,
-            Moment::new(now),
-            packet,
-        )),
-        ClientSlot::Away => status::NO_HANDLE,
-    };
-    handle.put(slot);
-    told
+    handle.run(
+        alloc,
+        |client| status::told(client.handle_packet(alloc, Moment::new(now), packet)),
+    )
 }
 
 /// What is sent next, at a moment: `len` is its length, 0 where nothing is to be sent. `TOO_SHORT`: `len` is what it needs, and it waits.
@@ -206,71 +184,34 @@ pub extern "C" fn kfr_client_poll_transmit(
     room: &mut [u8],
     len: &mut u64,
 ) -> u32 {
-    let Ok(mut slot) = handle.take(alloc) else {
-        return status::MEMORY;
-    };
-    let told = match slot.as_mut() {
-        ClientSlot::Here(client) => status::told_len(poll(alloc, client, now, room), len),
-        ClientSlot::Away => status::NO_HANDLE,
-    };
-    handle.put(slot);
-    told
+    handle.run(
+        alloc,
+        |client| status::told_len(poll(alloc, client, now, room), len),
+    )
 }
 
 /// It goes on in another session.
 #[unsafe(no_mangle)]
 pub extern "C" fn kfr_client_renew(alloc: Global, handle: &mut ClientHandle) -> u32 {
-    let Ok(mut slot) = handle.take(alloc) else {
-        return status::MEMORY;
-    };
-    let told = match slot.as_mut() {
-        ClientSlot::Here(client) => status::told(client.renew()),
-        ClientSlot::Away => status::NO_HANDLE,
-    };
-    handle.put(slot);
-    told
+    handle.run(alloc, |client| status::told(client.renew()))
 }
 
 /// It ends.
 #[unsafe(no_mangle)]
 pub extern "C" fn kfr_client_end(alloc: Global, handle: &mut ClientHandle) -> u32 {
-    let Ok(mut slot) = handle.take(alloc) else {
-        return status::MEMORY;
-    };
-    let told = match slot.as_mut() {
-        ClientSlot::Here(client) => status::told(client.end()),
-        ClientSlot::Away => status::NO_HANDLE,
-    };
-    handle.put(slot);
-    told
+    handle.run(alloc, |client| status::told(client.end()))
 }
 
 /// The server is to be asked how the calls that are sent fared.
 #[unsafe(no_mangle)]
 pub extern "C" fn kfr_client_tick(alloc: Global, handle: &mut ClientHandle) -> u32 {
-    let Ok(mut slot) = handle.take(alloc) else {
-        return status::MEMORY;
-    };
-    let told = match slot.as_mut() {
-        ClientSlot::Here(client) => status::told(client.tick()),
-        ClientSlot::Away => status::NO_HANDLE,
-    };
-    handle.put(slot);
-    told
+    handle.run(alloc, |client| status::told(client.tick()))
 }
 
 /// The server is to answer a ping.
 #[unsafe(no_mangle)]
 pub extern "C" fn kfr_client_ping(alloc: Global, handle: &mut ClientHandle, id: u64) -> u32 {
-    let Ok(mut slot) = handle.take(alloc) else {
-        return status::MEMORY;
-    };
-    let told = match slot.as_mut() {
-        ClientSlot::Here(client) => status::told(client.ping(id)),
-        ClientSlot::Away => status::NO_HANDLE,
-    };
-    handle.put(slot);
-    told
+    handle.run(alloc, |client| status::told(client.ping(id)))
 }
 
 /// The server is to tell so many of its next salts.
@@ -280,15 +221,7 @@ pub extern "C" fn kfr_client_ask_salts(
     handle: &mut ClientHandle,
     count: u32,
 ) -> u32 {
-    let Ok(mut slot) = handle.take(alloc) else {
-        return status::MEMORY;
-    };
-    let told = match slot.as_mut() {
-        ClientSlot::Here(client) => status::told(client.ask_salts(count)),
-        ClientSlot::Away => status::NO_HANDLE,
-    };
-    handle.put(slot);
-    told
+    handle.run(alloc, |client| status::told(client.ask_salts(count)))
 }
 
 /// The server is to be asked to drop the answer to a call.
@@ -298,15 +231,10 @@ pub extern "C" fn kfr_client_drop_answer(
     handle: &mut ClientHandle,
     call: u64,
 ) -> u32 {
-    let Ok(mut slot) = handle.take(alloc) else {
-        return status::MEMORY;
-    };
-    let told = match slot.as_mut() {
-        ClientSlot::Here(client) => status::told(client.drop_answer(CallId { n: call })),
-        ClientSlot::Away => status::NO_HANDLE,
-    };
-    handle.put(slot);
-    told
+    handle.run(
+        alloc,
+        |client| status::told(client.drop_answer(CallId { n: call })),
+    )
 }
 
 /// What became of a call: `state` is 0 queued, 1 sent, 2 held, 3 done, 4 refused, 5 unknown; `code` that of a refusal, or why it is unknown.
@@ -318,15 +246,7 @@ pub extern "C" fn kfr_client_state(
     state: &mut u32,
     code: &mut u32,
 ) -> u32 {
-    let Ok(mut slot) = handle.take(alloc) else {
-        return status::MEMORY;
-    };
-    let told = match slot.as_mut() {
-        ClientSlot::Here(client) => tell_state(client, call, state, code),
-        ClientSlot::Away => status::NO_HANDLE,
-    };
-    handle.put(slot);
-    told
+    handle.run(alloc, |client| tell_state(client, call, state, code))
 }
 
 /// The reply to a call goes into the room, and `len` is its length. `TOO_SHORT`: `len` is what it needs.
@@ -338,18 +258,10 @@ pub extern "C" fn kfr_client_take_reply(
     room: &mut [u8],
     len: &mut u64,
 ) -> u32 {
-    let Ok(mut slot) = handle.take(alloc) else {
-        return status::MEMORY;
-    };
-    let told = match slot.as_mut() {
-        ClientSlot::Here(client) => status::told_len(
-            client.take_reply(CallId { n: call }, room),
-            len,
-        ),
-        ClientSlot::Away => status::NO_HANDLE,
-    };
-    handle.put(slot);
-    told
+    handle.run(
+        alloc,
+        |client| status::told_len(client.take_reply(CallId { n: call }, room), len),
+    )
 }
 
 /// The number of its session, how many calls it has, and whether each is decided (1, else 0).
@@ -361,13 +273,5 @@ pub extern "C" fn kfr_client_counts(
     calls: &mut u32,
     decided: &mut u32,
 ) -> u32 {
-    let Ok(mut slot) = handle.take(alloc) else {
-        return status::MEMORY;
-    };
-    let told = match slot.as_mut() {
-        ClientSlot::Here(client) => tell_counts(client, session, calls, decided),
-        ClientSlot::Away => status::NO_HANDLE,
-    };
-    handle.put(slot);
-    told
+    handle.run(alloc, |client| tell_counts(client, session, calls, decided))
 }

@@ -1,15 +1,16 @@
 //! The handle of a client.
 
 ghost use Rattle.std.specs.Box.Ownership.{box_owns};
-ghost use Rattle.std.specs.Prelude.{◌≡◌, IfOk, OnErr, OnOk};
+ghost use Rattle.std.specs.Prelude.{◌≡◌, IfNone, IfSome, OnSome};
 ghost use Rattle.std.specs.contracts.impls.GlobalAllocator.TheImpl.{ghosts};
 ghost use Rattle.kifzaro_c.specs.contracts.client_handle.ClientSlot.{the_row};
 ghost use Rattle.kifzaro_c.specs.declared.client_handle.ClientSlot.{ClientSlot as Inside};
 ghost use Rattle.kifzaro_c.specs.declared.client_handle.ClientSlot.TheVariants as slots;
 
-use crate::loose::Loose;
+use crate::loose::{Loose, in_box};
+use crate::status;
 use kifzaro::Client;
-use std::alloc::{AllocError, AllocFailed, Global};
+use std::alloc::Global;
 use std::marker::Model;
 use std::mem;
 
@@ -66,35 +67,47 @@ impl ClientHandle {
         self.into_loose().into_box()
     }
 
-    /// The box out of the handle: one with nothing is in its place until `put`.
-    ///
-    /// # Errors
-    ///
-    /// Where there is no memory, and the handle is as it was.
-    pub(crate) fn take(&mut self, alloc: Global) -> Result<Box<ClientSlot>, AllocFailed<ClientSlot>>
-        ensures taken { IfOk result (λ slot. slot.value ≡ self.old.value) }
-        ensures away { OnOk result (self.new.value ≡ slots.Away) }
-        ensures unchanged { OnErr result (self.new ≡ self.old) }
+    /// The box out of the handle: one with nothing is in its place until `put`. None where there is no memory, and the handle is as it
+    /// was.
+    fn take(&mut self, alloc: Global) -> Option<Box<ClientSlot>>
+        ensures taken { IfSome result (λ slot. slot.value ≡ self.old.value) }
+        ensures away { OnSome result (self.new.value ≡ slots.Away) }
+        ensures unchanged { IfNone result (self.new ≡ self.old) }
     {
-        let spare = Box::new(alloc, ClientSlot::Away)?;
-        Ok(mem::replace(self, ClientHandle::of(spare)).into_box())
+        match in_box(alloc, ClientSlot::Away) {
+            Some(spare) => Some(mem::replace(self, ClientHandle::of(spare)).into_box()),
+            None => None,
+        }
     }
 
     /// The box is back in the handle.
-    pub(crate) fn put(&mut self, slot: Box<ClientSlot>)
+    fn put(&mut self, slot: Box<ClientSlot>)
         ensures { self.new.value ≡ slot.value }
     {
         let spare = mem::replace(self, ClientHandle::of(slot)).into_box();
         drop(spare);
     }
+
+    /// Has a call work on the client, and tells its status: `MEMORY` where there is none for a box, and nothing was done.
+    pub(crate) fn run<F: FnOnce(&mut Client) -> u32>(&mut self, alloc: Global, call: F) -> u32
+        requires callable { F.IsAlwaysCallable call }
+    {
+        let Some(mut slot) = self.take(alloc) else {
+            return status::MEMORY;
+        };
+        let told = match slot.as_mut() {
+            ClientSlot::Here(client) => call(client),
+            ClientSlot::Away => status::NO_HANDLE,
+        };
+        self.put(slot);
+        told
+    }
 }
 
-/// A pointer to a box of its own for a client, which a handle becomes by it.
-///
-/// # Errors
-///
-/// Where there is no memory.
-pub(crate) fn boxed(alloc: Global, it: Client) -> Result<*mut u8, AllocError> {
-    let slot = Box::new(alloc, ClientSlot::Here(it))?;
-    Ok(Box::into_raw(slot).cast())
+/// A pointer to a box of its own for a client, which a handle becomes by it; none where there is no memory.
+pub(crate) fn boxed(alloc: Global, it: Client) -> Option<*mut u8> {
+    match in_box(alloc, ClientSlot::Here(it)) {
+        Some(slot) => Some(Box::into_raw(slot).cast()),
+        None => None,
+    }
 }

@@ -1,9 +1,9 @@
 //! A box as its pointer.
 
 ghost use Rattle.std.specs.Box.Ownership.{box_owns};
-ghost use Rattle.std.specs.Prelude.{◌≡◌};
+ghost use Rattle.std.specs.Prelude.{◌≡◌, IfSome};
 
-use std::alloc::Allocator;
+use std::alloc::{Allocator, Global};
 use std::marker::Model;
 
 /// What a box is made of: the pointer to its value, and what frees it.
@@ -32,5 +32,16 @@ impl<T: Drop, A: Allocator> Loose<T, A> {
     {
         let Loose { at, alloc } = self;
         unsafe { Box::from_raw(alloc, at) }
+    }
+}
+
+/// A value in a box of its own, where there is memory. It is generic, as what gives a client or a server back where there is none is
+/// dear to prove outside of such a function.
+pub(crate) fn in_box<T: Drop>(alloc: Global, it: T) -> Option<Box<T>>
+    ensures { IfSome result (λ held. held.value ≡ it) }
+{
+    match Box::new(alloc, it) {
+        Ok(held) => Some(held),
+        Err(_) => None,
     }
 }

@@ -2,7 +2,7 @@
 //! says so.
 
 use crate::seed::seed_of;
-use crate::server_handle::{ServerHandle, ServerSlot, boxed};
+use crate::server_handle::{ServerHandle, boxed};
 use crate::status;
 use kifzaro::{Error, Moment, Server, SessionName};
 use std::alloc::Global;
@@ -28,11 +28,11 @@ pub extern "C" fn kfr_server_new(
 ) -> u32 {
     match server_with(alloc, keys, seed) {
         Ok(server) => match boxed(alloc, server) {
-            Ok(at) => {
+            Some(at) => {
                 *out = at;
                 status::OK
             }
-            Err(_) => status::MEMORY,
+            None => status::MEMORY,
         },
         Err(told) => told,
     }
@@ -132,29 +132,19 @@ pub extern "C" fn kfr_server_handle_packet(
     key: &mut u64,
     session: &mut u64,
 ) -> u32 {
-    let Ok(mut slot) = handle.take(alloc) else {
-        return status::MEMORY;
-    };
-    let told = match slot.as_mut() {
-        ServerSlot::Here(server) => tell_heard(alloc, server, now, packet, key, session),
-        ServerSlot::Away => status::NO_HANDLE,
-    };
-    handle.put(slot);
-    told
+    handle.run(
+        alloc,
+        |server| tell_heard(alloc, server, now, packet, key, session),
+    )
 }
 
 /// Time passed.
 #[unsafe(no_mangle)]
 pub extern "C" fn kfr_server_tick(alloc: Global, handle: &mut ServerHandle, now: u64) -> u32 {
-    let Ok(mut slot) = handle.take(alloc) else {
-        return status::MEMORY;
-    };
-    let told = match slot.as_mut() {
-        ServerSlot::Here(server) => status::told(server.tick(alloc, Moment::new(now))),
-        ServerSlot::Away => status::NO_HANDLE,
-    };
-    handle.put(slot);
-    told
+    handle.run(
+        alloc,
+        |server| status::told(server.tick(alloc, Moment::new(now))),
+    )
 }
 
 /// A connection was opened for a session.
@@ -166,33 +156,16 @@ pub extern "C" fn kfr_server_attach(
     session: u64,
     now: u64,
 ) -> u32 {
-    let Ok(mut slot) = handle.take(alloc) else {
-        return status::MEMORY;
-    };
-    let told = match slot.as_mut() {
-        ServerSlot::Here(server) => status::told(server.attach(
-            alloc,
-            SessionName { key, session },
-            Moment::new(now),
-        )),
-        ServerSlot::Away => status::NO_HANDLE,
-    };
-    handle.put(slot);
-    told
+    handle.run(
+        alloc,
+        |server| status::told(server.attach(alloc, SessionName { key, session }, Moment::new(now))),
+    )
 }
 
 /// It starts again.
 #[unsafe(no_mangle)]
 pub extern "C" fn kfr_server_restart(alloc: Global, handle: &mut ServerHandle) -> u32 {
-    let Ok(mut slot) = handle.take(alloc) else {
-        return status::MEMORY;
-    };
-    let told = match slot.as_mut() {
-        ServerSlot::Here(server) => status::told(server.restart(alloc)),
-        ServerSlot::Away => status::NO_HANDLE,
-    };
-    handle.put(slot);
-    told
+    handle.run(alloc, |server| status::told(server.restart(alloc)))
 }
 
 /// How many requests are ready.
@@ -202,15 +175,7 @@ pub extern "C" fn kfr_server_ready(
     handle: &mut ServerHandle,
     ready: &mut u64,
 ) -> u32 {
-    let Ok(mut slot) = handle.take(alloc) else {
-        return status::MEMORY;
-    };
-    let told = match slot.as_mut() {
-        ServerSlot::Here(server) => tell_ready(server, ready),
-        ServerSlot::Away => status::NO_HANDLE,
-    };
-    handle.put(slot);
-    told
+    handle.run(alloc, |server| tell_ready(server, ready))
 }
 
 /// The next ready request, or the one that waits for its answer, goes into the room: `there` is 1 and `len` its length, or both are 0
@@ -223,15 +188,10 @@ pub extern "C" fn kfr_server_next_request(
     room: &mut [u8],
     len: &mut u64,
 ) -> u32 {
-    let Ok(mut slot) = handle.take(alloc) else {
-        return status::MEMORY;
-    };
-    let told = match slot.as_mut() {
-        ServerSlot::Here(server) => tell_request(alloc, server, there, room, len),
-        ServerSlot::Away => status::NO_HANDLE,
-    };
-    handle.put(slot);
-    told
+    handle.run(
+        alloc,
+        |server| tell_request(alloc, server, there, room, len),
+    )
 }
 
 /// The request that was handed out has run, and its reply is this one.
@@ -242,15 +202,10 @@ pub extern "C" fn kfr_server_answer(
     now: u64,
     reply: &[u8],
 ) -> u32 {
-    let Ok(mut slot) = handle.take(alloc) else {
-        return status::MEMORY;
-    };
-    let told = match slot.as_mut() {
-        ServerSlot::Here(server) => status::told(server.answer(alloc, Moment::new(now), reply)),
-        ServerSlot::Away => status::NO_HANDLE,
-    };
-    handle.put(slot);
-    told
+    handle.run(
+        alloc,
+        |server| status::told(server.answer(alloc, Moment::new(now), reply)),
+    )
 }
 
 /// The packet that is sent next, and to which session: `len` is its length, 0 where there is none. `TOO_SHORT`: `len` is what it needs, and it waits.
@@ -263,13 +218,8 @@ pub extern "C" fn kfr_server_poll_transmit(
     room: &mut [u8],
     len: &mut u64,
 ) -> u32 {
-    let Ok(mut slot) = handle.take(alloc) else {
-        return status::MEMORY;
-    };
-    let told = match slot.as_mut() {
-        ServerSlot::Here(server) => tell_out(alloc, server, key, session, room, len),
-        ServerSlot::Away => status::NO_HANDLE,
-    };
-    handle.put(slot);
-    told
+    handle.run(
+        alloc,
+        |server| tell_out(alloc, server, key, session, room, len),
+    )
 }

@@ -1,15 +1,16 @@
 //! The handle of a server.
 
 ghost use Rattle.std.specs.Box.Ownership.{box_owns};
-ghost use Rattle.std.specs.Prelude.{◌≡◌, IfOk, OnErr, OnOk};
+ghost use Rattle.std.specs.Prelude.{◌≡◌, IfNone, IfSome, OnSome};
 ghost use Rattle.std.specs.contracts.impls.GlobalAllocator.TheImpl.{ghosts};
 ghost use Rattle.kifzaro_c.specs.contracts.server_handle.ServerSlot.{the_row};
 ghost use Rattle.kifzaro_c.specs.declared.server_handle.ServerSlot.{ServerSlot as Inside};
 ghost use Rattle.kifzaro_c.specs.declared.server_handle.ServerSlot.TheVariants as slots;
 
-use crate::loose::Loose;
+use crate::loose::{Loose, in_box};
+use crate::status;
 use kifzaro::Server;
-use std::alloc::{AllocError, AllocFailed, Global};
+use std::alloc::Global;
 use std::marker::Model;
 use std::mem;
 
@@ -66,35 +67,47 @@ impl ServerHandle {
         self.into_loose().into_box()
     }
 
-    /// The box out of the handle: one with nothing is in its place until `put`.
-    ///
-    /// # Errors
-    ///
-    /// Where there is no memory, and the handle is as it was.
-    pub(crate) fn take(&mut self, alloc: Global) -> Result<Box<ServerSlot>, AllocFailed<ServerSlot>>
-        ensures taken { IfOk result (λ slot. slot.value ≡ self.old.value) }
-        ensures away { OnOk result (self.new.value ≡ slots.Away) }
-        ensures unchanged { OnErr result (self.new ≡ self.old) }
+    /// The box out of the handle: one with nothing is in its place until `put`. None where there is no memory, and the handle is as it
+    /// was.
+    fn take(&mut self, alloc: Global) -> Option<Box<ServerSlot>>
+        ensures taken { IfSome result (λ slot. slot.value ≡ self.old.value) }
+        ensures away { OnSome result (self.new.value ≡ slots.Away) }
+        ensures unchanged { IfNone result (self.new ≡ self.old) }
     {
-        let spare = Box::new(alloc, ServerSlot::Away)?;
-        Ok(mem::replace(self, ServerHandle::of(spare)).into_box())
+        match in_box(alloc, ServerSlot::Away) {
+            Some(spare) => Some(mem::replace(self, ServerHandle::of(spare)).into_box()),
+            None => None,
+        }
     }
 
     /// The box is back in the handle.
-    pub(crate) fn put(&mut self, slot: Box<ServerSlot>)
+    fn put(&mut self, slot: Box<ServerSlot>)
         ensures { self.new.value ≡ slot.value }
     {
         let spare = mem::replace(self, ServerHandle::of(slot)).into_box();
         drop(spare);
     }
+
+    /// Has a call work on the server, and tells its status: `MEMORY` where there is none for a box, and nothing was done.
+    pub(crate) fn run<F: FnOnce(&mut Server) -> u32>(&mut self, alloc: Global, call: F) -> u32
+        requires callable { F.IsAlwaysCallable call }
+    {
+        let Some(mut slot) = self.take(alloc) else {
+            return status::MEMORY;
+        };
+        let told = match slot.as_mut() {
+            ServerSlot::Here(server) => call(server),
+            ServerSlot::Away => status::NO_HANDLE,
+        };
+        self.put(slot);
+        told
+    }
 }
 
-/// A pointer to a box of its own for a server, which a handle becomes by it.
-///
-/// # Errors
-///
-/// Where there is no memory.
-pub(crate) fn boxed(alloc: Global, it: Server) -> Result<*mut u8, AllocError> {
-    let slot = Box::new(alloc, ServerSlot::Here(it))?;
-    Ok(Box::into_raw(slot).cast())
+/// A pointer to a box of its own for a server, which a handle becomes by it; none where there is no memory.
+pub(crate) fn boxed(alloc: Global, it: Server) -> Option<*mut u8> {
+    match in_box(alloc, ServerSlot::Here(it)) {
+        Some(slot) => Some(Box::into_raw(slot).cast()),
+        None => None,
+    }
 }
