@@ -9,6 +9,7 @@ use regs_service::{Regs, Service};
 use server_core::{DeskFault, Effects, Reply};
 use std::alloc::Global;
 use std::test::Fail;
+use test_asserts::same;
 use test_keys::KEY_ID;
 
 /// The moment of all steps.
@@ -141,7 +142,7 @@ fn step(
 /// # Errors
 ///
 /// As of one step.
-pub(crate) fn play(alloc: Global, server: &mut Server, steps: &str) -> Result<Octets, Fail> {
+fn play(alloc: Global, server: &mut Server, steps: &str) -> Result<Octets, Fail> {
     let mut service = Regs::fresh(alloc);
     let mut told = Octets::new(alloc);
     for word in steps.split(' ') {
@@ -163,9 +164,69 @@ pub(crate) fn created(alloc: Global, disk: MemDisk) -> Result<Server, Fail> {
 }
 
 /// The server of a disk that is opened.
-pub(crate) fn opened(alloc: Global, disk: MemDisk) -> Result<Server, Fail> {
+fn opened(alloc: Global, disk: MemDisk) -> Result<Server, Fail> {
     match Server::open(alloc, disk, seal(alloc)?, now()) {
         Ok(server) => Ok(server),
         Err(_back) => Err(Fail::new("not opened")),
     }
+}
+
+/// The server plays steps: what they are told as, and its disk.
+fn over(alloc: Global, server: Server, steps: &str) -> Result<(Octets, MemDisk), Fail> {
+    let mut server = server;
+    let told = play(alloc, &mut server, steps);
+    let disk = server.into_disk();
+    match told {
+        Ok(told) => Ok((told, disk)),
+        Err(fail) => {
+            drop(disk);
+            Err(fail)
+        }
+    }
+}
+
+/// A server with a new journal over this disk plays steps: what they are told as, and the disk.
+pub(crate) fn begun(alloc: Global, disk: MemDisk, steps: &str) -> Result<(Octets, MemDisk), Fail> {
+    over(alloc, created(alloc, disk)?, steps)
+}
+
+/// The server of a disk that is opened plays steps: what they are told as, and the disk.
+pub(crate) fn resumed(
+    alloc: Global,
+    disk: MemDisk,
+    steps: &str,
+) -> Result<(Octets, MemDisk), Fail> {
+    over(alloc, opened(alloc, disk)?, steps)
+}
+
+/// The steps were told as this: their disk.
+fn as_told(played: (Octets, MemDisk), wanted: &[u8]) -> Result<MemDisk, Fail> {
+    let (told, disk) = played;
+    match same(told.as_slice(), wanted) {
+        Ok(()) => Ok(disk),
+        Err(fail) => {
+            drop(disk);
+            Err(fail)
+        }
+    }
+}
+
+/// A server with a new journal over this disk plays steps, which are told as this: the disk.
+pub(crate) fn begins(
+    alloc: Global,
+    disk: MemDisk,
+    steps: &str,
+    wanted: &[u8],
+) -> Result<MemDisk, Fail> {
+    as_told(begun(alloc, disk, steps)?, wanted)
+}
+
+/// The server of a disk that is opened plays steps, which are told as this: the disk.
+pub(crate) fn goes_on(
+    alloc: Global,
+    disk: MemDisk,
+    steps: &str,
+    wanted: &[u8],
+) -> Result<MemDisk, Fail> {
+    as_told(resumed(alloc, disk, steps)?, wanted)
 }
