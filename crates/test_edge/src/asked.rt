@@ -1,5 +1,7 @@
 //! What the adapters ask of the library, in order, noted by stand-ins for its sockets and its clock.
 
+ghost use Rattle.std.specs.Prelude.{◌≡◌, IfOk};
+
 use mt_edge::{
     Act, Clock, Got, Link, Linked, Net, Put, ReadSource, Sink, Source, SystemClock, TcpNet,
     WriteSink,
@@ -47,7 +49,9 @@ impl Notes {
     }
 
     /// The answer of a call, by whether calls fail.
-    fn answer<T: Drop>(&self, value: T) -> io::Result<T> {
+    fn answer<T: Drop>(&self, value: T) -> io::Result<T>
+        ensures { IfOk result (λ given. given ≡ value) }
+    {
         if self.is_failing.get() {
             Err(io::Error::from(ErrorKind::BrokenPipe))
         } else {
