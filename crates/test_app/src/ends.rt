@@ -1,6 +1,6 @@
 //! Batches that end with a call that isn't done.
 
-use crate::nets::{Ended, ROOM_BYTES, ended, ran};
+use crate::nets::{Ended, ROOM_BYTES, ran, ran_over};
 use mt_edge::{MemLink, MemNet};
 use std::alloc::Global;
 use std::test::Fail;
@@ -20,7 +20,7 @@ fn over_two(alloc: Global, first: &[u8], second: &[u8]) -> Result<Ended, Fail> {
     links.push(MemLink::new(alloc, first, ANSWER_BYTES, &[], ROOM_BYTES, 64)?)?;
     let mut net = MemNet::new(alloc, links, &[], 4)?;
     let call = format!(in alloc; "{CALL} --retries 1")?;
-    ended(alloc, call.as_str(), b"add x 5\n", &mut net, 1)
+    ran_over(alloc, call.as_str(), b"add x 5\n", &mut net, 1)
 }
 
 // The call was sent to the first server, which can't be asked any more; the second one has no session of the client's.

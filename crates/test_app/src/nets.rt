@@ -106,11 +106,11 @@ pub(crate) fn ran(
     seed: u8,
 ) -> Result<Ended, Fail> {
     let mut net = net(alloc, come)?;
-    ended(alloc, line, script, &mut net, seed)
+    ran_over(alloc, line, script, &mut net, seed)
 }
 
 /// The same over a net.
-pub(crate) fn ended(
+pub(crate) fn ran_over(
     alloc: Global,
     line: &str,
     script: &[u8],
