@@ -8,6 +8,7 @@ pub mod FillLemmas
 pub mod FlushLemmas
 pub mod GivingLemmas
 pub mod GoesLemmas
+pub mod HolderLemmas
 pub mod KeyLemmas
 pub mod ListLemmas
 pub mod MarkLemmas

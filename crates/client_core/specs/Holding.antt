@@ -1,8 +1,9 @@
 -- A client in one of its states, and what is told of it.
-use Rattle.std.specs.Prelude.{◌≡◌, ℕ, ◌==◌, ◌||◌, ◌&&◌, not, Bool, true, false}
+use Rattle.std.specs.Prelude.{◌≡◌, ℕ, ◌==◌, ◌||◌, ◌&&◌, not, if◌then◌else◌, Bool, true, false, Result, Ok, Err}
 use Rattle.std.specs.List.{list_any}
+use Rattle.octets.specs.declared.memory.Memory.{Memory}
 use Rattle.client_rules.specs.Client.{Client, is_open}
-use Rattle.client_core.specs.Kept.{Contents}
+use Rattle.client_core.specs.Kept.{Contents, Stands}
 use Rattle.client_core.specs.declared.holder.Holder.{Holder}
 use Rattle.client_core.specs.declared.holder.Holder.TheVariants as holder
 
@@ -25,3 +26,34 @@ abbrev pub IsInState : Holder → Type 0
 IsInState (holder.Opening kept) = (is_open kept.rest ≡ false) × (kept.rest.has_ended ≡ false)
 IsInState (holder.Open kept) = (is_open kept.rest ≡ true) × (kept.rest.has_ended ≡ false)
 IsInState (holder.Ended kept) = kept.rest.has_ended ≡ true
+
+-- ---- its state
+
+-- it has learnt nothing of its present session; it has; it ended
+pub data Phase : Type 0 where
+  Opening : Phase
+  Open : Phase
+  Ended : Phase
+
+abbrev pub phase_of : Holder → Phase
+phase_of (holder.Opening kept) = Opening
+phase_of (holder.Open kept) = Open
+phase_of (holder.Ended kept) = Ended
+
+-- after a packet: an opening client that learnt is open, and an open one that learnt too much ended
+abbrev pub phase_after : Phase → Client → Phase
+phase_after Opening client = if is_open client then Open else Opening
+phase_after Open client = if client.has_ended then Ended else Open
+phase_after Ended client = Ended
+
+-- ---- its events
+
+-- an ended client does nothing
+abbrev pub unless_ended : (Client → Client) → Client → Client
+unless_ended does client = if client.has_ended then client else does client
+
+-- By a packet it became this client, in its state; or memory ran out and it is the client that it was, in the state that it
+-- was in.
+abbrev pub Became : Holder → Client → Client → Holder → Result Unit Memory → Type 0
+Became held before after left (Ok done) = (phase_of left ≡ phase_after (phase_of held) after) × Stands (kept_of left) after
+Became held before after left (Err memory) = (phase_of left ≡ phase_of held) × Stands (kept_of left) before

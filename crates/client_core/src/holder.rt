@@ -68,6 +68,7 @@ impl Holder {
 
     /// Whether it ended.
     pub fn has_ended(&self) -> bool
+        ensures kept { result ≡ (kept_of self.now).rest.has_ended }
         ensures ended { (client : Client) → Stands (kept_of self.now) client → result ≡ client.has_ended }
         ensures state { IsInState self.now }
     {

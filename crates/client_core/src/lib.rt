@@ -11,6 +11,7 @@ mod calling;
 mod core_client;
 mod due;
 mod ended;
+mod events;
 mod fault;
 mod filling;
 mod flush;

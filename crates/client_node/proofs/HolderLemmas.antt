@@ -1,62 +1,84 @@
 -- What the calls of a client in one state make of its course.
-use Rattle.std.proofs.Common.{◌≡◌, ℕ, max, true, false, Option, Some, None, List, refl, ap, sym, subst, ◌∙◌}
+use Rattle.std.proofs.Common.{◌≡◌, ℕ, max, if◌then◌else◌, true, false, Option, Some, None, List, Result, Ok, Err, refl, ap, sym, subst, ◌∙◌}
+use Rattle.std.proofs.lemmas.Bool.{true≢false}
 use Rattle.auth_keys.specs.declared.ring.RingKey.{RingKey}
 use Rattle.draws.specs.Draws.{draw_after, word_after}
 use Rattle.envelope.specs.declared.parts.Envelope.{Envelope}
 use Rattle.envelope.specs.declared.parts.Dir.TheVariants.{Down}
 use Rattle.envelope.specs.Opening.{Opens}
 use Rattle.envelope.specs.Packet.{Lock}
+use Rattle.octets.specs.declared.memory.Memory.{Memory}
+use Rattle.client_rules.specs.Asking.{attached}
 use Rattle.client_rules.specs.Client.{Client, at_moment}
+use Rattle.client_rules.specs.Flush.{flush}
 use Rattle.client_rules.specs.Events.{renewed, takes}
 use Rattle.client_rules.specs.Taking.{take}
 use Rattle.client_rules.specs.Sending.{Setting}
 use Rattle.client_core.specs.Flushed.{Flushes, Leaves, TellsFlush}
+use Rattle.client_core.specs.Holding.{Became, IsInState, Opening, Open, Ended, kept_of, phase_of, unless_ended}
 use Rattle.client_core.specs.Keys.{HasKeys as HasKeysOf, Keys, keys_in}
 use Rattle.client_core.specs.Kept.{Contents, Stands}
 use Rattle.client_core.specs.declared.flush.Flush.{Flush}
 use Rattle.client_core.specs.declared.flush.Flush.TheVariants as told
 use Rattle.client_core.specs.declared.holder.Holder.{Holder}
 use Rattle.client_core.specs.declared.holder.Holder.TheVariants as holder
-use Rattle.client_node.specs.Course.{Course, Open, Reading, flushed_in, heard_in, hears, must_renew, phase_after, renews}
-use Rattle.client_node.specs.Standing.{FlushedAs, IsOpened, StandsAs, StandsFor, phase_of}
+use Rattle.client_node.specs.Course.{Course, Reading, attached_in, flushed_in, heard_in, hears, must_renew, phase_after, renews}
+use Rattle.client_node.specs.Standing.{FlushedAs, HasKeys, HeardAs, IsOpened, KeepsKeys, StandsAs, StandsFor}
+
+-- ---- whether it ended
+
+-- what is kept tells it of each client that it stands for
+pub living_of : (kept : Contents) (whole : Client) → Stands kept whole → kept.rest.has_ended ≡ whole.has_ended
+living_of kept whole stands = ap (λ (client : Client). client.has_ended) stands.rest
+
+-- ---- a connection
+
+pub attached_so : (held left : Holder) (whole : Client) → IsInState held → StandsFor held whole
+    → StandsFor left (unless_ended attached whole) → StandsFor left (attached_in (phase_of held) whole)
+attached_so (holder.Opening kept) left whole state stands after =
+    subst (λ ended. StandsFor left (if ended then whole else attached whole)) (sym (living_of kept whole stands) ∙ state.1) after
+attached_so (holder.Open kept) left whole state stands after =
+    subst (λ ended. StandsFor left (if ended then whole else attached whole)) (sym (living_of kept whole stands) ∙ state.1) after
+attached_so (holder.Ended kept) left whole state stands after =
+    subst (λ ended. StandsFor left (if ended then whole else attached whole)) (sym (living_of kept whole stands) ∙ state) after
 
 -- ---- a flush
 
-pub opening_flushed : {S : Type 0} (setting : Setting S) (lock : Lock) (keys : List RingKey) (now : ℕ) (course : Course S)
-    (kept left : Contents) (draw drawn : S) (answer : Flush)
-    → StandsAs (holder.Opening kept) draw course
-    → ((client : Client) → Stands kept client → Flushes setting lock keys now client draw answer left drawn)
-    → FlushedAs setting lock keys now course answer (holder.Opening left) drawn
-opening_flushed setting lock keys now course kept left draw drawn answer stands flushes =
-    let done = subst (λ before. Flushes setting lock keys now course.client before answer left drawn) stands.draw (flushes course.client stands.client) in
+-- the definition's flush of a client that hasn't ended
+pub living_flushed : {S : Type 0} (setting : Setting S) (lock : Lock) (keys : List RingKey) (now : ℕ) (course : Course S)
+    (held left : Holder) (draw drawn : S) (answer : Flush)
+    → StandsAs held draw course → phase_of left ≡ phase_of held
+    → flushed_in course.phase setting now course.client course.draw ≡ flush setting now course.client course.draw
+    → ((client : Client) → StandsFor held client → Flushes setting lock keys now client draw answer (kept_of left) drawn)
+    → FlushedAs setting lock keys now course answer left drawn
+living_flushed setting lock keys now course held left draw drawn answer stands phase same flushes =
+    let done = subst (λ before. Flushes setting lock keys now course.client before answer (kept_of left) drawn) stands.draw (flushes course.client stands.client) in
     record {
-      phase = stands.phase;
-      told = subst (λ phase. TellsFlush lock keys (flushed_in phase setting now course.client course.draw).answer answer) stands.phase done.told;
-      leaves = subst (λ phase. Leaves answer left drawn course.client course.draw (flushed_in phase setting now course.client course.draw)) stands.phase done.leaves;
+      phase = phase ∙ stands.phase;
+      told = rw same done.told;
+      leaves = rw same done.leaves;
     }
 
-pub open_flushed : {S : Type 0} (setting : Setting S) (lock : Lock) (keys : List RingKey) (now : ℕ) (course : Course S)
-    (kept left : Contents) (draw drawn : S) (answer : Flush)
-    → StandsAs (holder.Open kept) draw course
-    → ((client : Client) → Stands kept client → Flushes setting lock keys now client draw answer left drawn)
-    → FlushedAs setting lock keys now course answer (holder.Open left) drawn
-open_flushed setting lock keys now course kept left draw drawn answer stands flushes =
-    let done = subst (λ before. Flushes setting lock keys now course.client before answer left drawn) stands.draw (flushes course.client stands.client) in
+pub flushed_so : {S : Type 0} (setting : Setting S) (lock : Lock) (keys : List RingKey) (now : ℕ) (course : Course S)
+    (held left : Holder) (draw drawn : S) (answer : Flush)
+    → IsInState held → StandsAs held draw course → phase_of left ≡ phase_of held
+    → ((client : Client) → StandsFor held client → (kept_of held).rest.has_ended ≡ false → Flushes setting lock keys now client draw answer (kept_of left) drawn)
+    → ((kept_of held).rest.has_ended ≡ true → (answer ≡ told.Nothing) × (left ≡ held) × (drawn ≡ draw))
+    → FlushedAs setting lock keys now course answer left drawn
+flushed_so setting lock keys now course (holder.Opening kept) left draw drawn answer state stands phase flushes ended =
+    living_flushed setting lock keys now course (holder.Opening kept) left draw drawn answer stands phase
+    (ap (λ one. flushed_in one setting now course.client course.draw) (sym stands.phase)) (λ client stands. flushes client stands state.1)
+flushed_so setting lock keys now course (holder.Open kept) left draw drawn answer state stands phase flushes ended =
+    living_flushed setting lock keys now course (holder.Open kept) left draw drawn answer stands phase
+    (ap (λ one. flushed_in one setting now course.client course.draw) (sym stands.phase)) (λ client stands. flushes client stands state.1)
+flushed_so setting lock keys now course (holder.Ended kept) left draw drawn answer state stands phase flushes ended =
+    let (none, same, undrawn) = ended state in
+    let idle = ap (λ one. flushed_in one setting now course.client course.draw) (sym stands.phase) in
+    let client : StandsFor left course.client = subst (λ (one : Holder). StandsFor one course.client) (sym same) stands.client in
     record {
-      phase = stands.phase;
-      told = subst (λ phase. TellsFlush lock keys (flushed_in phase setting now course.client course.draw).answer answer) stands.phase done.told;
-      leaves = subst (λ phase. Leaves answer left drawn course.client course.draw (flushed_in phase setting now course.client course.draw)) stands.phase done.leaves;
-    }
-
-pub ended_flushed : {S : Type 0} (setting : Setting S) (lock : Lock) (keys : List RingKey) (now : ℕ) (course : Course S)
-    (kept : Contents) (draw : S)
-    → StandsAs (holder.Ended kept) draw course
-    → FlushedAs setting lock keys now course told.Nothing (holder.Ended kept) draw
-ended_flushed setting lock keys now course kept draw stands =
-    record {
-      phase = stands.phase;
-      told = subst (λ phase. TellsFlush lock keys (flushed_in phase setting now course.client course.draw).answer told.Nothing) stands.phase tt;
-      leaves = subst (λ phase. Leaves told.Nothing kept draw course.client course.draw (flushed_in phase setting now course.client course.draw)) stands.phase (stands.client, stands.draw);
+      phase = phase ∙ stands.phase;
+      told = rw none (rw idle tt);
+      leaves = rw none (rw idle (client, undrawn ∙ stands.draw));
     }
 
 -- ---- a renewal
@@ -103,3 +125,48 @@ pub by_opened : (P : Client → Type 0) (lock : Lock) (keys : List RingKey) (at 
     → IsOpened lock keys at packet opened → P (takes now opened whole)
 by_opened P lock keys at now packet whole (Some envelope) some none opens = some envelope opens
 by_opened P lock keys at now packet whole None some none opens = none opens
+
+-- ---- a packet, in each state
+
+pub heard_as : (held : Holder) (before after : Client) (left : Holder) (taken : Result Unit Memory)
+    → Became held before after left taken → HeardAs (phase_of held) before after left taken
+heard_as held before after left (Ok done) became = became
+heard_as held before after left (Err memory) became = became
+
+pub heard_by : (lock : Lock) (keys : List RingKey) (now : ℕ) (packet : List ℕ) (held left : Holder) (taken : Result Unit Memory) (whole : Client) (opened : Option Envelope)
+    → IsInState held → StandsFor held whole
+    → ((client : Client) (envelope : Envelope) → StandsFor held client → (kept_of held).rest.has_ended ≡ false
+    → Opens lock keys (max client.now now) Down packet envelope → Became held client (take now envelope client) left taken)
+    → ((client : Client) → StandsFor held client → (kept_of held).rest.has_ended ≡ false
+    → ((envelope : Envelope) → Opens lock keys (max client.now now) Down packet envelope → ⊥) → Became held client (at_moment now client) left taken)
+    → ((kept_of held).rest.has_ended ≡ true → (left ≡ held) × (taken ≡ Ok tt))
+    → IsOpened lock keys (max whole.now now) packet opened → HeardAs (phase_of held) whole (heard_in (phase_of held) now opened whole) left taken
+heard_by lock keys now packet (holder.Opening kept) left taken whole opened state stands some none ended opens =
+    by_opened (λ (after : Client). HeardAs Opening whole after left taken) lock keys (max whole.now now) now packet whole opened
+    (λ envelope one. heard_as (holder.Opening kept) whole (take now envelope whole) left taken (some whole envelope stands state.1 one))
+    (λ nothing. heard_as (holder.Opening kept) whole (at_moment now whole) left taken (none whole stands state.1 nothing)) opens
+heard_by lock keys now packet (holder.Open kept) left taken whole opened state stands some none ended opens =
+    by_opened (λ (after : Client). HeardAs Open whole after left taken) lock keys (max whole.now now) now packet whole opened
+    (λ envelope one. heard_as (holder.Open kept) whole (take now envelope whole) left taken (some whole envelope stands state.1 one))
+    (λ nothing. heard_as (holder.Open kept) whole (at_moment now whole) left taken (none whole stands state.1 nothing)) opens
+heard_by lock keys now packet (holder.Ended kept) left taken whole opened state stands some none ended opens =
+    let (same, done) = ended state in
+    rw done (subst (λ (one : Holder). HeardAs Ended whole whole one (Ok tt)) (sym same) (refl, stands))
+
+-- ---- keys, in each state
+
+pub holders_keep : (before after : Holder) → IsInState before → keys_in (kept_of after) ≡ keys_in (kept_of before)
+    → ((kept_of before).rest.has_ended ≡ true → after ≡ before) → KeepsKeys before after
+holders_keep (holder.Opening kept) (holder.Opening left) state same ended ring has = keys_kept ring (keys_in kept) (keys_in left) has same
+holders_keep (holder.Opening kept) (holder.Open left) state same ended ring has = keys_kept ring (keys_in kept) (keys_in left) has same
+holders_keep (holder.Opening kept) (holder.Ended left) state same ended ring has = tt
+holders_keep (holder.Open kept) (holder.Opening left) state same ended ring has = keys_kept ring (keys_in kept) (keys_in left) has same
+holders_keep (holder.Open kept) (holder.Open left) state same ended ring has = keys_kept ring (keys_in kept) (keys_in left) has same
+holders_keep (holder.Open kept) (holder.Ended left) state same ended ring has = tt
+holders_keep (holder.Ended kept) after state same ended ring has = subst (λ (one : Holder). HasKeys ring one) (sym (ended state)) tt
+
+pub living_has : (ring : List RingKey) (held : Holder) → IsInState held → HasKeys ring held
+    → (kept_of held).rest.has_ended ≡ false → HasKeysOf ring (keys_in (kept_of held))
+living_has ring (holder.Opening kept) state has living = has
+living_has ring (holder.Open kept) state has living = has
+living_has ring (holder.Ended kept) state has living = absurd (true≢false (sym state ∙ living))

@@ -5,24 +5,19 @@ use Rattle.draws.specs.Draws.{draw_after, word_after}
 use Rattle.envelope.specs.declared.parts.Envelope.{Envelope}
 use Rattle.call_table.specs.Table.{Call, is_held, is_sent}
 use Rattle.call_table.specs.Table as table
-use Rattle.client_rules.specs.Client.{Binding, Held, Client, calls_of, is_open}
+use Rattle.client_rules.specs.Client.{Binding, Held, Client, calls_of}
 use Rattle.client_rules.specs.Asking.{attached, binding_of}
 use Rattle.client_rules.specs.Events.{renewed, takes}
 use Rattle.client_rules.specs.Flush.{Flushed, Nothing, flush}
 use Rattle.client_rules.specs.Sending.{Setting}
 use Rattle.auth_keys.specs.declared.ring.RingKey.{RingKey}
 use Rattle.envelope.specs.Packet.{Lock}
+pub use Rattle.client_core.specs.Holding.{Phase, Opening, Open, Ended, phase_after}
 use Rattle.client_core.specs.Flushed.{TellsFlush}
 use Rattle.client_core.specs.declared.flush.Flush.{Flush}
 use Rattle.client_core.specs.declared.flush.Flush.TheVariants as told
 
 -- ---- the state of a client
-
--- it has learnt nothing of its present session; it has; it ended
-pub data Phase : Type 0 where
-  Opening : Phase
-  Open : Phase
-  Ended : Phase
 
 -- a client in its state, and what is drawn after it
 pub record Course (S : Type 0) : Type 0 where
@@ -84,13 +79,7 @@ renews step course = renews_if (must_renew course.phase course.client) step cour
 abbrev pub Reading : Type 0
 Reading = ℕ → List ℕ → Option Envelope
 
--- A packet came: an opening client that learnt is open, and an open one that learnt too much ended. An ended one takes no
--- packet.
-abbrev pub phase_after : Phase → Client → Phase
-phase_after Opening client = if is_open client then Open else Opening
-phase_after Open client = if client.has_ended then Ended else Open
-phase_after Ended client = Ended
-
+-- A packet came; an ended client takes none.
 abbrev pub heard_in : Phase → ℕ → Option Envelope → Client → Client
 heard_in Ended now opened client = client
 heard_in Opening now opened client = takes now opened client

@@ -13,6 +13,7 @@ use Rattle.client_rules.specs.Client.{Client}
 use Rattle.client_rules.specs.Sending.{Setting}
 use Rattle.client_core.specs.Keys.{HasKeys as HasKeysOf, keys_in}
 use Rattle.client_core.specs.Kept.{Contents, Stands}
+pub use Rattle.client_core.specs.Holding.{kept_of, phase_of}
 use Rattle.client_core.specs.Flushed.{Leaves, TellsFlush}
 use Rattle.client_core.specs.declared.flush.Flush.{Flush}
 use Rattle.client_core.specs.declared.holder.Holder.{Holder}
@@ -22,16 +23,6 @@ use Rattle.client_node.specs.declared.end.End.{End}
 use Rattle.client_node.specs.declared.end.End.TheVariants as ends
 use Rattle.client_node.specs.declared.plan.Batch.{Batch}
 use Rattle.client_node.specs.declared.plan.Batch.TheVariants as batch
-
-abbrev pub phase_of : Holder → Phase
-phase_of (holder.Opening kept) = Opening
-phase_of (holder.Open kept) = Open
-phase_of (holder.Ended kept) = Ended
-
-abbrev pub kept_of : Holder → Contents
-kept_of (holder.Opening kept) = kept
-kept_of (holder.Open kept) = kept
-kept_of (holder.Ended kept) = kept
 
 -- how many calls it has
 abbrev pub count_of : Holder → ℕ

@@ -34,18 +34,6 @@ impl Cursor {
     }
 }
 
-/// How many calls a client has.
-pub(crate) fn count(client: &Holder) -> u32
-    ensures kept { result ≡ length (kept_of client.now).calls.rows }
-    ensures count { (whole : Client) → StandsFor client.now whole → result ≡ length (calls_of whole) }
-{
-    match client {
-        Holder::Opening(client) => client.calls(),
-        Holder::Open(client) => client.calls(),
-        Holder::Ended(client) => client.calls(),
-    }
-}
-
 /// Whether a call in this state is of a kind.
 fn is_of(state: &CallState<'_>, kind: Kind) -> bool
     ensures { result ≡ is_kind kind (shown state.now) }
@@ -63,11 +51,7 @@ fn is_one(client: &Holder, call: CallNo, kind: Kind) -> bool
     requires given { IsGiven call (kept_of client.now).calls.rows }
     ensures { is_kind_at kind (state_in call (kept_of client.now).calls.rows) ≡ result }
 {
-    match client {
-        Holder::Opening(client) => is_of(&client.state(call), kind),
-        Holder::Open(client) => is_of(&client.state(call), kind),
-        Holder::Ended(client) => is_of(&client.state(call), kind),
-    }
+    is_of(&client.state(call), kind)
 }
 
 /// The first call of a kind from one place up to another, by its place.
@@ -90,7 +74,7 @@ fn first_between(client: &Holder, kind: Kind, first: u32, end: u32) -> Option<u3
 fn find(client: &Holder, kind: Kind, first: u32) -> Option<u32>
     ensures { MatchOption result (has_row kind (kept_of client.now).calls.rows ≡ false) (λ place. has_row kind (kept_of client.now).calls.rows ≡ true) }
 {
-    let count = count(client);
+    let count = client.calls();
     match first_between(client, kind, first, count) {
         Some(place) => Some(place),
         None => first_between(client, kind, 0, first.min(count)),

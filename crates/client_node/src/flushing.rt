@@ -8,7 +8,7 @@ ghost use Rattle.client_node.specs.Flow.{AllFlushes, CountsEnd, OneFlush, ended_
 ghost use Rattle.client_node.specs.Standing.{DecidedBy, HasKeys, StandsFor, count_of};
 ghost use Rattle.client_node.specs.Writes.{seen};
 
-use crate::calls::{Cursor, count, is_decided};
+use crate::calls::{Cursor, is_decided};
 use crate::end::End;
 use crate::holding::flush;
 use crate::sending::send_packet;
@@ -120,7 +120,7 @@ pub(crate) fn flush_all<L: Link, S: Seal, D: Draw>(
     ensures same_in { (wire.new.form ≡ wire.old.form) × (wire.new.held ≡ wire.old.held) × (wire.new.reading ≡ wire.old.reading) }
 {
     flushes_leave_less::<D>();
-    let most = most_flushes(count(client));
+    let most = most_flushes(client.calls());
     'flushes: for _count in 0..most {
         match flush_once(client, alloc, now, wire, link, frame, cursor, seal, draw) {
             Ok(true) => {}

@@ -13,7 +13,7 @@ ghost use Rattle.client_node.specs.Course.{Course, Opening, Open, attached_in, h
 ghost use Rattle.client_node.specs.Standing.{FlushedAs, HasKeys, HeardAs, IsOpened, KeepsKeys, StandsAs, StandsFor, count_of, kept_of, phase_of};
 
 use crate::calls::{Cursor, must_renew};
-use client_core::{Flush, Holder, OpenClient, OpenStep, OpeningClient, OpeningStep};
+use client_core::{Flush, Holder};
 use draws::Draw;
 use envelope::Seal;
 use msg_ids::Moment;
@@ -28,15 +28,12 @@ pub(crate) fn attach(client: &mut Holder)
     ensures keys { KeepsKeys client.old client.new }
     ensures count { count_of client.new ≡ count_of client.old }
 {
-    match client {
-        Holder::Opening(client) => client.attach(),
-        Holder::Open(client) => client.attach(),
-        Holder::Ended(_) => {}
-    }
+    let _state = client.has_ended();
+    client.attach();
 }
 
 /// What is sent next. An ended client sends nothing.
-#[tactic(auto, using(crate::proofs::HolderLemmas::opening_flushed, crate::proofs::HolderLemmas::open_flushed, crate::proofs::HolderLemmas::ended_flushed, crate::proofs::HolderLemmas::keys_kept))]
+#[tactic(auto, using(crate::proofs::HolderLemmas::living_has))]
 pub(crate) fn flush<S: Seal, D: Draw>(
     client: &mut Holder,
     alloc: Global,
@@ -51,11 +48,8 @@ pub(crate) fn flush<S: Seal, D: Draw>(
     ensures keys { HasKeys (S.keys seal.now) client.new }
     ensures count { count_of client.new ≡ count_of client.old }
 {
-    match client {
-        Holder::Opening(client) => client.flush(alloc, now, seal, draw),
-        Holder::Open(client) => client.flush(alloc, now, seal, draw),
-        Holder::Ended(_) => Flush::Nothing,
-    }
+    let _state = client.has_ended();
+    client.flush(alloc, now, seal, draw)
 }
 
 /// The client goes on in another session where it has to.
@@ -72,48 +66,6 @@ pub(crate) fn renew<D: Draw>(client: Holder, cursor: &mut Cursor, draw: &mut D) 
         Holder::Open(client) => Holder::Opening(client.renew(draw)),
         Holder::Opening(client) => Holder::Opening(client),
         Holder::Ended(client) => Holder::Ended(client),
-    }
-}
-
-/// What an opening client becomes by a packet.
-#[tactic(auto, using(crate::proofs::HolderLemmas::kept_in))]
-fn opening_hears<S: Seal>(
-    client: OpeningClient,
-    alloc: Global,
-    now: Moment,
-    seal: &S,
-    packet: &[u8],
-) -> (Holder, Result<(), Memory>)
-    ensures hears { (whole : Client) (opened : Option Envelope) → Stands client whole → IsOpened S.lock (S.keys seal.now) (max whole.now now) packet.now opened
-        → HeardAs Opening whole (takes now opened whole) result.0 result.1 }
-    ensures keys { (ring : List RingKey) → HasKeysOf ring (keys_in client) → HasKeys ring result.0 }
-    ensures count { count_of result.0 ≡ length client.calls.rows }
-{
-    match client.on_packet(alloc, now, seal, packet) {
-        OpeningStep::Still(client) => (Holder::Opening(client), Ok(())),
-        OpeningStep::Opened(client) => (Holder::Open(client), Ok(())),
-        OpeningStep::Memory(client) => (Holder::Opening(client), Err(Memory)),
-    }
-}
-
-/// What an open client becomes by a packet.
-#[tactic(auto, using(crate::proofs::HolderLemmas::kept_in))]
-fn open_hears<S: Seal>(
-    client: OpenClient,
-    alloc: Global,
-    now: Moment,
-    seal: &S,
-    packet: &[u8],
-) -> (Holder, Result<(), Memory>)
-    ensures hears { (whole : Client) (opened : Option Envelope) → Stands client whole → IsOpened S.lock (S.keys seal.now) (max whole.now now) packet.now opened
-        → HeardAs Open whole (takes now opened whole) result.0 result.1 }
-    ensures keys { (ring : List RingKey) → HasKeysOf ring (keys_in client) → HasKeys ring result.0 }
-    ensures count { count_of result.0 ≡ length client.calls.rows }
-{
-    match client.on_packet(alloc, now, seal, packet) {
-        OpenStep::Still(client) => (Holder::Open(client), Ok(())),
-        OpenStep::Ended(client) => (Holder::Ended(client), Ok(())),
-        OpenStep::Memory(client) => (Holder::Open(client), Err(Memory)),
     }
 }
 
@@ -134,9 +86,6 @@ pub(crate) fn hear<S: Seal>(
     ensures keys { KeepsKeys client result.0 }
     ensures count { count_of result.0 ≡ count_of client }
 {
-    match client {
-        Holder::Opening(client) => opening_hears(client, alloc, now, seal, packet),
-        Holder::Open(client) => open_hears(client, alloc, now, seal, packet),
-        Holder::Ended(client) => (Holder::Ended(client), Ok(())),
-    }
+    let _state = client.has_ended();
+    client.on_packet(alloc, now, seal, packet)
 }

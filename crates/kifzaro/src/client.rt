@@ -152,7 +152,7 @@ impl Client {
     pub fn calls(&self) -> u32
         ensures { (client : Rules) → Is self.now client → result ≡ length (calls_of client) }
     {
-        holding::calls(self.holder())
+        self.holder().calls()
     }
 
     /// Submits a call with this body, whole words of 4 bytes and at most 262,144 bytes, which is to execute after an earlier
@@ -435,10 +435,10 @@ impl Client {
         ensures refused { (client : Rules) → Is self.now client → IfErr result (TellsNoCall call client) }
     {
         let holder = self.holder();
-        if call.n == 0 || call.n > u64::from(holding::calls(holder)) {
+        if call.n == 0 || call.n > u64::from(holder.calls()) {
             return Err(Error::NoCall);
         }
-        Ok(holding::state(holder, call))
+        Ok(holder.state(call))
     }
 
     /// Puts the reply to a call at the front of the room, and tells its length. The client keeps the reply.
@@ -461,11 +461,11 @@ impl Client {
         ensures { (client : Rules) → Is self.now client → MatchBool result (AreDecided (calls_of client)) (AreDecided (calls_of client) → ⊥) }
     {
         let holder = self.holder();
-        for place in 0..holding::calls(holder) {
+        for place in 0..holder.calls() {
             let call = CallNo {
                 n: u64::from(place) + 1,
             };
-            if is_undecided(&holding::state(holder, call)) {
+            if is_undecided(&holder.state(call)) {
                 return false;
             }
         }

@@ -57,11 +57,7 @@ pub(crate) fn submit(
     if holder.has_ended() {
         return Err(Error::Ended);
     }
-    match holder {
-        Holder::Opening(client) => Ok(client.submit(alloc, body, after)?),
-        Holder::Open(client) => Ok(client.submit(alloc, body, after)?),
-        Holder::Ended(_) => Err(Error::Ended),
-    }
+    Ok(holder.submit(alloc, body, after)?)
 }
 
 /// A connection of a client was opened.
@@ -74,17 +70,8 @@ pub(crate) fn attach(holder: &mut Holder) -> Result<(), Error>
     if holder.has_ended() {
         return Err(Error::Ended);
     }
-    match holder {
-        Holder::Opening(client) => {
-            client.attach();
-            Ok(())
-        }
-        Holder::Open(client) => {
-            client.attach();
-            Ok(())
-        }
-        Holder::Ended(_) => Err(Error::Ended),
-    }
+    holder.attach();
+    Ok(())
 }
 
 /// An open client does as it is asked.
@@ -150,19 +137,7 @@ pub(crate) fn flush<S: Seal, D: Draw>(
     ensures ended { (client : Client) → Stands (kept_of holder.old) client → client.has_ended ≡ true → (result ≡ flushed.Nothing) × (holder.new ≡ holder.old) × (draw.new ≡ draw.old) }
     ensures keys { keys_in (kept_of holder.new) ≡ keys_in (kept_of holder.old) }
 {
-    state_is_known(holder);
-    match holder {
-        Holder::Opening(client) => client.flush(alloc, now, seal, draw),
-        Holder::Open(client) => client.flush(alloc, now, seal, draw),
-        Holder::Ended(_) => Flush::Nothing,
-    }
-}
-
-// The state in which it is held is that of the client. Does nothing.
-fn state_is_known(holder: &Holder)
-    ensures { IsInState holder.now }
-{
-    let _ended = holder.has_ended();
+    holder.flush(alloc, now, seal, draw)
 }
 
 /// A packet comes to a client at a moment: it takes one that opens, and of any other the moment alone counts. One that has
@@ -243,53 +218,10 @@ fn takes<S: Seal>(
         → ((envelope : Envelope) → Opens S.lock (S.keys seal.now) (max client.now now) Down packet.now envelope → ⊥) → Comes client (at_moment now client) result.0 result.1 }
     ensures keys { keys_in (kept_of result.0) ≡ keys_in (kept_of holder) }
 {
-    state_is_known(&holder);
-    match holder {
-        Holder::Opening(client) => opening_hears(client, alloc, now, seal, packet),
-        Holder::Open(client) => open_hears(client, alloc, now, seal, packet),
-        Holder::Ended(client) => (Holder::Ended(client), Ok(())),
-    }
-}
-
-fn opening_hears<S: Seal>(
-    client: OpeningClient,
-    alloc: Global,
-    now: Moment,
-    seal: &S,
-    packet: &[u8],
-) -> (Holder, Result<(), Error>)
-    ensures told { IsDoneOrMemory result.1 }
-    ensures opened { (whole : Client) (envelope : Envelope) → Stands client whole
-        → Opens S.lock (S.keys seal.now) (max whole.now now) Down packet.now envelope → Comes whole (take now envelope whole) result.0 result.1 }
-    ensures other { (whole : Client) → Stands client whole
-        → ((envelope : Envelope) → Opens S.lock (S.keys seal.now) (max whole.now now) Down packet.now envelope → ⊥) → Comes whole (at_moment now whole) result.0 result.1 }
-    ensures keys { keys_in (kept_of result.0) ≡ keys_in client }
-{
-    match client.on_packet(alloc, now, seal, packet) {
-        OpeningStep::Still(client) => (Holder::Opening(client), Ok(())),
-        OpeningStep::Opened(client) => (Holder::Open(client), Ok(())),
-        OpeningStep::Memory(client) => (Holder::Opening(client), Err(Error::Memory)),
-    }
-}
-
-fn open_hears<S: Seal>(
-    client: OpenClient,
-    alloc: Global,
-    now: Moment,
-    seal: &S,
-    packet: &[u8],
-) -> (Holder, Result<(), Error>)
-    ensures told { IsDoneOrMemory result.1 }
-    ensures opened { (whole : Client) (envelope : Envelope) → Stands client whole
-        → Opens S.lock (S.keys seal.now) (max whole.now now) Down packet.now envelope → Comes whole (take now envelope whole) result.0 result.1 }
-    ensures other { (whole : Client) → Stands client whole
-        → ((envelope : Envelope) → Opens S.lock (S.keys seal.now) (max whole.now now) Down packet.now envelope → ⊥) → Comes whole (at_moment now whole) result.0 result.1 }
-    ensures keys { keys_in (kept_of result.0) ≡ keys_in client }
-{
-    match client.on_packet(alloc, now, seal, packet) {
-        OpenStep::Still(client) => (Holder::Open(client), Ok(())),
-        OpenStep::Ended(client) => (Holder::Ended(client), Ok(())),
-        OpenStep::Memory(client) => (Holder::Open(client), Err(Error::Memory)),
+    let (holder, taken) = holder.on_packet(alloc, now, seal, packet);
+    match taken {
+        Ok(()) => (holder, Ok(())),
+        Err(Memory) => (holder, Err(Error::Memory)),
     }
 }
 
@@ -325,30 +257,5 @@ pub(crate) fn end(holder: Holder) -> (Holder, Result<(), Error>)
         Holder::Open(client) => (Holder::Ended(client.end()), Ok(())),
         Holder::Opening(client) => (Holder::Opening(client), Err(Error::NotOpen)),
         Holder::Ended(client) => (Holder::Ended(client), Err(Error::NotOpen)),
-    }
-}
-
-/// How many calls a client has.
-pub(crate) fn calls(holder: &Holder) -> u32
-    ensures kept { result ≡ length (kept_of holder.now).calls.rows }
-    ensures count { (client : Client) → Stands (kept_of holder.now) client → result ≡ length (calls_of client) }
-{
-    match holder {
-        Holder::Opening(client) => client.calls(),
-        Holder::Open(client) => client.calls(),
-        Holder::Ended(client) => client.calls(),
-    }
-}
-
-/// What became of a call of a client.
-pub(crate) fn state(holder: &Holder, call: CallNo) -> CallState<'_>
-    requires given { IsGiven call (kept_of holder.now).calls.rows }
-    ensures kept { state_in call (kept_of holder.now).calls.rows ≡ Some (shown result) }
-    ensures state { (client : Client) → Stands (kept_of holder.now) client → state_at call (calls_of client) ≡ Some (shown result) }
-{
-    match holder {
-        Holder::Opening(client) => client.state(call),
-        Holder::Open(client) => client.state(call),
-        Holder::Ended(client) => client.state(call),
     }
 }

@@ -25,9 +25,7 @@ ghost use Rattle.sim_clients.specs.Told.{TellsRefusal, TellsSent, TellsUnsent, n
 use crate::fault::SeatFault;
 use crate::sent::Sent;
 use crate::wish::Wish;
-use client_core::{
-    CallNo, Flush, Holder, NotSent, OpenClient, OpenStep, OpeningClient, OpeningStep, SubmitFault,
-};
+use client_core::{CallNo, Flush, Holder, NotSent, OpenClient, SubmitFault};
 use draws::Draw;
 use envelope::laws::opens_what_it_sealed;
 use envelope::{Dir, Opened, Seal};
@@ -79,11 +77,7 @@ pub(crate) fn submit(
     if holder.has_ended() {
         return Err(SeatFault::WrongState);
     }
-    match holder {
-        Holder::Opening(client) => Ok(client.submit(alloc, body, after)?),
-        Holder::Open(client) => Ok(client.submit(alloc, body, after)?),
-        Holder::Ended(_) => Err(SeatFault::WrongState),
-    }
+    Ok(holder.submit(alloc, body, after)?)
 }
 
 /// A connection of a client was opened.
@@ -97,17 +91,8 @@ pub(crate) fn attach(holder: &mut Holder) -> Result<(), SeatFault>
     if holder.has_ended() {
         return Err(SeatFault::WrongState);
     }
-    match holder {
-        Holder::Opening(client) => {
-            client.attach();
-            Ok(())
-        }
-        Holder::Open(client) => {
-            client.attach();
-            Ok(())
-        }
-        Holder::Ended(_) => Err(SeatFault::WrongState),
-    }
+    holder.attach();
+    Ok(())
 }
 
 /// An open client does as it is asked.
@@ -199,32 +184,11 @@ pub(crate) fn flush<S: Seal, D: Draw>(
         return Err(SeatFault::WrongState);
     }
     let session = holder.session();
-    match flush_going(holder, alloc, now, seal, draw) {
+    match holder.flush(alloc, now, seal, draw) {
         Flush::Packet(bytes) => Ok(Some(Sent { session, bytes })),
         Flush::Nothing => Ok(None),
         Flush::Spent => Err(SeatFault::Spent),
         Flush::Memory => Err(SeatFault::Memory),
-    }
-}
-
-fn flush_going<S: Seal, D: Draw>(
-    holder: &mut Holder,
-    alloc: Global,
-    now: Moment,
-    seal: &S,
-    draw: &mut D,
-) -> Flush
-    requires keys { HasKeys (S.keys seal.now) (keys_in (kept_of holder.old)) }
-    requires state { IsInState holder.old }
-    ensures flushes { (client : Client) → Stands (kept_of holder.old) client → client.has_ended ≡ false
-        → Flushes (setting_of D.step (S.keys seal.now)) S.lock (S.keys seal.now) now client draw.old result (kept_of holder.new) draw.new }
-    ensures keys { keys_in (kept_of holder.new) ≡ keys_in (kept_of holder.old) }
-    ensures session { (kept_of holder.new).rest.session ≡ (kept_of holder.old).rest.session }
-{
-    match holder {
-        Holder::Opening(client) => client.flush(alloc, now, seal, draw),
-        Holder::Open(client) => client.flush(alloc, now, seal, draw),
-        Holder::Ended(_) => Flush::Nothing,
     }
 }
 
@@ -244,48 +208,10 @@ pub(crate) fn take<S: Seal>(
     if holder.has_ended() {
         return (holder, Ok(()));
     }
-    match holder {
-        Holder::Opening(client) => opening_takes(client, alloc, now, seal, bytes),
-        Holder::Open(client) => open_takes(client, alloc, now, seal, bytes),
-        Holder::Ended(client) => (Holder::Ended(client), Ok(())),
-    }
-}
-
-fn opening_takes<S: Seal>(
-    client: OpeningClient,
-    alloc: Global,
-    now: Moment,
-    seal: &S,
-    bytes: &[u8],
-) -> (Holder, Result<(), SeatFault>)
-    ensures refused { TellsRefusal None result.1 }
-    ensures taken { (opens : ℕ → Way → List ℕ → Option Envelope) (whole : Client) → IsReading S.lock (S.keys seal.now) opens
-        → Stands client whole → TakenSo whole (takes now (opens (max whole.now now) Down bytes.now) whole) result.0 result.1 }
-    ensures keys { keys_in (kept_of result.0) ≡ keys_in client }
-{
-    match client.on_packet(alloc, now, seal, bytes) {
-        OpeningStep::Still(client) => (Holder::Opening(client), Ok(())),
-        OpeningStep::Opened(client) => (Holder::Open(client), Ok(())),
-        OpeningStep::Memory(client) => (Holder::Opening(client), Err(SeatFault::Memory)),
-    }
-}
-
-fn open_takes<S: Seal>(
-    client: OpenClient,
-    alloc: Global,
-    now: Moment,
-    seal: &S,
-    bytes: &[u8],
-) -> (Holder, Result<(), SeatFault>)
-    ensures refused { TellsRefusal None result.1 }
-    ensures taken { (opens : ℕ → Way → List ℕ → Option Envelope) (whole : Client) → IsReading S.lock (S.keys seal.now) opens
-        → Stands client whole → TakenSo whole (takes now (opens (max whole.now now) Down bytes.now) whole) result.0 result.1 }
-    ensures keys { keys_in (kept_of result.0) ≡ keys_in client }
-{
-    match client.on_packet(alloc, now, seal, bytes) {
-        OpenStep::Still(client) => (Holder::Open(client), Ok(())),
-        OpenStep::Ended(client) => (Holder::Ended(client), Ok(())),
-        OpenStep::Memory(client) => (Holder::Open(client), Err(SeatFault::Memory)),
+    let (holder, taken) = holder.on_packet(alloc, now, seal, bytes);
+    match taken {
+        Ok(()) => (holder, Ok(())),
+        Err(memory) => (holder, Err(SeatFault::from(memory))),
     }
 }
 

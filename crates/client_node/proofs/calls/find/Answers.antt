@@ -10,6 +10,6 @@ returns-in-None c =
     let kind = c.args.kind in
     let found = c.first_between-in-None.result in
     found_or_none kind rows c.args.first found
-    (subst (λ (count : ℕ). NoneBetween kind rows c.args.first count) c.count-count.ensures.kept c.in-None.ensures)
-    (subst (λ (count : ℕ). MatchOption found (NoneBetween kind rows 0 (min c.args.first count)) (λ place. has_row kind rows ≡ true)) c.count-count.ensures.kept
+    (subst (λ (count : ℕ). NoneBetween kind rows c.args.first count) c.calls-count.ensures.kept c.in-None.ensures)
+    (subst (λ (count : ℕ). MatchOption found (NoneBetween kind rows 0 (min c.args.first count)) (λ place. has_row kind rows ≡ true)) c.calls-count.ensures.kept
     (subst (λ (end : ℕ). MatchOption found (NoneBetween kind rows 0 end) (λ place. has_row kind rows ≡ true)) c.min.ensures c.first_between-in-None.ensures))

@@ -1,0 +1,26 @@
+use Rattle.std.proofs.Common.{refl}
+use Rattle.client_rules.specs.Client.{at_moment}
+use Rattle.client_rules.specs.Taking.{take}
+use Rattle.client_core.proofs.HolderLemmas.{now_open, still_opening}
+use Rattle.client_core.proofs.events.opening_takes.Goals as goal
+
+pub returns-in-Still-clause-opened : goal.returns-in-Still-clause-opened
+returns-in-Still-clause-opened g c = λ whole envelope stands opens.
+    let took = c.in-Still.ensures.opened whole envelope stands opens in
+    (still_opening (take c.args.now envelope whole) took.0, took.1)
+
+pub returns-in-Still-clause-other : goal.returns-in-Still-clause-other
+returns-in-Still-clause-other g c = λ whole stands none.
+    let took = c.in-Still.ensures.other whole stands none in
+    (still_opening (at_moment c.args.now whole) took.0, took.1)
+
+pub returns-in-Opened-clause-opened : goal.returns-in-Opened-clause-opened
+returns-in-Opened-clause-opened g c = λ whole envelope stands opens.
+    let took = c.in-Opened.ensures.opened whole envelope stands opens in
+    (now_open (take c.args.now envelope whole) took.0, took.1)
+
+pub returns-in-Memory-clause-opened : goal.returns-in-Memory-clause-opened
+returns-in-Memory-clause-opened g c = λ whole envelope stands opens. (refl, c.in-Memory.ensures.opened whole envelope stands opens)
+
+pub returns-in-Memory-clause-other : goal.returns-in-Memory-clause-other
+returns-in-Memory-clause-other g c = λ whole stands none. (refl, c.in-Memory.ensures.other whole stands none)
