@@ -1,5 +1,11 @@
 -- What is told of a packet.
-use Rattle.std.specs.Prelude.{◌≡◌, Bool, true, false, Result, Ok, Err}
+use Rattle.std.specs.Prelude.{◌≡◌, ℕ, Bool, true, false, List, Option, Some, None, Result, Ok, Err, ⊤}
+use Rattle.auth_keys.specs.declared.ring.RingKey.{RingKey}
+use Rattle.envelope.specs.declared.parts.Dir.TheVariants.{Down}
+use Rattle.envelope.specs.declared.parts.Envelope.{Envelope}
+use Rattle.envelope.specs.declared.refusal.Refusal.{Refusal}
+use Rattle.envelope.specs.Opening.{IsRefused, Opens}
+use Rattle.envelope.specs.Packet.{Lock}
 use Rattle.octets.specs.declared.memory.Memory.{Memory}
 use Rattle.client_rules.specs.Client.{Client, is_open}
 use Rattle.client_core.specs.Kept.{Contents, Stands, at_end}
@@ -44,3 +50,34 @@ abbrev pub open_left : OpenStep → Contents
 open_left (open_step.Still now) = now
 open_left (open_step.Ended now) = now
 open_left (open_step.Memory now) = now
+
+-- ---- why a packet doesn't open
+
+-- a packet that comes down at a moment doesn't open for this cause; none is told of one that opens
+abbrev pub IsWhy : Lock → List RingKey → ℕ → List ℕ → Option Refusal → Type 0
+IsWhy lock ring at packet None = (envelope : Envelope) × Opens lock ring at Down packet envelope
+IsWhy lock ring at packet (Some why) = IsRefused lock ring at Down packet why
+
+-- it is told unless memory ran out, of a packet that was received
+
+abbrev pub TellsWhy : Lock → List RingKey → ℕ → List ℕ → Result Bool Memory → Option Refusal → Type 0
+TellsWhy lock ring at packet (Ok ended) why = IsWhy lock ring at packet why
+TellsWhy lock ring at packet (Err memory) why = why ≡ None
+
+abbrev pub TellsWhyOpening : Lock → List RingKey → ℕ → List ℕ → OpeningStep → Option Refusal → Type 0
+TellsWhyOpening lock ring at packet (opening_step.Memory now) why = why ≡ None
+TellsWhyOpening lock ring at packet other why = IsWhy lock ring at packet why
+
+abbrev pub TellsWhyOpen : Lock → List RingKey → ℕ → List ℕ → OpenStep → Option Refusal → Type 0
+TellsWhyOpen lock ring at packet (open_step.Memory now) why = why ≡ None
+TellsWhyOpen lock ring at packet other why = IsWhy lock ring at packet why
+
+-- where memory ran out it is the client that it was
+
+abbrev pub StaysOpening : Client → OpeningStep → Type 0
+StaysOpening client (opening_step.Memory now) = Stands now client
+StaysOpening client other = ⊤
+
+abbrev pub StaysOpen : Client → OpenStep → Type 0
+StaysOpen client (open_step.Memory now) = Stands now client
+StaysOpen client other = ⊤

@@ -17,7 +17,7 @@ use crate::open::OpenClient;
 use crate::opening::OpeningClient;
 use crate::step::{OpenStep, OpeningStep};
 use draws::Draw;
-use envelope::Seal;
+use envelope::{Refusal, Seal};
 use msg_ids::Moment;
 use octets::Memory;
 use std::alloc::Global;
@@ -63,7 +63,7 @@ impl OpeningClient {
     ghost use Rattle.client_rules.specs.Taking.{take};
     ghost use Rattle.client_core.specs.Kept.{Stands};
     ghost use Rattle.client_core.specs.Results.{BringsResult, HasDoneOpening};
-    ghost use Rattle.client_core.specs.Took.{TookOpening};
+    ghost use Rattle.client_core.specs.Took.{StaysOpening, TellsWhyOpening, TookOpening};
 
     /// A packet from the server came at a moment. It is looked at where it opens under the client's key, came for its
     /// session and is lawful; of any other only the moment counts. It costs what it brings, and a unique number the calls
@@ -86,10 +86,34 @@ impl OpeningClient {
         ensures session { (opening_left result).rest.session ≡ self.rest.session }
         ensures count { length (opening_left result).calls.rows ≡ length self.calls.rows }
     {
+        self.receive(alloc, now, seal, packet).0
+    }
+
+    /// As [`OpeningClient::on_packet`], and tells why the packet doesn't open; nothing where it opens, or memory ran out.
+    pub fn receive<S: Seal>(
+        self,
+        alloc: Global,
+        now: Moment,
+        seal: &S,
+        packet: &[u8],
+    ) -> (OpeningStep, Option<Refusal>)
+        ensures opened { (client : Client) (envelope : Envelope) → Stands self client → Opens S.lock (S.keys seal.now) (max client.now now) Down packet.now envelope
+            → TookOpening result.0 client (take now envelope client) }
+        ensures other { (client : Client) → Stands self client → ((envelope : Envelope) → Opens S.lock (S.keys seal.now) (max client.now now) Down packet.now envelope → ⊥)
+            → TookOpening result.0 client (at_moment now client) }
+        ensures why { (client : Client) → Stands self client → TellsWhyOpening S.lock (S.keys seal.now) (max client.now now) packet.now result.0 result.1 }
+        ensures unchanged_on_memory { (client : Client) → Stands self client → StaysOpening client result.0 }
+        ensures results { (client : Client) (envelope : Envelope) (call : CallNo) (answer : List ℕ) → Stands self client → Opens S.lock (S.keys seal.now) (max client.now now) Down packet.now envelope
+            → BringsResult now envelope client call answer → HasDoneOpening call answer result.0 }
+        ensures keys { keys_in (opening_left result.0) ≡ keys_in self }
+        ensures session { (opening_left result.0).rest.session ≡ self.rest.session }
+        ensures count { length (opening_left result.0).calls.rows ≡ length self.calls.rows }
+    {
         let OpeningClient { mut core } = self;
-        match core.receive(alloc, now, seal, packet) {
-            Ok(_) => opened_or_still(core),
-            Err(Memory) => OpeningStep::Memory(OpeningClient { core }),
+        let (taken, why) = core.receive(alloc, now, seal, packet);
+        match taken {
+            Ok(_) => (opened_or_still(core), why),
+            Err(Memory) => (OpeningStep::Memory(OpeningClient { core }), why),
         }
     }
 }
@@ -107,7 +131,7 @@ impl OpenClient {
     ghost use Rattle.client_rules.specs.Taking.{take};
     ghost use Rattle.client_core.specs.Kept.{Stands};
     ghost use Rattle.client_core.specs.Results.{BringsResult, HasDone};
-    ghost use Rattle.client_core.specs.Took.{TookOpen};
+    ghost use Rattle.client_core.specs.Took.{StaysOpen, TellsWhyOpen, TookOpen};
 
     /// A packet from the server came at a moment. It is looked at where it opens under the client's key, came for its
     /// session and is lawful; of any other only the moment counts. It costs what it brings, and a unique number the calls
@@ -124,10 +148,34 @@ impl OpenClient {
         ensures session { (open_left result).rest.session ≡ self.rest.session }
         ensures count { length (open_left result).calls.rows ≡ length self.calls.rows }
     {
+        self.receive(alloc, now, seal, packet).0
+    }
+
+    /// As [`OpenClient::on_packet`], and tells why the packet doesn't open; nothing where it opens, or memory ran out.
+    pub fn receive<S: Seal>(
+        self,
+        alloc: Global,
+        now: Moment,
+        seal: &S,
+        packet: &[u8],
+    ) -> (OpenStep, Option<Refusal>)
+        ensures opened { (client : Client) (envelope : Envelope) → Stands self client → Opens S.lock (S.keys seal.now) (max client.now now) Down packet.now envelope
+            → TookOpen result.0 client (take now envelope client) }
+        ensures other { (client : Client) → Stands self client → ((envelope : Envelope) → Opens S.lock (S.keys seal.now) (max client.now now) Down packet.now envelope → ⊥)
+            → TookOpen result.0 client (at_moment now client) }
+        ensures why { (client : Client) → Stands self client → TellsWhyOpen S.lock (S.keys seal.now) (max client.now now) packet.now result.0 result.1 }
+        ensures unchanged_on_memory { (client : Client) → Stands self client → StaysOpen client result.0 }
+        ensures results { (client : Client) (envelope : Envelope) (call : CallNo) (answer : List ℕ) → Stands self client → Opens S.lock (S.keys seal.now) (max client.now now) Down packet.now envelope
+            → BringsResult now envelope client call answer → HasDone call answer result.0 }
+        ensures keys { keys_in (open_left result.0) ≡ keys_in self }
+        ensures session { (open_left result.0).rest.session ≡ self.rest.session }
+        ensures count { length (open_left result.0).calls.rows ≡ length self.calls.rows }
+    {
         let OpenClient { mut core } = self;
-        match core.receive(alloc, now, seal, packet) {
-            Ok(ended) => open_or_ended(core, ended),
-            Err(Memory) => OpenStep::Memory(OpenClient { core }),
+        let (taken, why) = core.receive(alloc, now, seal, packet);
+        match taken {
+            Ok(ended) => (open_or_ended(core, ended), why),
+            Err(Memory) => (OpenStep::Memory(OpenClient { core }), why),
         }
     }
 

@@ -5,7 +5,7 @@ ghost use Rattle.std.specs.Prelude.{◌≡◌};
 use crate::brought::read_envelope;
 use crate::core_client::Core;
 use call_table::laws::tables_tell;
-use envelope::{Dir, Envelope, Opened, Seal};
+use envelope::{Dir, Envelope, Opened, Refusal, Seal};
 use msg_ids::Moment;
 use octets::Memory;
 use std::alloc::Global;
@@ -23,7 +23,7 @@ impl Core {
     ghost use Rattle.client_core.specs.Kept.{Stands};
     ghost use Rattle.client_core.specs.Own.{Came};
     ghost use Rattle.client_core.specs.Results.{BringsResult};
-    ghost use Rattle.client_core.specs.Took.{TookBy};
+    ghost use Rattle.client_core.specs.Took.{TellsWhy, TookBy};
 
     /// Whether it has learnt a unique number of its session.
     pub(crate) fn is_open(&self) -> bool
@@ -100,7 +100,7 @@ impl Core {
         Ok(ended)
     }
 
-    /// A packet came at a moment. It answers whether the client has ended.
+    /// A packet came at a moment. It answers whether the client has ended, and why the packet doesn't open, where it doesn't.
     ///
     /// # Errors
     ///
@@ -111,27 +111,28 @@ impl Core {
         now: Moment,
         seal: &S,
         packet: &[u8],
-    ) -> Result<bool, Memory>
+    ) -> (Result<bool, Memory>, Option<Refusal>)
         ensures opened { (client : Client) (envelope : Envelope) → Stands self.old client → Opens S.lock (S.keys seal.now) (max client.now now) Down packet.now envelope
-            → TookBy result self.new client (take now envelope client) }
+            → TookBy result.0 self.new client (take now envelope client) }
         ensures other { (client : Client) → Stands self.old client → ((envelope : Envelope) → Opens S.lock (S.keys seal.now) (max client.now now) Down packet.now envelope → ⊥)
-            → TookBy result self.new client (at_moment now client) }
+            → TookBy result.0 self.new client (at_moment now client) }
         ensures results { (client : Client) (envelope : Envelope) (call : CallNo) (answer : List ℕ) → Stands self.old client → Opens S.lock (S.keys seal.now) (max client.now now) Down packet.now envelope
-            → BringsResult now envelope client call answer → IfOk result (λ ended. state_in call self.new.calls.rows ≡ Some (Done answer)) }
-        ensures came { (client : Client) → Stands self.old client → Came result self.new client }
+            → BringsResult now envelope client call answer → IfOk result.0 (λ ended. state_in call self.new.calls.rows ≡ Some (Done answer)) }
+        ensures why { (client : Client) → Stands self.old client → TellsWhy S.lock (S.keys seal.now) (max client.now now) packet.now result.0 result.1 }
+        ensures came { (client : Client) → Stands self.old client → Came result.0 self.new client }
         ensures open { is_open self.old.rest ≡ true → is_open self.new.rest ≡ true }
-        ensures opening { self.old.rest.learnt ≡ [] → IfOk result (λ ended. ended ≡ false) }
-        ensures learnt { OnErr result (self.new.rest.learnt ≡ self.old.rest.learnt) }
+        ensures opening { self.old.rest.learnt ≡ [] → IfOk result.0 (λ ended. ended ≡ false) }
+        ensures learnt { OnErr result.0 (self.new.rest.learnt ≡ self.old.rest.learnt) }
     {
         tables_tell();
         S::opens_what_it_sealed();
         match seal.unseal(alloc, self.latest(now), Dir::Down, packet) {
-            Opened::Envelope(envelope) => self.take_envelope(alloc, now, &envelope),
-            Opened::Refused(_) => {
+            Opened::Envelope(envelope) => (self.take_envelope(alloc, now, &envelope), None),
+            Opened::Refused(why) => {
                 self.reach(now);
-                Ok(false)
+                (Ok(false), Some(why))
             }
-            Opened::Memory => Err(Memory),
+            Opened::Memory => (Err(Memory), None),
         }
     }
 }

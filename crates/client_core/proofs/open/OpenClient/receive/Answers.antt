@@ -2,7 +2,7 @@ use Rattle.std.proofs.Common.{◌∙◌, ap, length}
 use Rattle.client_core.specs.Kept.{Contents}
 use Rattle.client_core.specs.Own.{Own}
 use Rattle.client_core.proofs.OwnLemmas.{came_own}
-use Rattle.client_core.proofs.open.OpenClient.on_packet.Goals as goal
+use Rattle.client_core.proofs.open.OpenClient.receive.Goals as goal
 
 pub returns-in-Ok-clause-opened : goal.returns-in-Ok-clause-opened
 returns-in-Ok-clause-opened g c client envelope stands opens =

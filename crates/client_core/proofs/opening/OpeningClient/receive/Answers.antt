@@ -3,7 +3,7 @@ use Rattle.client_core.specs.Kept.{Contents}
 use Rattle.client_core.specs.Own.{Own}
 use Rattle.client_core.proofs.OwnLemmas.{came_own}
 use Rattle.client_core.proofs.TakingLemmas.{took_opening}
-use Rattle.client_core.proofs.opening.OpeningClient.on_packet.Goals as goal
+use Rattle.client_core.proofs.opening.OpeningClient.receive.Goals as goal
 
 pub returns-in-Ok-clause-opened : goal.returns-in-Ok-clause-opened
 returns-in-Ok-clause-opened g c client envelope stands opens =
