@@ -34,3 +34,4 @@ pub mod SealLemmas
 pub mod SizeLemmas
 pub mod SoundLemmas
 pub mod TurnLemmas
+pub mod WhyLemmas

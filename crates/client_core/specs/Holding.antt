@@ -54,6 +54,6 @@ unless_ended does client = if client.has_ended then client else does client
 
 -- By a packet it became this client, in its state; or memory ran out and it is the client that it was, in the state that it
 -- was in.
-abbrev pub Became : Holder → Client → Client → Holder → Result Unit Memory → Type 0
-Became held before after left (Ok done) = (phase_of left ≡ phase_after (phase_of held) after) × Stands (kept_of left) after
+abbrev pub Became : {X : Type 0} → Holder → Client → Client → Holder → Result X Memory → Type 0
+Became held before after left (Ok told) = (phase_of left ≡ phase_after (phase_of held) after) × Stands (kept_of left) after
 Became held before after left (Err memory) = (phase_of left ≡ phase_of held) × Stands (kept_of left) before

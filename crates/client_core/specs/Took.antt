@@ -81,3 +81,13 @@ StaysOpening client other = ⊤
 abbrev pub StaysOpen : Client → OpenStep → Type 0
 StaysOpen client (open_step.Memory now) = Stands now client
 StaysOpen client other = ⊤
+
+-- memory didn't run out
+
+abbrev pub IsDoneOpening : OpeningStep → Type 0
+IsDoneOpening (opening_step.Memory now) = ⊥
+IsDoneOpening other = ⊤
+
+abbrev pub IsDoneOpen : OpenStep → Type 0
+IsDoneOpen (open_step.Memory now) = ⊥
+IsDoneOpen other = ⊤

@@ -1,6 +1,6 @@
 //! The calls and the events of a client, whatever state it is in.
 
-ghost use Rattle.std.specs.Prelude.{◌≡◌, ◌+◌, Ok, Some, IfOk, OnErr, OnOk, false, length, max, true};
+ghost use Rattle.std.specs.Prelude.{◌≡◌, ◌+◌, None, Ok, Some, IfOk, OnErr, OnOk, false, length, max, true};
 ghost use Rattle.call_table.specs.Kept.{shown, state_in};
 ghost use Rattle.call_table.specs.Table.{IsGiven, call_no, state_at};
 ghost use Rattle.envelope.specs.Opening.{Opens};
@@ -17,6 +17,7 @@ ghost use Rattle.client_core.specs.Keys.{HasKeys, keys_in};
 ghost use Rattle.client_core.specs.Kept.{Stands};
 ghost use Rattle.client_core.specs.Sealing.{TellsSealed};
 ghost use Rattle.client_core.specs.Told.{TellsFault};
+ghost use Rattle.client_core.specs.Took.{IsWhy};
 
 use crate::fault::SubmitFault;
 use crate::flush::Flush;
@@ -26,7 +27,7 @@ use crate::opening::OpeningClient;
 use crate::step::{OpenStep, OpeningStep};
 use call_table::{CallNo, CallState};
 use draws::Draw;
-use envelope::Seal;
+use envelope::{Refusal, Seal};
 use msg_ids::Moment;
 use octets::Memory;
 use std::alloc::Global;
@@ -130,7 +131,8 @@ impl Holder {
         }
     }
 
-    /// A packet from the server came at a moment, as to [`OpenClient::on_packet`]. An ended client takes none.
+    /// A packet from the server came at a moment, as to [`OpenClient::receive`]. It tells why the packet doesn't open;
+    /// nothing where it opens. An ended client takes none, and tells nothing.
     ///
     /// # Errors
     ///
@@ -141,12 +143,15 @@ impl Holder {
         now: Moment,
         seal: &S,
         packet: &[u8],
-    ) -> (Holder, Result<(), Memory>)
+    ) -> (Holder, Result<Option<Refusal>, Memory>)
         ensures opened { (client : Client) (envelope : Envelope) → Stands (kept_of self) client → (kept_of self).rest.has_ended ≡ false
             → Opens S.lock (S.keys seal.now) (max client.now now) Down packet.now envelope → Became self client (take now envelope client) result.0 result.1 }
         ensures other { (client : Client) → Stands (kept_of self) client → (kept_of self).rest.has_ended ≡ false
             → ((envelope : Envelope) → Opens S.lock (S.keys seal.now) (max client.now now) Down packet.now envelope → ⊥) → Became self client (at_moment now client) result.0 result.1 }
-        ensures ended { (kept_of self).rest.has_ended ≡ true → (result.0 ≡ self) × (result.1 ≡ Ok tt) }
+        ensures ended { (kept_of self).rest.has_ended ≡ true → (result.0 ≡ self) × (result.1 ≡ Ok None) }
+        ensures why { (client : Client) → Stands (kept_of self) client → (kept_of self).rest.has_ended ≡ false
+            → IfOk result.1 (IsWhy S.lock (S.keys seal.now) (max client.now now) packet.now) }
+        ensures stays { (client : Client) → Stands (kept_of self) client → OnErr result.1 (Stands (kept_of result.0) client) }
         ensures keys { keys_in (kept_of result.0) ≡ keys_in (kept_of self) }
         ensures count { length (kept_of result.0).calls.rows ≡ length (kept_of self).calls.rows }
     {
@@ -154,7 +159,7 @@ impl Holder {
         match self {
             Holder::Opening(client) => opening_takes(client, alloc, now, seal, packet),
             Holder::Open(client) => open_takes(client, alloc, now, seal, packet),
-            Holder::Ended(client) => (Holder::Ended(client), Ok(())),
+            Holder::Ended(client) => (Holder::Ended(client), Ok(None)),
         }
     }
 }
@@ -166,17 +171,20 @@ fn opening_takes<S: Seal>(
     now: Moment,
     seal: &S,
     packet: &[u8],
-) -> (Holder, Result<(), Memory>)
+) -> (Holder, Result<Option<Refusal>, Memory>)
     ensures opened { (whole : Client) (envelope : Envelope) → Stands client whole → Opens S.lock (S.keys seal.now) (max whole.now now) Down packet.now envelope
         → Became (holder.Opening client) whole (take now envelope whole) result.0 result.1 }
     ensures other { (whole : Client) → Stands client whole → ((envelope : Envelope) → Opens S.lock (S.keys seal.now) (max whole.now now) Down packet.now envelope → ⊥)
         → Became (holder.Opening client) whole (at_moment now whole) result.0 result.1 }
+    ensures why { (whole : Client) → Stands client whole → IfOk result.1 (IsWhy S.lock (S.keys seal.now) (max whole.now now) packet.now) }
+    ensures stays { (whole : Client) → Stands client whole → OnErr result.1 (Stands (kept_of result.0) whole) }
     ensures keys { keys_in (kept_of result.0) ≡ keys_in client }
     ensures count { length (kept_of result.0).calls.rows ≡ length client.calls.rows }
 {
-    match client.on_packet(alloc, now, seal, packet) {
-        OpeningStep::Still(client) => (Holder::Opening(client), Ok(())),
-        OpeningStep::Opened(client) => (Holder::Open(client), Ok(())),
+    let (step, why) = client.receive(alloc, now, seal, packet);
+    match step {
+        OpeningStep::Still(client) => (Holder::Opening(client), Ok(why)),
+        OpeningStep::Opened(client) => (Holder::Open(client), Ok(why)),
         OpeningStep::Memory(client) => (Holder::Opening(client), Err(Memory)),
     }
 }
@@ -188,17 +196,20 @@ fn open_takes<S: Seal>(
     now: Moment,
     seal: &S,
     packet: &[u8],
-) -> (Holder, Result<(), Memory>)
+) -> (Holder, Result<Option<Refusal>, Memory>)
     ensures opened { (whole : Client) (envelope : Envelope) → Stands client whole → Opens S.lock (S.keys seal.now) (max whole.now now) Down packet.now envelope
         → Became (holder.Open client) whole (take now envelope whole) result.0 result.1 }
     ensures other { (whole : Client) → Stands client whole → ((envelope : Envelope) → Opens S.lock (S.keys seal.now) (max whole.now now) Down packet.now envelope → ⊥)
         → Became (holder.Open client) whole (at_moment now whole) result.0 result.1 }
+    ensures why { (whole : Client) → Stands client whole → IfOk result.1 (IsWhy S.lock (S.keys seal.now) (max whole.now now) packet.now) }
+    ensures stays { (whole : Client) → Stands client whole → OnErr result.1 (Stands (kept_of result.0) whole) }
     ensures keys { keys_in (kept_of result.0) ≡ keys_in client }
     ensures count { length (kept_of result.0).calls.rows ≡ length client.calls.rows }
 {
-    match client.on_packet(alloc, now, seal, packet) {
-        OpenStep::Still(client) => (Holder::Open(client), Ok(())),
-        OpenStep::Ended(client) => (Holder::Ended(client), Ok(())),
+    let (step, why) = client.receive(alloc, now, seal, packet);
+    match step {
+        OpenStep::Still(client) => (Holder::Open(client), Ok(why)),
+        OpenStep::Ended(client) => (Holder::Ended(client), Ok(why)),
         OpenStep::Memory(client) => (Holder::Open(client), Err(Memory)),
     }
 }

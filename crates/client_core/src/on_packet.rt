@@ -9,7 +9,7 @@ ghost use Rattle.client_core.specs.Keys.{keys_in};
 ghost use Rattle.client_core.specs.Kept.{Stands};
 ghost use Rattle.client_core.specs.One.{StandsForOne};
 ghost use Rattle.client_core.specs.Results.{HasDone, HasDoneOpening};
-ghost use Rattle.client_core.specs.Took.{TookBy, TookOpen, TookOpening, open_left, opening_left};
+ghost use Rattle.client_core.specs.Took.{IsDoneOpen, IsDoneOpening, TookBy, TookOpen, TookOpening, open_left, opening_left};
 
 use crate::core_client::Core;
 use crate::ended::EndedClient;
@@ -28,6 +28,7 @@ fn opened_or_still(core: Core) -> OpeningStep
     ensures taken { (before after : Client) → Stands core after → TookOpening result before after }
     ensures done { (call : CallNo) (answer : List ℕ) → state_in call core.calls.rows ≡ Some (Done answer) → HasDoneOpening call answer result }
     ensures left { opening_left result ≡ core }
+    ensures not_memory { IsDoneOpening result }
 {
     if core.is_open() {
         OpeningStep::Opened(OpenClient { core })
@@ -45,6 +46,7 @@ fn open_or_ended(core: Core, ended: bool) -> OpenStep
     ensures keys { keys_in (open_left result) ≡ keys_in core }
     ensures session { (open_left result).rest.session ≡ core.rest.session }
     ensures count { length (open_left result).calls.rows ≡ length core.calls.rows }
+    ensures not_memory { IsDoneOpen result }
 {
     if ended {
         OpenStep::Ended(EndedClient { core })

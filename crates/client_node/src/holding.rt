@@ -87,5 +87,9 @@ pub(crate) fn hear<S: Seal>(
     ensures count { count_of result.0 ≡ count_of client }
 {
     let _state = client.has_ended();
-    client.on_packet(alloc, now, seal, packet)
+    let (client, taken) = client.on_packet(alloc, now, seal, packet);
+    match taken {
+        Ok(_why) => (client, Ok(())),
+        Err(memory) => (client, Err(memory)),
+    }
 }

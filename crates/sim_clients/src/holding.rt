@@ -210,7 +210,7 @@ pub(crate) fn take<S: Seal>(
     }
     let (holder, taken) = holder.on_packet(alloc, now, seal, bytes);
     match taken {
-        Ok(()) => (holder, Ok(())),
+        Ok(_why) => (holder, Ok(())),
         Err(memory) => (holder, Err(SeatFault::from(memory))),
     }
 }

@@ -6,21 +6,30 @@ use Rattle.client_core.proofs.events.opening_takes.Goals as goal
 
 pub returns-in-Still-clause-opened : goal.returns-in-Still-clause-opened
 returns-in-Still-clause-opened g c = λ whole envelope stands opens.
-    let took = c.in-Still.ensures.opened whole envelope stands opens in
+    let took = rw c.in-Still.is at (c.receive-step.ensures.opened whole envelope stands opens) in
     (still_opening (take c.args.now envelope whole) took.0, took.1)
 
 pub returns-in-Still-clause-other : goal.returns-in-Still-clause-other
 returns-in-Still-clause-other g c = λ whole stands none.
-    let took = c.in-Still.ensures.other whole stands none in
+    let took = rw c.in-Still.is at (c.receive-step.ensures.other whole stands none) in
     (still_opening (at_moment c.args.now whole) took.0, took.1)
 
 pub returns-in-Opened-clause-opened : goal.returns-in-Opened-clause-opened
 returns-in-Opened-clause-opened g c = λ whole envelope stands opens.
-    let took = c.in-Opened.ensures.opened whole envelope stands opens in
+    let took = rw c.in-Opened.is at (c.receive-step.ensures.opened whole envelope stands opens) in
     (now_open (take c.args.now envelope whole) took.0, took.1)
 
 pub returns-in-Memory-clause-opened : goal.returns-in-Memory-clause-opened
-returns-in-Memory-clause-opened g c = λ whole envelope stands opens. (refl, c.in-Memory.ensures.opened whole envelope stands opens)
+returns-in-Memory-clause-opened g c = λ whole envelope stands opens. (refl, rw c.in-Memory.is at (c.receive-step.ensures.opened whole envelope stands opens))
 
 pub returns-in-Memory-clause-other : goal.returns-in-Memory-clause-other
-returns-in-Memory-clause-other g c = λ whole stands none. (refl, c.in-Memory.ensures.other whole stands none)
+returns-in-Memory-clause-other g c = λ whole stands none. (refl, rw c.in-Memory.is at (c.receive-step.ensures.other whole stands none))
+
+pub returns-in-Still-clause-why : goal.returns-in-Still-clause-why
+returns-in-Still-clause-why g c = λ whole stands. rw c.in-Still.is at (c.receive-step.ensures.why whole stands)
+
+pub returns-in-Opened-clause-why : goal.returns-in-Opened-clause-why
+returns-in-Opened-clause-why g c = λ whole stands. rw c.in-Opened.is at (c.receive-step.ensures.why whole stands)
+
+pub returns-in-Memory-clause-stays : goal.returns-in-Memory-clause-stays
+returns-in-Memory-clause-stays g c = λ whole stands. rw c.in-Memory.is at (c.receive-step.ensures.unchanged_on_memory whole stands)
