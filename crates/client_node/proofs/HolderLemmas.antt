@@ -128,28 +128,33 @@ by_opened P lock keys at now packet whole None some none opens = none opens
 
 -- ---- a packet, in each state
 
-pub heard_as : (held : Holder) (before after : Client) (left : Holder) (taken : Result Unit Memory)
-    → Became held before after left taken → HeardAs (phase_of held) before after left taken
-heard_as held before after left (Ok done) became = became
+-- what is heard, whatever is told of it
+abbrev pub told_of : {X : Type 0} → Result X Memory → Result Unit Memory
+told_of (Ok told) = Ok tt
+told_of (Err memory) = Err memory
+
+pub heard_as : {X : Type 0} (held : Holder) (before after : Client) (left : Holder) (taken : Result X Memory)
+    → Became held before after left taken → HeardAs (phase_of held) before after left (told_of taken)
+heard_as held before after left (Ok told) became = became
 heard_as held before after left (Err memory) became = became
 
-pub heard_by : (lock : Lock) (keys : List RingKey) (now : ℕ) (packet : List ℕ) (held left : Holder) (taken : Result Unit Memory) (whole : Client) (opened : Option Envelope)
+pub heard_by : {X : Type 0} (lock : Lock) (keys : List RingKey) (now : ℕ) (packet : List ℕ) (held left : Holder) (taken : Result X Memory) (nothing : X) (whole : Client) (opened : Option Envelope)
     → IsInState held → StandsFor held whole
     → ((client : Client) (envelope : Envelope) → StandsFor held client → (kept_of held).rest.has_ended ≡ false
     → Opens lock keys (max client.now now) Down packet envelope → Became held client (take now envelope client) left taken)
     → ((client : Client) → StandsFor held client → (kept_of held).rest.has_ended ≡ false
     → ((envelope : Envelope) → Opens lock keys (max client.now now) Down packet envelope → ⊥) → Became held client (at_moment now client) left taken)
-    → ((kept_of held).rest.has_ended ≡ true → (left ≡ held) × (taken ≡ Ok tt))
-    → IsOpened lock keys (max whole.now now) packet opened → HeardAs (phase_of held) whole (heard_in (phase_of held) now opened whole) left taken
-heard_by lock keys now packet (holder.Opening kept) left taken whole opened state stands some none ended opens =
-    by_opened (λ (after : Client). HeardAs Opening whole after left taken) lock keys (max whole.now now) now packet whole opened
+    → ((kept_of held).rest.has_ended ≡ true → (left ≡ held) × (taken ≡ Ok nothing))
+    → IsOpened lock keys (max whole.now now) packet opened → HeardAs (phase_of held) whole (heard_in (phase_of held) now opened whole) left (told_of taken)
+heard_by lock keys now packet (holder.Opening kept) left taken nothing whole opened state stands some none ended opens =
+    by_opened (λ (after : Client). HeardAs Opening whole after left (told_of taken)) lock keys (max whole.now now) now packet whole opened
     (λ envelope one. heard_as (holder.Opening kept) whole (take now envelope whole) left taken (some whole envelope stands state.1 one))
-    (λ nothing. heard_as (holder.Opening kept) whole (at_moment now whole) left taken (none whole stands state.1 nothing)) opens
-heard_by lock keys now packet (holder.Open kept) left taken whole opened state stands some none ended opens =
-    by_opened (λ (after : Client). HeardAs Open whole after left taken) lock keys (max whole.now now) now packet whole opened
+    (λ unopened. heard_as (holder.Opening kept) whole (at_moment now whole) left taken (none whole stands state.1 unopened)) opens
+heard_by lock keys now packet (holder.Open kept) left taken nothing whole opened state stands some none ended opens =
+    by_opened (λ (after : Client). HeardAs Open whole after left (told_of taken)) lock keys (max whole.now now) now packet whole opened
     (λ envelope one. heard_as (holder.Open kept) whole (take now envelope whole) left taken (some whole envelope stands state.1 one))
-    (λ nothing. heard_as (holder.Open kept) whole (at_moment now whole) left taken (none whole stands state.1 nothing)) opens
-heard_by lock keys now packet (holder.Ended kept) left taken whole opened state stands some none ended opens =
+    (λ unopened. heard_as (holder.Open kept) whole (at_moment now whole) left taken (none whole stands state.1 unopened)) opens
+heard_by lock keys now packet (holder.Ended kept) left taken nothing whole opened state stands some none ended opens =
     let (same, done) = ended state in
     rw done (subst (λ (one : Holder). HeardAs Ended whole whole one (Ok tt)) (sym same) (refl, stands))
 

@@ -35,6 +35,6 @@ flushes-preserved g c =
 pub returns-clause-flow : goal.returns-clause-flow
 returns-clause-flow g c =
     too_many (setting_of g.D.Draw.step (g.S.Seal.keys c.args.seal.now)) g.S.Seal.lock (g.S.Seal.keys c.args.seal.now) c.args.now c.args.client.now c.args.draw.now c.args.wire.now (seen (g.L.Link.told c.args.link.now) (g.L.Link.faults c.args.link.now))
-    c.flushes._count c.count.result c.flushes.client c.flushes.draw c.flushes.wire (seen (g.L.Link.told c.flushes.link) (g.L.Link.faults c.flushes.link))
-    c.flushes_leave_less.ensures.less c.flushes_leave_less.ensures.few c.count.ensures.count
+    c.flushes._count c.calls.result c.flushes.client c.flushes.draw c.flushes.wire (seen (g.L.Link.told c.flushes.link) (g.L.Link.faults c.flushes.link))
+    c.flushes_leave_less.ensures.less c.flushes_leave_less.ensures.few c.calls.ensures.count
     (omega (arith, c.flushes-test.false, c.flushes.auto._count-end, c.most_flushes-most.ensures)) c.flushes.invariant.so_far
