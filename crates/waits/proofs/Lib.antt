@@ -12,3 +12,4 @@ pub mod Along
 pub mod Telling
 pub mod Placing
 pub mod Answering
+mod Near

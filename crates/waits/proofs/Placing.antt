@@ -77,7 +77,7 @@ put_kept xs ts one t w s n kept is e stands named long =
     let gains : Gains (somes xs) (somes ys) one = subst (λ (q : Queue). Gains (somes xs) q one) (sym items) (gains_pushed (somes xs) one) in
     let right : IsRight (somes ys) (with_one one t) = right_more (somes xs) (somes ys) one t (owner t one at.of_key at.of_session) gains (found_right (somes xs) key session t at) in
     let right_w : IsRight (somes ys) w = subst (λ (u : Tally). IsRight (somes ys) u) (sym e) right in
-    let right' : IsRight (somes ys) w' = record { count = right_w.count; bytes = right_w.bytes; waiting = right_w.waiting; blocked = right_w.blocked; greatest = right_w.greatest } in
+    let right' : IsRight (somes ys) w' = record { count = right_w.count; bytes = right_w.bytes; waiting = right_w.waiting; blocked = right_w.blocked; greatest = right_w.greatest; single = right_w.single } in
     let same_key : w.key ≡ key = ap (λ (u : Tally). u.key) e ∙ at.of_key in
     let same_session : w.session ≡ session = ap (λ (u : Tally). u.session) e ∙ at.of_session in
     let count : w.count ≡ t.count + 1 = ap (λ (u : Tally). u.count) e in

@@ -1,13 +1,13 @@
 -- Tallies stay right where a job comes, goes or is told.
-use Rattle.std.proofs.Common.{◌≡◌, ◌∙◌, ℕ, ◌+◌, ◌<◌, ◌≤◌, max, Bool, true, false, not, ◌&&◌, ◌||◌, ◌==◌, cond, nat_lt, if◌then◌else◌, List, [], ◌∷◌, ◌++◌, length, map, fold, ap, sym, refl, subst, arith}
+use Rattle.std.proofs.Common.{◌≡◌, ◌∙◌, ℕ, ◌+◌, ◌<◌, ◌≤◌, max, ◌⊎◌, inl, inr, Bool, true, false, not, ◌&&◌, ◌||◌, ◌==◌, cond, nat_lt, if◌then◌else◌, List, [], ◌∷◌, ◌++◌, length, map, fold, ap, sym, refl, subst, arith}
 use Rattle.std.specs.List.{filter, list_any}
-use Rattle.std.proofs.lemmas.Bool.{eqb-true, eqb-false, eq-eqb, ne_eqb, ltb-false, and_parts}
+use Rattle.std.proofs.lemmas.Bool.{eqb-true, eqb-false, eq-eqb, ne_eqb, ltb-false, ltb-true, and_parts}
 use Rattle.std.proofs.lemmas.List.Folds.{list_any-append}
 use Rattle.std.proofs.lemmas.Map.Views.{any-filter_same}
 use Rattle.waits.specs.declared.job.Unfinished.{Unfinished}
 use Rattle.waits.specs.declared.tally.Tally.{Tally}
 use Rattle.waits.specs.Jobs.{Queue, is_of, is_waiting, is_ready, one_if, load_of, total, told, waits_for, after_answer, settled, without_session, job_count, job_bytes, waiting_count, blocked_count_of}
-use Rattle.waits.specs.Tallies.{is_tally_of, no_tally, tally_of, tally_if_any, without_tally, stored, with_one, without_one, greatest_of, awaiting_count, Counted, IsRight, AreRight, Covers, IsTallied}
+use Rattle.waits.specs.Tallies.{is_tally_of, no_tally, tally_of, tally_if_any, without_tally, stored, with_one, without_one, greatest_of, are_above, awaiting_count, Counted, IsRight, AreRight, Covers, IsTallied}
 use Rattle.waits.proofs.Limits.{counts, weighs, same_owner}
 
 -- how a job counts among those of a session that wait
@@ -52,6 +52,7 @@ pub record Found (queue : Queue) (key session : ℕ) (tally : Tally) : Type 0 wh
   pub waiting : tally.waiting ≡ waiting_count key session queue
   pub blocked : tally.blocked ≡ blocked_count_of key session queue
   pub greatest : (number : ℕ) → tally.greatest < number → awaiting_count key session number queue ≡ 0
+  pub single : tally.single ≡ true → (number : ℕ) → awaiting_count key session number queue ≤ 1
 
 right_found : (queue : Queue) (key session : ℕ) (tally : Tally) → is_tally_of key session tally ≡ true → IsRight queue tally → Found queue key session tally
 right_found queue key session tally is right =
@@ -66,6 +67,7 @@ right_found queue key session tally is right =
       waiting = right.waiting ∙ (ap (λ (k : ℕ). waiting_count k tally.session queue) same_key ∙ ap (λ (s : ℕ). waiting_count key s queue) same_session);
       blocked = right.blocked ∙ (ap (λ (k : ℕ). blocked_count_of k tally.session queue) same_key ∙ ap (λ (s : ℕ). blocked_count_of key s queue) same_session);
       greatest = λ number above. sym (ap (λ (k : ℕ). awaiting_count k tally.session number queue) same_key ∙ ap (λ (s : ℕ). awaiting_count key s number queue) same_session) ∙ right.greatest number above;
+      single = λ one number. omega (arith, right.single one number, ap (λ (k : ℕ). awaiting_count k tally.session number queue) same_key ∙ ap (λ (s : ℕ). awaiting_count key s number queue) same_session);
     }
 
 none_found : (queue : Queue) (key session : ℕ) → job_count key session queue ≡ 0 → Found queue key session (no_tally key session)
@@ -79,6 +81,7 @@ none_found queue key session none =
       waiting = sym rest.1;
       blocked = sym rest.2;
       greatest = λ number above. none_awaits key session number queue none;
+      single = λ one number. omega (arith, none_awaits key session number queue none);
     }
 
 found_by : (queue : Queue) (key session : ℕ) (tally : Tally) (tallies : List Tally) (is : Bool) → is_tally_of key session tally ≡ is → IsRight queue tally → ((list_any (is_tally_of key session) tallies ≡ false → job_count key session queue ≡ 0) → Found queue key session (tally_of key session tallies)) → ((is || list_any (is_tally_of key session) tallies) ≡ false → job_count key session queue ≡ 0) → Found queue key session (tally_of key session (tally ∷ tallies))
@@ -134,6 +137,7 @@ still_right key session old new tally elsewhere apart right =
       waiting = right.waiting ∙ sym same.2;
       blocked = right.blocked ∙ sym same.3;
       greatest = λ number above. same.4 number ∙ right.greatest number above;
+      single = λ one number. omega (arith, same.4 number, right.single one number);
     }
 
 eqb_turned : (a b : ℕ) (is : Bool) → (a == b) ≡ is → (b == a) ≡ is
@@ -266,6 +270,7 @@ found_right queue key session tally there =
       waiting = there.waiting ∙ sym (ap (λ (k : ℕ). waiting_count k tally.session queue) there.of_key ∙ ap (λ (s : ℕ). waiting_count key s queue) there.of_session);
       blocked = there.blocked ∙ sym (ap (λ (k : ℕ). blocked_count_of k tally.session queue) there.of_key ∙ ap (λ (s : ℕ). blocked_count_of key s queue) there.of_session);
       greatest = λ number above. (ap (λ (k : ℕ). awaiting_count k tally.session number queue) there.of_key ∙ ap (λ (s : ℕ). awaiting_count key s number queue) there.of_session) ∙ there.greatest number above;
+      single = λ one number. omega (arith, there.single one number, ap (λ (k : ℕ). awaiting_count k tally.session number queue) there.of_key ∙ ap (λ (s : ℕ). awaiting_count key s number queue) there.of_session);
     }
 
 -- ys has all of xs, and x
@@ -311,6 +316,45 @@ less_awaits xs ys x tally number gains right above =
     let all = gains (looks tally.key tally.session number) in
     omega arith
 
+above_or_by : (floor number x : ℕ) (xs : List ℕ) (same : Bool) → (x == number) ≡ same → floor < x → (list_any (λ awaited. awaited == number) xs ≡ false) ⊎ (floor < number) → (((x == number) || list_any (λ awaited. awaited == number) xs) ≡ false) ⊎ (floor < number)
+above_or_by floor number x xs true is above later = inr (omega (arith, above, eqb-true x number is))
+above_or_by floor number x xs false is above (inl none) = inl (or_none (x == number) _ is none)
+above_or_by floor number x xs false is above (inr past) = inr past
+
+-- a job whose numbers are all above another one either doesn't wait for a number or that is above it too
+above_or : (floor number : ℕ) (numbers : List ℕ) → are_above floor numbers ≡ true → (list_any (λ awaited. awaited == number) numbers ≡ false) ⊎ (floor < number)
+above_or floor number [] above = inl refl
+above_or floor number (x ∷ xs) above =
+    let both = and_parts (nat_lt floor x) (are_above floor xs) above in
+    above_or_by floor number x xs (x == number) refl (ltb-true floor x both.0) (above_or floor number xs both.1)
+
+looks_above : (key session floor number : ℕ) (x : Unfinished) → are_above floor x.job.after ≡ true → (looks key session number x ≡ 0) ⊎ (floor < number)
+looks_above key session floor number x above = elim (above_or floor number x.job.after above) [
+  | inl none ↦ inl (not_looked (is_of key session x) _ none)
+  | inr past ↦ inr past
+]
+
+one_at_most : (b : Bool) → one_if b ≤ 1
+one_at_most true = omega arith
+one_at_most false = omega arith
+
+more_single : (xs ys : Queue) (x : Unfinished) (tally : Tally) (number : ℕ) → Gains xs ys x → IsRight xs tally → (tally.single && are_above tally.greatest x.job.after) ≡ true → awaiting_count tally.key tally.session number ys ≤ 1
+more_single xs ys x tally number gains right single =
+    let both = and_parts tally.single (are_above tally.greatest x.job.after) single in
+    let before = right.single both.0 number in
+    let all = gains (looks tally.key tally.session number) in
+    let one = one_at_most (waits_for tally.key tally.session number x) in
+    elim (looks_above tally.key tally.session tally.greatest number x both.1) [
+      | inl none ↦ omega (arith, before, all, none)
+      | inr past ↦ omega (arith, right.greatest number past, all, one)
+    ]
+
+less_single : (xs ys : Queue) (x : Unfinished) (tally : Tally) (number : ℕ) → Gains xs ys x → IsRight ys tally → tally.single ≡ true → awaiting_count tally.key tally.session number xs ≤ 1
+less_single xs ys x tally number gains right single =
+    let before = right.single single number in
+    let all = gains (looks tally.key tally.session number) in
+    omega arith
+
 pub right_more : (xs ys : Queue) (x : Unfinished) (tally : Tally) → is_of tally.key tally.session x ≡ true → Gains xs ys x → IsRight xs tally → IsRight ys (with_one x tally)
 right_more xs ys x tally is gains right =
     let own = measures_by tally.key tally.session x true is in
@@ -324,6 +368,7 @@ right_more xs ys x tally is gains right =
       waiting = omega (arith, right.waiting, own.waits);
       blocked = omega (arith, right.blocked, own.blocked);
       greatest = λ number above. more_awaits xs ys x tally number gains right above;
+      single = λ one number. more_single xs ys x tally number gains right one;
     }
 
 pub right_less : (xs ys : Queue) (x : Unfinished) (tally : Tally) → is_of tally.key tally.session x ≡ true → Gains xs ys x → IsRight ys tally → IsRight xs (without_one x tally)
@@ -339,6 +384,7 @@ right_less xs ys x tally is gains right =
       waiting = omega (arith, right.waiting, own.waits);
       blocked = omega (arith, right.blocked, own.blocked);
       greatest = λ number above. less_awaits xs ys x tally number gains right above;
+      single = λ one number. less_single xs ys x tally number gains right one;
     }
 
 pub counted_by : (xs ys : Queue) (x : Unfinished) (tally : Tally) → is_of tally.key tally.session x ≡ true → Gains xs ys x → IsRight ys tally → Counted x tally
@@ -464,5 +510,5 @@ tallied_without xs tallies key session tallied =
     let ys = without_session key session xs in
     let none = none_left key session xs in
     let rest = nothing_there key session ys none in
-    let kept = tallied_stored xs ys tallies (no_tally key session) tallied (record { count = sym none; bytes = sym rest.0; waiting = sym rest.1; blocked = sym rest.2; greatest = λ number above. none_awaits key session number ys none }) (forgotten_elsewhere key session xs) in
+    let kept = tallied_stored xs ys tallies (no_tally key session) tallied (record { count = sym none; bytes = sym rest.0; waiting = sym rest.1; blocked = sym rest.2; greatest = λ number above. none_awaits key session number ys none; single = λ one number. omega (arith, none_awaits key session number ys none) }) (forgotten_elsewhere key session xs) in
     subst (λ (ts : List Tally). IsTallied ys ts) (append_none (without_tally key session tallies)) kept

@@ -2,7 +2,7 @@
 
 ghost use Rattle.std.specs.Prelude.{◌≡◌, IfOk};
 ghost use Rattle.waits.specs.Jobs.{is_of, is_ready, is_waiting, is_overdue, load_of, waits_for, after_answer};
-ghost use Rattle.waits.specs.Tallies.{greatest_of};
+ghost use Rattle.waits.specs.Tallies.{are_above, greatest_of};
 
 use crate::jobs::WAIT_SECONDS;
 use bytes::Bytes;
@@ -46,6 +46,13 @@ impl Job {
             .ids()
             .iter()
             .fold(0, |most, number| most.max(*number))
+    }
+
+    /// Whether each number that it waits for is above this one.
+    pub(crate) fn waits_above(&self, floor: u64) -> bool
+        ensures { result ≡ are_above floor self.now.after }
+    {
+        self.after.ids().iter().all(|number| floor < *number)
     }
 
     /// A copy that shares the bytes of the request.

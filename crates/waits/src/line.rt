@@ -1,6 +1,6 @@
 //! The jobs of all sessions in their places, and what is counted of them all.
 
-ghost use Rattle.std.specs.Prelude.{◌≡◌, ◌+◌, ◌<◌, ◌≤◌, ◌∷◌, ◌++◌, [], ℕ, true, false, None, Some, length, vec_len, vec_capacity, IfOk};
+ghost use Rattle.std.specs.Prelude.{◌≡◌, ◌+◌, ◌<◌, ◌≤◌, ◌∷◌, ◌++◌, [], ℕ, true, false, None, Some, length, vec_len, vec_capacity, IfOk, IfSome};
 ghost use Rattle.std.specs.List.{list_any};
 ghost use Rattle.std.specs.Option.{option_copied};
 ghost use Rattle.waits.specs.Limits.{most_jobs, most_job_bytes};
@@ -14,6 +14,9 @@ use crate::tally::Tally;
 use msg_ids::Moment;
 use octets::Memory;
 use std::alloc::Global;
+
+/// For so many jobs of a session that wait, one place is looked at before its links are walked.
+const NEAR_SHARE: usize = 16;
 
 /// The jobs of all sessions in their places.
 #[derive(Debug, Drop)]
@@ -246,7 +249,9 @@ impl Line {
         let mut one = self.take_at(place).unwrap();
         let others = counted.without(&one);
         one.settle(others.key, others.session, number, ok);
-        *counted = others.with(&one);
+        let mut after = others.with(&one);
+        after.single = others.single;
+        *counted = after;
         self.put_back(place, one);
     }
 
@@ -273,9 +278,69 @@ impl Line {
         earlier
     }
 
+    /// A place in which a job of a session waits for the call of this number, where no two of the session wait for one. Looks
+    /// at one place alone for so many jobs that wait, from those on in front of which none is ready and none waits: there the
+    /// next job of a chain stands.
+    fn waiter_near(&self, counted: &Tally, number: u64) -> Option<usize>
+        ensures waits { IfSome result (λ place. passes (waits_for counted.now.key counted.now.session number) (job_at self.now.slots.items place) ≡ true) }
+        ensures single { IfSome result (λ _. counted.now.single ≡ true) }
+    {
+        if !counted.single {
+            return None;
+        }
+        let from = self.unblocked.max(self.passed);
+        let behind = from.saturating_add(counted.waiting / NEAR_SHARE);
+        for place in from..behind.min(self.slots.len()) {
+            if self.slots[place].waits_for(counted.key, counted.session, number) {
+                return Some(place);
+            }
+        }
+        None
+    }
+
+    /// Tells the job at a place that the call of this number was answered, for which no other job of the session waits.
+    fn tell_alone(&mut self, counted: &mut Tally, place: usize, number: u64, ok: bool)
+        requires waits { passes (waits_for counted.old.key counted.old.session number) (job_at self.old.slots.items place) ≡ true }
+        requires single { counted.old.single ≡ true }
+        requires line { IsLine self.old }
+        requires right { IsRight (somes self.old.slots.items) counted.old }
+        requires fits { counted.old.count ≤ most_jobs }
+        requires bytes_fit { counted.old.bytes ≤ most_job_bytes }
+        ensures settled { somes self.new.slots.items ≡ settled counted.old.key counted.old.session number ok (somes self.old.slots.items) }
+        ensures within { IsWithin self.old.slots.items self.new.slots.items }
+        ensures line { IsLine self.new }
+        ensures right { IsRight (somes self.new.slots.items) counted.new }
+        ensures same { IsSameSession counted.old counted.new }
+        ensures len { vec_len self.new.slots ≡ vec_len self.old.slots }
+        ensures capacity { vec_capacity self.new.slots ≡ vec_capacity self.old.slots }
+    {
+        self.tell(counted, place, number, ok);
+    }
+
+    /// Tells the jobs of a session that the call of this number was answered, and counts those anew that wait for it.
+    pub(crate) fn settle(&mut self, counted: &mut Tally, number: u64, ok: bool)
+        requires walks { Walks (is_of counted.old.key counted.old.session) self.old.slots.items (length self.old.slots.items) counted.old.last }
+        requires line { IsLine self.old }
+        requires right { IsRight (somes self.old.slots.items) counted.old }
+        requires fits { counted.old.count ≤ most_jobs }
+        requires bytes_fit { counted.old.bytes ≤ most_job_bytes }
+        ensures settled { somes self.new.slots.items ≡ settled counted.old.key counted.old.session number ok (somes self.old.slots.items) }
+        ensures within { IsWithin self.old.slots.items self.new.slots.items }
+        ensures line { IsLine self.new }
+        ensures right { IsRight (somes self.new.slots.items) counted.new }
+        ensures same { IsSameSession counted.old counted.new }
+        ensures len { vec_len self.new.slots ≡ vec_len self.old.slots }
+        ensures capacity { vec_capacity self.new.slots ≡ vec_capacity self.old.slots }
+    {
+        match self.waiter_near(counted, number) {
+            Some(place) => self.tell_alone(counted, place, number, ok),
+            None => self.settle_each(counted, number, ok),
+        }
+    }
+
     /// Tells the jobs of a session that the call of this number was answered, along the links from its last place, and
     /// counts those anew that wait for it.
-    pub(crate) fn settle(&mut self, counted: &mut Tally, number: u64, ok: bool)
+    fn settle_each(&mut self, counted: &mut Tally, number: u64, ok: bool)
         requires walks { Walks (is_of counted.old.key counted.old.session) self.old.slots.items (length self.old.slots.items) counted.old.last }
         requires line { IsLine self.old }
         requires right { IsRight (somes self.old.slots.items) counted.old }

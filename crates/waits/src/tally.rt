@@ -10,8 +10,8 @@ ghost use Rattle.waits.specs.Tallies.{is_tally_of, no_tally, tally_of, without_t
 use crate::job::Unfinished;
 use crate::line::one_if;
 
-/// How many jobs a session has, the bytes of their loads, how many of them wait for a call, how many aren't ready, and a
-/// number above which none of them waits for any.
+/// How many jobs a session has, the bytes of their loads, how many of them wait for a call, how many aren't ready, a
+/// number above which none of them waits for any, and whether each number is waited for by one at most.
 #[derive(Clone, Copy, Debug)]
 pub(crate) struct Tally {
     pub key: u64,
@@ -22,6 +22,8 @@ pub(crate) struct Tally {
     pub blocked: usize,
     /// None of its jobs waits for a number above this one.
     pub greatest: u64,
+    /// Whether it is known that no two of its jobs wait for one number.
+    pub single: bool,
     /// 1 and the last place in which it has had a job.
     pub last: usize,
 }
@@ -39,6 +41,7 @@ impl Tally {
             waiting: 0,
             blocked: 0,
             greatest: 0,
+            single: true,
             last: 0,
         }
     }
@@ -59,6 +62,7 @@ impl Tally {
             waiting: self.waiting + one_if(one.is_waiting()),
             blocked: self.blocked + one_if(!one.is_ready()),
             greatest: self.greatest.max(one.job.greatest()),
+            single: self.single && one.job.waits_above(self.greatest),
             last: self.last,
         }
     }
@@ -76,6 +80,7 @@ impl Tally {
             waiting: self.waiting - one_if(one.is_waiting()),
             blocked: self.blocked - one_if(!one.is_ready()),
             greatest: self.greatest,
+            single: self.single,
             last: self.last,
         }
     }

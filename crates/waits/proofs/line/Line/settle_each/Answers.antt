@@ -3,7 +3,7 @@ use Rattle.waits.specs.Jobs.{is_of}
 use Rattle.waits.specs.Slots.{unsettled, IsTold, IsSameSession}
 use Rattle.waits.proofs.Along.{unsettled_own, none_unsettled}
 use Rattle.waits.proofs.Walks.{Onward, onward_start, onstep, onward_end, onward_within, within_same, within_twice}
-use Rattle.waits.proofs.line.Line.settle.Goals as goal
+use Rattle.waits.proofs.line.Line.settle_each.Goals as goal
 
 pub loop-cursor-init : goal.loop-cursor-init
 loop-cursor-init c =

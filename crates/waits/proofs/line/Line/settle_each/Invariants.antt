@@ -4,7 +4,7 @@ use Rattle.waits.specs.Jobs.{is_of, settled}
 use Rattle.waits.specs.Tallies.{IsRight}
 use Rattle.waits.specs.Slots.{somes, unsettled, IsWithin, IsLine, IsSameSession}
 use Rattle.waits.proofs.Walks.{Onward}
-use Rattle.waits.proofs.line.Line.settle.Given as goal
+use Rattle.waits.proofs.line.Line.settle_each.Given as goal
 
 -- behind the cursor the session has no job that the answer would still change
 abbrev pub invariant-loop-cursor : goal.invariant-loop-cursor
