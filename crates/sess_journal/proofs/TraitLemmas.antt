@@ -23,7 +23,7 @@ use Rattle.server_core.specs.Desks.{Counts, Does, DoesNothing}
 use Rattle.server_core.specs.Packets.{IsHeardOf}
 use Rattle.server_rules.specs.Answer.{Answer}
 use Rattle.server_rules.specs.Server.{Server}
-use Rattle.sess_journal.specs.Keeping.{Book, ByHeard, HasCounted, Journals, KeepsFor, Seen, StandsFor, count_of, disk_by, disk_in}
+use Rattle.sess_journal.specs.Keeping.{Book, ByHeard, HasCounted, IsSameDisk, Journals, KeepsFor, Seen, StandsFor, count_of, disk_by, disk_in, place_by}
 use Rattle.sess_replay.specs.Replay.{Bases}
 
 pub ok_map : {A E : Type 0} {P Q : A → Type 0} (r : Result A E) → ((value : A) → P value → Q value) → IfOk r P → IfOk r Q
@@ -52,6 +52,13 @@ of_disks : {K : Type 0} (count : K → ℕ) (P : ℕ → ℕ → Type 0) (before
 of_disks count P (Some one) (Some other) there h = h
 of_disks count P (Some one) None there h = absurd h
 of_disks count P None after there h = absurd (false≢true there)
+
+-- and its file stays in its place
+pub stays_in_place : {K : Type 0} (told : K → Option DiskTold) (place : K → ℕ) (before after : Option K) → is_some before ≡ true
+    → IfSome before (λ one. IsSomeAnd after (λ other. IsSameDisk told place one other)) → place_by place after ≡ place_by place before
+stays_in_place told place (Some one) (Some other) there h = h.place_is
+stays_in_place told place (Some one) None there h = absurd h
+stays_in_place told place None after there h = absurd (false≢true there)
 
 pub counts_so : {K A : Type 0} (count : K → ℕ) (r : Result A DeskFault) (before after : Book K) → is_some (disk_in before) ≡ true → HasCounted count r before after
     → Counts r (count_of count (disk_in before)) (count_of count (disk_in after))

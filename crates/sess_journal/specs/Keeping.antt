@@ -39,6 +39,11 @@ abbrev pub count_of : {K : Type 0} → (K → ℕ) → Option K → ℕ
 count_of count None = 0
 count_of count (Some disk) = count disk
 
+-- the place of its disk among those of the files that opened it
+abbrev pub place_by : {K : Type 0} → (K → ℕ) → Option K → ℕ
+place_by place None = 0
+place_by place (Some disk) = place disk
+
 -- a record was added to a journal
 pub record Added {K : Type 0} (told : K → Option DiskTold) (before : File K) (entry : Record) (after : File K) : Type 0 where
   pub seed : after.seed ≡ before.seed

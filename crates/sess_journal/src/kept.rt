@@ -81,6 +81,7 @@ impl<K: Disk + Drop, S: Seal + Drop, D: Seeded + Drop> Kept<K, S, D> {
     ) -> Result<Kept<K, S, D>, (K, JournalFault)>
         ensures stands { IfOk result (λ kept. KeepsFor (bases_of S.lock S.keys D.step D.standing_at D.place_of) K.told [] kept fresh_server) }
         ensures seal { IfOk result (λ kept. kept.server.seal ≡ seal) }
+        ensures seed { IfOk result (λ kept. IsSomeAnd kept.book.journal (λ file. file.seed ≡ seed.now)) }
         ensures cause { IfErr result (λ back. (back.1 ≡ JournalFault.Disk) × Rose (K.faults disk) (K.faults back.0)) }
         ensures counted { IfOk result (λ kept. IsSomeAnd (disk_in kept.book) (λ other. K.faults other ≡ K.faults disk)) }
         ensures same_disk { IsSomeAnd (disk_left result) (IsSameDisk K.told K.place disk) }

@@ -70,6 +70,7 @@ impl<K: Disk + Drop, S: Seal + Drop, D: Seeded + Drop> Kept<K, S, D> {
             ((after_work (setting_of (max server.now now) D.step ring) k V.step service.old server self.old.draw).0)
             × (service.new ≡ (after_work (setting_of (max server.now now) D.step ring) k V.step service.old server self.old.draw).1))) }
         ensures unchanged { IfErr result (IfNothingDone (self.new ≡ self.old)) }
+        ensures same_service { IfErr result (IfNothingDone (service.new ≡ service.old)) }
         ensures same_service_on_memory { IfErr result (λ fault. fault ≡ faults.Memory → service.new ≡ service.old) }
         ensures counted { HasCounted K.faults result self.old.book self.new.book }
         ensures same_disk { OfDisks self.old.book self.new.book (IsSameDisk K.told K.place) }

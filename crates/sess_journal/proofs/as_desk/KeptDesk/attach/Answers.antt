@@ -3,7 +3,8 @@ use Rattle.server_rules.specs.Answer.{after_attach}
 use Rattle.server_rules.specs.Server.{Name}
 use Rattle.server_session.specs.Says.{setting_of}
 use Rattle.sess_replay.specs.Replay.{Bases, bases_of}
-use Rattle.sess_journal.proofs.TraitLemmas.{counts_so, does_so, ok_map, still_stands}
+use Rattle.sess_journal.proofs.TraitLemmas.{counts_so, does_so, ok_map, stays_in_place, still_stands}
+use Rattle.sess_journal.specs.Keeping.{disk_in}
 use Rattle.sess_journal.proofs.as_desk.KeptDesk.attach.Goals as goal
 
 pub returns-clause-given : goal.returns-clause-given
@@ -22,3 +23,6 @@ returns-clause-unchanged_on_memory g c = λ server stands.
 
 pub returns-clause-counted : goal.returns-clause-counted
 returns-clause-counted g c = counts_so g.K.Disk.faults c.attach.result c.args.self.now.book c.attach.new.self.book c.has_disk.ensures c.attach.ensures.counted
+
+pub returns-clause-same_place : goal.returns-clause-same_place
+returns-clause-same_place g c = stays_in_place g.K.Disk.told g.K.Disk.place (disk_in c.args.self.now.book) (disk_in c.attach.new.self.book) c.has_disk.ensures c.attach.ensures.same_disk

@@ -3,7 +3,8 @@ use Rattle.server_rules.specs.Answer.{after_packet}
 use Rattle.server_core.specs.Packets.{brought_in, effects_in}
 use Rattle.server_session.specs.Says.{setting_of}
 use Rattle.sess_replay.specs.Replay.{Bases, bases_of}
-use Rattle.sess_journal.proofs.TraitLemmas.{by_opened, by_refused, counts_so, does_nothing_so, does_so, ok_map, still_stands}
+use Rattle.sess_journal.proofs.TraitLemmas.{by_opened, by_refused, counts_so, does_nothing_so, does_so, ok_map, stays_in_place, still_stands}
+use Rattle.sess_journal.specs.Keeping.{disk_in}
 use Rattle.sess_journal.proofs.as_desk.KeptDesk.on_packet.Goals as goal
 
 pub returns-clause-heard : goal.returns-clause-heard
@@ -39,3 +40,6 @@ returns-clause-unchanged_on_memory g c = λ server stands.
 
 pub returns-clause-counted : goal.returns-clause-counted
 returns-clause-counted g c = counts_so g.K.Disk.faults c.on_packet.result c.args.self.now.book c.on_packet.new.self.book c.has_disk.ensures c.on_packet.ensures.counted
+
+pub returns-clause-same_place : goal.returns-clause-same_place
+returns-clause-same_place g c = stays_in_place g.K.Disk.told g.K.Disk.place (disk_in c.args.self.now.book) (disk_in c.on_packet.new.self.book) c.has_disk.ensures c.on_packet.ensures.same_disk

@@ -2,7 +2,8 @@ use Rattle.std.proofs.Common.{◌++◌, max}
 use Rattle.server_rules.specs.Answer.{after_work}
 use Rattle.server_session.specs.Says.{setting_of}
 use Rattle.sess_replay.specs.Replay.{Bases, bases_of}
-use Rattle.sess_journal.proofs.TraitLemmas.{counts_so, does_so, ok_map, on_ok_by, still_stands}
+use Rattle.sess_journal.proofs.TraitLemmas.{counts_so, does_so, ok_map, on_ok_by, stays_in_place, still_stands}
+use Rattle.sess_journal.specs.Keeping.{disk_in}
 use Rattle.sess_journal.proofs.as_desk.KeptDesk.work.Goals as goal
 
 pub returns-clause-given : goal.returns-clause-given
@@ -25,3 +26,6 @@ returns-clause-unchanged_on_memory g c = λ server stands.
 
 pub returns-clause-counted : goal.returns-clause-counted
 returns-clause-counted g c = counts_so g.K.Disk.faults c.work.result c.args.self.now.book c.work.new.self.book c.has_disk.ensures c.work.ensures.counted
+
+pub returns-clause-same_place : goal.returns-clause-same_place
+returns-clause-same_place g c = stays_in_place g.K.Disk.told g.K.Disk.place (disk_in c.args.self.now.book) (disk_in c.work.new.self.book) c.has_disk.ensures c.work.ensures.same_disk
