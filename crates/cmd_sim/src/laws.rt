@@ -21,7 +21,7 @@ use draws::laws::step_words_are_fresh;
 use envelope::MtSeal;
 use envelope::laws::opens_what_it_sealed;
 use law_bytes::laws::bindings_are_bytes;
-use law_numbers::laws::{notice_19_never_comes, numbers_are_given_once};
+use law_order::numbers::{notice_19_never_comes, numbers_are_given_once};
 use law_once::laws::{calls_execute_once, names_are_words_drawn};
 use law_order::laws::calls_run_in_order;
 use law_packet_parts::laws::locks_keep_sizes;
