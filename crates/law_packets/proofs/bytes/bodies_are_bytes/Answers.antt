@@ -1,5 +1,5 @@
-use Rattle.law_bytes.proofs.Bodies.{body-bytes}
-use Rattle.law_bytes.proofs.laws.bodies_are_bytes.Goals as goal
+use Rattle.law_packets.proofs.Bodies.{body-bytes}
+use Rattle.law_packets.proofs.bytes.bodies_are_bytes.Goals as goal
 
 pub returns : goal.returns
 returns c =

@@ -1,4 +1,4 @@
-//! Laws of sizes, each the contract of a function that does nothing.
+//! Laws of what goes into packets from elsewhere, each the contract of a function that does nothing.
 
 ghost use Rattle.std.specs.Prelude.{◌<◌, ◌^◌, ℕ, List};
 ghost use Rattle.draws.specs.ChaChaWords.{ChaChaPlace, chacha_word};

@@ -1,5 +1,5 @@
-use Rattle.law_bytes.proofs.Bindings.{binding-bytes}
-use Rattle.law_bytes.proofs.laws.bindings_are_bytes.Goals as goal
+use Rattle.law_packets.proofs.Bindings.{binding-bytes}
+use Rattle.law_packets.proofs.bytes.bindings_are_bytes.Goals as goal
 
 pub returns : goal.returns
 returns c =
