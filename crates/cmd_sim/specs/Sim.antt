@@ -5,7 +5,7 @@ use Rattle.sched_text.specs.Schedule.{HasBadLine, Spells}
 use Rattle.world_rules.specs.Once.{InOrder, Once}
 use Rattle.world_rules.specs.Refusals.{Refusal, NumbersSpent}
 use Rattle.world_rules.specs.Report.{refusal_text, whole_report}
-use Rattle.law_numbers.specs.Numbers.{GivesOnce, SaysNo19}
+use Rattle.law_order.specs.Numbers.{GivesOnce, SaysNo19}
 use Rattle.statuses.specs.declared.status.Status.{Status}
 use Rattle.statuses.specs.declared.status.Status.TheVariants as status
 use Rattle.statuses.specs.Lines.{bad_line, input_bytes_max, refusal_line, too_long}

@@ -24,9 +24,9 @@ use Rattle.server_rules.specs.Answer.{attaches, finishes, hears, hears_by, makes
 use Rattle.world_rules.specs.World.{has_named, missing}
 use Rattle.law_once.proofs.Lists.{all_of, each_of, here, later}
 use Rattle.law_once.proofs.Named.{Themselves, all_filter}
-use Rattle.law_once.proofs.Grown.{attaches_grown, drawn, opens_grown, owes_grown, sends_grown}
+use Rattle.law_once.proofs.Grown.{drawn, salts_grown, sends_grown}
 use Rattle.law_once.proofs.Growing.{Grows, Holds, Speaks, cases_names, found_is, hears_hold, lost_holds, names_same, opens_name, said_name, same_names, sends_name, speaks_holds}
-use Rattle.law_once.proofs.Later.{Counts, From, IsLater, attaches_later, finishes_later, gives_up_later, itself, later_then, opens_later, owes_later, sends_later}
+use Rattle.law_once.proofs.Later.{Counts, From, IsLater, finishes_later, gives_up_later, itself, later_then, salts_later, sends_later}
 use Rattle.law_once.proofs.Lives.{all_drawn, first_drawn, has_without, missing_alike, more_drawn, one_drawn}
 
 -- no two have one name
@@ -354,7 +354,7 @@ module _ (before : List Session) (before_apart : Apart before) where
     pub attached_so : (name : Name) (state : State S) → So state → So (speaks name (attaches setting) state)
     attached_so name state h =
         speaks_so name (attaches setting) state
-        (λ speaker. (said_name 0 before k alone setting speaker (attaches setting speaker) (alone.attaches setting speaker), (λ x. attaches_grown x setting speaker), attaches_later setting speaker)) h
+        (λ speaker. (said_name 0 before k alone setting speaker (attaches setting speaker) (alone.attaches setting speaker), (λ x. salts_grown x setting speaker (attaches setting speaker) (alone.salts.attaches setting speaker)), salts_later setting speaker (attaches setting speaker) (alone.salts.attaches setting speaker))) h
 
     pub runs_so : (place : ℕ) (job : Job) (reply : List ℕ) (state : State S) → So state → So (runs setting place job reply state)
     runs_so place job reply state h =
@@ -379,8 +379,8 @@ module _ (before : List Session) (before_apart : Apart before) where
         speaks_so name (owes setting number seq verdict body) state
         (λ speaker. (
           said_name 0 before k alone setting speaker (owes setting number seq verdict body speaker) (alone.owes setting speaker number seq verdict body),
-          (λ x. owes_grown x setting number seq verdict body speaker),
-          owes_later setting number seq verdict body speaker,
+          (λ x. salts_grown x setting speaker (owes setting number seq verdict body speaker) (alone.salts.owes setting speaker number seq verdict body)),
+          salts_later setting speaker (owes setting number seq verdict body speaker) (alone.salts.owes setting speaker number seq verdict body),
         )) h
 
     accepted_so : (name : Name) (number seq : ℕ) (item : Item) (body : List ℕ) (state : State S) → So state → So (row setting name number seq (Accepted item) body state)
@@ -410,7 +410,7 @@ module _ (before : List Session) (before_apart : Apart before) where
         let history = (session_after way (remembered session) message).history in
         settled_so (name_of session) (zip judged bodies) (speaks (name_of session) (opens setting history judged) state)
         (speaks_so (name_of session) (opens setting history judged) state
-        (λ speaker. (opens_name 0 before k alone setting history judged speaker, (λ x. opens_grown x setting history judged speaker), opens_later setting history judged speaker)) h)
+        (λ speaker. (opens_name 0 before k alone setting history judged speaker, (λ x. salts_grown x setting speaker (opens setting history judged speaker) (alone.salts.opens setting speaker history judged)), salts_later setting speaker (opens setting history judged speaker) (alone.salts.opens setting speaker history judged))) h)
 
     -- ---- the session of a packet
 

@@ -26,7 +26,7 @@ use Rattle.server_rules.specs.Answer.{attaches, finishes, hears, hears_by, messa
 use Rattle.law_server.specs.Speech.{SaidFor}
 use Rattle.law_once.proofs.Lists.{first_or}
 use Rattle.law_once.proofs.Named.{Themselves}
-use Rattle.law_once.proofs.Grown.{attaches_grown, drawn, opens_grown, owes_grown, sends_grown}
+use Rattle.law_once.proofs.Grown.{drawn, salts_grown, sends_grown}
 
 -- ---- names
 
@@ -180,7 +180,7 @@ module _ (x : ℕ) (before : List Session) where
     pub attached_holds : (name : Name) (state : State S) → Holds state.sessions → Holds (speaks name (attaches setting) state).sessions
     attached_holds name state h =
         speaks_holds name (attaches setting) state
-        (λ speaker. (said_name speaker (attaches setting speaker) (alone.attaches setting speaker), attaches_grown x setting speaker)) h
+        (λ speaker. (said_name speaker (attaches setting speaker) (alone.attaches setting speaker), salts_grown x setting speaker (attaches setting speaker) (alone.salts.attaches setting speaker))) h
 
     pub runs_hold : (place : ℕ) (job : Job) (reply : List ℕ) (state : State S) → Holds state.sessions → Holds (runs setting place job reply state).sessions
     runs_hold place job reply state h =
@@ -203,7 +203,7 @@ module _ (x : ℕ) (before : List Session) where
     owes_holds : (name : Name) (number seq : ℕ) (verdict : Verdict) (body : List ℕ) (state : State S) → Holds state.sessions → Holds (speaks name (owes setting number seq verdict body) state).sessions
     owes_holds name number seq verdict body state h =
         speaks_holds name (owes setting number seq verdict body) state
-        (λ speaker. (said_name speaker (owes setting number seq verdict body speaker) (alone.owes setting speaker number seq verdict body), owes_grown x setting number seq verdict body speaker)) h
+        (λ speaker. (said_name speaker (owes setting number seq verdict body speaker) (alone.owes setting speaker number seq verdict body), salts_grown x setting speaker (owes setting number seq verdict body speaker) (alone.salts.owes setting speaker number seq verdict body))) h
 
     accepted_holds : (name : Name) (number seq : ℕ) (item : Item) (body : List ℕ) (state : State S) → Holds state.sessions → Holds (row setting name number seq (Accepted item) body state).sessions
     accepted_holds name number seq (DestroySession destroyed) body state h = destroys_hold number destroyed name state h
@@ -242,7 +242,7 @@ module _ (x : ℕ) (before : List Session) where
         let history = (session_after way (remembered session) message).history in
         settled_hold (name_of session) (zip judged bodies) (speaks (name_of session) (opens setting history judged) state)
         (speaks_holds (name_of session) (opens setting history judged) state
-        (λ speaker. (opens_name history judged speaker, opens_grown x setting history judged speaker)) h)
+        (λ speaker. (opens_name history judged speaker, salts_grown x setting speaker (opens setting history judged speaker) (alone.salts.opens setting speaker history judged))) h)
 
     -- ---- the session of a packet
 

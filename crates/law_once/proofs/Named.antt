@@ -25,10 +25,17 @@ use Rattle.server_rules.specs.Sending.{all_sent, messages_by, names_in, seals, s
 use Rattle.server_rules.specs.Answer.{after_run, attaches, begun, finishes, hears, hears_by, is_spent, message_in, messages_judged, name_in, opens, runs, takes, takes_by, ticks, with_place, without_first, without_spent}
 use Rattle.server_rules.specs.Events.{Attach, Course, Loss, Packet as Comes, Restart, Tick, Work, setting_at, worked}
 use Rattle.law_server.specs.Speech.{SaidFor}
+use Rattle.law_server_lives.specs.Drawing.{DrawsSalts}
 use Rattle.world_rules.specs.Setting.{Setting as WorldSetting, at_server}
 use Rattle.world_rules.specs.World.{World, has_named, lives, lost_in, missing}
 use Rattle.world_rules.specs.Ends.{course_in, said, said_by_work, serves}
 use Rattle.law_once.proofs.Lists.{all_append, each_of, here, later}
+
+-- what is known of what speeches draw
+pub record OfSalts (S : Type 0) : Type 0 where
+  pub owes : (setting : Setting S) (speaker : Speaker S) (number seq : ℕ) (verdict : Verdict) (body : List ℕ) → DrawsSalts setting speaker (owes setting number seq verdict body speaker)
+  pub opens : (setting : Setting S) (speaker : Speaker S) (history : History) (judged : List Judgement) → DrawsSalts setting speaker (opens setting history judged speaker)
+  pub attaches : (setting : Setting S) (speaker : Speaker S) → DrawsSalts setting speaker (attaches setting speaker)
 
 -- what is known of speeches
 pub record Themselves (S : Type 0) : Type 0 where
@@ -36,6 +43,7 @@ pub record Themselves (S : Type 0) : Type 0 where
   pub gives_up : (setting : Setting S) (speaker : Speaker S) (content : List ℕ) (job : Job) → SaidFor S speaker (gives_up setting content job speaker)
   pub finishes : (setting : Setting S) (speaker : Speaker S) (job : Job) (reply : List ℕ) → SaidFor S speaker (finishes setting job reply speaker)
   pub attaches : (setting : Setting S) (speaker : Speaker S) → SaidFor S speaker (attaches setting speaker)
+  pub salts : OfSalts S
 
 pub found_in : {X : Type 0} (test : X → Bool) (xs : List X) (x : X) → find test xs ≡ Some x → Contains xs x
 found_in test [] x is = absurd (cc)

@@ -15,7 +15,8 @@ use Rattle.client_rules.specs.Sending.{Setting}
 use Rattle.law_order.proofs.Following.{AreKept, Base, Follows, added-turn, changed-turn, flagged-follows, mapped-turn}
 use Rattle.law_order.proofs.Taking.{each-turn, ended-turn, take-turn}
 use Rattle.law_order.proofs.Filling.{flush-so}
-use Rattle.law_order.proofs.ClientLists.{get-below, none-some, some-same}
+use Rattle.law_order.proofs.Lists.{none-some, some-same}
+use Rattle.law_order.proofs.Places.{get-within}
 
 module _ (base : Base) where
   abbrev KeepsTurn : Client → Type 0
@@ -49,7 +50,7 @@ module _ (base : Base) where
       let parts = and_parts _ _ is in
       let above = ltb-true 0 number.n parts.0 in
       let within = leb-true number.n (length calls) parts.1 in
-      get-below calls (number.n - 1) (omega arith)
+      get-within calls (number.n - 1) (omega arith)
 
   submitted-turn : (body : List ℕ) (after : Option CallNo) (client : Client) → submit_fault body after client ≡ None → KeepsTurn client → KeepsTurn (submitted body after client)
   submitted-turn body after client is turn =

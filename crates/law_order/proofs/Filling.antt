@@ -27,7 +27,8 @@ use Rattle.law_client_moves.specs.Clients.{IsShort}
 use Rattle.law_client_moves.specs.Sent.{Asks, IsBindingCall, IsSaidAside}
 use Rattle.tl_codec.specs.Standard.{longs_max}
 use Rattle.law_order.proofs.Following.{AreKept, Base, again-follows, changed-last, changed-turn, flagged-follows, nothing-last, queued-open, raised, raised-lives, sent-follows, settled-follows}
-use Rattle.law_order.proofs.ClientLists.{all-append, all-at, all-weaker, get_changed, get_unchanged, here, none-some, some-same, true-false}
+use Rattle.law_order.proofs.Lists.{all-append, all-weaker, here, none-some, some-same, true-false}
+use Rattle.law_order.proofs.Places.{all-at, get_changed, get_unchanged}
 
 module _ (base : Base) (Q : Type 0) where
   abbrev KeepsTurn : Client → Type 0

@@ -10,7 +10,8 @@ use Rattle.call_table.specs.declared.call.Living.{Living}
 use Rattle.call_table.specs.Table.{Call, Name, State, at, call_no, changed_at, first_from, flagged, is_number_of, living_name, living_name_in, new_call, no_flags, owner, sent, sent_again, settled, state_after, with_salt}
 use Rattle.call_table.specs.Table as table
 use Rattle.law_order.specs.Behind.{AreInTurn, HasMessage, IsBehind, IsInTurn, IsStill, Last, LivesIn, WentBehind}
-use Rattle.law_order.proofs.ClientLists.{all-append, all-weaker, first-from, first_or, get-append, here, later, none-some, some-same, true-false}
+use Rattle.law_order.proofs.Lists.{all-append, all-weaker, first_or, here, later, none-some, some-same, true-false}
+use Rattle.law_order.proofs.Places.{first-from, get-append}
 
 abbrev pub NotDone : Call → Type 0
 NotDone call = (result : List ℕ) → call.state ≡ table.Done result → ⊥

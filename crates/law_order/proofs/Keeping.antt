@@ -8,7 +8,7 @@ use Rattle.envelope.specs.declared.parts.Envelope.{Envelope}
 use Rattle.msg_ids.specs.Moments.{moment_of}
 use Rattle.call_table.specs.Table.{Call}
 use Rattle.server_rules.specs.Event.{Entry}
-use Rattle.server_rules.specs.Events.{Course, Event as ServerEvent, Packet as Comes, Restart, after_event}
+use Rattle.server_rules.specs.Events.{Attach, Course, Event as ServerEvent, Loss, Packet as Comes, Restart, Tick, Work, after_event}
 use Rattle.client_rules.specs.Client.{Asked, Binding, Bound, Client, Held, Needed, Refused, Temporary, calls_of}
 use Rattle.client_rules.specs.Events.{Run, made, step}
 use Rattle.client_rules.specs.Events as wishes
@@ -25,9 +25,10 @@ use Rattle.world_rules.specs.Ends.{acts, comes_up, course_in, flushed_at, flushe
 use Rattle.world_rules.specs.Run.{joins, set}
 use Rattle.law_once.specs.Standing.{AreSeated, IsSeated, WorldStands}
 use Rattle.law_order.specs.Keeping.{ArePacketsFor, AreTurning, IsUpFrom, KeepsOrder, entries_in}
-use Rattle.law_order.proofs.Lists.{all-append, all-at, all-front, all-map, map-append, map-back, none-some, some-same}
+use Rattle.law_order.proofs.Lists.{all-append, all-front, all-made, map-append, map-back, none-some, some-same}
+use Rattle.law_order.proofs.Places.{all-at}
 use Rattle.law_order.proofs.Seats.{GoOn, IsLater, bag-later, changed-at, changed-go, changed-turning, more-go, set-go, set-later, set-turning}
-use Rattle.law_order.proofs.Walking.{Walk}
+use Rattle.law_order.proofs.Walking.{IsNoPacket, Walk}
 
 -- what is known of each end
 pub record Ends (S V : Type 0) (setting : Setting S V) : Type 0 where
@@ -167,7 +168,7 @@ module _ {S V : Type 0} (setting : Setting S V) (ends : Ends S V setting) (world
         clients = kept.clients;
         bag =
             all-append (IsUpFrom world.seats) world.bag (map sent_down done.packets) kept.bag
-            (all-map (IsUpFrom world.seats) sent_down done.packets (λ sent up. absurd (no-up up)));
+            (all-made (IsUpFrom world.seats) sent_down done.packets (λ sent up. absurd (no-up up)));
         served = λ pair are.
             let front = all-front _ world.bag (map sent_down done.packets) are in
             subst (AreInTurn pair done.server.sessions done.server.jobs) all
@@ -191,16 +192,24 @@ module _ {S V : Type 0} (setting : Setting S V) (ends : Ends S V setting) (world
         by None pair so = tt
         by (Some envelope) pair so = so envelope refl
 
+  no-packet : (pair : Pair) (event : ServerEvent) → IsNoPacket event → IsEventFor pair event
+  no-packet pair (Comes moment envelope) quiet = absurd quiet
+  no-packet pair (Work moment place) quiet = tt
+  no-packet pair (Tick moment) quiet = tt
+  no-packet pair (Attach moment name) quiet = tt
+  no-packet pair (Loss name) quiet = tt
+  no-packet pair Restart quiet = tt
+
   pub walk : (w : Moved) → WorldStands w world → Walk S V setting world KeepsOrder Opened
   walk w stands = record {
     still = kept;
-    joined = joined-kept;
+    joined = λ key temporary idle. joined-kept key temporary;
     all_set = all_set-kept;
     server_set = λ moment. record { clients = kept.clients; bag = kept.bag; served = kept.served };
     one_set = one_set-kept;
-    acted = acted-kept;
+    acted = λ number seat is wish wished. acted-kept number seat is wish;
     flushed = flushed-kept w stands;
-    served = λ event quiet. served-kept event (λ pair are. quiet pair);
+    served = λ event quiet. served-kept event (λ pair are. no-packet pair event quiet);
     again = again-kept (served-kept Restart (λ pair are. tt));
     came = came-kept;
   }

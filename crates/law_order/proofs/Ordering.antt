@@ -24,7 +24,8 @@ use Rattle.world_rules.specs.Once.{InOrder, IsCallOf, IsEarlierCall, Once, RanWe
 use Rattle.law_once.specs.Made.{IsShort}
 use Rattle.law_once.specs.Standing.{IsBagged, IsThere, WorldStands}
 use Rattle.law_order.specs.Keeping.{AreTurning, ArePacketsFor, KeepsOrder, WaitingInOrder}
-use Rattle.law_order.proofs.Lists.{all-at, all-weaker, each_of, first_or, here, later, none-some, some-same}
+use Rattle.law_order.proofs.Lists.{all-weaker, each_of, first_or, here, later, none-some, some-same}
+use Rattle.law_order.proofs.Places.{all-at}
 use Rattle.law_order.proofs.Reading.{true-false}
 use Rattle.law_order.proofs.Seats.{GoOn, IsLater}
 use Rattle.law_order.proofs.Waiting.{any-at, ran-well, split-there}

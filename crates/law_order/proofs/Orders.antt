@@ -17,7 +17,8 @@ use Rattle.law_order.specs.Keeping.{KeepsOrder, WaitingInOrder}
 use Rattle.law_order.proofs.Seats.{changed-go, more-go, set-go, set-later, stand-still}
 use Rattle.law_order.proofs.Walking.{Walk, walked}
 use Rattle.law_order.proofs.Keeping.{Ends, go}
-use Rattle.law_order.proofs.Runs.{IsAny, IsOrdered, Known, Steps, any-opened, fresh-back, next-both, next-ordered, sealed-back}
+use Rattle.law_order.proofs.Arrivals.{IsAny, IsOrdered, any-opened}
+use Rattle.law_order.proofs.Runs.{Known, Steps, fresh-back, next-both, next-ordered, sealed-back}
 use Rattle.law_order.proofs.Ordering.{clients-order, server-order}
 
 -- behind an event, where calls are executed once and those that wait are in order
@@ -28,12 +29,12 @@ pub order-walk : {S V : Type 0} (setting : Setting S V) (ends : Ends S V setting
     → Walk S V setting world (InOrderThen setting) IsAny
 order-walk setting ends m world h kept once order = record {
   still = λ once_on waiting. order;
-  joined = λ key temporary once_on waiting. clients-order setting world _ (more-go world.seats _) refl once once_on kept.clients order;
+  joined = λ key temporary idle once_on waiting. clients-order setting world _ (more-go world.seats _) refl once once_on kept.clients order;
   all_set = λ moment once_on waiting. clients-order setting world _ (set-go world.seats moment) refl once once_on kept.clients order;
   server_set = λ moment once_on waiting. clients-order setting world _ (stand-still world.seats) refl once once_on kept.clients order;
   one_set = λ number moment once_on waiting.
       clients-order setting world _ (changed-go world.seats number (set moment) (λ seat is. set-later moment seat)) refl once once_on kept.clients order;
-  acted = λ number seat is wish once_on waiting. clients-order setting world _ (go setting ends world kept number seat is wish) refl once once_on kept.clients order;
+  acted = λ number seat is wish wished once_on waiting. clients-order setting world _ (go setting ends world kept number seat is wish) refl once once_on kept.clients order;
   flushed = λ number seat is once_on waiting.
       clients-order setting world _ (go setting ends world kept number seat is (wishes.Flush (moment_of seat.clock))) refl once once_on kept.clients order;
   served = λ event quiet once_on waiting. server-order setting m world _ h refl _ refl once kept waiting order;

@@ -29,7 +29,7 @@ use Rattle.server_rules.specs.Calls.{accepts_call, becomes_job, binds_by, bool_t
 use Rattle.server_rules.specs.Rows.{accepts, acked_by, acknowledges, answers_broken, came_again, future_salt_of, kept_numbered, notices, owes, says_reply, sends_again, takes_acks, tells_salts, tells_states}
 use Rattle.server_rules.specs.Answer.{attaches, finishes}
 use Rattle.law_order.specs.After.{HasRun, IsAnswer, IsFor, IsHonest, IsWaiting, Pair, RanBehind, is_among, is_aside, is_run, is_run_well}
-use Rattle.law_order.proofs.ServerLists.{all-append, all-map, all-weaker, some-append, some-last, split-last, true-false}
+use Rattle.law_order.proofs.Lists.{all-append, all-map, all-weaker, some-append, some-last, split-last, true-false}
 use Rattle.law_order.proofs.ServerWaiting.{first-left, its-name, name-so, still-awaited, told-waits}
 
 -- ---- contents that aren't good

@@ -10,7 +10,8 @@ use Rattle.law_order.specs.Going.{IsPacketFrom}
 use Rattle.world_rules.specs.World.{Packet, Seat, changed_at, changed_from_0, counted}
 use Rattle.world_rules.specs.Run.{set}
 use Rattle.law_order.specs.Keeping.{AreTurning, IsUpFrom}
-use Rattle.law_order.proofs.Lists.{all-weaker, get-append, none-some, some-same}
+use Rattle.law_order.proofs.Lists.{all-weaker, none-some, some-same}
+use Rattle.law_order.proofs.Places.{get-append}
 
 -- a seat at a later moment: its client keeps its key and its calls
 pub record IsLater (seat later : Seat) : Type 0 where

@@ -13,7 +13,7 @@ use Rattle.server_rules.specs.Server.{Name, Reply, Session, Fate, IsKept, WasAck
 use Rattle.server_rules.specs.Waiting.{Outlook, Over, InVain, GoesOn, outlook, outlook_by, outlook_of_mark, told}
 use Rattle.server_rules.specs.Calls.{each_once, is_over}
 use Rattle.law_order.specs.After.{IsAnswer, IsWaiting, Pair, is_among}
-use Rattle.law_order.proofs.ServerLists.{all-map, among-filter, none-some, some-same, true-false}
+use Rattle.law_order.proofs.Lists.{all-map, among-filter, none-some, some-same, true-false}
 
 -- ---- names
 

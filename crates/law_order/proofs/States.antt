@@ -30,7 +30,7 @@ use Rattle.server_rules.specs.Rows.{acks_of, destroys, owes, row, settles}
 use Rattle.server_rules.specs.Sending.{all_sent, messages_by, names_in, seals, sends}
 use Rattle.server_rules.specs.Answer.{Answer, after_run, attaches, begun, ended, finishes, hears, hears_by, is_spent, message_in, name_in, opens, runs, session_for, takes, takes_by, ticks, with_place, without_first as without_first_session}
 use Rattle.law_order.specs.After.{AreInTurn, HasRun, IsAnswer, IsEventFor, IsFor, IsPacketFor, IsWaiting, Pair}
-use Rattle.law_order.proofs.ServerLists.{all-append, all-filter, all-found, all-map}
+use Rattle.law_order.proofs.Lists.{all-append, all-filter, all-found, all-map}
 use Rattle.law_order.proofs.ServerWaiting.{first-left, ready-left, ready-ran}
 use Rattle.law_order.proofs.Rows.{IsVerdictFor, Sound, acknowledges-sound, attaches-sound, failed-bad, finishes-sound, gives_up-sound, more-answers, new-sound, owes-sound, says-sound, salts-sound, tells-sound, timeout-bad}
 

@@ -19,7 +19,7 @@ use Rattle.client_rules.specs.Learning.{ended, fate_at_end, fate_learning, learn
 use Rattle.client_rules.specs.Taking.{Notice, acknowledges, alone_call, alone_number, answered_by, asks_answer, becomes, fate_noticed, goes_again, has_asked, is_for, is_odd, message_in, messages_of, noticed, noticed_by, row, take, takes_message, takes_over, told_of, told_state, told_states, with_notice_clock, with_notice_salt, without_idle_wish}
 use Rattle.law_order.specs.Behind.{LivesIn}
 use Rattle.law_order.proofs.Following.{AreKept, Base, Follows, NotDone, changed-turn, flagged-follows, mapped-turn, owner-sent, sent-open, settled-follows}
-use Rattle.law_order.proofs.ClientLists.{none-some}
+use Rattle.law_order.proofs.Lists.{none-some}
 
 module _ (base : Base) where
   abbrev KeepsTurn : Client → Type 0

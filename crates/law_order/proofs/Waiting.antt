@@ -23,7 +23,8 @@ use Rattle.world_rules.specs.World.{Entered, Seat, World}
 use Rattle.world_rules.specs.Once.{IsCallOf, IsEarlierCall, Once, RanWell, earlier_of, entries_under, is_entry_under, older_names}
 use Rattle.law_once.specs.Standing.{WorldStands}
 use Rattle.law_order.specs.Keeping.{KeepsOrder, WaitingInOrder, entries_in}
-use Rattle.law_order.proofs.Lists.{all-at, each_of, first_or, here, later, map-append, none-some, some-same}
+use Rattle.law_order.proofs.Lists.{each_of, first_or, here, later, map-append, none-some, some-same}
+use Rattle.law_order.proofs.Places.{all-at}
 use Rattle.law_order.proofs.Named.{Apart, is-name}
 use Rattle.law_order.proofs.Reading.{Bytes-laws, true-false}
 use Rattle.law_order.proofs.Pairs.{Waits, packets-for}

@@ -13,3 +13,6 @@ pub mod Serving
 pub mod Acting
 pub mod Events
 pub mod Registers
+pub mod Bindings
+pub mod Bodies
+pub mod Words

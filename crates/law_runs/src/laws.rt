@@ -64,7 +64,7 @@ pub fn settings_are_sound<D: Draw>()
     ensures { (step : D → ℕ × D) (ring : List RingKey) → ring ≢ [] → AreWords step → IsSound ring (setting_under step ring) }
 {
     octets::laws::bytes_stay_bytes();
-    law_bytes::laws::bindings_are_bytes();
+    law_packets::bytes::bindings_are_bytes();
     law_packets::laws::registers_give_replies();
 }
 
@@ -73,7 +73,7 @@ pub fn runs_are_of_the_ring<D: Draw>()
     ensures { (step : D → ℕ × D) (ring : List RingKey) (draw : D) (served : List (Served step ring)) (called : List (Called step)) (steps : List (Step D))
         → AreJoint step ring draw served called steps → AreOf ring (setting_under step ring) (nobody_yet (setting_under step ring) draw) steps }
 {
-    law_bytes::laws::bodies_are_bytes();
+    law_packets::bytes::bodies_are_bytes();
 }
 
 /// The clients of a joint run, none of whose processes was stopped from outside, are those that the runs of `call` and `pair` left: the

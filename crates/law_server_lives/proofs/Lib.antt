@@ -18,3 +18,4 @@ pub mod Packed
 pub mod Announced
 pub mod Lived
 pub mod Little
+pub mod Drawing

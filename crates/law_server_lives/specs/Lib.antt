@@ -3,3 +3,4 @@ pub mod Finality
 pub mod Courses
 pub mod Announced
 pub mod Witness
+pub mod Drawing

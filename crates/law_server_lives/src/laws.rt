@@ -1,18 +1,23 @@
 //! Laws of the lives of a server's sessions, each the contract of a function that does nothing.
 
-ghost use Rattle.std.specs.Prelude.{◌≡◌, true, false, [], ◌∷◌, List, Some, ◌++◌, All};
+ghost use Rattle.std.specs.Prelude.{◌≡◌, true, false, [], ◌∷◌, ℕ, List, Some, ◌++◌, All};
 ghost use Rattle.regs_service.specs.Served.{Step};
 ghost use Rattle.packing.specs.Packing.{groups};
+ghost use Rattle.id_window.specs.History.{History};
 ghost use Rattle.inbox.specs.Inbox.{was_heard};
+ghost use Rattle.inbox.specs.declared.judged.Judgement.{Judgement};
+ghost use Rattle.inbox.specs.declared.judged.Verdict.{Verdict};
 ghost use Rattle.server_rules.specs.Server.{Session, name_of, session_named};
-ghost use Rattle.server_rules.specs.Event.{Envelope, Setting, State};
+ghost use Rattle.server_rules.specs.Event.{Envelope, Setting, Speaker, State};
+ghost use Rattle.server_rules.specs.Rows.{owes};
 ghost use Rattle.server_rules.specs.Sending.{messages_by};
-ghost use Rattle.server_rules.specs.Answer.{takes_by};
+ghost use Rattle.server_rules.specs.Answer.{attaches, opens, takes_by};
 ghost use Rattle.law_server.specs.Order.{IsOrderly, jobs_of};
 ghost use Rattle.server_rules.specs.Events.{Event, course_of};
 ghost use Rattle.law_server_lives.specs.Lives.{history_by, told_of};
 ghost use Rattle.law_server_lives.specs.Announced.{IsAnnounced};
 ghost use Rattle.law_server_lives.specs.Courses.{GoOn};
+ghost use Rattle.law_server_lives.specs.Drawing.{DrawsSalts};
 ghost use Rattle.law_server.specs.Witness as shown;
 ghost use Rattle.law_server_lives.specs.Witness as lived;
 ghost use Rattle.law_server_lives.specs.Finality.{AreApart, AreLived, IsFinal, IsOfLife, IsStanding};
@@ -117,3 +122,13 @@ pub fn new_sessions_owe_little<D: Draw>()
     law_server::laws::floors_never_fall();
     law_server::laws::new_sessions_say_so::<D>();
 }
+
+/// What a session says for a judgement, where it opens an event and where it is attached, draws words for its salts alone: those
+/// of so many periods from now, each once. Its unique number stays.
+pub fn sessions_draw_salts<D: Draw>()
+    ensures owes { (setting : Setting D) (speaker : Speaker D) (number seq : ℕ) (verdict : Verdict) (body : List ℕ)
+        → DrawsSalts setting speaker (owes setting number seq verdict body speaker) }
+    ensures opens { (setting : Setting D) (speaker : Speaker D) (history : History) (judged : List Judgement)
+        → DrawsSalts setting speaker (opens setting history judged speaker) }
+    ensures attaches { (setting : Setting D) (speaker : Speaker D) → DrawsSalts setting speaker (attaches setting speaker) }
+{}

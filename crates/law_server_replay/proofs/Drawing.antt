@@ -1,19 +1,16 @@
 -- What an event draws: a property of draws that each step keeps holds after it, where it held before.
-use Rattle.std.proofs.Common.{◌≡◌, ℕ, zero, suc, ◌∙◌, length, ◌==◌, ◌&&◌, not, Bool, true, false, Option, None, Some, List, [], ◌∷◌, map, filter, fold, if◌then◌else◌, inl, inr, refl, ap}
-use Rattle.std.specs.Prelude.{is_some, min}
-use Rattle.std.specs.List.{find, list_all, zip}
+use Rattle.std.proofs.Common.{◌≡◌, ℕ, zero, suc, ◌∙◌, length, ◌==◌, ◌&&◌, not, Option, None, Some, List, [], ◌∷◌, map, filter, fold, inl, inr, refl, sym, subst, ap}
+use Rattle.std.specs.Prelude.{is_some}
+use Rattle.std.specs.List.{zip}
 use Rattle.std.proofs.lemmas.Bool.{cases_Bool, cond_both}
 use Rattle.draws.specs.Draws.{draw_after, words_for}
-use Rattle.salt_line.specs.Rows.{Row, future_rows_max, period_at}
+use Rattle.salt_line.specs.Rows.{Row, period_at}
 use Rattle.salt_line.specs.Line.{current_salt}
 use Rattle.salt_line.specs.Needed.{has_row, needed, needed_from}
 use Rattle.service_tl.specs.declared.item.Item.{Item}
-use Rattle.service_tl.specs.declared.item.Item.TheVariants.{Packed, Broken, AuthBindTempAuthKey, Call, InvokeAfterMsg, InvokeAfterMsgs, RpcDropAnswer, Ping, PingDelayDisconnect, GetFutureSalts, MsgsAck, MsgsStateReq, MsgResendReq, BadServerSalt, BadMsgNotification, DestroySession, DestroySessionOk, DestroySessionNone}
+use Rattle.service_tl.specs.declared.item.Item.TheVariants.{DestroySession, DestroySessionOk, DestroySessionNone}
 use Rattle.service_tl.specs.declared.lists.Message.{Message}
-use Rattle.service_tl.specs.Schema.{rpc_drop_answer}
 use Rattle.id_window.specs.History.{History}
-use Rattle.id_window.specs.declared.mark.Mark.{Mark}
-use Rattle.id_window.specs.declared.mark.Mark.TheVariants.{Noticed as MarkNoticed, Replied, Dropped}
 use Rattle.inbox.specs.declared.judged.Judgement.{Judgement}
 use Rattle.inbox.specs.declared.judged.Verdict.{Verdict}
 use Rattle.inbox.specs.declared.judged.Verdict.TheVariants.{Accepted, Again, Noticed}
@@ -22,17 +19,23 @@ use Rattle.inbox.specs.Judging.{judgements, session_after}
 use Rattle.packing.specs.Packing.{after_packets, packets_of}
 use Rattle.regs_service.specs.Served.{Step}
 use Rattle.waits.specs.declared.job.Job.{Job}
-use Rattle.waits.specs.Jobs.{Queue, first_job, is_call, ready_job, without_ready}
-use Rattle.server_rules.specs.Server.{Binding, Name, Reply, Server, Session, has_accepted, is_kept, mark_in, name_of, remembered, reply_to, session_named}
+use Rattle.waits.specs.Jobs.{Queue, ready_job, without_ready}
+use Rattle.server_rules.specs.Server.{Name, Server, Session, name_of, remembered, session_named}
 use Rattle.server_rules.specs.Event.{Envelope, Owed, Setting, Speaker, State, lost, speaker_in, speaks, spoken_by}
-use Rattle.server_rules.specs.Speaking.{answers, answers_in_place, bad_body, has_said, message_of, needs_salts, owes_message, says, says_again, says_it_is_new, says_with_salt}
+use Rattle.server_rules.specs.Speaking.{needs_salts, says}
 use Rattle.server_rules.specs.Waiting.{after_failures, after_timeouts, all_given_up, first_given_up, given_up, gives_up, tells_of}
-use Rattle.server_rules.specs.Calls.{accepts_call, becomes_job, binds_by, drops_by, job_of, refusal}
-use Rattle.server_rules.specs.Rows.{accepts, acknowledges, acks_of, answers_broken, came_again, destroys, kept_numbered, notices, owes, row, says_reply, sends_again, settles}
+use Rattle.server_rules.specs.Rows.{destroys, owes, row, settles}
 use Rattle.server_rules.specs.Sending.{all_sent, messages_by, names_in, padding_bytes, seals, sends}
 use Rattle.server_rules.specs.Answer.{after_attach, after_packet, after_run, after_tick, after_work, attaches, begun, ended, finishes, hears, hears_by, is_spent, message_in, messages_judged, name_in, opens, runs, takes, takes_by, ticks, with_place, without_first}
+use Rattle.law_server_lives.specs.Drawing.{DrawsSalts}
 
-module _ {S : Type 0} (setting : Setting S) (P : S → Type 0) (on : (draw : S) → P draw → P (setting.step draw).1) where
+-- what is known of what a session says: it draws words for its salts alone
+pub record OfSalts (S : Type 0) : Type 0 where
+  pub owes : (setting : Setting S) (speaker : Speaker S) (number seq : ℕ) (verdict : Verdict) (body : List ℕ) → DrawsSalts setting speaker (owes setting number seq verdict body speaker)
+  pub opens : (setting : Setting S) (speaker : Speaker S) (history : History) (judged : List Judgement) → DrawsSalts setting speaker (opens setting history judged speaker)
+  pub attaches : (setting : Setting S) (speaker : Speaker S) → DrawsSalts setting speaker (attaches setting speaker)
+
+module _ {S : Type 0} (known : OfSalts S) (setting : Setting S) (P : S → Type 0) (on : (draw : S) → P draw → P (setting.step draw).1) where
   stepped : (n : ℕ) (draw : S) → P draw → P (draw_after setting.step n draw)
   stepped zero draw h = h
   stepped (suc n) draw h = stepped n (setting.step draw).1 (on draw h)
@@ -61,106 +64,12 @@ module _ {S : Type 0} (setting : Setting S) (P : S → Type 0) (on : (draw : S) 
   and_then : (a b c : Speaker S) → From a b → From b c → From a c
   and_then a b c one two h = two (one h)
 
+  salts_later : (before after : Speaker S) → DrawsSalts setting before after → From before after
+  salts_later before after drawn h =
+      subst P (sym drawn.1.draw_then) (needed_all (period_at before.session.salts.start setting.now) drawn.1.periods before.session.salts.rows before.draw h)
+
   needs_later : (number : ℕ) (speaker : Speaker S) → From speaker (needs_salts setting number speaker)
   needs_later number speaker h = needed_all (period_at speaker.session.salts.start setting.now) number speaker.session.salts.rows speaker.draw h
-
-  notices_later : (number seq code : ℕ) (speaker : Speaker S) → From speaker (notices setting number seq code speaker)
-  notices_later number seq code speaker =
-      cond_both (code == 48) (says_with_salt setting (λ salt. BadServerSalt number seq 48 salt) speaker) (says setting (BadMsgNotification number seq code) speaker) (From speaker)
-      (λ is. needs_later 1 speaker) (λ is. itself speaker)
-
-  again_later : (reply : Reply) (speaker : Speaker S) → From speaker (says_again reply speaker)
-  again_later reply speaker = cond_both (has_said reply.number speaker) speaker (owes_message (message_of reply) speaker) (From speaker) (λ is. itself speaker) (λ is. itself speaker)
-
-  reply_later : (reply : Option Reply) (speaker : Speaker S) → From speaker (says_reply reply speaker)
-  reply_later None speaker = itself speaker
-  reply_later (Some reply) speaker = again_later reply speaker
-
-  came_later : (number seq : ℕ) (mark : Option Mark) (speaker : Speaker S) → From speaker (came_again setting number seq mark speaker)
-  came_later number seq (Some (MarkNoticed code)) speaker = notices_later number seq code speaker
-  came_later number seq (Some (Replied good)) speaker = reply_later (reply_to number speaker.session.replies) speaker
-  came_later number seq (Some (Dropped good)) speaker = notices_later number seq 20 speaker
-  came_later number seq _ speaker = itself speaker
-
-  all_again_later : (numbers : List ℕ) (speaker : Speaker S) → From speaker (fold (λ speaker other. says_reply (kept_numbered speaker.session.replies other) speaker) speaker numbers)
-  all_again_later [] speaker = itself speaker
-  all_again_later (number ∷ numbers) speaker =
-      let next = says_reply (kept_numbered speaker.session.replies number) speaker in
-      and_then speaker next (fold (λ speaker other. says_reply (kept_numbered speaker.session.replies other) speaker) next numbers) (reply_later (kept_numbered speaker.session.replies number) speaker) (all_again_later numbers next)
-
-  resends_later : (number : ℕ) (numbers : List ℕ) (speaker : Speaker S) → From speaker (sends_again setting number numbers speaker)
-  resends_later number numbers speaker =
-      cond_both (list_all (λ other. is_some (kept_numbered speaker.session.replies other)) numbers) _ _ (From speaker) (λ is. all_again_later numbers speaker) (λ is. itself speaker)
-
-  broken_later : (number constructor : ℕ) (body : List ℕ) (speaker : Speaker S) → From speaker (answers_broken setting number constructor body speaker)
-  broken_later number constructor body speaker =
-      cond_both (constructor == rpc_drop_answer.number) (answers setting number bad_body speaker) (answers_in_place setting number body bad_body speaker) (From speaker)
-      (λ is. itself speaker) (λ is. itself speaker)
-
-  becomes_later : (job : Job) (content : Option (List ℕ)) (speaker : Speaker S) → From speaker (becomes_job setting job content speaker)
-  becomes_later job (Some content) speaker = itself speaker
-  becomes_later job None speaker = itself speaker
-
-  call_later : (number : ℕ) (numbers request : List ℕ) (speaker : Speaker S) → From speaker (accepts_call setting number numbers request speaker)
-  call_later number numbers request speaker =
-      let job = job_of setting number numbers request speaker in becomes_later job (refusal setting job speaker) speaker
-
-  drops_later : (number : ℕ) (job : Option Job) (reply : Option Reply) (speaker : Speaker S) → From speaker (drops_by setting number job reply speaker)
-  drops_later number (Some job) reply speaker = itself speaker
-  drops_later number None (Some reply) speaker = itself speaker
-  drops_later number None None speaker = itself speaker
-
-  binds_later : (number : ℕ) (binding : Option Binding) (speaker : Speaker S) → From speaker (binds_by setting number binding speaker)
-  binds_later number None speaker = itself speaker
-  binds_later number (Some binding) speaker = itself speaker
-
-  accepts_later : (number : ℕ) (item : Item) (body : List ℕ) (speaker : Speaker S) → From speaker (accepts setting number item body speaker)
-  accepts_later number Packed body speaker = itself speaker
-  accepts_later number (Broken constructor) body speaker = broken_later number constructor body speaker
-  accepts_later number (AuthBindTempAuthKey perm nonce expires message) body speaker =
-      binds_later number (setting.bound_by setting.now (record { key = speaker.session.key; session = speaker.session.number }) (record { number = number; perm = perm; nonce = nonce; expires = expires; message = message })) speaker
-  accepts_later number Call body speaker = call_later number [] body speaker
-  accepts_later number (InvokeAfterMsg other query) body speaker = call_later number (other ∷ []) query speaker
-  accepts_later number (InvokeAfterMsgs others query) body speaker = call_later number others query speaker
-  accepts_later number (RpcDropAnswer call) body speaker =
-      drops_later number (first_job (is_call speaker.session.key speaker.session.number call) speaker.jobs) (find (λ reply. is_kept reply && (reply.call == call)) speaker.session.replies) speaker
-  accepts_later number (Ping ping) body speaker = itself speaker
-  accepts_later number (PingDelayDisconnect ping delay) body speaker = itself speaker
-  accepts_later number (GetFutureSalts wanted) body speaker = needs_later (min wanted future_rows_max) speaker
-  accepts_later number (MsgsAck numbers) body speaker = itself speaker
-  accepts_later number (MsgsStateReq numbers) body speaker = itself speaker
-  accepts_later number (MsgResendReq numbers) body speaker = resends_later number numbers speaker
-  accepts_later number _ body speaker = itself speaker
-
-  owes_later : (number seq : ℕ) (verdict : Verdict) (body : List ℕ) (speaker : Speaker S) → From speaker (owes setting number seq verdict body speaker)
-  owes_later number seq (Noticed code) body speaker = notices_later number seq code speaker
-  owes_later number seq (Again mark) body speaker = came_later number seq (mark_in speaker.session number) speaker
-  owes_later number seq (Accepted item) body speaker = accepts_later number item body speaker
-
-  new_later : (accepted : Bool) (speaker : Speaker S) → From speaker (if accepted then speaker else says_it_is_new setting speaker)
-  new_later true speaker = itself speaker
-  new_later false speaker = needs_later 1 speaker
-
-  acks_later : (numbers : List ℕ) (speaker : Speaker S) → From speaker (acknowledges setting numbers speaker)
-  acks_later [] speaker = itself speaker
-  acks_later (number ∷ numbers) speaker = itself speaker
-
-  opens_later : (history : History) (judged : List Judgement) (speaker : Speaker S) → From speaker (opens setting history judged speaker)
-  opens_later history judged speaker =
-      let ready : Speaker S = record speaker { session = record speaker.session { history = history } } in
-      let first : Speaker S = if has_accepted ready.session then ready else says_it_is_new setting ready in
-      and_then ready first (acknowledges setting (acks_of judged) first) (new_later (has_accepted ready.session) ready) (acks_later (acks_of judged) first)
-
-  kept_later : (replies : List Reply) (speaker : Speaker S) → From speaker (fold (λ speaker reply. says_again reply speaker) speaker replies)
-  kept_later [] speaker = itself speaker
-  kept_later (reply ∷ replies) speaker =
-      and_then speaker (says_again reply speaker) (fold (λ speaker reply. says_again reply speaker) (says_again reply speaker) replies) (again_later reply speaker) (kept_later replies (says_again reply speaker))
-
-  attaches_later : (speaker : Speaker S) → From speaker (attaches setting speaker)
-  attaches_later speaker =
-      let first : Speaker S = if has_accepted speaker.session then speaker else says_it_is_new setting speaker in
-      and_then speaker first (fold (λ speaker reply. says_again reply speaker) first (filter is_kept speaker.session.replies)) (new_later (has_accepted speaker.session) speaker)
-      (kept_later (filter is_kept speaker.session.replies) first)
 
   seals_later : (salt : ℕ) (packets : List Message) (speaker : Speaker S) → From speaker (fold (seals setting salt) speaker packets)
   seals_later salt [] speaker = itself speaker
@@ -231,7 +140,7 @@ module _ {S : Type 0} (setting : Setting S) (P : S → Type 0) (on : (draw : S) 
 
   owes_so : (name : Name) (number seq : ℕ) (verdict : Verdict) (body : List ℕ) (state : State S) → So state → So (speaks name (owes setting number seq verdict body) state)
   owes_so name number seq verdict body state h =
-      speaks_so name (owes setting number seq verdict body) state (λ speaker. owes_later number seq verdict body speaker) h
+      speaks_so name (owes setting number seq verdict body) state (λ speaker. salts_later speaker (owes setting number seq verdict body speaker) (known.owes setting speaker number seq verdict body)) h
 
   accepted_so : (name : Name) (number seq : ℕ) (item : Item) (body : List ℕ) (state : State S) → So state → So (row setting name number seq (Accepted item) body state)
   accepted_so name number seq (DestroySession destroyed) body state h = destroys_so number destroyed name state h
@@ -259,7 +168,7 @@ module _ {S : Type 0} (setting : Setting S) (P : S → Type 0) (on : (draw : S) 
       let bodies = map (λ (one : Message). one.body) (messages_judged way session message) in
       let history = (session_after way (remembered session) message).history in
       settled_so (name_of session) (zip judged bodies) (speaks (name_of session) (opens setting history judged) state)
-      (speaks_so (name_of session) (opens setting history judged) state (λ speaker. opens_later history judged speaker) h)
+      (speaks_so (name_of session) (opens setting history judged) state (λ speaker. salts_later speaker (opens setting history judged speaker) (known.opens setting speaker history judged)) h)
 
   placed_so : (sessions : List Session) (state : State S) → So state → So (without_first sessions state)
   placed_so [] state h = h
@@ -305,7 +214,7 @@ module _ {S : Type 0} (setting : Setting S) (P : S → Type 0) (on : (draw : S) 
 
   pub attach_so : (name : Name) (server : Server) (draw : S) → P draw → P (after_attach setting name server draw).draw
   attach_so name server draw h =
-      ended_so (speaks name (attaches setting) (begun server draw)) (speaks_so name (attaches setting) (begun server draw) (λ speaker. attaches_later speaker) h)
+      ended_so (speaks name (attaches setting) (begun server draw)) (speaks_so name (attaches setting) (begun server draw) (λ speaker. salts_later speaker (attaches setting speaker) (known.attaches setting speaker)) h)
 
   pub run_so : {V : Type 0} → (place : ℕ) (found : Option Job) (serve : Step V) (service : V) (server : Server) (draw : S) → P draw
       → P (after_run setting place found serve service server draw).0.draw
@@ -325,7 +234,7 @@ one_more step (suc n) before = one_more step n (step before).1
 later_on : {S : Type 0} → (step : S → ℕ × S) (before draw : S) → IsLater step before draw → IsLater step before (step draw).1
 later_on step before draw (words, is) = (suc words, ap (λ d. (step d).1) is ∙ one_more step words before)
 
-module _ {S : Type 0} (setting : Setting S) (server : Server) (draw : S) where
+module _ {S : Type 0} (known : OfSalts S) (setting : Setting S) (server : Server) (draw : S) where
   abbrev pub From_it : S → Type 0
   From_it behind = IsLater setting.step draw behind
 
@@ -333,13 +242,13 @@ module _ {S : Type 0} (setting : Setting S) (server : Server) (draw : S) where
   start = (0, refl)
 
   pub packet_later : (envelope : Envelope) → From_it (after_packet setting envelope server draw).draw
-  packet_later envelope = packet_so setting From_it (later_on setting.step draw) envelope server draw start
+  packet_later envelope = packet_so known setting From_it (later_on setting.step draw) envelope server draw start
 
   pub tick_later : From_it (after_tick setting server draw).draw
-  tick_later = tick_so setting From_it (later_on setting.step draw) server draw start
+  tick_later = tick_so known setting From_it (later_on setting.step draw) server draw start
 
   pub attach_later : (name : Name) → From_it (after_attach setting name server draw).draw
-  attach_later name = attach_so setting From_it (later_on setting.step draw) name server draw start
+  attach_later name = attach_so known setting From_it (later_on setting.step draw) name server draw start
 
   pub work_later : {V : Type 0} → (place : ℕ) (serve : Step V) (service : V) → From_it (after_work setting place serve service server draw).0.draw
-  work_later place serve service = run_so setting From_it (later_on setting.step draw) place (ready_job place server.jobs) serve service server draw start
+  work_later place serve service = run_so known setting From_it (later_on setting.step draw) place (ready_job place server.jobs) serve service server draw start

@@ -16,7 +16,7 @@ module _ (g : Rattle.law_once.proofs.laws.worlds_are_moves.Given.Over) (c : goal
     servers = λ v mover list other lawful its s. c.servers_stand_still.ensures v mover list (past_in other) other.server.sessions other.server.jobs lawful its s;
     acts = record { joins = c.clients_join.ensures.stands; joins_so = c.clients_join.ensures.temporary; joins_lawfully = c.clients_join.ensures.lawful; submits_lawfully = c.clients_submit.ensures.lawful; submits = c.clients_submit.ensures.stands; attached = c.wishes_are_no_moves.ensures.attached; ticked = c.wishes_are_no_moves.ensures.ticked; pinged = c.wishes_are_no_moves.ensures.pinged; salts_asked = c.wishes_are_no_moves.ensures.salts_asked; dropped = c.wishes_are_no_moves.ensures.dropped; renews_lawfully = c.clients_renew_and_end.ensures.renews; renews = c.clients_renew_and_end.ensures.renewed; ends_lawfully = c.clients_renew_and_end.ensures.ends; ends = c.clients_renew_and_end.ensures.ended; hears = c.clients_hear.ensures.heard; passes_over = c.clients_hear.ensures.passed_over; unopened = c.clients_hear.ensures.unopened };
     flushes = c.clients_flush.ensures;
-    alone = record { owes = c.sessions_speak_for_themselves.ensures.owes; gives_up = c.sessions_speak_for_themselves.ensures.gives_up; finishes = c.sessions_speak_for_themselves.ensures.finishes; attaches = c.sessions_speak_for_themselves.ensures.attaches };
+    alone = record { owes = c.sessions_speak_for_themselves.ensures.owes; gives_up = c.sessions_speak_for_themselves.ensures.gives_up; finishes = c.sessions_speak_for_themselves.ensures.finishes; attaches = c.sessions_speak_for_themselves.ensures.attaches; salts = record { owes = c.sessions_draw_salts.ensures.owes; opens = c.sessions_draw_salts.ensures.opens; attaches = c.sessions_draw_salts.ensures.attaches } };
     serves = record { tick = c.events_of_worlds_are_moves.ensures.tick; work = c.events_of_worlds_are_moves.ensures.work; attach = c.events_of_worlds_are_moves.ensures.attach; loss = c.events_of_worlds_are_moves.ensures.loss; restart = c.events_of_worlds_are_moves.ensures.restart; unopened = c.events_of_worlds_are_moves.ensures.unopened; packet = c.packets_of_worlds_are_moves.ensures; kept = λ setting course event fits. c.sizes_stay_small.ensures.event (at_server setting) setting.serve setting.fresh course event fits.words fits.replies; whole = λ setting course event fits. c.packets_are_whole.ensures.event (at_server setting) setting.serve setting.fresh course event fits.words fits.replies };
     judged = c.packets_sent_are_up.ensures;
     read = c.packets_are_read_as_they_went_out.ensures;

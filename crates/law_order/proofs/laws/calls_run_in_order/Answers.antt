@@ -14,7 +14,8 @@ use Rattle.law_order.specs.Keeping.{KeepsOrder, WaitingInOrder}
 use Rattle.law_order.proofs.Keeping.{Ends}
 use Rattle.server_rules.specs.Events.{Attach}
 use Rattle.law_order.proofs.Walking.{walked}
-use Rattle.law_order.proofs.Runs.{IsAny, Known, Opens, any-opened, any-steps, event-kept, event-ordered, its-steps}
+use Rattle.law_order.proofs.Arrivals.{IsAny, Opens, any-opened, event-ordered}
+use Rattle.law_order.proofs.Runs.{Known, any-steps, event-kept, its-steps}
 use Rattle.law_order.proofs.Orders.{InOrderThen, order-walk, ordered-run, unordered}
 use Rattle.law_order.proofs.laws.calls_run_in_order.Goals as goal
 
@@ -67,7 +68,7 @@ returns-clause-event g c = λ setting w world event stands kept once order once_
 
 pub returns-clause-attach : goal.returns-clause-attach
 returns-clause-attach g c = λ setting w world name stands kept once order once_on waiting.
-    (order-walk setting (ends g c setting) w world stands kept once order).served (Attach world.clock name) (λ pair. tt) once_on waiting
+    (order-walk setting (ends g c setting) w world stands kept once order).served (Attach world.clock name) tt once_on waiting
 
 pub returns-clause-schedule : goal.returns-clause-schedule
 returns-clause-schedule g c = λ lock ring setting draw events seals sizes so sound bytes fresh.

@@ -10,7 +10,8 @@ use Rattle.law_once.specs.Small.{Fits}
 use Rattle.law_order.specs.Keeping.{KeepsOrder}
 use Rattle.server_rules.specs.Events.{Attach}
 use Rattle.law_order.proofs.Keeping.{Ends, walk}
-use Rattle.law_order.proofs.Runs.{Known, Opens, all-kept, any-steps, event-kept, event-ordered, its-steps}
+use Rattle.law_order.proofs.Arrivals.{Opens, event-ordered}
+use Rattle.law_order.proofs.Runs.{Known, all-kept, any-steps, event-kept, its-steps}
 use Rattle.law_order.proofs.laws.worlds_keep_order.Goals as goal
 
 module _ (g : Rattle.law_order.proofs.laws.worlds_keep_order.Given.Over) (c : goal.After-servers_stay_in_order g) where
@@ -58,7 +59,7 @@ returns-clause-event g c = λ lock ring setting world event seals so moves seale
 
 pub returns-clause-attach : goal.returns-clause-attach
 returns-clause-attach g c = λ setting world name moves kept.
-    (walk setting (ends g c setting) world kept moves.0 moves.1).served (Attach world.clock name) (λ pair. tt)
+    (walk setting (ends g c setting) world kept moves.0 moves.1).served (Attach world.clock name) tt
 
 pub returns-clause-schedule : goal.returns-clause-schedule
 returns-clause-schedule g c = λ lock ring setting draw events seals sizes so sound bytes fresh.

@@ -1,6 +1,0 @@
-use Rattle.law_bytes.proofs.Bodies.{body-bytes}
-use Rattle.law_bytes.proofs.laws.bodies_are_bytes.Goals as goal
-
-pub returns : goal.returns
-returns c =
-    let bytes = c.bytes_stay_bytes.ensures in body-bytes bytes.nil bytes.cons bytes.copies bytes.append
