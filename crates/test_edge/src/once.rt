@@ -1,15 +1,16 @@
 //! How often the adapters of files and children ask the library, counted in front of this machine's.
 
+use disks::{Disk, DiskOpen, Disks, FileDisks};
 use mt_edge::{Act, ChildKids, DiskFiles, FileGot, KeyFiles, Line, Spawner};
 use std::alloc::Allocator;
 use std::cell::Cell;
-use std::fs::{self, Files, Metadata, OpenOptions};
-use std::io;
+use std::fs::{self, Files, Metadata, OpenFile, OpenOptions};
+use std::io::{self, Read, Seek, SeekFrom, Write};
 use std::process::{Child, Command, Processes, Stdio};
 use std::test::Fail;
 use test_asserts::same;
 
-/// Files and children of this machine, with a count of files that were opened and of children that were started.
+/// Files and children of this machine, with a count of files that were opened or made sure of and of children that were started.
 #[derive(Drop)]
 struct Counted<'a> {
     rt: &'a HostRuntime,
@@ -22,14 +23,66 @@ impl<'a> Counted<'a> {
     }
 }
 
+/// A file of this machine, with that count.
+#[derive(Drop)]
+struct CountedFile<'a> {
+    file: <HostRuntime as Files>::File,
+    count: &'a Cell<u64>,
+}
+
+impl<'a> Read for CountedFile<'a> {
+    fn read(&mut self, into: &mut [u8]) -> io::Result<usize> {
+        self.file.read(into)
+    }
+}
+
+impl<'a> Write for CountedFile<'a> {
+    fn write(&mut self, piece: &[u8]) -> io::Result<usize> {
+        self.file.write(piece)
+    }
+
+    fn flush(&mut self) -> io::Result<()> {
+        self.file.flush()
+    }
+}
+
+impl<'a> Seek for CountedFile<'a> {
+    fn seek(&mut self, to: SeekFrom) -> io::Result<u64> {
+        self.file.seek(to)
+    }
+}
+
+impl<'a> OpenFile for CountedFile<'a> {
+    fn metadata(&self) -> io::Result<Metadata> {
+        self.file.metadata()
+    }
+
+    fn set_len(&self, size: u64) -> io::Result<()> {
+        self.file.set_len(size)
+    }
+
+    fn sync_all(&self) -> io::Result<()> {
+        self.count.set(self.count.get().wrapping_add(1));
+        self.file.sync_all()
+    }
+
+    fn sync_data(&self) -> io::Result<()> {
+        self.file.sync_data()
+    }
+}
+
 impl<'a> Files for Counted<'a> {
-    type File = <HostRuntime as Files>::File;
+    type File = CountedFile<'a>;
 
     type Dir = <HostRuntime as Files>::Dir;
 
-    fn open_file(&self, how: &OpenOptions, path: &str) -> io::Result<<HostRuntime as Files>::File> {
+    fn open_file(&self, how: &OpenOptions, path: &str) -> io::Result<CountedFile<'a>> {
         self.add();
-        self.rt.open_file(how, path)
+        let file = self.rt.open_file(how, path)?;
+        Ok(CountedFile {
+            file,
+            count: self.count,
+        })
     }
 
     fn open_dir(&self, path: &str) -> io::Result<<HostRuntime as Files>::Dir> {
@@ -104,6 +157,24 @@ fn a_file_is_opened_once(rt: HostRuntime) -> Result<(), Fail> {
         true,
     )?;
     same(count.get(), 2)
+}
+
+#[test]
+fn a_file_is_made_sure_of_once(rt: HostRuntime) -> Result<(), Fail> {
+    let name = "disks_once.tmp";
+    let count = Cell::new(0);
+    let mut disks = FileDisks::new(Counted {
+        rt: &rt,
+        count: &count,
+    });
+    let DiskOpen::Disk(mut disk) = disks.open(name) else {
+        return Err("no file".into());
+    };
+    same((disk.write(0, b"a"), count.get()), (Act::Ready, 1))?;
+    same((disk.sync(), count.get()), (Act::Ready, 2))?;
+    disks.done(disk);
+    fs::remove_file(&rt, name)?;
+    Ok(())
 }
 
 #[test]
