@@ -1,5 +1,6 @@
--- Scaffolding, and no promise: what words say, as functions that the contracts of private functions cite.
-use Rattle.std.specs.Prelude.{ℕ, ◌^◌, nat_lt, nat_le, ◌==◌, ◌&&◌, Bool, if◌then◌else◌, List, [], ◌∷◌, length, codes, decimal, bytes_eq, Option, Some, None, Result, Ok, Err}
+-- Scaffolding, and no promise: what words say, as functions that the contracts of `Words` and of private functions cite. What
+-- they read is what words stand for (`laws::words_are_read`).
+use Rattle.std.specs.Prelude.{ℕ, ◌^◌, nat_lt, nat_le, ◌==◌, ◌&&◌, Bool, true, false, if◌then◌else◌, List, [], ◌∷◌, length, codes, decimal, bytes_eq, Option, Some, None, Result, Ok, Err}
 use Rattle.std.specs.Option.{option_map}
 use Rattle.std.specs.Str.Parse.{digits_value}
 use Rattle.hex.specs.Hex.{decode_of}
@@ -43,6 +44,21 @@ not_empty (Err fault) = None
 
 unfoldable pub hex_at : List ℕ → Option (List ℕ)
 hex_at word = if bytes_eq word (codes "-") then Some [] else not_empty (decode_of word)
+
+-- ---- what the first of the words says, and the words behind it
+
+abbrev pub number_from : List (List ℕ) → Option (ℕ × List (List ℕ))
+number_from [] = None
+number_from (word ∷ words) = number_at word >>= λ number. Some (number, words)
+
+abbrev pub bytes_from : List (List ℕ) → Option (List ℕ × List (List ℕ))
+bytes_from [] = None
+bytes_from (word ∷ words) = hex_at word >>= λ bytes. Some (bytes, words)
+
+-- whether no word is left
+abbrev pub is_end : List (List ℕ) → Bool
+is_end [] = true
+is_end (word ∷ words) = false
 
 -- ---- first words
 

@@ -1,10 +1,11 @@
 //! Laws of the grammar, each the contract of a function that does nothing.
 
-ghost use Rattle.std.specs.Prelude.{◌≡◌, ◌⊎◌, ℕ, List, Option, Some, true};
+ghost use Rattle.std.specs.Prelude.{◌≡◌, ◌⊎◌, ℕ, List, Option, Some, decimal, true};
 ghost use Rattle.regs_service.specs.Requests.{Add, Get, is_name, request_of};
 ghost use Rattle.sched_text.specs.declared.event.Event.{Event};
 ghost use Rattle.sched_text.specs.declared.schedule.Placed.{Placed};
-ghost use Rattle.sched_text.specs.Words.{IsNumber};
+ghost use Rattle.sched_text.specs.Reading.{hex_at, number_at};
+ghost use Rattle.sched_text.specs.Words.{IsHex, IsNumber};
 ghost use Rattle.sched_text.specs.Bodies.{SaysCall, add_body, get_body, pad_bytes_max};
 ghost use Rattle.sched_text.specs.Schedule.{HasBadLine, Spells};
 ghost use Rattle.sched_text.specs.Speller.{AreInRange, placed_from, text_for};
@@ -32,6 +33,14 @@ pub fn every_text_is_read()
 /// Each list of events whose numbers and bytes are in range has a text: one line an event.
 pub fn every_list_has_a_text()
     ensures { (events : List Event) → AreInRange events → Spells (text_for events) (placed_from 1 events) }
+{}
+
+/// What is read of a word as a number or as bytes is what the word stands for, and all that a word stands for is read.
+pub fn words_are_read()
+    ensures number { (word : List ℕ) (number : ℕ) → number_at word ≡ Some number → IsNumber number × (word ≡ decimal number) }
+    ensures every_number { (number : ℕ) → IsNumber number → number_at (decimal number) ≡ Some number }
+    ensures bytes { (word bytes : List ℕ) → hex_at word ≡ Some bytes → IsHex bytes word }
+    ensures all_bytes { (word bytes : List ℕ) → IsHex bytes word → hex_at word ≡ Some bytes }
 {}
 
 /// Words say at most one call.

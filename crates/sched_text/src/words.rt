@@ -1,9 +1,9 @@
 //! The words of a line, and what stands in one.
 
-ghost use Rattle.std.specs.Prelude.{◌≡◌, ◌<◌, ◌∷◌, [], ℕ, true, false, length, slice_index, IfSome, IfNone, IfOk};
+ghost use Rattle.std.specs.Prelude.{◌≡◌, ◌<◌, ◌∷◌, [], ℕ, true, false, length, slice_index, IfSome, IfNone, IfOk, MatchOption, Some, None};
 ghost use Rattle.sched_text.specs.Lines.{is_blank, words_of};
 ghost use Rattle.sched_text.specs.Rests.{words_in};
-ghost use Rattle.sched_text.specs.Reading.{hex_at, number_at};
+ghost use Rattle.sched_text.specs.Reading.{bytes_from, hex_at, is_end, number_at, number_from};
 
 use hex::FromHexError;
 use itoa::Buffer;
@@ -12,8 +12,8 @@ use std::alloc::Global;
 use std::marker::Model;
 
 /// The words of a line, one after the other. Contracts see the list of those that are left.
-#[derive(Drop)]
-pub(crate) struct Words<'a> {
+#[derive(Debug, Drop)]
+pub struct Words<'a> {
     rest: Option<&'a [u8]>,
 }
 
@@ -28,14 +28,14 @@ impl<'a> Model for Words<'a> {
 
 impl<'a> Words<'a> {
     /// The words of a line.
-    pub(crate) fn new(line: &'a [u8]) -> Words<'a>
+    pub fn new(line: &'a [u8]) -> Words<'a>
         ensures { result ≡ words_of line.now }
     {
         Words { rest: Some(line) }
     }
 
     /// The next word, where one is left.
-    pub(crate) fn next(&mut self) -> Option<&'a [u8]>
+    pub fn next(&mut self) -> Option<&'a [u8]>
         ensures none { IfNone result (self.old ≡ []) }
         ensures ended { IfNone result (self.new ≡ []) }
         ensures word { IfSome result (λ word. self.old ≡ word.now ∷ self.new) }
@@ -44,6 +44,45 @@ impl<'a> Words<'a> {
         self.rest = rest;
         Some(word)
     }
+
+    /// Whether no word is left. A line with no byte has one, an empty one.
+    pub fn is_empty(&self) -> bool
+        ensures { result ≡ is_end self.now }
+    {
+        match self.rest {
+            Some(rest) => lacks_words(rest),
+            None => true,
+        }
+    }
+
+    /// The number that the next word spells, if it spells one: in decimal, with no sign and no leading zero, below 2^64.
+    pub fn number(&mut self) -> Option<u64>
+        ensures { MatchOption result (number_from self.old ≡ None) (λ number. number_from self.old ≡ Some (number, self.new)) }
+    {
+        number_of(self.next()?)
+    }
+
+    /// The bytes that the next word spells, if it spells some: a pair of hexadecimal digits a byte, or `-` for no byte.
+    ///
+    /// # Errors
+    ///
+    /// `Memory`.
+    pub fn bytes(&mut self, alloc: Global) -> Result<Option<Octets>, Memory>
+        ensures { IfOk result (λ bytes. MatchOption bytes (bytes_from self.old ≡ None) (λ bytes. bytes_from self.old ≡ Some (bytes, self.new))) }
+    {
+        match self.next() {
+            Some(word) => bytes_of(alloc, word),
+            None => Ok(None),
+        }
+    }
+}
+
+// Whether a line has no word. It has one, if an empty one.
+fn lacks_words(line: &[u8]) -> bool
+    ensures { result ≡ is_end (words_of line.now) }
+{
+    let (_word, _rest) = first_word(line);
+    false
 }
 
 // The first word of a line, and what stands behind the blank that follows it.

@@ -13,7 +13,7 @@ use Rattle.trace_check.specs.Lawful.{IsFirstBadLine, IsTrace}
 use Rattle.trace_check.specs.Answers.{HasBadLine, IsBroken, IsFaultOf, IsFoundIn, Shows}
 use Rattle.trace_check.specs.Books.{IsFault, IsFound}
 use Rattle.trace_check.specs.Reading.{facts_of}
-use Rattle.trace_check.proofs.Meanings.{lines_say, one_spelling}
+use Rattle.trace_check.proofs.Meanings.{AreRead, lines_say, one_spelling}
 use Rattle.trace_check.proofs.Tests.{same_sentence}
 
 -- ---- of facts
@@ -57,35 +57,36 @@ of_facts : (text : List ℕ) (checked : Checked) → IsFoundIn text checked → 
 of_facts text Yes h = (h.facts, h.spelled, h.lawful, h.all_hold)
 of_facts text (Broken c l) h = (h.facts, h.spelled, h.lawful, h.broken)
 
-pub one_found : (text : List ℕ) (one other : Checked) → IsFoundIn text one → IsFoundIn text other → one ≡ other
-one_found text one other h g =
-    let a = of_facts text one h in
-    let b = of_facts text other g in
-    same_found b.0 (line_numbers text) one other (subst (λ (f : List Fact). IsFound f (line_numbers text) one) (one_spelling text a.0 b.0 a.1 b.1) a.3) b.3
+module _ (known : AreRead) where
+  pub one_found : (text : List ℕ) (one other : Checked) → IsFoundIn text one → IsFoundIn text other → one ≡ other
+  one_found text one other h g =
+      let a = of_facts text one h in
+      let b = of_facts text other g in
+      same_found b.0 (line_numbers text) one other (subst (λ (f : List Fact). IsFound f (line_numbers text) one) (one_spelling known text a.0 b.0 a.1 b.1) a.3) b.3
 
-pub not_both_found : (text : List ℕ) (one : Checked) (bad : ℕ) → IsFoundIn text one → HasBadLine text bad → ⊥
-not_both_found text one bad h g =
-    let a = of_facts text one h in
-    no_bad_line g.facts (line_numbers text) bad (subst IsTrace (one_spelling text a.0 g.facts a.1 g.spelled) a.2) g.bad
+  pub not_both_found : (text : List ℕ) (one : Checked) (bad : ℕ) → IsFoundIn text one → HasBadLine text bad → ⊥
+  not_both_found text one bad h g =
+      let a = of_facts text one h in
+      no_bad_line g.facts (line_numbers text) bad (subst IsTrace (one_spelling known text a.0 g.facts a.1 g.spelled) a.2) g.bad
 
-pub one_bad_line : (text : List ℕ) (bad other : ℕ) → HasBadLine text bad → HasBadLine text other → bad ≡ other
-one_bad_line text bad other h g =
-    same_bad_line g.facts (line_numbers text) bad other (subst (λ (f : List Fact). IsFirstBadLine f (line_numbers text) bad) (one_spelling text h.facts g.facts h.spelled g.spelled) h.bad) g.bad
+  pub one_bad_line : (text : List ℕ) (bad other : ℕ) → HasBadLine text bad → HasBadLine text other → bad ≡ other
+  one_bad_line text bad other h g =
+      same_bad_line g.facts (line_numbers text) bad other (subst (λ (f : List Fact). IsFirstBadLine f (line_numbers text) bad) (one_spelling known text h.facts g.facts h.spelled g.spelled) h.bad) g.bad
 
--- ---- the answer that is given
+  -- ---- the answer that is given
 
-found_in : (text : List ℕ) (checked : Checked) → IsTrace (facts_of (lines_in text)) → IsFound (facts_of (lines_in text)) (line_numbers text) checked → IsFoundIn text checked
-found_in text Yes trace h = record { facts = facts_of (lines_in text); spelled = lines_say (lines_in text); lawful = trace; all_hold = h }
-found_in text (Broken c l) trace h = record { facts = facts_of (lines_in text); spelled = lines_say (lines_in text); lawful = trace; broken = h }
+  found_in : (text : List ℕ) (checked : Checked) → IsTrace (facts_of (lines_in text)) → IsFound (facts_of (lines_in text)) (line_numbers text) checked → IsFoundIn text checked
+  found_in text Yes trace h = record { facts = facts_of (lines_in text); spelled = lines_say known (lines_in text); lawful = trace; all_hold = h }
+  found_in text (Broken c l) trace h = record { facts = facts_of (lines_in text); spelled = lines_say known (lines_in text); lawful = trace; broken = h }
 
-pub found_of : (text : List ℕ) (r : Result Checked CheckFault) → OnOk r (IsTrace (facts_of (lines_in text))) → IfOk r (IsFound (facts_of (lines_in text)) (line_numbers text)) → IfOk r (IsFoundIn text)
-found_of text (Ok checked) trace h = found_in text checked trace h
-found_of text (Err fault) trace h = tt
+  pub found_of : (text : List ℕ) (r : Result Checked CheckFault) → OnOk r (IsTrace (facts_of (lines_in text))) → IfOk r (IsFound (facts_of (lines_in text)) (line_numbers text)) → IfOk r (IsFoundIn text)
+  found_of text (Ok checked) trace h = found_in text checked trace h
+  found_of text (Err fault) trace h = tt
 
-fault_in : (text : List ℕ) (fault : CheckFault) → IsFault (facts_of (lines_in text)) (line_numbers text) fault → IsFaultOf text fault
-fault_in text (BadLine line) h = record { facts = facts_of (lines_in text); spelled = lines_say (lines_in text); bad = h }
-fault_in text Memory h = tt
+  fault_in : (text : List ℕ) (fault : CheckFault) → IsFault (facts_of (lines_in text)) (line_numbers text) fault → IsFaultOf text fault
+  fault_in text (BadLine line) h = record { facts = facts_of (lines_in text); spelled = lines_say known (lines_in text); bad = h }
+  fault_in text Memory h = tt
 
-pub fault_of : (text : List ℕ) (r : Result Checked CheckFault) → IfErr r (IsFault (facts_of (lines_in text)) (line_numbers text)) → IfErr r (IsFaultOf text)
-fault_of text (Ok checked) h = tt
-fault_of text (Err fault) h = fault_in text fault h
+  pub fault_of : (text : List ℕ) (r : Result Checked CheckFault) → IfErr r (IsFault (facts_of (lines_in text)) (line_numbers text)) → IfErr r (IsFaultOf text)
+  fault_of text (Ok checked) h = tt
+  fault_of text (Err fault) h = fault_in text fault h

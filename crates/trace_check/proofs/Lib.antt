@@ -1,7 +1,4 @@
 pub mod Steps
-pub mod Pieces
-pub mod Numbers
-pub mod Hexes
 pub mod Meanings
 pub mod Places
 pub mod Marking

@@ -5,14 +5,6 @@ use Rattle.sched_text.specs.Reading.{◌>>=◌}
 
 -- ---- tests
 
-pub skip : {A : Type 0} (b : Bool) (x y z : A) → b ≡ false → y ≡ z → cond b x y ≡ z
-skip false x y z h e = e
-skip true x y z h e = cc
-
-pub keep : {A : Type 0} (b : Bool) (x y z : A) → b ≡ true → x ≡ z → cond b x y ≡ z
-keep true x y z h e = e
-keep false x y z h e = cc
-
 pub branch : {A : Type 0} (b : Bool) (x y z : A) → cond b x y ≡ z → ((b ≡ true) × (x ≡ z)) ⊎ ((b ≡ false) × (y ≡ z))
 branch true x y z e = inl (refl, e)
 branch false x y z e = inr (refl, e)

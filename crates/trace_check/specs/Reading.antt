@@ -2,7 +2,7 @@
 use Rattle.std.specs.Prelude.{ℕ, Bool, true, false, List, [], ◌∷◌, map, codes, Option, Some, None, unwrap_or}
 use Rattle.std.specs.Option.{option_map}
 use Rattle.sched_text.specs.Lines.{Line, words_of}
-use Rattle.sched_text.specs.Reading.{find, hex_at, number_at, ◌>>=◌}
+use Rattle.sched_text.specs.Reading.{bytes_from, find, number_from, ◌>>=◌}
 use Rattle.trace_check.specs.declared.numbered.Numbered.{Numbered}
 use Rattle.trace_check.specs.declared.fact.Cause.{Cause}
 use Rattle.trace_check.specs.declared.fact.Cause.TheVariants as cause
@@ -17,22 +17,9 @@ use Rattle.trace_check.specs.declared.fact.Standing.TheVariants as standing
 
 -- ---- what the first of the words says, and the words behind it
 
-abbrev pub number_from : List (List ℕ) → Option (ℕ × List (List ℕ))
-number_from [] = None
-number_from (word ∷ words) = number_at word >>= λ number. Some (number, words)
-
-abbrev pub bytes_from : List (List ℕ) → Option (List ℕ × List (List ℕ))
-bytes_from [] = None
-bytes_from (word ∷ words) = hex_at word >>= λ bytes. Some (bytes, words)
-
 abbrev pub numbered_from : List (List ℕ) → Option (Numbered × List (List ℕ))
 numbered_from words =
     number_from words >>= λ owner. number_from owner.1 >>= λ number. Some (record { owner = owner.0; number = number.0 }, number.1)
-
--- whether no word is left
-abbrev pub is_end : List (List ℕ) → Bool
-is_end [] = true
-is_end (word ∷ words) = false
 
 -- the value, where no word is left
 abbrev pub at_end : {T : Type 0} → T → List (List ℕ) → Option T

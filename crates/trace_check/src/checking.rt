@@ -13,6 +13,7 @@ use crate::fact::{Fact, fact_of};
 use crate::judge::{Judge, fits};
 use octets::Memory;
 use sched_text::Lines;
+use sched_text::laws::words_are_read;
 use std::alloc::Global;
 use thiserror::Error;
 
@@ -69,6 +70,7 @@ pub fn check(alloc: Global, text: &[u8]) -> Result<Checked, CheckFault>
     ensures found { IfOk result (IsFoundIn text.now) }
     ensures fault { IfErr result (IsFaultOf text.now) }
 {
+    words_are_read();
     let log = read(alloc, text)?;
     let Log { facts, lines } = log;
     judged(alloc, facts, lines.as_slice())

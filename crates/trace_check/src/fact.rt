@@ -5,9 +5,9 @@ ghost use Rattle.sched_text.specs.Lines.{words_of};
 ghost use Rattle.sched_text.specs.Reading.{find};
 ghost use Rattle.trace_check.specs.Reading.{body_at, causes, entry_at, fact_with, gone_at, kinds, name_at, only, said_by, session_at, standings, state_at, told_at, told_with, ways};
 
-use crate::numbered::Numbered;
-use crate::words::Words;
+use crate::numbered::{Numbered, pair_of};
 use octets::{Memory, Octets};
+use sched_text::Words;
 use std::alloc::Global;
 
 /// Why it isn't known what became of a call.
@@ -164,7 +164,7 @@ fn kind_of(word: &[u8]) -> Option<Kind>
 fn body_of(alloc: Global, mut words: Words<'_>) -> Result<Option<Fact>, Memory>
     ensures { IfOk result (λ fact. fact ≡ body_at words.entry) }
 {
-    let Some(call) = words.numbered() else {
+    let Some(call) = pair_of(&mut words) else {
         return Ok(None);
     };
     match words.bytes(alloc)? {
@@ -177,8 +177,8 @@ fn body_of(alloc: Global, mut words: Words<'_>) -> Result<Option<Fact>, Memory>
 fn name_of(mut words: Words<'_>) -> Option<Fact>
     ensures { result ≡ name_at words.entry }
 {
-    let call = words.numbered()?;
-    let name = words.numbered()?;
+    let call = pair_of(&mut words)?;
+    let name = pair_of(&mut words)?;
     if words.is_empty() {
         Some(Fact::Name(call, name))
     } else {
@@ -190,7 +190,7 @@ fn name_of(mut words: Words<'_>) -> Option<Fact>
 fn state_of(alloc: Global, mut words: Words<'_>) -> Result<Option<Fact>, Memory>
     ensures { IfOk result (λ fact. fact ≡ state_at words.entry) }
 {
-    let Some(call) = words.numbered() else {
+    let Some(call) = pair_of(&mut words) else {
         return Ok(None);
     };
     match told_of(alloc, words)? {
@@ -206,7 +206,7 @@ fn entry_of(alloc: Global, mut words: Words<'_>) -> Result<Option<Fact>, Memory>
     let Some(start) = words.number() else {
         return Ok(None);
     };
-    let Some(name) = words.numbered() else {
+    let Some(name) = pair_of(&mut words) else {
         return Ok(None);
     };
     let Some(request) = words.bytes(alloc)? else {
@@ -259,7 +259,7 @@ fn session_of(mut words: Words<'_>) -> Option<u64>
 fn gone_of(mut words: Words<'_>) -> Option<Fact>
     ensures { result ≡ gone_at words.entry }
 {
-    let name = words.numbered()?;
+    let name = pair_of(&mut words)?;
     if words.is_empty() {
         Some(Fact::Gone(name))
     } else {

@@ -13,7 +13,6 @@ mod numbered;
 mod sentence;
 mod starts;
 mod table;
-mod words;
 
 pub use checking::{CheckFault, Checked, check};
 pub use octets::{Memory, Octets};
