@@ -1,5 +1,5 @@
-/* Both ends in one program, by the header alone: a call from its submission to its reply; what is refused; a call during which one
- * allocation after another is refused; and `try N`, N calls whose packets come twice, among others that don't open. It ends with
+/* Both ends in one program, by the header alone: a call from its submission to its reply; what is refused; what an open client is asked for;
+ * limits; a call during which one allocation after another is refused; and `try N`, N calls whose packets come twice, among others that don't open. It ends with
  * status 0 where all is as it should be. Linked with -Wl,--wrap=malloc,--wrap=realloc. */
 #include "kifzaro.h"
 #include <stdio.h>
@@ -180,6 +180,128 @@ static void busy(void)
     kf_server_free(&server);
 }
 
+/* What both ends have to send reaches the other, until there is nothing. How many bytes the server sent. */
+static size_t settle(kf_client *client, kf_server *server)
+{
+    uint64_t key, session; size_t len, sent = 0; int more = 1;
+    while (more) {
+        more = 0;
+        for (;; more = 1) {
+            MUST(kf_client_poll_transmit(client, NOW, room, sizeof room, &len) == KF_OK);
+            if (!len) break;
+            MUST(kf_server_handle_packet(server, NOW, room, len, &key, &session) == KF_OK);
+        }
+        for (;; more = 1, sent += len) {
+            MUST(kf_server_poll_transmit(server, &key, &session, room, sizeof room, &len) == KF_OK);
+            if (!len) break;
+            MUST(kf_client_handle_packet(client, NOW, room, len) == KF_OK);
+        }
+    }
+    return sent;
+}
+
+/* An open client with a call that is sent and not answered, and its server. */
+static void open_ends(kf_client *client, kf_server *server)
+{
+    uint64_t call, ready;
+    MUST(kf_client_new(client, BYTES(keys), strlen(keys), KEY_ID, seed) == KF_OK && kf_server_new(server, BYTES(keys), strlen(keys), seed) == KF_OK);
+    MUST(kf_client_submit(client, BYTES("ask me!!"), 8, 0, &call) == KF_OK && call == 1 && settle(client, server) && !settle(client, server));
+    MUST(kf_server_ready(server, &ready) == KF_OK && ready == 1);
+}
+
+#define STATE(call, its, why) MUST(kf_client_state(&client, call, &state, &code) == KF_OK && state == (its) && code == (why))
+#define READY(count) MUST(kf_server_ready(&server, &ready) == KF_OK && ready == (count))
+
+/* What an open client is asked for: each does what no other one does. */
+static void wishes(void)
+{
+    kf_client client = KF_INIT; kf_server server = KF_INIT; uint64_t ready; uint32_t state, code; size_t len, one, pong;
+    open_ends(&client, &server);
+    /* A tick asks of a call that is sent, and changes nothing; an answer that is dropped leaves the server no request. */
+    MUST(kf_client_tick(&client) == KF_OK && settle(&client, &server) > 0 && settle(&client, &server) == 0);
+    STATE(1, KF_SENT, 0); READY(1);
+    MUST(kf_client_drop_answer(&client, 2) == KF_NOT_SENT && kf_client_drop_answer(&client, 1) == KF_OK && settle(&client, &server) > 0);
+    STATE(1, KF_DONE, 0); READY(0);
+    MUST(kf_client_take_reply(&client, 1, room, sizeof room, &len) == KF_OK && len == 4 && !memcmp(room, "\x86\xe5\x78\xcd", 4));
+    MUST(kf_client_drop_answer(&client, 1) == KF_NOT_SENT);
+    /* No call is sent: a tick asks nothing, a ping and a wish for salts do. Salts have 16 bytes each, and the last wish of a kind counts. */
+    MUST(kf_client_tick(&client) == KF_OK && settle(&client, &server) == 0);
+    MUST(kf_client_ping(&client, 7) == KF_OK && (pong = settle(&client, &server)) > 0 && settle(&client, &server) == 0);
+    MUST(kf_client_ping(&client, 7) == KF_OK && kf_client_ping(&client, 8) == KF_OK && settle(&client, &server) == pong);
+    MUST(kf_client_ask_salts(&client, 1) == KF_OK && (one = settle(&client, &server)) > 0);
+    MUST(kf_client_ask_salts(&client, 5) == KF_OK && settle(&client, &server) == one + 4 * 16);
+    MUST(kf_client_ask_salts(&client, 5) == KF_OK && kf_client_ask_salts(&client, 1) == KF_OK && settle(&client, &server) == one);
+    kf_client_free(&client);
+    kf_server_free(&server);
+}
+
+/* A client that goes on in another session, and one that ends, of which a packet still waits. */
+static void leavings(void)
+{
+    kf_client client = KF_INIT; kf_server server = KF_INIT; uint64_t call, ready, before, after; uint32_t state, code; size_t len, waits; int decided, asked = 0;
+    open_ends(&client, &server);
+    MUST(kf_client_session(&client, &before) == KF_OK && kf_client_renew(&client) == KF_OK && kf_client_session(&client, &after) == KF_OK && before != after);
+    STATE(1, KF_UNKNOWN, 2);
+    MUST(kf_client_tick(&client) == KF_NOT_OPEN && kf_client_end(&client) == KF_NOT_OPEN);
+    MUST(kf_client_submit(&client, BYTES("ask me!!"), 8, 0, &call) == KF_OK && call == 2 && settle(&client, &server) > 0);
+    MUST(answer_all(&server, &asked) == KF_OK && settle(&client, &server) > 0);
+    STATE(1, KF_UNKNOWN, 2); STATE(2, KF_DONE, 0);
+    kf_client_free(&client);
+    kf_server_free(&server);
+    open_ends(&client, &server);
+    MUST(kf_client_ping(&client, 7) == KF_OK && kf_client_poll_transmit(&client, NOW, room, 0, &waits) == KF_TOO_SHORT);
+    MUST(kf_client_submit(&client, BYTES("too late"), 8, 0, &call) == KF_OK);
+    MUST(kf_client_session(&client, &before) == KF_OK && kf_client_end(&client) == KF_OK && kf_client_session(&client, &after) == KF_OK && before == after);
+    STATE(1, KF_UNKNOWN, 3); STATE(2, KF_REFUSED, 0); READY(1);
+    MUST(kf_client_calls_decided(&client, &decided) == KF_OK && decided == 1);
+    MUST(kf_client_poll_transmit(&client, NOW, room, sizeof room, &len) == KF_OK && len == waits && settle(&client, &server) == 0);
+    MUST(kf_client_attach(&client) == KF_ENDED && kf_client_submit(&client, BYTES("even"), 4, 0, &call) == KF_ENDED && kf_client_renew(&client) == KF_NOT_OPEN);
+    MUST(kf_client_handle_packet(&client, NOW, room, 50) == KF_OK);
+    kf_client_free(&client);
+    kf_server_free(&server);
+}
+
+/* The limits of the header: what is as long as it may be, and longer. */
+static void limits(void)
+{
+    static const uint8_t most[KF_PACKET_BYTES_MAX + 8];
+    kf_client client = KF_INIT; kf_server server = KF_INIT; uint64_t call, key, session;
+    MUST(kf_client_new(&client, BYTES(keys), strlen(keys), KEY_ID, seed) == KF_OK && kf_server_new(&server, BYTES(keys), strlen(keys), seed) == KF_OK);
+    MUST(kf_client_submit(&client, most, KF_BODY_BYTES_MAX, 0, &call) == KF_OK && kf_client_submit(&client, most, KF_BODY_BYTES_MAX + 4, 0, &call) == KF_BAD_BODY);
+    MUST(kf_server_handle_packet(&server, NOW, most, KF_PACKET_BYTES_MAX - 8, &key, &session) == KF_REFUSED_KEY);
+    MUST(kf_server_handle_packet(&server, NOW, most, KF_PACKET_BYTES_MAX + 8, &key, &session) == KF_REFUSED_SIZE);
+    for (int k = 1; k < 65536; k++) MUST(kf_client_submit(&client, most, 0, 0, &call) == KF_OK);
+    MUST(call == 65536 && kf_client_submit(&client, most, 0, 0, &call) == KF_TOO_MANY);
+    kf_client_free(&client);
+    kf_server_free(&server);
+}
+
+/* What became of a call that is sent, where so many other sessions begin behind its own. */
+static uint32_t state_behind(int sessions, uint32_t *code)
+{
+    kf_client client = KF_INIT, other = KF_INIT; kf_server server = KF_INIT; uint64_t call; uint32_t state;
+    memset(seed, 2, 32);
+    open_ends(&client, &server);
+    for (int k = 0; k < sessions; k++) {
+        seed[0] = (uint8_t)k; seed[1] = 3;
+        MUST(kf_client_new(&other, BYTES(keys), strlen(keys), KEY_ID, seed) == KF_OK && kf_client_submit(&other, BYTES("even"), 4, 0, &call) == KF_OK);
+        settle(&other, &server);
+        kf_client_free(&other);
+    }
+    MUST(kf_client_tick(&client) == KF_OK && settle(&client, &server) > 0);
+    MUST(kf_client_state(&client, 1, &state, code) == KF_OK);
+    kf_client_free(&client);
+    kf_server_free(&server);
+    return state;
+}
+
+/* A server keeps 256 sessions. */
+static void sessions(void)
+{
+    uint32_t code;
+    MUST(state_behind(255, &code) == KF_SENT && state_behind(256, &code) == KF_UNKNOWN && code == 1);
+}
+
 /* A client under a temporary key, which the server binds first; behind its moment no packet of it opens. */
 static void temporary(void)
 {
@@ -256,7 +378,11 @@ int main(int count, char **words)
     kf_server_free(&server);
     busy();
     temporary();
+    wishes();
+    leavings();
     if (count > 1) { many(atoi(words[1])); return 0; }
+    limits();
+    sessions();
     MUST(talk(-1) == 0);
     while (talk(n)) n++;
     printf("kifzaro %s (%s): a call came to its reply, and with each of its %ld allocations refused\n", kf_version(), kf_build(), n);

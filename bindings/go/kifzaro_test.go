@@ -135,3 +135,35 @@ func TestOverTCP(t *testing.T) {
 	}
 	listener.Close()
 }
+
+// Connections without a network, which hold no byte that isn't read.
+type pipes chan net.Conn
+
+func (p pipes) Accept() (net.Conn, error) {
+	if conn, open := <-p; open {
+		return conn, nil
+	}
+	return nil, net.ErrClosed
+}
+
+func (p pipes) Close() error   { close(p); return nil }
+func (p pipes) Addr() net.Addr { return nil }
+func (p pipes) dial() net.Conn {
+	near, far := net.Pipe()
+	p <- far
+	return near
+}
+
+// A connection that isn't read holds up no other.
+func TestAConnectionThatIsNotRead(t *testing.T) {
+	listener := make(pipes)
+	go Serve(listener, Must(NewServer(theKeys())), func(request []byte) []byte { return request })
+	deaf := Must(NewClient(theKeys(), theKey))
+	Must(deaf.Submit([]byte("unheard!"), 0))
+	wire := Must(ClientWire(listener.dial()))
+	Must(true, wire.Send(Must(deaf.PollTransmit(Now()))))
+	if replies := Must(Must(NewClient(theKeys(), theKey)).Call(listener.dial(), "ask me!!")); replies[0] != "ask me!!" {
+		t.Error(replies)
+	}
+	listener.Close()
+}

@@ -5,6 +5,7 @@ import (
 	"log"
 	"net"
 	"sync"
+	"time"
 )
 
 // Must gives the value, and panics where there is an error: for tests and small programs.
@@ -71,18 +72,32 @@ func (c *Client) sendAll(wire *Wire) error {
 	}
 }
 
+// How many packets may wait for one connection, and how long one that sends no more is still written to.
+const (
+	waitingMax  = 256
+	lastSeconds = 10
+)
+
+// A connection: its end of the wire, and the packets that wait to be sent over it.
+type line struct {
+	conn    net.Conn
+	wire    *Wire
+	waiting chan []byte
+}
+
 // What all connections of a server share.
 type desk struct {
 	sync.Mutex
 	server *Server
 	answer func(request []byte) []byte
-	ends   map[SessionName]*Wire
+	ends   map[SessionName]*line
 }
 
 // Serve accepts connections of the intermediate form until the listener fails, and has all of them served by one server: each call is
-// answered by answer, one after the other. Packets that don't open are logged. Nothing else calls with the server meanwhile.
+// answered by answer, one after the other. Each connection is written to by a goroutine of its own, so one that isn't read holds up no other;
+// it is closed where 256 packets wait for it. Packets that don't open are logged. Nothing else calls with the server meanwhile.
 func Serve(listener net.Listener, server *Server, answer func(request []byte) []byte) error {
-	desk := &desk{server: server, answer: answer, ends: map[SessionName]*Wire{}}
+	desk := &desk{server: server, answer: answer, ends: map[SessionName]*line{}}
 	for {
 		conn, err := listener.Accept()
 		if err != nil {
@@ -93,12 +108,13 @@ func Serve(listener net.Listener, server *Server, answer func(request []byte) []
 }
 
 func (d *desk) serve(conn net.Conn) {
-	defer conn.Close()
 	wire, err := ServerWire(conn)
+	its := &line{conn, wire, make(chan []byte, waitingMax)}
+	go its.sendAll()
 	for err == nil {
 		var packet []byte
 		if packet, err = wire.Receive(); err == nil {
-			err = d.take(wire, packet)
+			err = d.take(its, packet)
 		}
 	}
 	if err != io.EOF {
@@ -106,15 +122,27 @@ func (d *desk) serve(conn net.Conn) {
 	}
 	d.Lock()
 	defer d.Unlock()
-	for name, its := range d.ends {
-		if its == wire {
+	for name, end := range d.ends {
+		if end == its {
 			delete(d.ends, name)
+		}
+	}
+	close(its.waiting)
+	conn.SetWriteDeadline(time.Now().Add(lastSeconds * time.Second))
+}
+
+// Sends what waits, until nothing more can come or the connection fails.
+func (l *line) sendAll() {
+	defer l.conn.Close()
+	for packet := range l.waiting {
+		if err := l.wire.Send(packet); err != nil {
+			return
 		}
 	}
 }
 
-// A packet came over a connection: what is ready is answered, and what is due is sent.
-func (d *desk) take(wire *Wire, packet []byte) error {
+// A packet came over a connection: what is ready is answered, and what is due is handed to the connections that it is for.
+func (d *desk) take(its *line, packet []byte) error {
 	d.Lock()
 	defer d.Unlock()
 	name, err := d.server.HandlePacket(Now(), packet)
@@ -125,8 +153,8 @@ func (d *desk) take(wire *Wire, packet []byte) error {
 	if err != nil {
 		return err
 	}
-	if d.ends[name] != wire {
-		d.ends[name] = wire
+	if d.ends[name] != its {
+		d.ends[name] = its
 		if err := d.server.Attach(name, Now()); err != nil {
 			return err
 		}
@@ -134,31 +162,36 @@ func (d *desk) take(wire *Wire, packet []byte) error {
 	if err := d.server.Tick(Now()); err != nil {
 		return err
 	}
+	if err := d.answerAll(); err != nil {
+		return err
+	}
+	return d.handOut()
+}
+
+func (d *desk) answerAll() error {
 	for {
 		request, err := d.server.NextRequest()
-		if err != nil {
+		if err != nil || request == nil {
 			return err
-		}
-		if request == nil {
-			break
 		}
 		if err := d.server.Answer(Now(), d.answer(request)); err != nil {
 			return err
 		}
 	}
-	return d.sendAll()
 }
 
 // Packets for sessions whose connection has ended are let go: the server says again what matters when another one comes.
-func (d *desk) sendAll() error {
+func (d *desk) handOut() error {
 	for {
 		name, packet, err := d.server.PollTransmit()
 		if err != nil || packet == nil {
 			return err
 		}
-		if wire := d.ends[name]; wire != nil {
-			if err := wire.Send(packet); err != nil {
-				delete(d.ends, name)
+		if end := d.ends[name]; end != nil {
+			select {
+			case end.waiting <- packet:
+			default:
+				end.conn.Close()
 			}
 		}
 	}

@@ -13,7 +13,10 @@ PACKAGE = pathlib.Path(__file__).parent.parent
 sys.path.insert(0, str(PACKAGE))
 
 import packing
-from kifzaro import Busy, Client, Closed, KifzaroError, NoReply, NotAsked, NotOpen, Refused, Server, State, Wire, build, key_id, version
+from kifzaro import (Busy, Client, Closed, Ended, KifzaroError, NoReply, NotAsked, NotOpen, NotSent, OutOfMemory, Refused, Server, Spent, State,
+                     TooMany, Unfit, Wire, build, key_id, version)
+from kifzaro._errors import error_of
+from kifzaro._library import TOO_SHORT
 
 KEY = bytes(range(256))
 KEYS = "perm " + KEY.hex()
@@ -89,6 +92,74 @@ class Talks(unittest.TestCase):
         for _ in range(5):
             turn(client, server, answer=lambda request: bytes(262144))
         self.assertEqual(client.take_reply(call), bytes(262144))
+
+
+def settle(client, server):
+    """What both ends have to send reaches the other, until there is nothing. How many bytes the server sent."""
+    sent = 0
+    while True:
+        up = list(client.transmits(NOW))
+        for packet in up:
+            server.handle_packet(packet, NOW)
+        down = [packet for _name, packet in server.transmits()]
+        for packet in down:
+            client.handle_packet(packet, NOW)
+        if not up and not down:
+            return sent
+        sent += sum(map(len, down))
+
+
+class Wishes(unittest.TestCase):
+    """What an open client is asked for: each does what no other one does."""
+
+    def setUp(self):
+        self.client, self.server = ends()
+        self.call = self.client.submit(b"ask me!!")
+        settle(self.client, self.server)
+        self.assertEqual((self.client.state(self.call), self.server.ready()), (State.SENT, 1))
+
+    def test_a_tick_asks_of_a_call_that_is_sent(self):
+        self.client.tick()
+        self.assertGreater(settle(self.client, self.server), 0)
+        self.assertEqual((self.client.state(self.call), self.server.ready()), (State.SENT, 1))
+
+    def test_an_answer_that_is_dropped_leaves_no_request(self):
+        self.assertRaises(NotSent, self.client.drop_answer, 2)
+        self.client.drop_answer(self.call)
+        settle(self.client, self.server)
+        self.assertEqual((self.client.take_reply(self.call), self.server.ready()), (0xCD78E586.to_bytes(4, "little"), 0))
+        self.client.tick()
+        self.assertEqual(settle(self.client, self.server), 0)
+
+    def test_pings_and_salts(self):
+        self.client.ping(7)
+        pong = settle(self.client, self.server)
+        self.client.ping(7)
+        self.client.ping(8)
+        self.assertEqual((settle(self.client, self.server), pong > 0), (pong, True))
+        self.client.ask_salts(1)
+        one = settle(self.client, self.server)
+        self.client.ask_salts(5)
+        self.assertEqual((settle(self.client, self.server), one > 0), (one + 4 * 16, True))
+
+    def test_another_session(self):
+        before = self.client.session
+        self.client.renew()
+        self.assertNotEqual(self.client.session, before)
+        self.assertEqual(self.client.state_and_code(self.call), (State.UNKNOWN, 2))
+        self.assertRaises(NotOpen, self.client.renew)
+        again = self.client.submit(b"ask me!!")
+        for _ in range(5):
+            turn(self.client, self.server)
+        self.assertEqual((self.client.state(self.call), self.client.state(again)), (State.UNKNOWN, State.DONE))
+
+    def test_an_end(self):
+        before, later = self.client.session, self.client.submit(b"too late")
+        self.client.end()
+        self.assertEqual((self.client.session, self.client.calls_decided()), (before, True))
+        self.assertEqual((self.client.state_and_code(self.call), self.client.state_and_code(later)), ((State.UNKNOWN, 3), (State.REFUSED, 0)))
+        self.assertRaises(Ended, self.client.attach)
+        self.assertEqual(settle(self.client, self.server), 0)
 
 
 class Refusals(unittest.TestCase):
@@ -205,6 +276,17 @@ class Packing(unittest.TestCase):
 
 
 class About(unittest.TestCase):
+    def test_the_numbers_of_the_header(self):
+        header = (PACKAGE.parent / "c" / "kifzaro.h").read_text()
+        numbers = {name: int(number) for name, number in re.findall(r"^    KF_([A-Z_]+) = (\d+)", header, re.MULTILINE)}
+        self.assertEqual({state.name: state.value for state in State}, {name: numbers[name] for name in State.__members__})
+        errors = {"MEMORY": OutOfMemory, "NO_HANDLE": Closed, "TOO_MANY": TooMany, "ENDED": Ended, "NOT_OPEN": NotOpen, "NOT_SENT": NotSent,
+                  "NO_REPLY": NoReply, "SPENT": Spent, "BUSY": Busy, "NOT_ASKED": NotAsked}
+        errors |= dict.fromkeys(("BAD_KEYS", "NO_KEY", "BAD_SEED", "BAD_BODY", "NO_CALL", "BAD_REPLY"), Unfit)
+        errors |= dict.fromkeys((name for name in numbers if name.startswith("REFUSED_")), Refused)
+        self.assertEqual({name: type(error_of(numbers[name], "")) for name in errors}, errors)
+        self.assertEqual(numbers["TOO_SHORT"], TOO_SHORT)
+
     def test_version_and_build(self):
         self.assertRegex(version(), r"^\d+\.\d+$")
         self.assertIn(build(), ("proved", "checked, not proved"))

@@ -92,6 +92,36 @@ fn names_and_texts() {
 }
 
 #[test]
+fn the_numbers_of_the_header() {
+    let header = include_str!("../../c/kifzaro.h");
+    let refused = |why| Error::Refused(why);
+    let errors = [
+        ("MEMORY", Error::Memory),
+        ("BAD_KEYS", Error::BadKeys),
+        ("NO_KEY", Error::NoKey),
+        ("BAD_BODY", Error::BadBody),
+        ("NO_CALL", Error::NoCall),
+        ("TOO_MANY", Error::TooManyCalls),
+        ("ENDED", Error::Ended),
+        ("NOT_OPEN", Error::NotOpen),
+        ("NOT_SENT", Error::NotSent),
+        ("NO_REPLY", Error::NoReply),
+        ("SPENT", Error::Spent),
+        ("BUSY", Error::Busy),
+        ("NOT_ASKED", Error::NotAsked),
+        ("BAD_REPLY", Error::BadReply),
+        ("REFUSED_SIZE", refused(Refusal::Size)),
+        ("REFUSED_KEY", refused(Refusal::Key)),
+        ("REFUSED_MESSAGE_KEY", refused(Refusal::MessageKey)),
+        ("REFUSED_LENGTH", refused(Refusal::Length)),
+        ("REFUSED_PADDING", refused(Refusal::Padding)),
+    ];
+    for (name, error) in errors {
+        assert!(header.contains(&format!("    KF_{name} = {},", error.status())), "{name}");
+    }
+}
+
+#[test]
 fn a_stream_of_another_form() {
     let found = Wire::server(&b"GET / HTTP"[..]).err().map(|error| error.kind());
     assert_eq!(found, Some(ErrorKind::InvalidData));

@@ -1,33 +1,31 @@
 //! The events of a client, whatever state it is in.
 
-ghost use Rattle.std.specs.Prelude.{◌≡◌, ◌<◌, ◌≤◌, None, Some, Ok, IfErr, IfOk, OnErr, OnOk, false, length, max, true};
-ghost use Rattle.call_table.specs.Kept.{shown, state_in};
-ghost use Rattle.call_table.specs.Table.{IsGiven, call_no, state_at};
+ghost use Rattle.std.specs.Prelude.{◌≡◌, Ok, IfErr, IfOk, OnErr, OnOk, false, length, max, true};
+ghost use Rattle.call_table.specs.Table.{call_no};
 ghost use Rattle.draws.specs.Draws.{draw_after, word_after};
 ghost use Rattle.envelope.specs.declared.parts.Dir.TheVariants.{Down};
 ghost use Rattle.envelope.specs.declared.parts.Envelope.{Envelope};
 ghost use Rattle.envelope.specs.Opening.{Opens};
-ghost use Rattle.client_rules.specs.Asking.{attached, can_drop, dropped, pinged, salts_asked, submit_fault, submitted, ticked};
+ghost use Rattle.client_rules.specs.Asking.{attached, can_drop, dropped, submit_fault, submitted};
 ghost use Rattle.client_rules.specs.Client.{Client, at_moment, calls_of};
 ghost use Rattle.client_rules.specs.Events.{renewed};
 ghost use Rattle.client_rules.specs.Learning.{ended};
 ghost use Rattle.client_rules.specs.Taking.{take};
 ghost use Rattle.client_core.specs.Flushed.{Flushes, setting_of};
 ghost use Rattle.client_core.specs.declared.flush.Flush.TheVariants as flushed;
-ghost use Rattle.client_core.specs.Holding.{IsInState, is_open_now, kept_of};
+ghost use Rattle.client_core.specs.Holding.{is_open_now, kept_of};
 ghost use Rattle.client_core.specs.Keys.{HasKeys, keys_in};
 ghost use Rattle.client_core.specs.Kept.{Stands};
 ghost use Rattle.kifzaro.specs.Clients.{Comes, TellsDropped, TellsEnded, TellsHeard, TellsOpen, TellsSubmit, wished};
-ghost use Rattle.kifzaro.specs.Holding.{IsDoneOrMemory, refused_for};
+ghost use Rattle.kifzaro.specs.Holding.{told_of};
 ghost use Rattle.kifzaro.specs.declared.error.Error.TheVariants as errors;
 
 use crate::error::Error;
-use client_core::{
-    CallNo, CallState, Flush, Holder, NotSent, OpenClient, OpenStep, OpeningClient, OpeningStep,
-};
+use client_core::{CallNo, Flush, Holder, NotSent, OpenClient};
 use draws::Draw;
-use envelope::{Dir, Opened, Refusal, Seal};
+use envelope::{Refusal, Seal};
 use msg_ids::Moment;
+use octets::Memory;
 use std::alloc::Global;
 
 /// What an open client is asked to do.
@@ -142,6 +140,7 @@ pub(crate) fn flush<S: Seal, D: Draw>(
 
 /// A packet comes to a client at a moment: it takes one that opens, and of any other the moment alone counts. One that has
 /// ended takes none.
+#[tactic(auto, using(crate::proofs::HearingLemmas::comes_told, crate::proofs::HearingLemmas::heard_told, crate::proofs::HearingLemmas::stays_told))]
 pub(crate) fn hear<S: Seal>(
     holder: Holder,
     alloc: Global,
@@ -158,70 +157,19 @@ pub(crate) fn hear<S: Seal>(
     ensures stays { (client : Client) → Stands (kept_of holder) client → IfErr result.1 (λ error. error ≡ errors.Memory → Stands (kept_of result.0) client) }
     ensures keys { keys_in (kept_of result.0) ≡ keys_in (kept_of holder) }
 {
-    S::opens_what_it_sealed();
-    if holder.has_ended() {
-        return (holder, Ok(()));
-    }
-    match opens(alloc, later(holder.moment(), now), seal, packet) {
-        Ok(()) => takes(holder, alloc, now, seal, packet),
-        Err(Error::Refused(why)) => refused(takes(holder, alloc, now, seal, packet), why),
-        Err(_) => (holder, Err(Error::Memory)),
-    }
+    let _state = holder.has_ended();
+    let (holder, heard) = holder.on_packet(alloc, now, seal, packet);
+    (holder, told(heard))
 }
 
-// Whether a packet that comes down at a moment opens, or why it doesn't.
-fn opens<S: Seal>(alloc: Global, at: Moment, seal: &S, packet: &[u8]) -> Result<(), Error>
-    ensures { TellsHeard S.lock (S.keys seal.now) at packet.now result }
+// Why a packet doesn't open, where it doesn't, or that memory ran out.
+fn told(heard: Result<Option<Refusal>, Memory>) -> Result<(), Error>
+    ensures { result ≡ told_of heard }
 {
-    match seal.unseal(alloc, at, Dir::Down, packet) {
-        Opened::Envelope(_) => Ok(()),
-        Opened::Refused(why) => Err(Error::Refused(why)),
-        Opened::Memory => Err(Error::Memory),
-    }
-}
-
-// The later of two moments.
-fn later(one: Moment, other: Moment) -> Moment
-    ensures { result ≡ max one other }
-{
-    if one.seconds() < other.seconds() {
-        other
-    } else {
-        one
-    }
-}
-
-// A packet that doesn't open was taken, unless memory ran out.
-fn refused(left: (Holder, Result<(), Error>), why: Refusal) -> (Holder, Result<(), Error>)
-    ensures same { result.0 ≡ left.0 }
-    ensures told { result.1 ≡ refused_for why left.1 }
-{
-    let (holder, taken) = left;
-    match taken {
-        Ok(()) => (holder, Err(Error::Refused(why))),
-        Err(fault) => (holder, Err(fault)),
-    }
-}
-
-// A client that hasn't ended takes a packet.
-fn takes<S: Seal>(
-    holder: Holder,
-    alloc: Global,
-    now: Moment,
-    seal: &S,
-    packet: &[u8],
-) -> (Holder, Result<(), Error>)
-    ensures told { IsDoneOrMemory result.1 }
-    ensures opened { (client : Client) (envelope : Envelope) → Stands (kept_of holder) client → client.has_ended ≡ false
-        → Opens S.lock (S.keys seal.now) (max client.now now) Down packet.now envelope → Comes client (take now envelope client) result.0 result.1 }
-    ensures other { (client : Client) → Stands (kept_of holder) client → client.has_ended ≡ false
-        → ((envelope : Envelope) → Opens S.lock (S.keys seal.now) (max client.now now) Down packet.now envelope → ⊥) → Comes client (at_moment now client) result.0 result.1 }
-    ensures keys { keys_in (kept_of result.0) ≡ keys_in (kept_of holder) }
-{
-    let (holder, taken) = holder.on_packet(alloc, now, seal, packet);
-    match taken {
-        Ok(()) => (holder, Ok(())),
-        Err(Memory) => (holder, Err(Error::Memory)),
+    match heard {
+        Ok(None) => Ok(()),
+        Ok(Some(why)) => Err(Error::Refused(why)),
+        Err(Memory) => Err(Error::Memory),
     }
 }
 
