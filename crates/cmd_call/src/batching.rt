@@ -65,7 +65,9 @@ pub(crate) fn run<N: Net, C: Clock, D: Draw>(
         clock,
         draw,
     );
-    batch_answer(alloc, &holder, end)
+    let answer = batch_answer(alloc, &holder, end);
+    drop(holder);
+    answer
 }
 
 /// What is told of a client's batch that ended so: the table of its calls and, unless each is decided, a line on that.

@@ -191,7 +191,10 @@ fn answer_under<N: Net, C: Clock, D: Draw>(
     let mut client = opening(alloc, keys, draw)?;
     match submit_whole(&mut client, alloc, script) {
         Ok(()) => run(alloc, options, client, ring, net, clock, draw),
-        Err(untaken) => refused_call(alloc, &untaken),
+        Err(untaken) => {
+            drop(client);
+            refused_call(alloc, &untaken)
+        }
     }
 }
 

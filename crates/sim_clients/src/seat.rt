@@ -1,6 +1,6 @@
 //! A client in its seat.
 
-ghost use Rattle.std.specs.Prelude.{◌≡◌, ◌≢◌, ℕ, None, IfErr, IfOk, OnErr, OnOk, List, Option, is_some, length};
+ghost use Rattle.std.specs.Prelude.{◌≡◌, ◌≢◌, ℕ, None, Some, IfErr, IfOk, OnErr, OnOk, List, Option, is_some, length};
 ghost use Rattle.call_table.specs.Table.{call_no};
 ghost use Rattle.msg_ids.specs.Moments.{moment_of};
 ghost use Rattle.draws.specs.Draws.{draw_after, word_after};
@@ -213,7 +213,7 @@ impl Seat {
         match self.holder.take() {
             Some(holder) => {
                 let (holder, taken) = holding::take(holder, alloc, came, seal, bytes);
-                self.holder = Some(holder);
+                put(&mut self.holder, holder);
                 taken
             }
             None => unreachable!(),
@@ -234,7 +234,7 @@ impl Seat {
         match self.holder.take() {
             Some(holder) => {
                 let (holder, renewed) = holding::renew(holder, draw);
-                self.holder = Some(holder);
+                put(&mut self.holder, holder);
                 renewed
             }
             None => unreachable!(),
@@ -253,10 +253,17 @@ impl Seat {
         match self.holder.take() {
             Some(holder) => {
                 let (holder, ended) = holding::end(holder);
-                self.holder = Some(holder);
+                put(&mut self.holder, holder);
                 ended
             }
             None => unreachable!(),
         }
     }
+}
+
+/// A value comes to a place, and what was there is dropped: what that takes is proved once, whatever the value is.
+fn put<T: Drop>(place: &mut Option<T>, value: T)
+    ensures { place.new ≡ Some value }
+{
+    *place = Some(value);
 }

@@ -10,7 +10,7 @@ returns-clause-ran g c course stands =
     let trace = traced c.args.options.now c.args.ring c.new-seal.result course around end kept c.new-seal.ensures (reads_ring c.packets_open_as_worked_out.ensures.of_the_protocol c.args.ring) (λ reading reads. c.run_batch-holder.ensures.trace course reading reads stands) in
     ran_from c.args.options.now c.args.ring course around end kept trace c.run_batch-holder.ensures.decided
     (λ all. let none = c.run_batch-holder.ensures.nothing_to_decide course.client stands.client all in (record { net = none.2; clock = none.3 }, none.1))
-    c.batch_answer.result c.batch_answer.ensures
+    c.batch_answer-answer.result c.batch_answer-answer.ensures
 
 pub returns-clause-left : goal.returns-clause-left
 returns-clause-left g c course stands =
@@ -18,7 +18,7 @@ returns-clause-left g c course stands =
     let end = c.run_batch-holder.result.1 in
     let kept = c.run_batch-holder.result.0 in
     let trace = traced c.args.options.now c.args.ring c.new-seal.result course around end kept c.new-seal.ensures (reads_ring c.packets_open_as_worked_out.ensures.of_the_protocol c.args.ring) (λ reading reads. c.run_batch-holder.ensures.trace course reading reads stands) in
-    left_from c.args.options.now c.args.ring course around end kept trace c.batch_answer.result
+    left_from c.args.options.now c.args.ring course around end kept trace c.batch_answer-answer.result
 
 pub returns-clause-connects : goal.returns-clause-connects
 returns-clause-connects g c =

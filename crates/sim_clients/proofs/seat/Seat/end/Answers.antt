@@ -4,6 +4,7 @@ use Rattle.client_rules.specs.Client.{Client}
 use Rattle.client_core.specs.Holding.{kept_of}
 use Rattle.client_core.specs.Kept.{Stands}
 use Rattle.world_rules.specs.World.{Seat}
+use Rattle.sim_clients.specs.Held.{held}
 use Rattle.sim_clients.proofs.SeatLemmas.{held_now}
 use Rattle.client_rules.specs.Learning.{ended}
 use Rattle.world_rules.specs.Refusals.{stands_open, nothing_more}
@@ -12,8 +13,9 @@ use Rattle.sim_clients.proofs.seat.Seat.end.Goals as goal
 
 pub returns-clause-refused : goal.returns-clause-refused
 returns-clause-refused c =
-    subst (λ held. (seat : Seat) → Stands (kept_of held) seat.client → TellsRefusal (stands_open seat nothing_more) c.end-holder.result.1) (held_now c.args.self.now c.self.inside.holder c.self.inside.clock c.in-Some.holder c.self.view_is (sym c.take.ensures.value ∙ c.in-Some.is)) c.end-holder.ensures.refused
+    subst (λ kept. (seat : Seat) → Stands (kept_of kept) seat.client → TellsRefusal (stands_open seat nothing_more) c.end-holder.result.1) (held_now c.args.self.now c.self.inside.holder c.self.inside.clock c.in-Some.holder c.self.view_is (sym c.take.ensures.value ∙ c.in-Some.is)) c.end-holder.ensures.refused
 
 pub returns-clause-stands : goal.returns-clause-stands
 returns-clause-stands c =
-    subst (λ held. OnOk c.end-holder.result.1 ((client : Client) → Stands (kept_of held) client → Stands (kept_of c.end-holder.result.0) (ended client))) (held_now c.args.self.now c.self.inside.holder c.self.inside.clock c.in-Some.holder c.self.view_is (sym c.take.ensures.value ∙ c.in-Some.is)) c.end-holder.ensures.stands
+    subst (λ slot. OnOk c.end-holder.result.1 ((client : Client) → Stands (kept_of c.args.self.now.holder) client → Stands (kept_of (held slot)) (ended client))) (sym c.put.ensures)
+    (subst (λ kept. OnOk c.end-holder.result.1 ((client : Client) → Stands (kept_of kept) client → Stands (kept_of c.end-holder.result.0) (ended client))) (held_now c.args.self.now c.self.inside.holder c.self.inside.clock c.in-Some.holder c.self.view_is (sym c.take.ensures.value ∙ c.in-Some.is)) c.end-holder.ensures.stands)
