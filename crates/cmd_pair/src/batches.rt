@@ -84,8 +84,13 @@ fn ended<P: Spawner>(batch: (Holder, Batch), kids: &mut P) -> Result<(Holder, Ba
     ensures waits { WaitsBy result (kids_of P.calls P.faults kids.old kids.new) }
     ensures same { IfOk result (λ done. done ≡ batch) }
 {
-    wait_for_end(batch.1, kids)?;
-    Ok(batch)
+    match wait_for_end(batch.1, kids) {
+        Ok(()) => Ok(batch),
+        Err(fault) => {
+            drop(batch);
+            Err(fault)
+        }
+    }
 }
 
 /// Starts a server, runs a client's batch over it, and waits for the server's end.
@@ -187,7 +192,11 @@ pub(crate) fn run<P: Spawner, N: Net, C: Clock, D: Draw>(
     let seal = MtSeal::new(ring);
     let client = Holder::Opening(client);
     match over_both(alloc, options, client, &seal, kids, net, clock, draw) {
-        Ok((client, end)) => batch_answer(alloc, &client, end),
+        Ok((client, end)) => {
+            let answer = batch_answer(alloc, &client, end);
+            drop(client);
+            answer
+        }
         Err(KidFault::Failed) => Answer::new(alloc, Status::NotListening, b"child fault\n"),
         Err(KidFault::Memory) => Err(Memory),
     }

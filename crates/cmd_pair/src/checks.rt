@@ -127,6 +127,9 @@ fn client_of<D: Draw>(
     let mut client = opening(alloc, keys, draw)?;
     match submit_all(&mut client, alloc, script) {
         Ok(()) => Ok(client),
-        Err(untaken) => Err(Halt::Refused(refused_call(alloc, &untaken)?)),
+        Err(untaken) => {
+            drop(client);
+            Err(Halt::Refused(refused_call(alloc, &untaken)?))
+        }
     }
 }

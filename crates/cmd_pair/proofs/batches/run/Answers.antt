@@ -13,7 +13,7 @@ returns-in-Ok g c course drawn stands =
     let around = around_of g.N.Net.calls g.N.Net.room g.N.Net.faults g.C.Clock.given g.D.Draw.step c.args.net.now c.over_both.new.net c.args.clock.now c.over_both.new.clock drawn c.over_both.new.draw in
     let kids = kids_of g.P.Spawner.calls g.P.Spawner.faults c.args.kids.now c.over_both.new.kids in
     let pair = pair-as c.args.options.now c.new-seal.result c.args.ring course around kids (Ok (c.in-Ok.client, c.in-Ok.end)) c.new-seal.ensures (c.in-Ok.ensures.ran course drawn stands) in
-    answers c.statuses_have_causes.ensures c.args.options.now c.args.ring course around kids c.in-Ok.client c.in-Ok.end c.in-Ok.ensures.decided c.batch_answer.result pair c.batch_answer.ensures
+    answers c.statuses_have_causes.ensures c.args.options.now c.args.ring course around kids c.in-Ok.client c.in-Ok.end c.in-Ok.ensures.decided c.batch_answer-answer.result pair c.batch_answer-answer.ensures
 
 pub returns-in-Err-Failed : goal.returns-in-Err-Failed
 returns-in-Err-Failed g c course drawn stands =
