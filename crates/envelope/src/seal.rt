@@ -87,13 +87,7 @@ pub trait Seal {
 
     /// As [`Seal::seal`], in room that was taken before: it takes no memory. The buffer has no byte yet, and room for
     /// [`packet_bytes`] bytes.
-    final fn seal_in<D: Draw>(
-        &self,
-        room: Buffer,
-        dir: Dir,
-        env: &Envelope,
-        draw: &mut D,
-    ) -> Octets
+    final fn seal_in<D: Draw>(&self, room: Buffer, dir: Dir, env: &Envelope, draw: &mut D) -> Octets
         requires key { IsSome (entry_of env.now.key (keys self.now)) }
         requires words { length env.now.body % 4 ≡ 0 }
         requires short { length env.now.body ≤ body_max }
