@@ -5,3 +5,7 @@ pub mod Taking
 pub mod Connecting
 pub mod Texts
 pub mod Ways
+pub mod ServingLemmas
+pub mod Openings
+pub mod Keepings
+pub mod Kepts

@@ -14,18 +14,22 @@ pub(crate) enum Ending {
     Stopped,
     /// No further one could be taken.
     NotTaken,
+    /// A call of the journal's disk failed.
+    Journal,
+    /// The journal has no room for what is to be recorded.
+    Full,
     /// Memory ran out.
     Memory,
 }
 
-/// How the connections end by the end of one, or by none where it couldn't be taken; `None` where the next one follows. A
-/// desk without a journal has no end `Journal`.
+/// How the connections end by the end of one, or by none where it couldn't be taken; `None` where the next one follows.
 pub(crate) fn ending_of(end: Option<ConnEnd>) -> Option<Ending>
     ensures { result ≡ ending_by end }
 {
     match end {
         None => Some(Ending::NotTaken),
         Some(ConnEnd::Stopped) => Some(Ending::Stopped),
+        Some(ConnEnd::Journal(_)) => Some(Ending::Journal),
         Some(ConnEnd::Memory) => Some(Ending::Memory),
         Some(_) => None,
     }

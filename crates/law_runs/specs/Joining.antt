@@ -16,7 +16,7 @@ use Rattle.cmd_call.specs.Reading.{reading_under}
 use Rattle.cmd_call.specs.Script.{given_all, untaken}
 use Rattle.cmd_serve.specs.Connections.{AreConnections, Between, Connection, EndsBy, behind_all}
 use Rattle.cmd_serve.specs.Packets.{outside_of}
-use Rattle.cmd_serve.specs.Runs.{Course as ServeCourse, Deaf, Mute, Refused, Registers, Serves, Unbegun, Unread}
+use Rattle.cmd_serve.specs.Runs.{Course as ServeCourse, Deaf, Mute, Refused, Registers, Serves, Shut, Unbegun, Unread}
 use Rattle.draws.specs.Draws.{draw_after, word_after}
 use Rattle.envelope.specs.Lock.{mt_lock}
 use Rattle.envelope.specs.Packet.{packet_of}
@@ -88,6 +88,7 @@ IsServing (Serves ring connections ending) = Unit {0}
 IsServing Unread = ⊥
 IsServing (Refused line) = ⊥
 IsServing Unbegun = ⊥
+IsServing (Shut ring) = ⊥
 IsServing (Deaf ring) = ⊥
 IsServing (Mute ring) = ⊥
 

@@ -9,6 +9,7 @@ ghost use Rattle.commands.specs.declared.command.Command.TheVariants as command;
 ghost use Rattle.commands.specs.declared.command.PairOptions.{PairOptions};
 ghost use Rattle.commands.specs.declared.command.ServeOptions.{ServeOptions};
 
+use disks::FileDisks;
 use mt_edge::{
     ChaChaDraw, ChildKids, DiskFiles, ReadSource, Seeded, SystemClock, TcpNet, WriteSink,
 };
@@ -105,6 +106,7 @@ fn over(rt: &HostRuntime, words: Vec<String>, seed: &[u8; 32]) -> u8 {
     let mut kids = ChildKids::new(rt, program(rt));
     let mut clock = SystemClock::new(rt);
     let mut draw = ChaChaDraw::at(seed, 0);
+    let mut disks = FileDisks::new(rt);
     run(
         rt.alloc(),
         words.as_slice(),
@@ -115,5 +117,6 @@ fn over(rt: &HostRuntime, words: Vec<String>, seed: &[u8; 32]) -> u8 {
         &mut kids,
         &mut clock,
         &mut draw,
+        &mut disks,
     )
 }

@@ -1,5 +1,6 @@
 //! Runs of the program over links in memory.
 
+use disks::MemDisks;
 use msg_ids::Moment;
 use mt_edge::{
     ChaChaDraw, ListClock, MemFiles, MemKids, MemLink, MemNet, MemSink, MemSource, NamedFile,
@@ -84,8 +85,9 @@ fn status_of(
     let mut kids = MemKids::new(alloc, Vec::new(alloc), &[], 0, 0, 0)?;
     let mut clock = ListClock::new(alloc, &[Moment::new(0)])?;
     let mut draw = ChaChaDraw::at(&[seed; 32], 0);
+    let mut disks = MemDisks::new(alloc, Vec::new(alloc), &[], 0, 0)?;
     Ok(run(
-        alloc, words, input, out, files, net, &mut kids, &mut clock, &mut draw,
+        alloc, words, input, out, files, net, &mut kids, &mut clock, &mut draw, &mut disks,
     ))
 }
 

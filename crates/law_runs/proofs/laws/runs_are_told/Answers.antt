@@ -2,7 +2,7 @@ use Rattle.std.proofs.Common.{◌≡◌, ◌+◌, ℕ, None, [], ◌∷◌, refl
 use Rattle.commands.specs.declared.command.ServeOptions.{ServeOptions}
 use Rattle.cmd_call.specs.Owed.{plan_of}
 use Rattle.cmd_pair.specs.Batches.{plan_at}
-use Rattle.cmd_serve.specs.Runs.{Course, Deaf, Draws, Moments, Mute, Refused, Serves, ServesBy, Unbegun, Unread, first_of}
+use Rattle.cmd_serve.specs.Runs.{Course, Deaf, Draws, Moments, Mute, Refused, Serves, ServesBy, Shut, Unbegun, Unread, first_of}
 use Rattle.client_node.specs.declared.plan.Batch.TheVariants as batch
 use Rattle.law_runs.specs.Joining.{IsServing, Served, connections_in, ring_in, start_by}
 use Rattle.law_runs.specs.Told.{acts_told}
@@ -29,6 +29,7 @@ served-so step options moments draws (Serves ring connections ending) served is 
 served-so step options moments draws Unread served is = absurd is
 served-so step options moments draws (Refused line) served is = absurd is
 served-so step options moments draws Unbegun served is = absurd is
+served-so step options moments draws (Shut ring) served is = absurd is
 served-so step options moments draws (Deaf ring) served is = absurd is
 served-so step options moments draws (Mute ring) served is = absurd is
 
