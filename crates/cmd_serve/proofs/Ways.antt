@@ -315,7 +315,7 @@ no-journal : {D K O : Type 0} (drawing : Drawing D) (options : ServeOptions) (di
 no-journal drawing options disks moments draws out keeping Unread one goes counted ends is = absurd (other-status out status.KeysRefused _ one status.JournalFault ends (λ same. cc) (λ same. cc) is)
 no-journal drawing options disks moments draws out keeping (Refused line) one goes counted ends is = absurd (other-status out status.KeysRefused _ one status.JournalFault ends (λ same. cc) (λ same. cc) is)
 no-journal drawing options disks moments draws out keeping Unbegun one goes counted ends is = let both : status.Memory ≡ status.JournalFault = sym ends.0 ∙ is in cc
-no-journal drawing options disks moments draws out keeping (Shut ring) one goes counted ends is = first-two (IsFull (Shut ring)) (shut-by disks out keeping (Shut ring) one ends counted is)
+no-journal drawing options disks moments draws out keeping (Shut ring) one goes counted ends is = first-two ⊥ (shut-by disks out keeping (Shut ring) one ends counted is)
 no-journal drawing options disks moments draws out keeping (Deaf ring) one goes counted ends is = absurd (other-status out status.NotListening _ one status.JournalFault ends (λ same. cc) (λ same. cc) is)
 no-journal drawing options disks moments draws out keeping (Mute ring) one goes counted ends is = let both : status.WriteFault ≡ status.JournalFault = sym ends.0 ∙ is in cc
 no-journal drawing options disks moments draws out keeping (Serves ring connections Served) one goes counted ends is = absurd (other-status out status.Done _ one status.JournalFault ends.1 (λ same. cc) (λ same. cc) is)
