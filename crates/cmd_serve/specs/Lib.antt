@@ -4,3 +4,4 @@ pub mod Journals
 pub mod Lines
 pub mod Runs
 pub mod Inner
+pub mod Noted

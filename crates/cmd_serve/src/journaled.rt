@@ -6,6 +6,7 @@ ghost use Rattle.server_core.specs.declared.desk.DeskFault.TheVariants as faults
 ghost use Rattle.sess_journal.specs.Keeping.{StandsFor, count_of, disk_in, place_by};
 ghost use Rattle.sess_replay.specs.Replay.{bases_of};
 ghost use Rattle.cmd_serve.specs.Inner.{IsServeFault, as_memory, ending_with};
+ghost use Rattle.cmd_serve.specs.Noted.{full_behind};
 
 use crate::ending::Ending;
 use disks::Disk;
@@ -55,6 +56,7 @@ impl<K: Disk + Drop, S: Seal + Drop, D: Seeded + Drop> Journaled<K, S, D> {
     fn noted(&mut self, fault: DeskFault) -> DeskFault
         ensures answer { result ≡ as_memory fault }
         ensures same { self.new.kept ≡ self.old.kept }
+        ensures full { self.new.full ≡ full_behind fault self.old.full }
     {
         match fault {
             DeskFault::Full { .. } => {
