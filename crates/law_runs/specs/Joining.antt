@@ -16,7 +16,7 @@ use Rattle.cmd_call.specs.Reading.{reading_under}
 use Rattle.cmd_call.specs.Script.{given_all, untaken}
 use Rattle.cmd_serve.specs.Connections.{AreConnections, Between, Connection, EndsBy, behind_all}
 use Rattle.cmd_serve.specs.Packets.{outside_of}
-use Rattle.cmd_serve.specs.Runs.{Course as ServeCourse, Deaf, Mute, Refused, Registers, Serves, Shut, Unbegun, Unread}
+use Rattle.cmd_serve.specs.Runs.{Course as ServeCourse, Deaf, IsBroken, Mute, Refused, Registers, Serves, Shut, Unbegun, Unread}
 use Rattle.draws.specs.Draws.{draw_after, word_after}
 use Rattle.envelope.specs.Lock.{mt_lock}
 use Rattle.envelope.specs.Packet.{packet_of}
@@ -70,8 +70,8 @@ AreWords {D = D} step = (draw : D) → (step draw).0 < 2 ^ 64
 
 -- ---- a run of `serve`
 
--- The connections that a run of `serve` served with this ring, as `ServeRun.serves` tells of them, with how many there should be and
--- how they ended: one trace from a fresh server and a fresh service on.
+-- The connections that a run of `serve` without a journal served with this ring, as `ServeRun.serves` tells of them, with how many
+-- there should be and how they ended: one trace from a fresh server and a fresh service on.
 pub record Served {D : Type 0} (step : D → ℕ × D) (ring : List RingKey) : Type 0 where
   pub first : Between D Registers
   pub connections : List (Connection D Registers)
@@ -79,6 +79,8 @@ pub record Served {D : Type 0} (step : D → ℕ × D) (ring : List RingKey) : T
   pub ending : _
   pub are : AreConnections (rules_of step registers.step (outside_of ring)) first connections
   pub ended : EndsBy conns ending connections
+  -- none ended by a journal
+  pub whole : IsBroken (Serves ring connections ending) → ⊥
   pub server : first.server ≡ fresh_server
   pub service : first.service ≡ registers.fresh
 
