@@ -1,5 +1,5 @@
 -- What the program promises, by the command that the words say.
-use Rattle.std.specs.Prelude.{◌≡◌, Bool, List, ℕ, ⊤}
+use Rattle.std.specs.Prelude.{◌≡◌, Bool, List, ℕ}
 use Rattle.cmd_call.specs.Owed.{Around, Files, IsIdle}
 use Rattle.cmd_call.specs.Runs.{CallRun}
 use Rattle.cmd_check.specs.Runs.{CheckRun}
