@@ -94,7 +94,7 @@ of-both told other one left P is also holds =
 
 -- ---- the file can't be opened
 
-module _ {D K : Type 0} (drawing : Drawing D) (ring : List RingKey) (name : List ℕ) where
+module _ {D : Type 0} (drawing : Drawing D) (ring : List RingKey) (name : List ℕ) where
   failed-asks : (first last : Option NamesTold) → IfSome last (λ after. IsSomeAnd first (λ before. OpensNoFile name before after)) → IfSome last (λ after. IsSomeAnd first (λ before. AsksFor name Faulty before after))
   failed-asks first None told = tt
   failed-asks None (Some last) told = absurd told
@@ -105,7 +105,7 @@ module _ {D K : Type 0} (drawing : Drawing D) (ring : List RingKey) (name : List
   failed-found None (Some last) told = absurd told
   failed-found (Some first) (Some last) told = tt
 
-  pub with-failed : {N O : Type 0} (options : ServeOptions) (calls : N → Option (List NetCall)) (faulted : N → ℕ) (net : N) (out : Outside O) (given : Option (List ℕ)) (draw : D) (disks : Part NamesTold K) (one : Status)
+  pub with-failed : {N O K : Type 0} (options : ServeOptions) (calls : N → Option (List NetCall)) (faulted : N → ℕ) (net : N) (out : Outside O) (given : Option (List ℕ)) (draw : D) (disks : Part NamesTold K) (one : Status)
       → options.journal ≡ Some name → IfTold disks (λ before after. OpensNoFile name before after) → FailsOnce disks → EndsShut out Faulty one
       → RunsWith drawing options ring (record { told = calls; faults = faulted; before = net; after = net }) out (record { before = given; after = given }) (record { before = draw; after = draw }) disks one
   with-failed options calls faulted net out given draw disks one named told once ends = record {
@@ -154,13 +154,13 @@ not-none : (before after : ℕ) → before ≡ 0 → Rose before after → after
 not-none before after none (inl more) = λ is. omega (arith, none, more, is)
 not-none before after none (inr most) = λ is. omega (arith, most, is)
 
-shut-counts : {D K : Type 0} (disks : Part NamesTold K) (ring : List RingKey) (fault : JournalFault) (keeping : Keeping) (was own between : ℕ) → IsBecause fault keeping → was ≡ 0 → HasCause fault was own
+shut-counts : {K : Type 0} (D : Type 0) (disks : Part NamesTold K) (ring : List RingKey) (fault : JournalFault) (keeping : Keeping) (was own between : ℕ) → IsBecause fault keeping → was ≡ 0 → HasCause fault was own
     → between ≡ disks.faults disks.before → CountsDone own between (disks.faults disks.after) → CountsDisks {D = D} {K = K} disks keeping (Shut ring)
-shut-counts {D} disks ring causes.Disk keeping was own between is none cause never done =
+shut-counts D disks ring causes.Disk keeping was own between is none cause never done =
     subst (λ (some : Keeping). CountsDisks {D = D} disks some (Shut ring)) (sym is) (done.faulty (not-none was own none cause) ∙ ap one_more never)
-shut-counts {D} disks ring (causes.NotJournal at) keeping was own between is none cause never done =
+shut-counts D disks ring (causes.NotJournal at) keeping was own between is none cause never done =
     subst (λ (some : Keeping). CountsDisks {D = D} disks some (Shut ring)) (sym is) (done.clean (cause ∙ none) ∙ never)
-shut-counts {D} disks ring causes.Memory keeping was own between is none cause never done =
+shut-counts D disks ring causes.Memory keeping was own between is none cause never done =
     subst (λ (some : Keeping). CountsDisks {D = D} disks some (Shut ring)) (sym is) (done.clean (cause ∙ none) ∙ never)
 
 module _ {D : Type 0} (drawing : Drawing D) (ring : List RingKey) (name : List ℕ) where
@@ -324,7 +324,7 @@ module _ {N O D K E : Type 0} (drawing : Drawing D) (options : ServeOptions) (ri
                 seeded = shuts.seeded;
               };
             });
-        counts = shut-counts {D = D} disks ring back.1 shuts.keeping (faults disk) (faults back.0) (disks.faults between) shuts.cause none_yet shuts.counted never done;
+        counts = shut-counts D disks ring back.1 shuts.keeping (faults disk) (faults back.0) (disks.faults between) shuts.cause none_yet shuts.counted never done;
         ends = shut-ends out back.1 shuts.keeping one shuts.cause ends;
       }
 

@@ -37,6 +37,14 @@ same-file {K} (Some other) lost file back is there =
     let disk : back ≡ other.disk = cc in
     ap (λ (some : File K). some.disk) (sym one) ∙ sym disk
 
+file-by : (ending : Ending) (before after : ℕ) → CountsDeskBy ending before after → CountsFileBy ending before after
+file-by Served before after counted = counted
+file-by Stopped before after counted = counted
+file-by NotTaken before after counted = counted
+file-by Journal before after counted = counted
+file-by Full before after counted = absurd counted
+file-by Memory before after counted = counted
+
 module _ {K D : Type 0} (drawing : Drawing D) (told : K → Option DiskTold) where
   if-told : (file : Option DiskTold) (P Q : DiskTold → Type 0) → ((one : DiskTold) → P one → Q one) → IfSome file P → IfSome file Q
   if-told None P Q so holds = tt
@@ -68,6 +76,26 @@ module _ {K D : Type 0} (drawing : Drawing D) (told : K → Option DiskTold) whe
   count-back : (count : K → ℕ) (found : Option K) (back : K) → Some back ≡ found → count back ≡ count_of count found
   count-back count found back is = ap (λ (some : Option K). count_of count some) is
 
+  module _ (ring : List RingKey) (law : Spelling) where
+    spells-now : (desk : Seen K (List RingKey) D) (back : K) (last : Between D Registers) → desk.server.seal ≡ ring → Some back ≡ disk_in desk.book → desk.draw ≡ last.draw
+        → StandsFor (λ (own : List RingKey) (seed : List ℕ). basis_of drawing own seed) told desk last.server
+        → IfSome (told back) (λ file. SpellsServer drawing ring last.server last.draw file.contents)
+    spells-now desk back last own there drawn stands =
+        subst (λ (draw : D). IfSome (told back) (λ file. SpellsServer drawing ring last.server draw file.contents)) drawn
+        (subst (λ (some : List RingKey). IfSome (told back) (λ file. SpellsServer drawing some last.server desk.draw file.contents)) own (spells-it law desk last.server back stands there))
+
+    -- what stands at the end spells it, unless a call of the disk failed
+    spells-last : (desk : Seen K (List RingKey) D) (back : K) (connections : List (Connection D Registers)) (ending : Ending) (last : Between D Registers)
+        → desk.server.seal ≡ ring → Some back ≡ disk_in desk.book → desk.draw ≡ last.draw
+        → LeavesDesk ending (StandsFor (λ (own : List RingKey) (seed : List ℕ). basis_of drawing own seed) told desk) last.server
+        → UnlessBroken (Serves ring connections ending) (IfSome (told back) (λ file. SpellsServer drawing ring last.server last.draw file.contents))
+    spells-last desk back connections Served last own there drawn leaves = spells-now desk back last own there drawn leaves
+    spells-last desk back connections Stopped last own there drawn leaves = spells-now desk back last own there drawn leaves
+    spells-last desk back connections NotTaken last own there drawn leaves = spells-now desk back last own there drawn leaves
+    spells-last desk back connections Journal last own there drawn leaves = tt
+    spells-last desk back connections Full last own there drawn leaves = spells-now desk back last own there drawn leaves
+    spells-last desk back connections Memory last own there drawn leaves = spells-now desk back last own there drawn leaves
+
   module _ {N O : Type 0} (options : ServeOptions) (ring : List RingKey) (place faults : K → ℕ) (law : Spelling) where
     -- connections can't be taken, or the first line isn't written
     pub kept-not : (desk : Seen K (List RingKey) D) (server : Server) (back : K) (net : Part (List NetCall) N) (out : Outside O) (given : Option (List ℕ)) (one : Status)
@@ -95,33 +123,6 @@ module _ {K D : Type 0} (drawing : Drawing D) (told : K → Option DiskTold) whe
       ends = mute.ends;
     }
 
-    spells-now : (desk : Seen K (List RingKey) D) (back : K) (last : Between D Registers) → desk.server.seal ≡ ring → Some back ≡ disk_in desk.book → desk.draw ≡ last.draw
-        → StandsFor (λ (own : List RingKey) (seed : List ℕ). basis_of drawing own seed) told desk last.server
-        → IfSome (told back) (λ file. SpellsServer drawing ring last.server last.draw file.contents)
-    spells-now desk back last own there drawn stands =
-        subst (λ (draw : D). IfSome (told back) (λ file. SpellsServer drawing ring last.server draw file.contents)) drawn
-        (subst (λ (some : List RingKey). IfSome (told back) (λ file. SpellsServer drawing some last.server desk.draw file.contents)) own (spells-it law desk last.server back stands there))
-
-    -- what stands at the end spells it, unless a call of the disk failed
-    spells-last : (desk : Seen K (List RingKey) D) (back : K) (connections : List (Connection D Registers)) (ending : Ending) (last : Between D Registers)
-        → desk.server.seal ≡ ring → Some back ≡ disk_in desk.book → desk.draw ≡ last.draw
-        → LeavesDesk ending (StandsFor (λ (own : List RingKey) (seed : List ℕ). basis_of drawing own seed) told desk) last.server
-        → UnlessBroken (Serves ring connections ending) (IfSome (told back) (λ file. SpellsServer drawing ring last.server last.draw file.contents))
-    spells-last desk back connections Served last own there drawn leaves = spells-now desk back last own there drawn leaves
-    spells-last desk back connections Stopped last own there drawn leaves = spells-now desk back last own there drawn leaves
-    spells-last desk back connections NotTaken last own there drawn leaves = spells-now desk back last own there drawn leaves
-    spells-last desk back connections Journal last own there drawn leaves = tt
-    spells-last desk back connections Full last own there drawn leaves = spells-now desk back last own there drawn leaves
-    spells-last desk back connections Memory last own there drawn leaves = spells-now desk back last own there drawn leaves
-
-    file-by : (ending : Ending) (before after : ℕ) → CountsDeskBy ending before after → CountsFileBy ending before after
-    file-by Served before after counted = counted
-    file-by Stopped before after counted = counted
-    file-by NotTaken before after counted = counted
-    file-by Journal before after counted = counted
-    file-by Full before after counted = absurd counted
-    file-by Memory before after counted = counted
-
     -- connections are served
     pub kept-serves : (desk desk_then : Seen K (List RingKey) D) (server : Server) (back : K) (calls : N → Option (List NetCall)) (counts : N → ℕ) (net between net_then : N)
         (writes : O → Option (List ℕ)) (counts_out : O → ℕ) (out amid out_then : O) (given given_then : Option (List ℕ)) (full : Bool) (ending : Ending) (text : List ℕ) (one : Status)
@@ -146,7 +147,7 @@ module _ {K D : Type 0} (drawing : Drawing D) (told : K → Option DiskTold) whe
               (with-full (λ (some : Ending). CountsEnding some (counts between) (counts net_then)) full ending (λ so. so) serves.counted) serves.tells;
           goes = record { are = are.are; ended = are.ended; moments = are.moments; words = refl };
           leaves = with-full (λ (some : Ending). UnlessBroken (Serves ring serves.connections some) (IfSome (told back) (λ file. SpellsServer drawing ring last.server last.draw file.contents))) full ending (λ so. so)
-              (spells-last desk_then back serves.connections ending last own there serves.are.words serves.leaves);
+              (spells-last ring law desk_then back serves.connections ending last own there serves.are.words serves.leaves);
           same_place = place-back place (disk_in desk_then.book) back there ∙ same;
           counted = subst (λ (n : ℕ). CountsFileBy (ending_with full ending) (count_of faults (disk_in desk.book)) n) (sym (count-back faults (disk_in desk_then.book) back there))
               (with-full (λ (some : Ending). CountsFileBy some (count_of faults (disk_in desk.book)) (count_of faults (disk_in desk_then.book))) full ending (λ so. so) (file-by ending _ _ counted));

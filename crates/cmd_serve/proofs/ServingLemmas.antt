@@ -162,7 +162,7 @@ alone-serves step options ring told counts net between net_then writes counts_ou
 
 -- ---- as any run
 
-own-with : {D : Type 0} (ring : List RingKey) (course : Course D) → IsBegun ring course → IsWith ring course
+pub own-with : {D : Type 0} (ring : List RingKey) (course : Course D) → IsBegun ring course → IsWith ring course
 own-with ring Unread own = absurd own
 own-with ring (Refused line) own = absurd own
 own-with ring Unbegun own = absurd own

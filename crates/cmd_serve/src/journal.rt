@@ -91,14 +91,13 @@ fn serve_kept<O: Sink, N: Net, C: Clock, D: Seeded + Drop, K: Disk + Drop>(
     rings_say_as_worked_out();
     calls_in_a_row();
     let mut desk = Journaled::new(kept);
-    let status = match listen(lines, options.port, out, net) {
-        Ok(()) => {
-            let ending = serve(alloc, &mut desk, options, net, clock);
-            last(lines, out, desk.ending(ending))
-        }
-        Err(status) => status,
-    };
-    (desk.into_disk(), status)
+    if let Err(status) = listen(lines, options.port, out, net) {
+        return (desk.into_disk(), status);
+    }
+    let ending = serve(alloc, &mut desk, options, net, clock);
+    let status = last(lines, out, desk.ending(ending));
+    let disk = desk.into_disk();
+    (disk, status)
 }
 
 /// No server comes of the file.

@@ -15,7 +15,7 @@ returns-in-Err g c = record {
   run = alone-not g.D.Draw.step c.args.options.now c.args.ring
       (record { told = g.N.Net.calls; faults = g.N.Net.faults; before = c.args.net.now; after = c.listen.new.net })
       (record { told = g.O.Sink.written; faults = g.O.Sink.faults; before = c.args.out.now; after = c.listen.new.out })
-      (g.C.Clock.given c.args.clock.now) c.args.draw.now c.in-Err.status c.in-Err.ensures;
+      (g.C.Clock.given c.args.clock.now) c.args.draw.now c.in-Err.status c.in-Err.ensures.not;
 }
 
 pub returns : goal.returns
@@ -23,7 +23,7 @@ returns g c = record {
   run = alone-serves g.D.Draw.step c.args.options.now c.args.ring g.N.Net.calls g.N.Net.faults c.args.net.now c.listen.new.net c.serve-ending.new.net
       g.O.Sink.written g.O.Sink.faults c.args.out.now c.listen.new.out c.last.new.out
       (g.C.Clock.given c.args.clock.now) (g.C.Clock.given c.serve-ending.new.clock) c.args.draw.now _ c.serve-ending.new.desk.draw.now _ c.serve-ending.result c.args.lines.now.last c.last.result
-      c.in_default.ensures
+      c.in_default.ensures.hears
       (c.serve-ending.ensures.serves (outside_of c.args.ring)
       (first_of c.args.options.now (record { before = g.C.Clock.given c.args.clock.now; after = g.C.Clock.given c.serve-ending.new.clock }) c.args.draw.now)
       (subst (λ (ring : List RingKey). IsOutside mt_lock ring (outside_of c.args.ring)) (sym (c.new-server.ensures.seal ∙ c.new.ensures)) (c.rings_say_as_worked_out.ensures c.args.ring))
