@@ -1,5 +1,5 @@
 -- A run with a journal, from its parts.
-use Rattle.std.proofs.Common.{◌≡◌, ◌≢◌, ◌<◌, ◌⊎◌, inl, inr, ℕ, zero, suc, Bool, List, [], ◌∷◌, ◌++◌, length, slice_index_or, slice_set, Option, None, Some, IfSome, IsSome, IsSomeAnd, refl, sym, ap, subst, ◌∙◌, arith}
+use Rattle.std.proofs.Common.{◌≡◌, ◌≢◌, ◌<◌, inl, inr, ℕ, zero, suc, List, [], ◌∷◌, ◌++◌, length, slice_index_or, slice_set, Option, None, Some, IfSome, IsSomeAnd, refl, sym, ap, subst, ◌∙◌, arith}
 use Rattle.auth_keys.specs.declared.ring.RingKey.{RingKey}
 use Rattle.commands.specs.declared.command.ServeOptions.{ServeOptions}
 use Rattle.disks.specs.Named.{Closes, CountsDone, Named, NamesTold, Opens as OpensNamed, OpensNone as OpensNoFile, Puts}
@@ -15,8 +15,8 @@ use Rattle.statuses.specs.Outside.{HadFault, Outside, Part}
 use Rattle.statuses.specs.declared.status.Status.{Status}
 use Rattle.cmd_serve.specs.Connections.{Between, behind_all}
 use Rattle.cmd_serve.specs.Inner.{CountsFile, CountsFileBy, EndsBecause, FoundIn, GoesFrom, IsBecause, IsBegun, OpensFile, RunsWith, ServesKept, ShutsFile, UnlessBroken, first_kept, served_in}
-use Rattle.cmd_serve.specs.Journals.{AsksFor, Drawing, FoundBy, Holds, HoldsSome, IsOpen, IsShut, Keeping, LeavesBy, SpellsServer, StartsBy, Unopened, Faulty, Foreign, Cut, New, Old}
-use Rattle.cmd_serve.specs.Runs.{CountsBy, CountsDisks, CountsKept, Course, Draws, Unread, Refused, Unbegun, Shut, Deaf, Mute, Serves, Ends, EndsShut, FailsNever, FailsOnce, GoesBy, IfTold, JournalsBy, Moments, Opens, Registers}
+use Rattle.cmd_serve.specs.Journals.{AsksFor, Drawing, FoundBy, Holds, IsOpen, IsShut, Keeping, LeavesBy, SpellsServer, StartsBy, Unopened, Faulty, Foreign, Cut, New, Old}
+use Rattle.cmd_serve.specs.Runs.{CountsBy, CountsDisks, CountsKept, Course, Draws, Unread, Refused, Unbegun, Shut, Deaf, Mute, Serves, Ends, EndsShut, FailsNever, FailsOnce, GoesBy, IfTold, JournalsBy, Opens, Registers}
 use Rattle.cmd_serve.specs.declared.ending.Ending.{Ending}
 use Rattle.cmd_serve.specs.declared.ending.Ending.TheVariants.{Served, Stopped, NotTaken, Journal, Full, Memory}
 use Rattle.cmd_serve.proofs.ServingLemmas.{own-with}

@@ -1,5 +1,5 @@
 -- A server comes of a journal's file, or none.
-use Rattle.std.proofs.Common.{◌≡◌, ◌≢◌, ℕ, List, [], ◌∷◌, ◌++◌, length, Option, None, Some, ◌⊎◌, inl, inr, IfSome, IsSomeAnd, IfOk, IfErr, Result, Ok, Err, refl, sym, ap, subst, ◌∙◌}
+use Rattle.std.proofs.Common.{◌≡◌, ◌≢◌, ℕ, List, [], ◌∷◌, ◌++◌, length, Option, None, Some, inl, inr, IfSome, IsSomeAnd, IfOk, IfErr, Result, Ok, Err, refl, sym, ap, subst, ◌∙◌}
 use Rattle.auth_keys.specs.declared.ring.RingKey.{RingKey}
 use Rattle.disks.specs.Told.{DiskTold}
 use Rattle.draws.specs.Draws.{draw_after, next_bytes}
@@ -8,18 +8,17 @@ use Rattle.envelope.specs.Lock.{mt_lock}
 use Rattle.mt_edge.specs.Faults.{Rose}
 use Rattle.server_node.specs.Connection.{Gave}
 use Rattle.server_rules.specs.Server.{Server, fresh_server}
-use Rattle.sess_journal.specs.Keeping.{IsSameDisk, KeepsFor, Opened, Resumed, Seen, StandsFor, count_of, disk_in, ending, place_by}
+use Rattle.sess_journal.specs.Keeping.{IsSameDisk, KeepsFor, Opened, Seen, count_of, disk_in, ending, place_by}
 use Rattle.sess_journal.specs.Opening.{IsKeptAfter, IsLawfulFile, disk_left}
 use Rattle.sess_records.specs.Calls.{HasCause, IfNotJournal}
-use Rattle.sess_records.specs.Format.{Spells}
 use Rattle.sess_records.specs.Seen.{File}
 use Rattle.sess_records.specs.declared.fault.JournalFault.{JournalFault}
 use Rattle.sess_records.specs.declared.fault.JournalFault.TheVariants as causes
 use Rattle.sess_records.specs.declared.records.Record.{Record}
 use Rattle.sess_replay.specs.Files.{IsNoJournalAt}
 use Rattle.sess_replay.specs.Replay.{Bases, Basis, Reached, Replays, at_first}
-use Rattle.cmd_serve.specs.Inner.{FoundIn, IsBecause, OpensFile, ShutsFile}
-use Rattle.cmd_serve.specs.Journals.{AsksClock, Drawing, IsOpen, IsUnlawful, Keeping, Resumes, SeedsBy, StartsBy, basis_of, Unopened, Faulty, Foreign, Cut, New, Old}
+use Rattle.cmd_serve.specs.Inner.{FoundIn, OpensFile, ShutsFile}
+use Rattle.cmd_serve.specs.Journals.{Drawing, Keeping, SeedsBy, basis_of, Faulty, Foreign, Cut, New, Old}
 
 -- the laws on records
 pub record RecordLaws (D : Type 0) : Type 0 where

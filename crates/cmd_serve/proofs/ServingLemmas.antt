@@ -1,5 +1,5 @@
 -- What is served with a desk, and the lines about it, as a run.
-use Rattle.std.proofs.Common.{◌≡◌, ◌≢◌, ◌⊎◌, inl, inr, ℕ, Bool, true, false, List, [], ◌∷◌, ◌++◌, Option, None, Some, IfSome, IsSome, IsSomeAnd, refl, sym, ap, subst, ◌∙◌, arith}
+use Rattle.std.proofs.Common.{◌≡◌, ◌⊎◌, inl, inr, ℕ, Bool, true, false, List, [], ◌∷◌, ◌++◌, Option, None, refl, sym, subst, ◌∙◌, arith}
 use Rattle.auth_keys.specs.declared.ring.RingKey.{RingKey}
 use Rattle.commands.specs.declared.command.ServeOptions.{ServeOptions}
 use Rattle.disks.specs.Named.{NamesTold}
@@ -11,12 +11,12 @@ use Rattle.server_rules.specs.Server.{Server}
 use Rattle.statuses.specs.Outside.{Outside, Part, Tells, Writes}
 use Rattle.statuses.specs.declared.status.Status.{Status}
 use Rattle.statuses.specs.declared.status.Status.TheVariants as status
-use Rattle.cmd_serve.specs.Connections.{AreNotedBy, Between, Connection, CountsEnding, EndsBy, behind_all}
+use Rattle.cmd_serve.specs.Connections.{Between, Connection, EndsBy}
 use Rattle.cmd_serve.specs.Inner.{CountsDeskBy, EndsBehind, Hears, IsBegun, IsBehindAll, IsDeaf, IsMute, IsWith, LeavesDesk, RunsAlone, RunsWith, ServesOn, Side, ending_with}
-use Rattle.cmd_serve.specs.Journals.{Drawing, Keeping, Unopened}
+use Rattle.cmd_serve.specs.Journals.{Drawing, Unopened}
 use Rattle.cmd_serve.specs.Lines.{journal_fault, last_line, listening, not_listening}
 use Rattle.cmd_serve.specs.Packets.{outside_of}
-use Rattle.cmd_serve.specs.Runs.{Calls, Course, Draws, Unread, Refused, Unbegun, Shut, Deaf, Mute, Serves, EndsServing, GoesBy, IsBroken, IsServed, Moments, Registers, WritesFirst, first_of}
+use Rattle.cmd_serve.specs.Runs.{Course, Draws, Unread, Refused, Unbegun, Shut, Deaf, Mute, Serves, EndsServing, GoesBy, IsBroken, IsServed, Moments, Registers, WritesFirst, first_of}
 use Rattle.cmd_serve.specs.declared.ending.Ending.{Ending}
 use Rattle.cmd_serve.specs.declared.ending.Ending.TheVariants.{Served, Stopped, NotTaken, Journal, Full, Memory}
 use Rattle.cmd_serve.proofs.Texts.{first-line, first-line-alone, tells-lines}

@@ -20,7 +20,7 @@ use Rattle.cmd_serve.specs.Connections.{AreNoted, AreNotedBy, Connection, Counts
 use Rattle.cmd_serve.specs.Inner.{IsWith, RunsWith}
 use Rattle.cmd_serve.specs.Journals.{Drawing, IsOpen, Keeping, Unopened, Faulty, Foreign, Cut, New, Old}
 use Rattle.cmd_serve.specs.Lines.{listening}
-use Rattle.cmd_serve.specs.Runs.{Calls, CountsBy, CountsDisks, CountsFiles, CountsNet, Course, Draws, Unread, Refused, Unbegun, Shut, Deaf, Mute, Serves, Ends, EndsShut, FailsNever, FailsOnce, GoesBy, HasKeys, IfTold, IsFull, Makes, Moments, Reads, Registers, ServeRun, WritesFirst}
+use Rattle.cmd_serve.specs.Runs.{Calls, CountsDisks, CountsFiles, CountsNet, Course, Draws, Unread, Refused, Unbegun, Shut, Deaf, Mute, Serves, Ends, EndsShut, FailsNever, FailsOnce, GoesBy, HasKeys, IfTold, IsFull, Makes, Moments, Reads, Registers, ServeRun, WritesFirst}
 use Rattle.cmd_serve.specs.declared.ending.Ending.{Ending}
 use Rattle.cmd_serve.specs.declared.ending.Ending.TheVariants.{Served, Stopped, NotTaken, Journal, Full, Memory}
 use Rattle.cmd_serve.proofs.Texts.{rose-once}

@@ -1,5 +1,5 @@
 -- The journal of a run: what becomes of its file, and the server that comes of it.
-use Rattle.std.specs.Prelude.{◌≡◌, ◌≢◌, ◌<◌, ◌⊎◌, ℕ, Option, None, Some, List, [], ◌∷◌, ◌++◌, length, slice_index_or, ⊤}
+use Rattle.std.specs.Prelude.{◌≡◌, ◌≢◌, ◌<◌, ◌⊎◌, ℕ, Option, Some, List, [], ◌∷◌, ◌++◌, length, slice_index_or, ⊤}
 use Rattle.auth_keys.specs.declared.ring.RingKey.{RingKey}
 use Rattle.disks.specs.Named.{Named, NamesTold}
 use Rattle.draws.specs.Draws.{draw_after, next_bytes}

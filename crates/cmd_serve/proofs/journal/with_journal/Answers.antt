@@ -1,4 +1,3 @@
-use Rattle.cmd_serve.specs.Journals.{Drawing}
 use Rattle.cmd_serve.proofs.Keepings.{with-failed, with-kept, with-shut}
 use Rattle.cmd_serve.proofs.journal.with_journal.Goals as goal
 

@@ -1,6 +1,6 @@
-use Rattle.std.proofs.Common.{List, IfOk, IfErr, subst}
+use Rattle.std.proofs.Common.{List, IfOk, subst}
 use Rattle.auth_keys.specs.declared.ring.RingKey.{RingKey}
-use Rattle.cmd_serve.specs.Inner.{OpensFile, ShutsFile}
+use Rattle.cmd_serve.specs.Inner.{OpensFile}
 use Rattle.cmd_serve.specs.Journals.{Drawing}
 use Rattle.cmd_serve.proofs.Openings.{RecordLaws, created, created-not}
 use Rattle.cmd_serve.proofs.keeping.begin.Goals as goal

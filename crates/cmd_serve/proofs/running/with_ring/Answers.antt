@@ -1,4 +1,3 @@
-use Rattle.std.proofs.Common.{refl, sym}
 use Rattle.cmd_serve.proofs.ServingLemmas.{with-alone, with-none}
 use Rattle.cmd_serve.proofs.running.with_ring.Goals as goal
 
