@@ -13,7 +13,8 @@ use Rattle.call_table.specs.Table.{acknowledged, inner_of, owner}
 use Rattle.client_rules.specs.Client.{Client, StateRequest, calls_of}
 use Rattle.client_rules.specs.Filling.{numbers_max}
 use Rattle.client_rules.specs.Learning.{ended, learn, learns, learnt_max, with_clock}
-use Rattle.client_rules.specs.Taking.{acknowledges, alone_among, alone_call, alone_number, answered_by, asks_answer, goes_again, has_asked, is_odd, noticed, noticed_by, packet_noticed, row, takes_message, told_of, told_state, told_states, with_notice_clock}
+use Rattle.client_rules.specs.Taking.{acknowledges, alone_among, alone_call, alone_number, answered_by, asks_answer, goes_again, has_asked, noticed, noticed_by, packet_noticed, row, takes_message, told_of, told_state, told_states, with_notice_clock}
+use Rattle.msg_ids.specs.Counters.{is_odd}
 use Rattle.law_client_bounds.specs.Salts.{IsCreation, IsNotice, IsOwn}
 use Rattle.law_client_bounds.proofs.Keeping.{Keeps, both, fold-keeps, if-so, stays}
 

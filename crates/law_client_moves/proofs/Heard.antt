@@ -13,7 +13,8 @@ use Rattle.law_moves.specs.After.{after, after_heard, after_item, after_items}
 use Rattle.law_moves.specs.Reached.{Reached}
 use Rattle.call_table.specs.Table.{acknowledged, acks_max}
 use Rattle.client_rules.specs.Client.{Client, at_moment}
-use Rattle.client_rules.specs.Taking.{acknowledges, is_for, is_odd, message_in, messages_of, row, take, takes_message, without_idle_wish}
+use Rattle.client_rules.specs.Taking.{acknowledges, is_for, message_in, messages_of, row, take, takes_message, without_idle_wish}
+use Rattle.msg_ids.specs.Counters.{is_odd}
 use Rattle.law_client_moves.specs.Clients.{StandsAs}
 use Rattle.law_client_moves.specs.Leading.{Leads}
 use Rattle.law_client_moves.specs.Packets.{item_there, items_there, packet_items}

@@ -5,7 +5,7 @@ use Rattle.std.specs.List.{list_all}
 use Rattle.tl_codec.specs.Spelling.{spelling}
 use Rattle.octets.specs.Bytes.{IsBytes}
 use Rattle.regs_service.specs.Served.{IsReply}
-use Rattle.server_rules.specs.Server.{is_good}
+use Rattle.service_tl.specs.Results.{is_good}
 use Rattle.sess_replay.specs.Replay.{run_interrupted}
 
 both : (one other : Bool) → (one && other) ≡ true → (one ≡ true) × (other ≡ true)

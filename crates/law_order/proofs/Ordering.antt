@@ -8,13 +8,13 @@ use Rattle.byteorder.specs.Endian.{little_number}
 use Rattle.service_tl.specs.Schema.{rpc_error, rpc_answer_dropped_running}
 use Rattle.envelope.specs.declared.parts.Dir.{Dir}
 use Rattle.envelope.specs.declared.parts.Dir.TheVariants.{Up}
-use Rattle.server_rules.specs.Server.{is_good as is_kept_good}
+use Rattle.service_tl.specs.Results.{is_good as is_kept_good}
 use Rattle.server_rules.specs.Server.{Name as SessionName}
 use Rattle.call_table.specs.declared.call.CallNo.{CallNo}
 use Rattle.call_table.specs.declared.call.Living.{Living}
 use Rattle.call_table.specs.Table.{Call, Name, at}
 use Rattle.client_rules.specs.Client.{Client, calls_of}
-use Rattle.client_rules.specs.Filling.{is_good}
+use Rattle.service_tl.specs.Results.{is_good}
 use Rattle.law_moves.specs.World.{World as Moved}
 use Rattle.law_order.specs.After.{IsHonest, IsPacketFor, Pair}
 use Rattle.law_order.specs.Behind.{GoesBehind, IsBehind, IsDoneWell, IsInTurn, IsStill, KeepsTurn, WentBehind}

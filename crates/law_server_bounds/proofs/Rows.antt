@@ -13,7 +13,7 @@ use Rattle.salt_line.specs.Future.{salt_rows}
 use Rattle.id_window.specs.History.{History}
 use Rattle.id_window.specs.declared.mark.Mark.{Mark}
 use Rattle.id_window.specs.declared.mark.Mark.TheVariants.{Noticed as MarkNoticed, Replied, Dropped}
-use Rattle.inbox.specs.Kinds.{constructor_of}
+use Rattle.service_tl.specs.Results.{constructor_of}
 use Rattle.inbox.specs.States.{state_byte}
 use Rattle.inbox.specs.declared.judged.Verdict.{Verdict}
 use Rattle.inbox.specs.declared.judged.Verdict.TheVariants.{Accepted, Again, Noticed}

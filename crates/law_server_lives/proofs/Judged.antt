@@ -11,7 +11,8 @@ use Rattle.id_window.specs.History.{History, FirstJudgement, Outcome, Refused, n
 use Rattle.inbox.specs.declared.judged.Verdict.{Verdict}
 use Rattle.inbox.specs.declared.judged.Verdict.TheVariants.{Accepted, Again, Noticed}
 use Rattle.inbox.specs.declared.judged.Judgement.{Judgement}
-use Rattle.inbox.specs.Kinds.{kind_of, kind_among, container_in, constructor_of, begins_acknowledgement, begins_call}
+use Rattle.inbox.specs.Kinds.{kind_of, kind_among, container_in, begins_acknowledgement, begins_call}
+use Rattle.service_tl.specs.Results.{constructor_of}
 use Rattle.inbox.specs.Refusals.{Way, InContainer}
 use Rattle.inbox.specs.Judging.{Session as Remembered, judge, outcome_of, recorded, is_recorded, remembered, judged_session, inner_judgements, inner_session, unfolded, judgements, session_after}
 use Rattle.law_server_lives.specs.Lives.{Acceptance, acceptance_of, acceptance_by}

@@ -12,7 +12,7 @@ use Rattle.packing.specs.Numbering.{numbered}
 use Rattle.salt_line.specs.Line.{current_salt}
 use Rattle.id_window.specs.declared.mark.Mark.{Mark}
 use Rattle.id_window.specs.declared.mark.Mark.TheVariants.{Noticed as MarkNoticed, Service, Container, Waiting, Replied, Acked, Dropped}
-use Rattle.id_window.specs.Crossing.{is_odd}
+use Rattle.msg_ids.specs.Counters.{is_odd}
 use Rattle.id_window.specs.History.{History, FirstJudgement, was_accepted}
 use Rattle.inbox.specs.Inbox.{was_heard}
 use Rattle.inbox.specs.declared.judged.Verdict.{Verdict}

@@ -16,7 +16,8 @@ use Rattle.id_window.specs.History.{FirstJudgement, History, Outcome, Refused, A
 use Rattle.containers.specs.declared.fault.ContainerFault.{ContainerFault}
 use Rattle.inbox.specs.declared.judged.Verdict.{Verdict}
 use Rattle.inbox.specs.declared.judged.Verdict.TheVariants.{Accepted, Again, Noticed}
-use Rattle.inbox.specs.Kinds.{begins_acknowledgement, begins_call, constructor_of, container_in, item_told, kind_among, kind_of}
+use Rattle.inbox.specs.Kinds.{begins_acknowledgement, begins_call, container_in, item_told, kind_among, kind_of}
+use Rattle.service_tl.specs.Results.{constructor_of}
 use Rattle.inbox.specs.Refusals.{Way, InContainer, InEnvelope, by_envelope, by_number, is_row_of, is_valid_salt, refusal}
 use Rattle.inbox.specs.Judging.{Session as Remembered, first_mark, inner_judgements, inner_session, is_container, is_recorded, is_uncontained, judge, judged_session, judgements, outcome_of, recorded, remembered as remembers, session_after, unfolded, verdict_by}
 use Rattle.waits.specs.Jobs.{Queue}

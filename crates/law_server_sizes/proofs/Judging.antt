@@ -12,7 +12,7 @@ use Rattle.containers.specs.Container.{IsContainer, IsInner, begins_container, c
 use Rattle.containers.specs.Parts.{parts_of}
 use Rattle.id_window.specs.declared.cross.Cross.{Cross}
 use Rattle.id_window.specs.declared.cross.Cross.TheVariants.{None as Apart, Low, High}
-use Rattle.id_window.specs.Crossing.{is_odd}
+use Rattle.msg_ids.specs.Counters.{is_odd}
 use Rattle.id_window.specs.declared.mark.Mark.{Mark}
 use Rattle.id_window.specs.History.{History, Outcome, Refused, crosses, floor, found}
 use Rattle.service_tl.specs.declared.item.Item.TheVariants.{MsgContainer, MsgsStateReq, MsgResendReq}
@@ -22,7 +22,8 @@ use Rattle.byteorder.specs.Endian.{little_bytes}
 use Rattle.inbox.specs.declared.judged.Verdict.{Verdict}
 use Rattle.inbox.specs.declared.judged.Verdict.TheVariants.{Accepted, Again, Noticed}
 use Rattle.inbox.specs.declared.judged.Judgement.{Judgement}
-use Rattle.inbox.specs.Kinds.{begins_acknowledgement, begins_call, constructor_of, container_in, inner_messages, item_told, kind_among, kind_of, parts_among}
+use Rattle.inbox.specs.Kinds.{begins_acknowledgement, begins_call, container_in, inner_messages, item_told, kind_among, kind_of, parts_among}
+use Rattle.service_tl.specs.Results.{constructor_of}
 use Rattle.inbox.specs.Refusals.{Way, InContainer, InEnvelope, by_body, by_envelope, by_neighbours, by_number, by_parity, is_valid_salt, needs_even, needs_odd, refusal, second_of}
 use Rattle.inbox.specs.Judging.{Session as Remembered, inner_judgements, inner_session, is_container, is_recorded, is_uncontained, judge, judged_session, judgements, outcome_of, recorded, remembered, session_after, unfolded, verdict_by}
 use Rattle.law_server_sizes.specs.Small.{IsSmallJudgement, IsSmallOutcome}

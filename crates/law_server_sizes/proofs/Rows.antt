@@ -14,7 +14,7 @@ use Rattle.id_window.specs.History.{History, Outcome, Refused, AcceptedContainer
 use Rattle.id_window.specs.Marks.{Marks, mark_of}
 use Rattle.id_window.specs.declared.mark.Mark.{Mark}
 use Rattle.id_window.specs.declared.mark.Mark.TheVariants.{Noticed as MarkNoticed, Replied, Dropped, Waiting, Service, Acked}
-use Rattle.inbox.specs.Kinds.{constructor_of}
+use Rattle.service_tl.specs.Results.{constructor_of}
 use Rattle.inbox.specs.States.{state_byte, state_by}
 use Rattle.inbox.specs.declared.judged.Verdict.{Verdict}
 use Rattle.inbox.specs.declared.judged.Verdict.TheVariants.{Accepted, Again, Noticed}
@@ -23,9 +23,10 @@ use Rattle.waits.specs.declared.job.Job.{Job}
 use Rattle.waits.specs.declared.job.Unfinished.{Unfinished}
 use Rattle.waits.specs.Jobs.{Queue, accepted as with_job, after_answer, first_job, without_first, is_call, told as told_one, waits_for}
 use Rattle.std.proofs.lemmas.List.{length-map}
-use Rattle.id_window.specs.Crossing.{is_odd}
+use Rattle.msg_ids.specs.Counters.{is_odd}
 use Rattle.law_server_sizes.proofs.Items.{bytes-map}
-use Rattle.server_rules.specs.Server.{Fate, IsKept, WasAcked, WasDropped, Reply, Binding, answered_mark, is_good, is_kept, kept_of, mark_after, mark_by, mark_in, marks_of, reply_to, name_of, has_accepted, Name, Session}
+use Rattle.server_rules.specs.Server.{Fate, IsKept, WasAcked, WasDropped, Reply, Binding, answered_mark, is_kept, kept_of, mark_after, mark_by, mark_in, marks_of, reply_to, name_of, has_accepted, Name, Session}
+use Rattle.service_tl.specs.Results.{is_good}
 use Rattle.server_rules.specs.Event.{Owed, Setting, Speaker, BindingCall}
 use Rattle.server_rules.specs.Speaking.{says, says_with_salt, says_it_is_new, needs_salts, answers, records, answers_in_place, dropped, packed_body_refused, bad_body, encrypted_message_invalid}
 use Rattle.server_rules.specs.Waiting.{Outlook, Over, InVain, GoesOn as GoesOnWaiting, outlook, tells_of, told, gives_up}

@@ -1,7 +1,7 @@
 //! The answers.
 
 ghost use Rattle.std.specs.Prelude.{◌≡◌, ◌≤◌, ◌%◌, length};
-ghost use Rattle.server_rules.specs.Server.{is_good};
+ghost use Rattle.service_tl.specs.Results.{is_good};
 ghost use Rattle.server_answers.specs.Contents.{content_of, short_bytes_max};
 
 use outbox::Bytes;

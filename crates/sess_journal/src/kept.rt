@@ -15,7 +15,7 @@ ghost use Rattle.sess_journal.specs.Playing.{Follows, IsReady, StandsAt, basis_f
 ghost use Rattle.sess_replay.specs.Replay.{Reached, Replays, at_first, bases_of};
 
 use crate::book::Book;
-use crate::played::{PlayFault, Played, later};
+use crate::played::{PlayFault, Played};
 use disks::Disk;
 use draws::Seeded;
 use envelope::Seal;
@@ -273,7 +273,7 @@ fn resume<K: Disk + Drop, S: Seal + Drop, D: Seeded + Drop>(
     };
     let mut played = played;
     let place = played.draw.place();
-    let moment = later(played.latest, now).seconds();
+    let moment = played.latest.later(now).seconds();
     let Ok(_done) = played.interrupted(alloc, moment, place) else {
         return Err((journal.into_disk(), JournalFault::Memory));
     };

@@ -307,14 +307,3 @@ impl<S: Seal + Drop, D: Seeded + Drop> Played<S, D> {
         Ok(())
     }
 }
-
-/// The later of two moments.
-pub(crate) fn later(one: Moment, other: Moment) -> Moment
-    ensures { result ≡ max one other }
-{
-    if one.seconds() < other.seconds() {
-        other
-    } else {
-        one
-    }
-}

@@ -14,7 +14,8 @@ use Rattle.client_rules.specs.Client.{Client, Needed, StateRequest, at_moment, b
 use Rattle.client_rules.specs.Asking.{alone}
 use Rattle.client_rules.specs.Filling.{numbers_max}
 use Rattle.client_rules.specs.Learning.{ended, fate_at_end, fate_learning, learn, learns, learnt_max, with_clock}
-use Rattle.client_rules.specs.Taking.{Notice, acknowledges, alone_among, alone_call, alone_number, answered_by, asked_states, asks_answer, binding_answered, binding_noticed, fate_noticed, goes_again, has_asked, is_for, is_odd, message_in, messages_of, noticed, noticed_by, packet_noticed, row, take, takes_message, takes_over, told_of, told_state, told_states, with_notice_clock, with_notice_salt, without_idle_wish}
+use Rattle.client_rules.specs.Taking.{Notice, acknowledges, alone_among, alone_call, alone_number, answered_by, asked_states, asks_answer, binding_answered, binding_noticed, fate_noticed, goes_again, has_asked, is_for, message_in, messages_of, noticed, noticed_by, packet_noticed, row, take, takes_message, takes_over, told_of, told_state, told_states, with_notice_clock, with_notice_salt, without_idle_wish}
+use Rattle.msg_ids.specs.Counters.{is_odd}
 use Rattle.client_rules.specs.Events.{takes}
 use Rattle.sim_load.specs.Plain.{IsPlain}
 use Rattle.sim_load.proofs.PlainClients.{bound_plain, call_changed, each_plain, either, fate_set, folded}
