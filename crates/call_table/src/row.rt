@@ -15,14 +15,20 @@ const NO_FLAGS: Flags = Flags {
     dropping: false,
 };
 
-/// What became of a call, with what is kept of its living name.
-#[derive(Drop)]
-pub(crate) enum Progress {
+/// What became of a call, with what is kept of its living name: what contracts see of a call that a `Calls` keeps.
+#[derive(Debug, Drop)]
+pub enum Progress {
+    /// It waits for a packet.
     Queued,
+    /// It was sent, under this name, and so many salts were used with the name.
     Sent { living: Living, under: Under },
+    /// It isn't sent again until a state request about its name is answered.
     Held,
+    /// Its reply.
     Done(Octets),
+    /// The code of its refusal.
     Refused(u32),
+    /// Why nothing more is known of it.
     Unknown(Cause),
 }
 
