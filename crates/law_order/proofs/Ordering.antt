@@ -1,11 +1,8 @@
 -- Each event of a world keeps calls in order.
-use Rattle.std.proofs.Common.{◌≡◌, ◌∙◌, ◌<◌, ◌-◌, ◌==◌, zero, suc, ℕ, Bool, true, false, cond, Option, Some, None, List, [], ◌∷◌, ◌++◌, length, map, le-leb, ltb-false, refl, sym, ap, subst, arith, inl, inr}
-use Rattle.std.specs.Prelude.{◌⊎◌, ◌&&◌, ◌||◌, not, nat_le, nat_lt, slice_get}
+use Rattle.std.proofs.Common.{◌≡◌, ◌∙◌, ◌<◌, ◌-◌, ◌==◌, zero, suc, ℕ, Bool, true, cond, Option, Some, None, List, [], ◌∷◌, ◌++◌, map, refl, sym, ap, subst, arith, inl, inr}
+use Rattle.std.specs.Prelude.{◌⊎◌, ◌&&◌, slice_get}
 use Rattle.std.specs.List.{AllByRecursion, Contains, list_any, filter}
 use Rattle.std.proofs.lemmas.Bool.{cases_Bool}
-use Rattle.client_rules.specs.Asking.{begins}
-use Rattle.byteorder.specs.Endian.{little_number}
-use Rattle.service_tl.specs.Schema.{rpc_error, rpc_answer_dropped_running}
 use Rattle.envelope.specs.declared.parts.Dir.{Dir}
 use Rattle.envelope.specs.declared.parts.Dir.TheVariants.{Up}
 use Rattle.server_rules.specs.Server.{Name as SessionName}
@@ -143,8 +140,6 @@ module _ {S V : Type 0} (setting : Setting S V) (world behind : World S V) (go :
             (subst (λ (call : Call). list_any (λ (name : Name). is_entry_under l.0.client name first.0) call.names ≡ true) earliers named_on),
         first.3,
       )
-
--- ---- what ran and what didn't
 
 -- a pair of a session that no client has
 abbrev nobody : Pair
