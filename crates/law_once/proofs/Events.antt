@@ -9,7 +9,7 @@ use Rattle.envelope.specs.Lawful.{OpensWhatItSealed}
 use Rattle.envelope.specs.Packet.{IsEnvelope, Lock}
 use Rattle.tl_codec.specs.Standard.{bytes_max}
 use Rattle.law_moves.specs.Table as moves
-use Rattle.law_client_moves.specs.Sent.{IsPacketSent}
+use Rattle.law_client.specs.Sent.{IsPacketSent}
 use Rattle.law_once.specs.Small.{Fits}
 use Rattle.sched_text.specs.declared.event.Event.{Event}
 use Rattle.sched_text.specs.declared.event.Event.TheVariants as line

@@ -29,7 +29,7 @@ ghost use Rattle.law_once.specs.Standing.{HasMoves, MovesOn, WorldStands};
 ghost use Rattle.law_once.specs.Words.{AreDrawn, HavePlaces, given_step};
 
 use draws::{Draw, StepDraw};
-use law_client_moves::laws::{
+use law_client::laws::{
     clients_flush, clients_hear, clients_join, clients_renew_and_end, clients_submit,
     others_stand_still, wishes_are_no_moves,
 };

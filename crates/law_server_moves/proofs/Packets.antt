@@ -29,7 +29,7 @@ use Rattle.law_moves.specs.World.{World, IsAccepted}
 use Rattle.law_moves.specs.Lawful.{MayDecide}
 use Rattle.law_moves.specs.Move.{Move}
 use Rattle.law_moves.specs.Reached.{AreLawful, Reached, after_all}
-use Rattle.law_client_moves.specs.Sent.{WasSent}
+use Rattle.law_client.specs.Sent.{WasSent}
 use Rattle.law_server_moves.specs.Leading.{Leads}
 use Rattle.law_server_moves.specs.Servers.{AsksThere, HasSalt, IsAcceptedThere, IsStanding, IsSuch, IsUp, Past, ServerStands, WasJudged, with_history}
 use Rattle.law_server_moves.proofs.Lists.{each_of, first_or, here, later, map_all}

@@ -29,7 +29,7 @@ use Rattle.law_moves.specs.Lawful.{WasNoCall}
 use Rattle.law_moves.specs.Move.{Move}
 use Rattle.law_moves.specs.Reached.{AreLawful, Reached, after_all}
 use Rattle.law_server_moves.specs.Leading.{Leads}
-use Rattle.law_client_moves.specs.Packets.{item_there}
+use Rattle.law_client.specs.Packets.{item_there}
 use Rattle.packing.specs.Numbering.{after_item}
 use Rattle.law_server_moves.specs.Servers.{AsksThere, CanSay, IsNoCall, Past, with_lost}
 use Rattle.law_server_moves.specs.Speaking.{IsPlain, IsDue, IsOpen, IsWithin, SpeaksThere, with_line}

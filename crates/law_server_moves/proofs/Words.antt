@@ -35,7 +35,7 @@ use Rattle.law_server_lives.specs.Lives.{request_of}
 use Rattle.law_moves.specs.Table.Item.{Notice}
 use Rattle.law_moves.specs.World.{World, WasGiven}
 use Rattle.law_moves.specs.Reached.{after_all}
-use Rattle.law_client_moves.specs.Packets.{item_there}
+use Rattle.law_client.specs.Packets.{item_there}
 use Rattle.law_server_moves.specs.Leading.{Leads}
 use Rattle.law_server_moves.specs.Servers.{AsksThere, CanSay, GoOn, HasForgotten, HasNoticed, HasSalt, HasSame, IsJobThere, IsJobOf, IsNoCall, Past, has_dropped, with_entries, with_replies}
 use Rattle.law_server_moves.specs.Speaking.{AreOthersOpen, IsDue, IsOpen, IsPlain, IsSaid, IsWithin, SpeaksThere, StandsSpeaking, with_line}

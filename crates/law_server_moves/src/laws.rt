@@ -52,8 +52,8 @@ ghost use Rattle.law_server_moves.specs.Worlds.{HasServed, StandsIn};
 ghost use Rattle.tl_codec.specs.Standard.{bytes_max};
 ghost use Rattle.envelope.specs.declared.parts.Envelope.{Envelope as Sealed};
 ghost use Rattle.envelope.specs.Packet.{IsEnvelope};
-ghost use Rattle.law_client_moves.specs.Sent.{IsPacketSent};
-ghost use Rattle.law_client_moves.specs.Packets.{packet_items};
+ghost use Rattle.law_client.specs.Sent.{IsPacketSent};
+ghost use Rattle.law_client.specs.Packets.{packet_items};
 ghost use Rattle.containers.specs.Container.{IsContainer, begins_container};
 
 use draws::Draw;
