@@ -67,7 +67,7 @@ pub fn records_lead_to_the_server<D: Seeded, V>()
     law_once::laws::worlds_only_grow::<D, V>();
     law_once::laws::starts_are_served::<D, V>();
     draws::laws::seeded_draws_go_on::<D>();
-    sess_replay::laws::records_lead_to_one_server::<D>();
+    sess_journal::laws::records_lead_to_one_server::<D>();
     law_server_replay::laws::events_draw_words::<D, Octets>();
     law_server_replay::laws::events_leave_room::<D, Octets>();
     law_server_replay::laws::quiet_events_change_nothing::<D>();

@@ -10,8 +10,8 @@ use Rattle.sess_records.specs.declared.records.Record.{Record}
 use Rattle.sess_records.specs.Format.{IsFault, Reached as Read, Spells}
 use Rattle.server_core.specs.Packets.{brought_in}
 use Rattle.server_rules.specs.Answer.{Answer, after_packet}
-use Rattle.sess_replay.specs.Files.{IsNoJournalAt}
-use Rattle.sess_replay.specs.Replay.{Basis, Happens, LeadsTo, Plays, Reached, Replays, after_interruption, after_reply, at_first, reached_by, setting_at}
+use Rattle.sess_journal.specs.Files.{IsNoJournalAt}
+use Rattle.sess_journal.specs.Replay.{Basis, Happens, LeadsTo, Plays, Reached, Replays, after_interruption, after_reply, at_first, reached_by, setting_at}
 
 module _ {S : Type 0} (basis : Basis S) where
   -- ---- lists

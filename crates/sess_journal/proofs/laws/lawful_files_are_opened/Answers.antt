@@ -1,5 +1,5 @@
-use Rattle.sess_replay.proofs.LawLemmas.{OneList, opened}
-use Rattle.sess_replay.proofs.laws.lawful_files_are_opened.Goals as goal
+use Rattle.sess_journal.proofs.ReplayLemmas.{OneList, opened}
+use Rattle.sess_journal.proofs.laws.lawful_files_are_opened.Goals as goal
 
 pub returns : goal.returns
 returns g c = λ by_seed seed entries reached file at unseals spells replays.

@@ -2,7 +2,7 @@
 use Rattle.std.specs.Prelude.{◌≡◌, ℕ, List, [], ◌∷◌, ◌++◌, ◌⊎◌}
 use Rattle.sess_records.specs.declared.records.Record.{Record}
 use Rattle.sess_records.specs.Format.{HasHeader, IsFault, Reached as Read, open_gate}
-use Rattle.sess_replay.specs.Replay.{Basis, IsLawful, Reached, Replays, at_first}
+use Rattle.sess_journal.specs.Replay.{Basis, IsLawful, Reached, Replays, at_first}
 
 -- Up to an open gate the file has lawful records, and at the place behind it no record begins, or one that isn't lawful there.
 pub record StopsAt {D : Type 0} (by_seed : List ℕ → Basis D) (at : ℕ) (file : List ℕ) : Type 0 where

@@ -1,5 +1,5 @@
-use Rattle.sess_replay.proofs.LawLemmas.{one_server, parts, whole}
-use Rattle.sess_replay.proofs.laws.records_lead_to_one_server.Goals as goal
+use Rattle.sess_journal.proofs.ReplayLemmas.{one_server, parts, whole}
+use Rattle.sess_journal.proofs.laws.records_lead_to_one_server.Goals as goal
 
 pub returns-clause-one : goal.returns-clause-one
 returns-clause-one g c = λ basis entries before after other unseals one two. one_server basis unseals entries before after other one two
