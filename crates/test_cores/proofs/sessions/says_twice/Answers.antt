@@ -1,6 +1,6 @@
 use Rattle.std.proofs.Common.{ap, arith}
 use Rattle.server_output.specs.Dues.{Dues}
-use Rattle.test_server_sessions.proofs.sessions.says_twice.Goals as goal
+use Rattle.test_cores.proofs.sessions.says_twice.Goals as goal
 
 pub says_kept-requires-clause-places : goal.says_kept-requires-clause-places
 says_kept-requires-clause-places c =
