@@ -18,7 +18,7 @@ use Rattle.server_rules.specs.Server.{Name, Session}
 use Rattle.server_rules.specs.Event.{Envelope as Heard, Sent}
 use Rattle.server_rules.specs.Events.{Attach, Course, Event as ServerEvent, Loss, Packet as Comes, Restart, Tick, Work, after_event}
 use Rattle.law_server.specs.Order.{AreOrdered}
-use Rattle.law_server_sizes.specs.Small.{AreSmall as AreKeptSmall, DrawsWords, GivesReplies, HasSmallEnvelope, IsSmallEnvelope, IsWhole, IsWholeSent}
+use Rattle.law_server_bounds.specs.Small.{AreSmall as AreKeptSmall, DrawsWords, GivesReplies, HasSmallEnvelope, IsSmallEnvelope, IsWhole, IsWholeSent}
 use Rattle.law_moves.specs.World.{Owns, World as Moved}
 use Rattle.law_moves.specs.Move.{Move}
 use Rattle.law_moves.specs.Extends.{Extends}

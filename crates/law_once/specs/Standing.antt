@@ -6,7 +6,7 @@ use Rattle.envelope.specs.declared.parts.Dir.{Dir}
 use Rattle.envelope.specs.declared.parts.Dir.TheVariants.{Up, Down}
 use Rattle.envelope.specs.declared.parts.Envelope.{Envelope}
 use Rattle.law_server.specs.Order.{AreOrdered}
-use Rattle.law_server_sizes.specs.Small.{AreSmall as AreKeptSmall}
+use Rattle.law_server_bounds.specs.Small.{AreSmall as AreKeptSmall}
 use Rattle.law_moves.specs.Table.Status.{Unmade}
 use Rattle.law_moves.specs.World as moves
 use Rattle.law_moves.specs.World.{Owns}

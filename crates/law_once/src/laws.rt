@@ -127,8 +127,8 @@ pub fn worlds_are_moves<D: Draw, V>()
     packets_of_worlds_are_moves::<D, V>();
     packets_sent_are_up();
     packets_are_read_as_they_went_out();
-    law_server_sizes::laws::sizes_stay_small::<D, V>();
-    law_server_sizes::laws::packets_are_whole::<D, V>();
+    law_server_bounds::sizes::sizes_stay_small::<D, V>();
+    law_server_bounds::sizes::packets_are_whole::<D, V>();
     law_server::laws::servers_stay_in_order::<D, V>();
     law_server_lives::laws::sessions_draw_salts::<D>();
     law_server::laws::sessions_speak::<D>();

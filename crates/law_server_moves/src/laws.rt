@@ -35,7 +35,7 @@ ghost use Rattle.inbox.specs.declared.judged.Judgement.{Judgement};
 ghost use Rattle.inbox.specs.declared.judged.Verdict.{Verdict};
 ghost use Rattle.packing.specs.Packing.{groups};
 ghost use Rattle.server_rules.specs.Sending.{all_sent, sends};
-ghost use Rattle.law_server_sizes.specs.Small.{AreSmall, DrawsWords, GivesReplies, IsSmallEnvelope};
+ghost use Rattle.law_server_bounds.specs.Small.{AreSmall, DrawsWords, GivesReplies, IsSmallEnvelope};
 ghost use Rattle.law_server_moves.specs.Sending.{EventEnds, IsFit, IsSpoken, MayAllGo, MayGo, WentOut};
 ghost use Rattle.law_server_moves.specs.Events.{AreLines, AreLost, AreOpenJobs, EventStands, lined, with_lines};
 ghost use Rattle.law_server.specs.Order.{AreOrdered, IsGoingOn};
@@ -429,8 +429,8 @@ pub fn events_of_worlds_are_moves<D: Draw, V>()
     numbers_are_given_once();
     what_was_not_made_is_blank();
     packing::laws::packets_have_all_messages();
-    law_server_sizes::laws::what_is_owed_is_small::<D>();
-    law_server_sizes::laws::packets_are_whole::<D, V>();
+    law_server_bounds::sizes::what_is_owed_is_small::<D>();
+    law_server_bounds::sizes::packets_are_whole::<D, V>();
     law_server::laws::sessions_speak_for_themselves::<D>();
     law_server::laws::new_sessions_say_so::<D>();
 }
@@ -458,8 +458,8 @@ pub fn packets_of_worlds_are_moves<D: Draw, V>()
     names_are_apart();
     what_was_not_made_is_blank();
     packing::laws::packets_have_all_messages();
-    law_server_sizes::laws::what_is_owed_is_small::<D>();
-    law_server_sizes::laws::packets_are_whole::<D, V>();
+    law_server_bounds::sizes::what_is_owed_is_small::<D>();
+    law_server_bounds::sizes::packets_are_whole::<D, V>();
     law_server::laws::new_sessions_say_so::<D>();
     law_server_lives::laws::new_sessions_owe_little::<D>();
 }

@@ -1,10 +1,10 @@
 use Rattle.std.proofs.Common.{subst}
 use Rattle.server_rules.specs.Event.{speaks}
 use Rattle.server_rules.specs.Answer.{attaches, begun, runs, takes, ticks}
-use Rattle.law_server_sizes.proofs.Courses.{ready-small}
-use Rattle.law_server_sizes.proofs.Rows.{IsSmallCall}
-use Rattle.law_server_sizes.proofs.States.{attach-good, packet-good, run-good, small-state, tick-good}
-use Rattle.law_server_sizes.proofs.laws.what_is_owed_is_small.Goals as goal
+use Rattle.law_server_bounds.proofs.Courses.{ready-small}
+use Rattle.law_server_bounds.proofs.SizeRows.{IsSmallCall}
+use Rattle.law_server_bounds.proofs.States.{attach-good, packet-good, run-good, small-state, tick-good}
+use Rattle.law_server_bounds.proofs.sizes.what_is_owed_is_small.Goals as goal
 
 pub returns-clause-packet : goal.returns-clause-packet
 returns-clause-packet g c = λ setting envelope server draw draws small kept.

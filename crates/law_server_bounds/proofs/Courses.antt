@@ -10,12 +10,12 @@ use Rattle.server_rules.specs.Server.{Name, Server, is_named, without_session}
 use Rattle.server_rules.specs.Event.{Envelope, Setting, State, speaks}
 use Rattle.server_rules.specs.Answer.{Answer, after_run, attaches, begun, ended, runs, takes, ticks}
 use Rattle.server_rules.specs.Events.{Attach, Course, Event, Loss, Packet, Restart, Tick, Work, after_event, setting_at}
-use Rattle.law_server_sizes.specs.Small.{AreSmall, DrawsWords, HasSmallEnvelope, IsSmallEnvelope, IsSmallJob, IsSmallSession, IsWholeSent, GivesReplies}
-use Rattle.law_server_sizes.proofs.Judging.{AreLawful, AreRead}
-use Rattle.law_server_sizes.proofs.Lists.{all-append, all-filter}
-use Rattle.law_server_sizes.proofs.Packets.{ArePackets, AreSized, HaveAll}
-use Rattle.law_server_sizes.proofs.Rows.{IsSmallCall}
-use Rattle.law_server_sizes.proofs.States.{Good, attach-good, begun-good, end-good, packet-good, run-good, tick-good}
+use Rattle.law_server_bounds.specs.Small.{AreSmall, DrawsWords, HasSmallEnvelope, IsSmallEnvelope, IsSmallJob, IsSmallSession, IsWholeSent, GivesReplies}
+use Rattle.law_server_bounds.proofs.Judging.{AreLawful, AreRead}
+use Rattle.law_server_bounds.proofs.SizeLists.{all-append, all-filter}
+use Rattle.law_server_bounds.proofs.Packets.{ArePackets, AreSized, HaveAll}
+use Rattle.law_server_bounds.proofs.SizeRows.{IsSmallCall}
+use Rattle.law_server_bounds.proofs.States.{Good, attach-good, begun-good, end-good, packet-good, run-good, tick-good}
 
 pub ready-small : (place : ℕ) (jobs : Queue) → AllByRecursion IsSmallJob jobs → IsSmallCall (ready_job place jobs)
 ready-small place [] small = tt

@@ -8,8 +8,8 @@ use Rattle.service_tl.specs.declared.item.Item.TheVariants.{RpcAnswerUnknown, Rp
 use Rattle.service_tl.specs.Items.{spelling_of}
 use Rattle.service_tl.specs.Schema.{service_numbers, gzip_packed}
 use Rattle.octets.specs.Bytes.{IsBytes}
-use Rattle.law_server_sizes.specs.Small.{IsContent}
-use Rattle.law_server_sizes.proofs.Items.{bytes-cons, bytes-nil, dropped-bytes}
+use Rattle.law_server_bounds.specs.Small.{IsContent}
+use Rattle.law_server_bounds.proofs.Items.{bytes-cons, bytes-nil, dropped-bytes}
 use Rattle.server_rules.specs.Speaking.{auth_key_perm_empty, packed_body_refused, bad_body, jobs_full, msg_wait_failed, msg_wait_timeout, encrypted_message_invalid}
 use Rattle.server_rules.specs.Calls.{query_refusal, if_so, dropped_running, bool_true_content}
 

@@ -10,7 +10,7 @@ ghost use Rattle.server_rules.specs.Event.{Envelope, Setting, State, speaks};
 ghost use Rattle.server_rules.specs.Sending.{all_sent};
 ghost use Rattle.server_rules.specs.Answer.{attaches, begun, runs, takes, ticks};
 ghost use Rattle.server_rules.specs.Events.{Course, Event, after_event, course_of};
-ghost use Rattle.law_server_sizes.specs.Small.{AreSmall, IsContent, DrawsWords, HasSmallEnvelope, IsSmallEnvelope, IsSmallState, IsWholeSent, GivesReplies};
+ghost use Rattle.law_server_bounds.specs.Small.{AreSmall, IsContent, DrawsWords, HasSmallEnvelope, IsSmallEnvelope, IsSmallState, IsWholeSent, GivesReplies};
 
 use draws::Draw;
 

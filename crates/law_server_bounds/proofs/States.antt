@@ -23,14 +23,14 @@ use Rattle.server_rules.specs.Waiting.{given_up, gives_up, first_given_up, all_g
 use Rattle.server_rules.specs.Rows.{settles, row, owes, destroys}
 use Rattle.server_rules.specs.Sending.{envelope_of, messages_by, names_in, padding_bytes, seals, sends, all_sent}
 use Rattle.server_rules.specs.Answer.{name_in, message_in, messages_judged, finishes, hears, hears_by, makes, session_for, without_first as without_first_session, opens, takes, takes_by, attaches, runs, ticks, is_spent, begun, without_spent}
-use Rattle.law_server_sizes.specs.Small.{AreGivenTo, AreSmall, DrawsWords, IsGivenTo, IsSmallEnvelope, IsSmallJob, IsSmallOwed, IsSmallReply, IsSmallSession, IsSmallState, IsWhole, IsWholeSent, IsContent}
-use Rattle.law_server_sizes.proofs.Contents.{failed-content, timeout-content}
-use Rattle.law_server_sizes.proofs.Judging.{AreLawful, IsSmallBoth, history-small, judgements-small, zipped-small, AreRead}
-use Rattle.law_server_sizes.proofs.Lists.{all-filter, all-map, all-push, both-all, filter-tested, find-all, weaker}
-use Rattle.law_server_sizes.proofs.Names.{names-apart, same-names}
-use Rattle.law_server_sizes.proofs.Packets.{ArePackets, AreSized, HaveAll, IsReady, IsWholeOuter, outers-go, packets-whole}
-use Rattle.law_server_sizes.proofs.Rows.{IsSmallCall, IsSmallVerdict, first-small, finished, given, left-small, new-said, opened, owed-so, told-so}
-use Rattle.law_server_sizes.proofs.Speaking.{Says, counters-on, repeated, said, salted, salt-small}
+use Rattle.law_server_bounds.specs.Small.{AreGivenTo, AreSmall, DrawsWords, IsGivenTo, IsSmallEnvelope, IsSmallJob, IsSmallOwed, IsSmallReply, IsSmallSession, IsSmallState, IsWhole, IsWholeSent, IsContent}
+use Rattle.law_server_bounds.proofs.SizeContents.{failed-content, timeout-content}
+use Rattle.law_server_bounds.proofs.Judging.{AreLawful, IsSmallBoth, history-small, judgements-small, zipped-small, AreRead}
+use Rattle.law_server_bounds.proofs.SizeLists.{all-filter, all-map, all-push, both-all, filter-tested, find-all, weaker}
+use Rattle.law_server_bounds.proofs.SizeNames.{names-apart, same-names}
+use Rattle.law_server_bounds.proofs.Packets.{ArePackets, AreSized, HaveAll, IsReady, IsWholeOuter, outers-go, packets-whole}
+use Rattle.law_server_bounds.proofs.SizeRows.{IsSmallCall, IsSmallVerdict, first-small, finished, given, left-small, new-said, opened, owed-so, told-so}
+use Rattle.law_server_bounds.proofs.Speaking.{Says, counters-on, repeated, said, salted, salt-small}
 
 -- the session of this place among the ready jobs
 pub ready-left : (place : ℕ) (jobs : Queue) → AllByRecursion IsSmallJob jobs → AllByRecursion IsSmallJob (without_ready place jobs)

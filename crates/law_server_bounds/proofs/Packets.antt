@@ -11,9 +11,9 @@ use Rattle.octets.specs.Bytes.{IsBytes}
 use Rattle.service_tl.specs.Words.{IsWords}
 use Rattle.containers.specs.Container.{AreWithin, IsContainer, IsInner, begins_container, constructor, container_of, head_of, message_head, row, size_of}
 use Rattle.packing.specs.Packing.{IsPacket, after_outer, after_outers, groups, outer_of, outers_of, packed}
-use Rattle.law_server_sizes.specs.Small.{IsGivenBy, IsSmallMessage}
-use Rattle.law_server_sizes.proofs.Items.{bytes-append, bytes-nil, item-bytes, item-short, item-unnested, item-words, little-bytes}
-use Rattle.law_server_sizes.proofs.Lists.{all-split, both-all, weaker}
+use Rattle.law_server_bounds.specs.Small.{IsGivenBy, IsSmallMessage}
+use Rattle.law_server_bounds.proofs.Items.{bytes-append, bytes-nil, item-bytes, item-short, item-unnested, item-words, little-bytes}
+use Rattle.law_server_bounds.proofs.SizeLists.{all-split, both-all, weaker}
 
 -- ---- counters go on
 

@@ -24,7 +24,7 @@ use Rattle.waits.specs.declared.job.Unfinished.{Unfinished}
 use Rattle.waits.specs.Jobs.{Queue, accepted as with_job, after_answer, first_job, without_first, is_call, told as told_one, waits_for}
 use Rattle.std.proofs.lemmas.List.{length-map}
 use Rattle.msg_ids.specs.Counters.{is_odd}
-use Rattle.law_server_sizes.proofs.Items.{bytes-map}
+use Rattle.law_server_bounds.proofs.Items.{bytes-map}
 use Rattle.server_rules.specs.Server.{Fate, IsKept, WasAcked, WasDropped, Reply, Binding, answered_mark, is_kept, kept_of, mark_after, mark_by, mark_in, marks_of, reply_to, name_of, has_accepted, Name, Session}
 use Rattle.service_tl.specs.Results.{is_good}
 use Rattle.server_rules.specs.Event.{Owed, Setting, Speaker, BindingCall}
@@ -33,10 +33,10 @@ use Rattle.server_rules.specs.Waiting.{Outlook, Over, InVain, GoesOn as GoesOnWa
 use Rattle.server_rules.specs.Calls.{accepts_call, becomes_job, binds_by, bool_true_content, drops_by, drops_kept, drops_running, dropped_running, has_failed_already, is_full, is_unbound, job_of, with_binding, each_once}
 use Rattle.server_rules.specs.Rows.{accepts, acked_by, acknowledges, answers_broken, came_again, future_salt_of, kept_numbered, notices, owes, says_reply, sends_again, tells_salts, tells_states, acks_of, is_verdict_acked}
 use Rattle.server_rules.specs.Answer.{finishes, opens}
-use Rattle.law_server_sizes.specs.Small.{IsContent, DrawsWords, IsSmallItem, IsSmallJob, IsSmallJudgement, IsSmallOutcome, IsSmallReply}
-use Rattle.law_server_sizes.proofs.Contents.{bad-content, dropped-content, invalid-content, packed-content, refused-by, running-content, true-content, unknown-content}
-use Rattle.law_server_sizes.proofs.Lists.{all-map, all-push, find-all}
-use Rattle.law_server_sizes.proofs.Speaking.{Says, ack-small, answered, drop-small, fated, judged, repeated, said, salt-small, salted, with_jobs}
+use Rattle.law_server_bounds.specs.Small.{IsContent, DrawsWords, IsSmallItem, IsSmallJob, IsSmallJudgement, IsSmallOutcome, IsSmallReply}
+use Rattle.law_server_bounds.proofs.SizeContents.{bad-content, dropped-content, invalid-content, packed-content, refused-by, running-content, true-content, unknown-content}
+use Rattle.law_server_bounds.proofs.SizeLists.{all-map, all-push, find-all}
+use Rattle.law_server_bounds.proofs.Speaking.{Says, ack-small, answered, drop-small, fated, judged, repeated, said, salt-small, salted, with_jobs}
 
 -- ---- marks
 

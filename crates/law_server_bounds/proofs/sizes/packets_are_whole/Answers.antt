@@ -1,10 +1,10 @@
 use Rattle.server_rules.specs.Events.{begun_course}
-use Rattle.law_server_sizes.proofs.Courses.{Laws, event-stands, events-stand}
+use Rattle.law_server_bounds.proofs.Courses.{Laws, event-stands, events-stand}
 use Rattle.server_rules.specs.Sending.{all_sent}
-use Rattle.law_server_sizes.proofs.States.{good-state, sent-good, small-state}
-use Rattle.law_server_sizes.proofs.laws.packets_are_whole.Goals as goal
+use Rattle.law_server_bounds.proofs.States.{good-state, sent-good, small-state}
+use Rattle.law_server_bounds.proofs.sizes.packets_are_whole.Goals as goal
 
-module _ (g : Rattle.law_server_sizes.proofs.laws.packets_are_whole.Given.Over) (c : goal.After-packets_have_all_messages g) where
+module _ (g : Rattle.law_server_bounds.proofs.sizes.packets_are_whole.Given.Over) (c : goal.After-packets_have_all_messages g) where
   laws : Laws
   laws = record {
     sized = c.container_sizes.ensures.whole;

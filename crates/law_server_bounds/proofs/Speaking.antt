@@ -18,10 +18,10 @@ use Rattle.server_rules.specs.Server.{Name, Reply, Session, is_kept, kept_replie
 use Rattle.server_rules.specs.Event.{Owed, Sent, Setting, Speaker}
 use Rattle.server_rules.specs.Speaking.{answers, dropped, has_said, made_room, message_of, needs_salts, owes_message, says, says_again, with_reply}
 use Rattle.server_rules.specs.Rows.{acked_by}
-use Rattle.law_server_sizes.specs.Small.{IsContent, DrawsWords, IsGivenBy, IsGivenTo, IsSmallItem, IsSmallJob, IsSmallJudgement, IsSmallMessage, IsSmallOwed, IsSmallReply, IsSmallRow, IsSmallSession, IsWholeSent}
-use Rattle.law_server_sizes.proofs.Items.{addition-low}
-use Rattle.law_server_sizes.proofs.Lists.{all-map, all-push, weaker}
-use Rattle.law_server_sizes.proofs.Packets.{GoesOn, given-later, next-goes}
+use Rattle.law_server_bounds.specs.Small.{IsContent, DrawsWords, IsGivenBy, IsGivenTo, IsSmallItem, IsSmallJob, IsSmallJudgement, IsSmallMessage, IsSmallOwed, IsSmallReply, IsSmallRow, IsSmallSession, IsWholeSent}
+use Rattle.law_server_bounds.proofs.Items.{addition-low}
+use Rattle.law_server_bounds.proofs.SizeLists.{all-map, all-push, weaker}
+use Rattle.law_server_bounds.proofs.Packets.{GoesOn, given-later, next-goes}
 
 -- ---- one that speaks
 

@@ -26,10 +26,10 @@ use Rattle.inbox.specs.Kinds.{begins_acknowledgement, begins_call, container_in,
 use Rattle.service_tl.specs.Results.{constructor_of}
 use Rattle.inbox.specs.Refusals.{Way, InContainer, InEnvelope, by_body, by_envelope, by_neighbours, by_number, by_parity, is_valid_salt, needs_even, needs_odd, refusal, second_of}
 use Rattle.inbox.specs.Judging.{Session as Remembered, inner_judgements, inner_session, is_container, is_recorded, is_uncontained, judge, judged_session, judgements, outcome_of, recorded, remembered, session_after, unfolded, verdict_by}
-use Rattle.law_server_sizes.specs.Small.{IsSmallJudgement, IsSmallOutcome}
-use Rattle.law_server_sizes.proofs.Items.{bytes-back, bytes-front}
-use Rattle.law_server_sizes.proofs.Lists.{all-push}
-use Rattle.law_server_sizes.proofs.Rows.{IsSmallVerdict, IsHeard}
+use Rattle.law_server_bounds.specs.Small.{IsSmallJudgement, IsSmallOutcome}
+use Rattle.law_server_bounds.proofs.Items.{bytes-back, bytes-front}
+use Rattle.law_server_bounds.proofs.SizeLists.{all-push}
+use Rattle.law_server_bounds.proofs.SizeRows.{IsSmallVerdict, IsHeard}
 
 -- ---- codes
 

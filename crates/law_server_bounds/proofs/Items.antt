@@ -20,7 +20,7 @@ use Rattle.service_tl.specs.Schema.{rpc_result, new_session_created, bad_msg_not
 use Rattle.service_tl.specs.Words.{IsWords}
 use Rattle.containers.specs.Container.{begins_container, constructor}
 use Rattle.packing.specs.Numbering.{addition}
-use Rattle.law_server_sizes.specs.Small.{IsSmallItem}
+use Rattle.law_server_bounds.specs.Small.{IsSmallItem}
 
 joined : (x y : List ℕ) → IsWords x → IsWords y → IsWords (x ++ y)
 joined x y a b = omega (arith, length-append x y, a, b)

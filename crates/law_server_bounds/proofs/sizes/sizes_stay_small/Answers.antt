@@ -1,8 +1,8 @@
 use Rattle.server_rules.specs.Events.{begun_course}
-use Rattle.law_server_sizes.proofs.Courses.{Laws, event-kept, events-stand}
-use Rattle.law_server_sizes.proofs.laws.sizes_stay_small.Goals as goal
+use Rattle.law_server_bounds.proofs.Courses.{Laws, event-kept, events-stand}
+use Rattle.law_server_bounds.proofs.sizes.sizes_stay_small.Goals as goal
 
-module _ (g : Rattle.law_server_sizes.proofs.laws.sizes_stay_small.Given.Over) (c : goal.After-packets_have_all_messages g) where
+module _ (g : Rattle.law_server_bounds.proofs.sizes.sizes_stay_small.Given.Over) (c : goal.After-packets_have_all_messages g) where
   laws : Laws
   laws = record {
     sized = c.container_sizes.ensures.whole;
