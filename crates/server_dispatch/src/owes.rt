@@ -22,7 +22,7 @@ use crate::turn::Turn;
 use auth_keys::Ring;
 use draws::Draw;
 use msg_ids::Moment;
-use server_answers::Short;
+use crate::short::Short;
 use server_session::SessionState;
 use waits::Jobs;
 

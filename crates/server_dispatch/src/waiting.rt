@@ -9,7 +9,7 @@ ghost use Rattle.server_rules.specs.Event.{Speaker};
 ghost use Rattle.server_rules.specs.Server.{Binding};
 ghost use Rattle.server_rules.specs.Waiting.{gives_up};
 ghost use Rattle.law_server.specs.Order.{IsUnanswered};
-ghost use Rattle.server_answers.specs.Contents.{content_of, short_bytes_max};
+ghost use Rattle.server_dispatch.specs.Contents.{content_of, short_bytes_max};
 ghost use Rattle.server_output.specs.Items.{IsContent, result_bytes};
 ghost use Rattle.server_session.specs.SessionState.{Stands, replies_left};
 ghost use Rattle.server_session.specs.Says.{Keys, setting_of};
@@ -25,7 +25,8 @@ use auth_keys::Ring;
 use draws::Draw;
 use msg_ids::Moment;
 use octets::IdList;
-use server_answers::{Bytes, Short};
+use crate::short::Short;
+use outbox::Bytes;
 use server_session::SessionState;
 use waits::{Job, Jobs};
 

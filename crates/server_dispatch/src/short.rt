@@ -1,8 +1,10 @@
-//! The answers.
+//! The short answers that a server gives to calls and that are the same text each time, which takes no memory: the errors
+//! in place of running a call, `boolTrue` to a binding, and that a call was dropped while it was unfinished or isn't known
+//! (core.telegram.org/mtproto/service_messages, "RPC Error" and "Cancellation of an RPC Query").
 
 ghost use Rattle.std.specs.Prelude.{◌≡◌, ◌≤◌, ◌%◌, length};
 ghost use Rattle.service_tl.specs.Results.{is_good};
-ghost use Rattle.server_answers.specs.Contents.{content_of, short_bytes_max};
+ghost use Rattle.server_dispatch.specs.Contents.{content_of, short_bytes_max};
 
 use outbox::Bytes;
 

@@ -4,8 +4,8 @@ use Rattle.service_tl.specs.declared.item.Item.TheVariants.{RpcAnswerUnknown}
 use Rattle.service_tl.specs.Items.{spelling_of}
 use Rattle.server_rules.specs.Speaking as speaking
 use Rattle.server_rules.specs.Calls as calls
-use Rattle.server_answers.specs.declared.short.Short.{Short}
-use Rattle.server_answers.specs.declared.short.Short.TheVariants.{PackedBodyRefused, BadBody, EncryptedMessageInvalid, AuthKeyPermEmpty, JobsFull, MsgWaitFailed, MsgWaitTimeout, DroppedRunning, AnswerUnknown, BoolTrue}
+use Rattle.server_dispatch.specs.declared.short.Short.{Short}
+use Rattle.server_dispatch.specs.declared.short.Short.TheVariants.{PackedBodyRefused, BadBody, EncryptedMessageInvalid, AuthKeyPermEmpty, JobsFull, MsgWaitFailed, MsgWaitTimeout, DroppedRunning, AnswerUnknown, BoolTrue}
 
 -- its content
 abbrev pub content_of : Short → List ℕ
