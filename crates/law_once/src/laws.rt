@@ -83,7 +83,7 @@ pub fn worlds_only_grow<D: Draw, V>()
     ensures packets { (lock : Lock) (ring : List RingKey) (setting : Setting D V) (world : World D V) (event : Event)
         → AreLawfulPackets lock ring setting (after setting world event) → AreLawfulPackets lock ring setting world }
 {
-    law_server_lives::laws::sessions_draw_salts::<D>();
+    law_server::lives::sessions_draw_salts::<D>();
     law_server::laws::sessions_speak::<D>();
     law_server::laws::sessions_speak_for_themselves::<D>();
 }
@@ -130,7 +130,7 @@ pub fn worlds_are_moves<D: Draw, V>()
     law_server_bounds::sizes::sizes_stay_small::<D, V>();
     law_server_bounds::sizes::packets_are_whole::<D, V>();
     law_server::laws::servers_stay_in_order::<D, V>();
-    law_server_lives::laws::sessions_draw_salts::<D>();
+    law_server::lives::sessions_draw_salts::<D>();
     law_server::laws::sessions_speak::<D>();
     law_server::laws::sessions_speak_for_themselves::<D>();
     packets_of_worlds_are_lawful::<D, V>();
@@ -170,7 +170,7 @@ pub fn names_are_words_drawn<D: Draw, V>()
         → All (λ word. word ≢ 0) (next_words setting.step n draw) → AllPairs (λ word other. word ≢ other) (next_words setting.step n draw) → Fresh world }
 {
     law_server::laws::servers_stay_in_order::<D, V>();
-    law_server_lives::laws::sessions_draw_salts::<D>();
+    law_server::lives::sessions_draw_salts::<D>();
     law_server::laws::sessions_speak::<D>();
     law_server::laws::sessions_speak_for_themselves::<D>();
 }

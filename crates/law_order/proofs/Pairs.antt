@@ -17,7 +17,7 @@ use Rattle.inbox.specs.Judging.{judge, unfolded}
 use Rattle.inbox.specs.Refusals.{Way}
 use Rattle.server_rules.specs.Answer.{message_in, messages_judged}
 use Rattle.server_rules.specs.Server.{Session, remembered}
-use Rattle.law_server_lives.specs.Lives.{request_of}
+use Rattle.law_server.specs.Lives.{request_of}
 use Rattle.call_table.specs.Table.{Call, Name}
 use Rattle.client_rules.specs.Client.{calls_of}
 use Rattle.client_rules.specs.Filling.{body_behind}

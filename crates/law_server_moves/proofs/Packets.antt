@@ -23,7 +23,7 @@ use Rattle.inbox.specs.Judging.{Session as Remembered, first_mark, inner_judgeme
 use Rattle.waits.specs.Jobs.{Queue}
 use Rattle.server_rules.specs.Server.{Reply, Session, is_named, mark_after, marks_of, name_of, remembered, with_session}
 use Rattle.server_rules.specs.Answer.{messages_judged}
-use Rattle.law_server_lives.specs.Lives.{Acceptance, acceptance_by, acceptance_of, request_of}
+use Rattle.law_server.specs.Lives.{Acceptance, acceptance_by, acceptance_of, request_of}
 use Rattle.law_moves.specs.Table as moves
 use Rattle.law_moves.specs.World.{World, IsAccepted}
 use Rattle.law_moves.specs.Lawful.{MayDecide}

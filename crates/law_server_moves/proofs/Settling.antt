@@ -21,7 +21,7 @@ use Rattle.server_rules.specs.Rows.{destroys, owes, row, settles}
 use Rattle.law_server.specs.Order.{HasNoJob, IsGoingOn, IsMidway, IsMidwayAt, IsOrderlyAt, IsTold, IsUnanswered, jobs_of, opens_of}
 use Rattle.law_server.specs.Going.{open_by, open_only}
 use Rattle.law_server.specs.Speech.{SaidFor}
-use Rattle.law_server_lives.specs.Lives.{request_of}
+use Rattle.law_server.specs.Lives.{request_of}
 use Rattle.law_moves.specs.Table as moves
 use Rattle.law_moves.specs.Table.Outcome.{AcceptedCall}
 use Rattle.law_moves.specs.World.{World, WasGiven}

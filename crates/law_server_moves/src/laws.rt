@@ -19,7 +19,7 @@ ghost use Rattle.server_rules.specs.Rows.{acked_by, owes};
 ghost use Rattle.server_rules.specs.Speaking.{dropped, made_room};
 ghost use Rattle.server_rules.specs.Waiting.{Outlook, gives_up, told};
 ghost use Rattle.server_rules.specs.Answer.{after_loss, after_restart, attaches, begun, finishes, hears, message_in, messages_judged, name_in, opens, runs, session_for, takes_by, ticks, without_spent};
-ghost use Rattle.law_server_lives.specs.Lives.{acceptance_of};
+ghost use Rattle.law_server.specs.Lives.{acceptance_of};
 ghost use Rattle.law_moves.specs.Table as moves;
 ghost use Rattle.law_moves.specs.Table.{Message};
 ghost use Rattle.law_moves.specs.Table.Outcome.{AcceptedCall};
@@ -396,7 +396,7 @@ pub fn packets_are_taken_by_moves<D: Draw>()
     numbers_are_given_once();
     packing::laws::packets_have_all_messages();
     law_server::laws::new_sessions_say_so::<D>();
-    law_server_lives::laws::new_sessions_owe_little::<D>();
+    law_server::lives::new_sessions_owe_little::<D>();
 }
 
 /// What the server of a world does in an event is a list of lawful moves, after which the server behind the event stands
@@ -461,7 +461,7 @@ pub fn packets_of_worlds_are_moves<D: Draw, V>()
     law_server_bounds::sizes::what_is_owed_is_small::<D>();
     law_server_bounds::sizes::packets_are_whole::<D, V>();
     law_server::laws::new_sessions_say_so::<D>();
-    law_server_lives::laws::new_sessions_owe_little::<D>();
+    law_server::lives::new_sessions_owe_little::<D>();
 }
 
 /// What a server may judge of a packet that a client sent was sent there: the body of each message in it asks what the server
