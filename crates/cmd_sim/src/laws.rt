@@ -23,7 +23,7 @@ use envelope::laws::opens_what_it_sealed;
 use law_once::laws::{calls_execute_once, names_are_words_drawn};
 use law_order::laws::calls_run_in_order;
 use law_order::numbers::{notice_19_never_comes, numbers_are_given_once};
-use law_packet_parts::laws::locks_keep_sizes;
+use envelope::laws::locks_keep_sizes;
 use law_packets::bytes::bindings_are_bytes;
 use law_packets::laws::registers_give_replies;
 use mt_edge::{Sink, Source};

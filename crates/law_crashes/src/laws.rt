@@ -8,7 +8,7 @@ ghost use Rattle.envelope.specs.Packet.{Lock};
 ghost use Rattle.world_rules.specs.Setting.{Setting};
 ghost use Rattle.world_rules.specs.Premises.{Fresh, IsSealed, IsSound};
 ghost use Rattle.world_rules.specs.Once.{InOrder, Once};
-ghost use Rattle.law_packet_parts.specs.Sizes.{KeepsSizes};
+ghost use Rattle.envelope.specs.Sizes.{KeepsSizes};
 ghost use Rattle.law_once.specs.Standing.{HasMoves};
 ghost use Rattle.law_crashes.specs.Crashes.{Crashes, Step, created, goes_on, living_of};
 ghost use Rattle.law_crashes.specs.Reached.{IsOpened, IsReached, SeesRing, basis_of};

@@ -17,7 +17,7 @@ ghost use Rattle.world_rules.specs.World.{Packet, World, begins, bytes_of};
 ghost use Rattle.world_rules.specs.Premises.{Fresh, IsByNoChance, IsOfBytes, IsSealed, IsSound, NoChance, OpensOnly, names_drawn};
 ghost use Rattle.world_rules.specs.Once.{Once, ran_in};
 ghost use Rattle.world_rules.specs.Run.{after, run_of, run_of_any};
-ghost use Rattle.law_packet_parts.specs.Sizes.{KeepsSizes};
+ghost use Rattle.envelope.specs.Sizes.{KeepsSizes};
 ghost use Rattle.law_packets.specs.Lawful.{AreLawfulPackets, IsSealedPacket};
 ghost use Rattle.server_rules.specs.Events.{Attach};
 ghost use Rattle.server_rules.specs.Server.{Name};

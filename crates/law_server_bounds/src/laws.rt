@@ -101,7 +101,7 @@ pub fn packets_may_be_sealed<D: Draw, V>()
     containers::laws::parts_are_exact();
     packing::laws::packets_have_all_messages();
     msg_ids::laws::room_lasts();
-    law_packet_parts::laws::drawn_padding_is_lawful::<D>();
+    envelope::laws::drawn_padding_is_lawful::<D>();
     sessions_speak::<D>();
     sessions_have_room::<D, V>();
     replies_are_few::<D, V>();

@@ -21,14 +21,6 @@ bytes-take zero xs h = bytes-nil
 bytes-take (suc n) [] h = bytes-nil
 bytes-take (suc n) (x ∷ xs) h = bytes-cons x (take n xs) (h 0) (bytes-take n xs (λ i. h (suc i)))
 
-pub bytes-back : (xs ys : List ℕ) → IsBytes (xs ++ ys) → IsBytes ys
-bytes-back [] ys h = h
-bytes-back (x ∷ xs) ys h = bytes-back xs ys (λ i. h (suc i))
-
-pub bytes-front : (xs ys : List ℕ) → IsBytes (xs ++ ys) → IsBytes xs
-bytes-front [] ys h = bytes-nil
-bytes-front (x ∷ xs) ys h = bytes-cons x xs (h 0) (bytes-front xs ys (λ i. h (suc i)))
-
 byte-low : (i x : ℕ) → byte_at i x < 256
 byte-low zero x = mod-lt x (omega arith)
 byte-low (suc i) x = mod-lt (x / 256 ^ suc i) (omega arith)

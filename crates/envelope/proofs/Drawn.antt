@@ -7,7 +7,7 @@ use Rattle.byteorder.specs.Numbers.{length-bytes_low_first}
 use Rattle.octets.specs.Bytes.{IsBytes}
 use Rattle.draws.specs.Draws.{next_bytes, next_words, words_for}
 use Rattle.envelope.specs.Packet.{IsPadding, least_padding}
-use Rattle.law_packet_parts.proofs.Bytes.{bytes-append, bytes-nil, bytes-take, low-bytes}
+use Rattle.envelope.proofs.Bytes.{bytes-append, bytes-nil, bytes-take, low-bytes}
 
 module _ {S : Type 0} (step : S → ℕ × S) where
   words-bytes : (n : ℕ) (draw : S) → IsBytes (flat_map (to_le_bytes w64) (next_words step n draw))

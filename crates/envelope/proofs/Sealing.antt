@@ -8,8 +8,8 @@ use Rattle.auth_keys.specs.declared.ring.RingKey.{RingKey}
 use Rattle.envelope.specs.declared.parts.Dir.{Dir}
 use Rattle.envelope.specs.declared.parts.Envelope.{Envelope}
 use Rattle.envelope.specs.Packet.{IsEnvelope, IsPadding, Lock, Sealed, body_max, packet_of, plain_text}
-use Rattle.law_packet_parts.specs.Sizes.{KeepsSizes}
-use Rattle.law_packet_parts.proofs.Bytes.{bytes-append, low-bytes}
+use Rattle.envelope.specs.Sizes.{KeepsSizes}
+use Rattle.envelope.proofs.Bytes.{bytes-append, low-bytes}
 
 plain-length : (envelope : Envelope) (padding : List ℕ) → length (plain_text envelope padding) ≡ 32 + length envelope.body + length padding
 unfolding plain_text

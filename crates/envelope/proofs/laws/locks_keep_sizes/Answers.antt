@@ -1,7 +1,7 @@
 use Rattle.std.proofs.Common.{refl}
 use Rattle.msg_key.specs.Keys as keys
 use Rattle.envelope.specs.Lock.{x_of}
-use Rattle.law_packet_parts.proofs.laws.locks_keep_sizes.Goals as goal
+use Rattle.envelope.proofs.laws.locks_keep_sizes.Goals as goal
 
 pub returns-clause-protocol : goal.returns-clause-protocol
 returns-clause-protocol c =
