@@ -1,6 +1,7 @@
 //! Laws of the definitions, each the contract of a function that does nothing.
 
-ghost use Rattle.std.specs.Prelude.{◌≡◌, ◌≢◌, ◌≤◌, ◌+◌, ◌%◌, ℕ, List, Some, length};
+ghost use Rattle.std.specs.Prelude.{◌≡◌, ◌≢◌, ◌≤◌, ◌+◌, ◌-◌, ◌%◌, ℕ, List, Some, length};
+ghost use Rattle.octets.specs.Bytes.{IsBytes};
 ghost use Rattle.draws.specs.Draws.{next_bytes};
 ghost use Rattle.auth_keys.specs.Rings.{entry_of};
 ghost use Rattle.auth_keys.specs.declared.ring.RingKey.{RingKey};
@@ -8,9 +9,10 @@ ghost use Rattle.envelope.specs.declared.parts.Dir.{Dir};
 ghost use Rattle.envelope.specs.declared.parts.Envelope.{Envelope};
 ghost use Rattle.envelope.specs.declared.refusal.Refusal.{Refusal};
 ghost use Rattle.envelope.specs.Lawful.{OpensWhatItSealed};
-ghost use Rattle.envelope.specs.Lock.{clear_lock, mt_lock};
-ghost use Rattle.envelope.specs.Opening.{IsRefused, Opens};
+ghost use Rattle.envelope.specs.Lock.{LocksAgain, clear_lock, mt_lock};
+ghost use Rattle.envelope.specs.Opening.{HasPlain, IsRefused, Opens, key_named};
 ghost use Rattle.envelope.specs.Packet.{IsEnvelope, IsPadding, Lock, Sealed, body_max, block_bytes, least_padding, packet_max, packet_min, packet_of, padding_max, padding_min, plain_head};
+ghost use Rattle.envelope.specs.Reading.{IsWhole, envelope_in};
 ghost use Rattle.envelope.specs.Sizes.{KeepsSizes};
 
 use crate::cipher::{Cipher, ClearCipher, byte_laws};
@@ -80,3 +82,12 @@ pub fn lawful_parts_are_sealed()
         → entry_of envelope.key ring ≡ Some entry → IsEnvelope envelope → length envelope.body ≤ body_max → IsPadding (length envelope.body) padding
         → Sealed lock ring dir envelope padding (packet_of lock entry.key dir envelope padding) }
 {}
+
+/// A packet whose plain text is whole opens to the envelope that this text spells, under a lock that locks again what it unlocked.
+pub fn whole_plain_texts_open()
+    ensures { (lock : Lock) (ring : List RingKey) (now : ℕ) (dir : Dir) (packet plain : List ℕ) → LocksAgain lock → IsBytes packet → IsBytes plain
+        → length plain ≡ length packet - 24 → HasPlain lock ring now dir packet plain → IsWhole plain
+        → Opens lock ring now dir packet (envelope_in (key_named packet) plain) }
+{
+    byte_laws();
+}
