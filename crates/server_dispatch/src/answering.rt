@@ -18,11 +18,11 @@ ghost use Rattle.server_dispatch.specs.Speaks.{HasRoom, Speaks, Spends};
 
 use crate::bindings::Bindings;
 use crate::entries::Entry;
+use crate::short::Short;
 use crate::turn::Turn;
 use auth_keys::Ring;
 use draws::Draw;
 use msg_ids::Moment;
-use crate::short::Short;
 use outbox::Bytes;
 use server_session::SessionState;
 use service_tl::RPC_DROP_ANSWER;

@@ -14,10 +14,10 @@ ghost use Rattle.server_session.specs.SessionState.{Stands};
 ghost use Rattle.server_dispatch.specs.Action.{call_needed};
 
 use crate::bindings::Bindings;
+use crate::short::Short;
 use auth_keys::{KeyKind, Ring};
 use msg_ids::Moment;
 use octets::{IdList, Memory};
-use crate::short::Short;
 use outbox::Bytes;
 use server_session::{Outlook, SessionState};
 use service_tl::{GZIP_PACKED, constructor_of, is_service};

@@ -16,11 +16,11 @@ ghost use Rattle.server_session.specs.Says.{Keys, setting_of};
 ghost use Rattle.server_session.specs.Unsaid.{NoMoreUnsaid};
 ghost use Rattle.server_dispatch.specs.Speaks.{HasRoom, Speaks, Spends};
 
+use crate::short::Short;
 use crate::turn::Turn;
 use draws::Draw;
 use law_server::laws::speech_keeps_order;
 use msg_ids::Moment;
-use crate::short::Short;
 use server_session::SessionState;
 use waits::Jobs;
 
