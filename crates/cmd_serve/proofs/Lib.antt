@@ -1,4 +1,3 @@
-pub mod PlainTexts
 pub mod Opening
 pub mod Outsides
 pub mod Taking

@@ -15,8 +15,8 @@ use Rattle.sess_records.specs.Seen.{File}
 use Rattle.sess_records.specs.declared.fault.JournalFault.{JournalFault}
 use Rattle.sess_records.specs.declared.fault.JournalFault.TheVariants as causes
 use Rattle.sess_records.specs.declared.records.Record.{Record}
-use Rattle.sess_replay.specs.Files.{IsNoJournalAt}
-use Rattle.sess_replay.specs.Replay.{Bases, Basis, Reached, Replays, at_first}
+use Rattle.sess_journal.specs.Files.{IsNoJournalAt}
+use Rattle.sess_journal.specs.Replay.{Bases, Basis, Reached, Replays, at_first}
 use Rattle.cmd_serve.specs.Inner.{FoundIn, OpensFile, ShutsFile}
 use Rattle.cmd_serve.specs.Journals.{Drawing, Keeping, SeedsBy, basis_of, Faulty, Foreign, Cut, New, Old}
 

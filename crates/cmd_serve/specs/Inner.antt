@@ -18,7 +18,7 @@ use Rattle.sess_records.specs.Calls.{HasCause, IfNotJournal}
 use Rattle.sess_records.specs.Format.{Spells}
 use Rattle.sess_records.specs.declared.fault.JournalFault.{JournalFault}
 use Rattle.sess_records.specs.declared.fault.JournalFault.TheVariants as causes
-use Rattle.sess_replay.specs.Files.{IsNoJournalAt}
+use Rattle.sess_journal.specs.Files.{IsNoJournalAt}
 use Rattle.statuses.specs.Outside.{HadFault, IsUntouched, Outside, Part, Tells, Writes, WritesFront}
 use Rattle.statuses.specs.declared.status.Status.TheVariants as status
 use Rattle.statuses.specs.declared.status.Status.{Status}

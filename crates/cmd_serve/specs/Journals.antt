@@ -10,8 +10,8 @@ use Rattle.sess_journal.specs.Keeping.{ending}
 use Rattle.sess_journal.specs.Opening.{IsLawfulFile}
 use Rattle.sess_records.specs.declared.records.Record.{Record}
 use Rattle.sess_records.specs.Format.{Spells}
-use Rattle.sess_replay.specs.Files.{IsNoJournalAt}
-use Rattle.sess_replay.specs.Replay.{Basis, Reached, Replays, at_first}
+use Rattle.sess_journal.specs.Files.{IsNoJournalAt}
+use Rattle.sess_journal.specs.Replay.{Basis, Reached, Replays, at_first}
 
 -- What becomes of the file.
 pub data Keeping : Type 0 where

@@ -12,8 +12,8 @@ use envelope::{MtSeal, Seal};
 use msg_ids::Moment;
 use mt_edge::Clock;
 use sess_journal::Kept;
+use sess_journal::laws::records_lead_to_one_server;
 use sess_records::JournalFault;
-use sess_replay::laws::records_lead_to_one_server;
 use std::alloc::Global;
 
 /// The server of the journal that an open file has: of a new one, whose seed is four words of the draw, where the file is empty;

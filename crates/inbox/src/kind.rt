@@ -7,7 +7,8 @@ ghost use Rattle.inbox.specs.Kinds.{begins_call, calling_numbers, container_in, 
 use containers::{ContainerFault, Parts, is_container};
 use id_window::Mark;
 use service_tl::{
-    AUTH_BIND_TEMP_AUTH_KEY, GZIP_PACKED, INVOKE_AFTER_MSG, INVOKE_AFTER_MSGS, MSGS_ACK, constructor_of, is_service,
+    AUTH_BIND_TEMP_AUTH_KEY, GZIP_PACKED, INVOKE_AFTER_MSG, INVOKE_AFTER_MSGS, MSGS_ACK,
+    constructor_of, is_service,
 };
 
 /// What a message is for judging.

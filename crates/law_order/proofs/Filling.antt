@@ -24,8 +24,8 @@ use Rattle.service_tl.specs.Results.{is_good}
 use Rattle.client_rules.specs.Flush.{Marked, Flushed, asked_alone, binding_alone, filled, first_marked, flush, gone_again, has_any, marked_at, message_behind, remembers, remembers_lone, room_min, sends, unless_binding, unless_call}
 use Rattle.law_order.specs.Behind.{Last, LivesIn, WentBehind}
 use Rattle.law_order.specs.Going.{IsAnswerFrom, IsAskedBy, IsFrom, IsOfCall, IsPacketFrom, IsReady}
-use Rattle.law_client_moves.specs.Clients.{IsShort}
-use Rattle.law_client_moves.specs.Sent.{Asks, IsBindingCall, IsSaidAside}
+use Rattle.law_client.specs.Clients.{IsShort}
+use Rattle.law_client.specs.Sent.{Asks, IsBindingCall, IsSaidAside}
 use Rattle.tl_codec.specs.Standard.{longs_max}
 use Rattle.law_order.proofs.Following.{AreKept, Base, again-follows, changed-last, changed-turn, flagged-follows, nothing-last, queued-open, raised, raised-lives, sent-follows, settled-follows}
 use Rattle.law_order.proofs.Lists.{all-append, all-weaker, here, none-some, some-same, true-false}

@@ -14,7 +14,7 @@ use Rattle.call_table.specs.Table.{Call, Name, at}
 use Rattle.client_rules.specs.Client.{Client, calls_of}
 use Rattle.law_moves.specs.Table as moves
 use Rattle.law_moves.specs.World.{World as Moved}
-use Rattle.law_client_moves.specs.Sent.{IsPacketSent}
+use Rattle.law_client.specs.Sent.{IsPacketSent}
 use Rattle.law_server_moves.specs.Servers.{IsPacketUp}
 use Rattle.law_order.specs.After.{HasRun, Pair, is_run, is_run_well}
 use Rattle.law_order.specs.Behind.{GoesBehind, HasName, IsBehind, IsInTurn, KeepsTurn, WentBehind}

@@ -118,6 +118,6 @@ pub fn runs_execute_once<D: Draw>()
     clients_are_left::<D>();
     servers_are_left::<D>();
     envelope::laws::opens_what_it_sealed::<MtSeal>();
-    law_packet_parts::laws::locks_keep_sizes();
+    envelope::laws::locks_keep_sizes();
     law_connections::laws::connections_execute_once::<D, Regs>();
 }

@@ -9,15 +9,16 @@ ghost use Rattle.temp_keys.specs.Checking.{is_temporary};
 ghost use Rattle.server_rules.specs.Server.{Session};
 ghost use Rattle.server_rules.specs.Waiting.{outlook};
 ghost use Rattle.server_rules.specs.Calls.{each_once, is_bound, is_in_vain, is_over, query_refusal};
-ghost use Rattle.server_answers.specs.Contents.{content_of};
+ghost use Rattle.server_dispatch.specs.Contents.{content_of};
 ghost use Rattle.server_session.specs.SessionState.{Stands};
 ghost use Rattle.server_dispatch.specs.Action.{call_needed};
 
 use crate::bindings::Bindings;
+use crate::short::Short;
 use auth_keys::{KeyKind, Ring};
 use msg_ids::Moment;
 use octets::{IdList, Memory};
-use server_answers::{Bytes, Short};
+use outbox::Bytes;
 use server_session::{Outlook, SessionState};
 use service_tl::{GZIP_PACKED, constructor_of, is_service};
 use std::alloc::Global;

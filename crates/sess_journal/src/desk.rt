@@ -13,7 +13,7 @@ ghost use Rattle.server_session.specs.Says.{Keys, setting_of};
 ghost use Rattle.server_core.specs.Desks.{Does, DoesNothing};
 ghost use Rattle.server_core.specs.Packets.{IsHeardOf, brought_in, effects_in};
 ghost use Rattle.sess_journal.specs.Keeping.{ByHeard, GivesNothing, HasCounted, IfNothingDone, IsRecorded, IsSameDisk, Journals, KeepsFor, OfDisks, Refuses, entry_at};
-ghost use Rattle.sess_replay.specs.Replay.{bases_of};
+ghost use Rattle.sess_journal.specs.Replay.{bases_of};
 
 use crate::kept::Kept;
 use crate::recorded::Recorded;

@@ -6,7 +6,7 @@ ghost use Rattle.sess_records.specs.declared.records.Event.TheVariants.{Packet, 
 ghost use Rattle.sess_records.specs.Format.{IsRecord};
 ghost use Rattle.sess_journal.specs.declared.played.PlayFault.TheVariants as faults;
 ghost use Rattle.sess_journal.specs.Playing.{IsReady, Leads, StandsAt, basis_for};
-ghost use Rattle.sess_replay.specs.Replay.{IsLawful, LeadsTo, Plays, Reached, after_reply, at_first, bases_of, reached_by, setting_at};
+ghost use Rattle.sess_journal.specs.Replay.{IsLawful, LeadsTo, Plays, Reached, after_reply, at_first, bases_of, reached_by, setting_at};
 
 use crate::recorded::Recorded;
 use draws::laws::seeded_draws_go_on;

@@ -10,7 +10,7 @@ ghost use Rattle.server_session.specs.Says.{Keys, setting_of};
 ghost use Rattle.server_core.specs.declared.desk.DeskFault.TheVariants as faults;
 ghost use Rattle.server_core.specs.Desks.{Does};
 ghost use Rattle.sess_journal.specs.Keeping.{HasBegun, HasCounted, IfNothingDone, IsAfterBegin, IsSameDisk, Journals, KeepsFor, OfDisks, Refuses, entry_at, reply_at};
-ghost use Rattle.sess_replay.specs.Replay.{bases_of};
+ghost use Rattle.sess_journal.specs.Replay.{bases_of};
 
 use crate::kept::Kept;
 use crate::staging::{events_begin, is_early};

@@ -1,5 +1,5 @@
 use Rattle.sess_journal.specs.Keeping.{Seen, StandsFor}
-use Rattle.sess_replay.specs.Replay.{Bases, bases_of}
+use Rattle.sess_journal.specs.Replay.{Bases, bases_of}
 use Rattle.cmd_serve.proofs.Noting.{left-noted}
 use Rattle.cmd_serve.proofs.journaled.JournaledDesk.work.Goals as goal
 
