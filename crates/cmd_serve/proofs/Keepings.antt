@@ -15,7 +15,7 @@ use Rattle.statuses.specs.Outside.{HadFault, Outside, Part}
 use Rattle.statuses.specs.declared.status.Status.{Status}
 use Rattle.cmd_serve.specs.Connections.{Between, behind_all}
 use Rattle.cmd_serve.specs.Inner.{CountsFile, CountsFileBy, EndsBecause, FoundIn, GoesFrom, IsBecause, IsBegun, OpensFile, RunsWith, ServesKept, ShutsFile, UnlessBroken, first_kept, served_in}
-use Rattle.cmd_serve.specs.Journals.{AsksFor, Drawing, FoundBy, Holds, IsOpen, IsShut, Keeping, LeavesBy, SpellsServer, StartsBy, Unopened, Faulty, Foreign, Cut, New, Old}
+use Rattle.cmd_serve.specs.Journals.{AsksFor, Drawing, FoundBy, Holds, HoldsSome, IsFilled, IsOpen, IsShut, Keeping, LeavesBy, SpellsServer, StartsBy, Unopened, Faulty, Foreign, Cut, New, Old}
 use Rattle.cmd_serve.specs.Runs.{CountsBy, CountsDisks, CountsKept, Course, Draws, Unread, Refused, Unbegun, Shut, Deaf, Mute, Serves, Ends, EndsShut, FailsNever, FailsOnce, GoesBy, IfTold, JournalsBy, Opens, Registers}
 use Rattle.cmd_serve.specs.declared.ending.Ending.{Ending}
 use Rattle.cmd_serve.specs.declared.ending.Ending.TheVariants.{Served, Stopped, NotTaken, Journal, Full, Memory}
@@ -125,6 +125,7 @@ module _ {D : Type 0} (drawing : Drawing D) (ring : List RingKey) (name : List �
         });
     counts = once;
     ends = ends;
+    full = λ none. absurd none;
   }
 
 -- ---- no server comes of it
@@ -326,6 +327,7 @@ module _ {N O D K E : Type 0} (drawing : Drawing D) (options : ServeOptions) (ri
             });
         counts = shut-counts D disks ring back.1 shuts.keeping (faults disk) (faults back.0) (disks.faults between) shuts.cause none_yet shuts.counted never done;
         ends = shut-ends out back.1 shuts.keeping one shuts.cause ends;
+        full = λ none. absurd none;
       }
 
   pub with-kept : (desk : Seen E (List RingKey) D) (back : E × Status) (net : Part (List NetCall) N) (out : Outside O) (given_last : Option (List ℕ))
@@ -367,4 +369,8 @@ module _ {N O D K E : Type 0} (drawing : Drawing D) (options : ServeOptions) (ri
             open-leaves drawing ring name opened.keeping server last found left before after opened.opened (of-told (told back.0) left (λ file. SpellsServer drawing ring server last file.contents) also own_spells) passed)));
         counts = kept-counts disks (faults disk) (faults back.0) (disks.faults between) none_yet never done opened.keeping serves.course opened.opened counted;
         ends = ends-any options out ring opened.keeping serves.course back.1 own serves.ends;
+        full = λ is. subst (λ (journal : Option (List ℕ)). IfSome journal (λ some. IfTold disks (λ before after. HoldsSome some IsFilled after))) (sym named)
+            (passes-told name (told disk) (told back.0) (place disk) (place back.0) (disks.told disks.before) (disks.told between) (disks.told disks.after) (λ before after. HoldsSome name IsFilled after) same opens closes
+            (λ found left before after there also passed.
+            record { bytes = left.contents; holds = passed.left_is; says = of-told (told back.0) left (λ file. IsFilled file.contents) also (serves.full is) }));
       }

@@ -1,5 +1,5 @@
 -- What is served with the server of a journal.
-use Rattle.std.proofs.Common.{◌≡◌, ◌⊎◌, inl, inr, ℕ, Bool, List, ◌++◌, Option, None, Some, IfSome, IsSomeAnd, refl, sym, ap, subst, ◌∙◌}
+use Rattle.std.proofs.Common.{◌≡◌, ◌⊎◌, inl, inr, ℕ, ◌<◌, ◌+◌, Bool, true, false, List, ◌++◌, Option, None, Some, IfSome, IsSomeAnd, refl, sym, ap, subst, ◌∙◌}
 use Rattle.auth_keys.specs.declared.ring.RingKey.{RingKey}
 use Rattle.commands.specs.declared.command.ServeOptions.{ServeOptions}
 use Rattle.disks.specs.Told.{DiskTold}
@@ -15,11 +15,11 @@ use Rattle.server_rules.specs.Server.{Server}
 use Rattle.statuses.specs.Outside.{Outside, Part}
 use Rattle.statuses.specs.declared.status.Status.{Status}
 use Rattle.cmd_serve.specs.Connections.{AreNotedBy, Between, Connection, CountsEnding, behind_all}
-use Rattle.cmd_serve.specs.Inner.{CountsDeskBy, CountsFileBy, EndsBehind, Hears, IsDeaf, IsMute, LeavesDesk, ServesKept, ServesOn, UnlessBroken, ending_with, first_kept}
-use Rattle.cmd_serve.specs.Journals.{Drawing, SpellsServer, basis_of}
+use Rattle.cmd_serve.specs.Inner.{CountsDeskBy, CountsFileBy, EndsBehind, HasNoRoom, Hears, IsDeaf, IsMute, LeavesDesk, ServesKept, ServesOn, UnlessBroken, ending_with, first_kept}
+use Rattle.cmd_serve.specs.Journals.{Drawing, IsFilled, SpellsServer, basis_of}
 use Rattle.cmd_serve.specs.Lines.{last_line}
 use Rattle.cmd_serve.specs.Packets.{outside_of}
-use Rattle.cmd_serve.specs.Runs.{Deaf, Mute, Serves, Registers}
+use Rattle.cmd_serve.specs.Runs.{Deaf, IsFull, Mute, Serves, Registers}
 use Rattle.cmd_serve.specs.declared.ending.Ending.{Ending}
 use Rattle.cmd_serve.specs.declared.ending.Ending.TheVariants.{Served, Stopped, NotTaken, Journal, Full, Memory}
 use Rattle.cmd_serve.proofs.ServingLemmas.{ends-all, line-behind, served-with, with-full}
@@ -96,6 +96,35 @@ module _ {K D : Type 0} (drawing : Drawing D) (told : K → Option DiskTold) whe
     spells-last desk back connections Full last own there drawn leaves = spells-now desk back last own there drawn leaves
     spells-last desk back connections Memory last own there drawn leaves = spells-now desk back last own there drawn leaves
 
+  -- a full journal's file is filled
+  filled-file : (desk : Seen K (List RingKey) D) (server : Server) (back : K) → StandsFor (λ (own : List RingKey) (seed : List ℕ). basis_of drawing own seed) told desk server → Some back ≡ disk_in desk.book
+      → HasNoRoom desk.book.journal → IfSome (told back) (λ file. IsFilled file.contents)
+  filled-file desk server back stands there room =
+      let entries = stands.0 in
+      let recorded = stands.1.recorded in
+      let same : recorded.file.disk ≡ back = same-file desk.book.journal desk.book.lost recorded.file back recorded.opened there in
+      let holds : IfSome (told back) (λ file. Settled recorded.file.seed entries recorded.file.len file) =
+      subst (λ (disk : K). IfSome (told disk) (λ file. Settled recorded.file.seed entries recorded.file.len file)) same recorded.holds in
+      let long : HasNoRoom (Some recorded.file) = subst (λ (journal : Option (File K)). HasNoRoom journal) recorded.opened room in
+      if-told (told back) (λ file. Settled recorded.file.seed entries recorded.file.len file) (λ file. IsFilled file.contents)
+      (λ file settled. subst (λ (len : ℕ). 268435456 < len + 1048598) settled.whole long) holds
+
+  full-last : (ring : List RingKey) (desk : Seen K (List RingKey) D) (back : K) (before after : ℕ) (connections : List (Connection D Registers)) (full : Bool) (ending : Ending) (last : Between D Registers)
+      → Some back ≡ disk_in desk.book → LeavesDesk ending (StandsFor (λ (own : List RingKey) (seed : List ℕ). basis_of drawing own seed) told desk) last.server → CountsDeskBy ending before after
+      → (full ≡ true → HasNoRoom desk.book.journal) → IsFull (Serves ring connections (ending_with full ending)) → IfSome (told back) (λ file. IsFilled file.contents)
+  full-last ring desk back before after connections true Memory last there leaves counted room is = filled-file desk last.server back leaves there (room refl)
+  full-last ring desk back before after connections false Memory last there leaves counted room is = absurd is
+  full-last ring desk back before after connections true Served last there leaves counted room is = absurd is
+  full-last ring desk back before after connections false Served last there leaves counted room is = absurd is
+  full-last ring desk back before after connections true Stopped last there leaves counted room is = absurd is
+  full-last ring desk back before after connections false Stopped last there leaves counted room is = absurd is
+  full-last ring desk back before after connections true NotTaken last there leaves counted room is = absurd is
+  full-last ring desk back before after connections false NotTaken last there leaves counted room is = absurd is
+  full-last ring desk back before after connections true Journal last there leaves counted room is = absurd is
+  full-last ring desk back before after connections false Journal last there leaves counted room is = absurd is
+  full-last ring desk back before after connections true Full last there leaves counted room is = absurd counted
+  full-last ring desk back before after connections false Full last there leaves counted room is = absurd counted
+
   module _ {N O : Type 0} (options : ServeOptions) (ring : List RingKey) (place faults : K → ℕ) (law : Spelling) where
     -- connections can't be taken, or the first line isn't written
     pub kept-not : (desk : Seen K (List RingKey) D) (server : Server) (back : K) (net : Part (List NetCall) N) (out : Outside O) (given : Option (List ℕ)) (one : Status)
@@ -111,6 +140,7 @@ module _ {K D : Type 0} (drawing : Drawing D) (told : K → Option DiskTold) whe
       same_place = place-back place (disk_in desk.book) back there;
       counted = count-back faults (disk_in desk.book) back there;
       ends = deaf.ends;
+      full = λ none. absurd none;
     }
     kept-not desk server back net out given one own stands there (inr mute) = record {
       course = Mute ring;
@@ -121,6 +151,7 @@ module _ {K D : Type 0} (drawing : Drawing D) (told : K → Option DiskTold) whe
       same_place = place-back place (disk_in desk.book) back there;
       counted = count-back faults (disk_in desk.book) back there;
       ends = mute.ends;
+      full = λ none. absurd none;
     }
 
     -- connections are served
@@ -132,10 +163,10 @@ module _ {K D : Type 0} (drawing : Drawing D) (told : K → Option DiskTold) whe
         (record { told = calls; faults = counts; before = between; after = net_then }) given_then (StandsFor (λ (own : List RingKey) (seed : List ℕ). basis_of drawing own seed) told desk_then) desk_then.draw ending
         → CountsDeskBy ending (count_of faults (disk_in desk.book)) (count_of faults (disk_in desk_then.book))
         → place_by place (disk_in desk_then.book) ≡ place_by place (disk_in desk.book)
-        → text ≡ last_line options.conns Served → EndsBehind text (record { told = writes; faults = counts_out; before = amid; after = out_then }) (ending_with full ending) one
+        → text ≡ last_line options.conns Served → EndsBehind text (record { told = writes; faults = counts_out; before = amid; after = out_then }) (ending_with full ending) one → (full ≡ true → HasNoRoom desk_then.book.journal)
         → ServesKept drawing options ring told place faults (first_kept options given server desk.draw) (place_by place (disk_in desk.book)) (count_of faults (disk_in desk.book))
         (record { told = calls; faults = counts; before = net; after = net_then }) (record { told = writes; faults = counts_out; before = out; after = out_then }) given_then (back, one)
-    kept-serves desk desk_then server back calls counts net between net_then writes counts_out out amid out_then given given_then full ending text one own there hears serves counted same is ends =
+    kept-serves desk desk_then server back calls counts net between net_then writes counts_out out amid out_then given given_then full ending text one own there hears serves counted same is ends filled =
         let first : Between D Registers = first_kept options given server desk.draw in
         let last : Between D Registers = behind_all first serves.connections in
         let are = served-with (rules_of drawing.step registers.step (outside_of ring)) first options.conns given_then desk_then.draw serves.connections full ending serves.are in
@@ -153,4 +184,5 @@ module _ {K D : Type 0} (drawing : Drawing D) (told : K → Option DiskTold) whe
               (with-full (λ (some : Ending). CountsFileBy some (count_of faults (disk_in desk.book)) (count_of faults (disk_in desk_then.book))) full ending (λ so. so) (file-by ending _ _ counted));
           ends = ends-all options writes counts_out out amid out_then one hears.written (ending_with full ending)
               (line-behind (record { told = writes; faults = counts_out; before = amid; after = out_then }) (ending_with full ending) one text (last_line options.conns Served) is ends);
+          full = full-last ring desk_then back (count_of faults (disk_in desk.book)) (count_of faults (disk_in desk_then.book)) serves.connections full ending last there serves.leaves counted filled;
         }

@@ -1,5 +1,5 @@
 -- What is served with a desk, and the lines about it, as a run.
-use Rattle.std.proofs.Common.{◌≡◌, ◌⊎◌, inl, inr, ℕ, Bool, true, false, List, [], ◌∷◌, ◌++◌, Option, None, refl, sym, subst, ◌∙◌, arith}
+use Rattle.std.proofs.Common.{◌≡◌, ◌⊎◌, inl, inr, ℕ, Bool, true, false, List, [], ◌∷◌, ◌++◌, Option, None, IfSome, refl, sym, subst, ◌∙◌, arith}
 use Rattle.auth_keys.specs.declared.ring.RingKey.{RingKey}
 use Rattle.commands.specs.declared.command.ServeOptions.{ServeOptions}
 use Rattle.disks.specs.Named.{NamesTold}
@@ -13,10 +13,10 @@ use Rattle.statuses.specs.declared.status.Status.{Status}
 use Rattle.statuses.specs.declared.status.Status.TheVariants as status
 use Rattle.cmd_serve.specs.Connections.{Between, Connection, EndsBy}
 use Rattle.cmd_serve.specs.Inner.{CountsDeskBy, EndsBehind, Hears, IsBegun, IsBehindAll, IsDeaf, IsMute, IsWith, LeavesDesk, RunsAlone, RunsWith, ServesOn, Side, ending_with}
-use Rattle.cmd_serve.specs.Journals.{Drawing, Unopened}
+use Rattle.cmd_serve.specs.Journals.{Drawing, HoldsSome, IsFilled, Unopened}
 use Rattle.cmd_serve.specs.Lines.{journal_fault, last_line, listening, not_listening}
 use Rattle.cmd_serve.specs.Packets.{outside_of}
-use Rattle.cmd_serve.specs.Runs.{Course, Draws, Unread, Refused, Unbegun, Shut, Deaf, Mute, Serves, EndsServing, GoesBy, IsBroken, IsServed, Moments, Registers, WritesFirst, first_of}
+use Rattle.cmd_serve.specs.Runs.{Course, Draws, Unread, Refused, Unbegun, Shut, Deaf, Mute, Serves, EndsServing, GoesBy, IfTold, IsBroken, IsServed, Moments, Registers, WritesFirst, first_of}
 use Rattle.cmd_serve.specs.declared.ending.Ending.{Ending}
 use Rattle.cmd_serve.specs.declared.ending.Ending.TheVariants.{Served, Stopped, NotTaken, Journal, Full, Memory}
 use Rattle.cmd_serve.proofs.Texts.{first-line, first-line-alone, tells-lines}
@@ -183,6 +183,7 @@ with-alone drawing options ring net out moments draws tells counts disks one non
       (refl, runs.serves, runs.whole);
   counts = refl;
   ends = runs.ends;
+  full = λ is. subst (λ (journal : Option (List ℕ)). IfSome journal (λ name. IfTold (record { told = tells; faults = counts; before = disks; after = disks }) (λ before after. HoldsSome name IsFilled after))) (sym none) tt;
 }
 
 pub with-none : {N O D K : Type 0} (drawing : Drawing D) (options : ServeOptions) (ring : List RingKey) (told : N → Option (List NetCall)) (faulted : N → ℕ) (net : N) (writes : O → Option (List ℕ)) (counts_out : O → ℕ) (out : O) (given : Option (List ℕ)) (draw : D)
@@ -196,4 +197,5 @@ with-none drawing options ring told faulted net writes counts_out out given draw
   goes = idle-unbegun drawing options options.journal tells counts disks given draw;
   counts = refl;
   ends = (refl, refl);
+  full = λ none. absurd none;
 }

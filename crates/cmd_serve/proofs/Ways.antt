@@ -18,7 +18,7 @@ use Rattle.statuses.specs.declared.status.Status.{Status}
 use Rattle.statuses.specs.declared.status.Status.TheVariants as status
 use Rattle.cmd_serve.specs.Connections.{AreNoted, AreNotedBy, Connection, CountsEnding, EndsBy}
 use Rattle.cmd_serve.specs.Inner.{IsWith, RunsWith}
-use Rattle.cmd_serve.specs.Journals.{Drawing, IsOpen, Keeping, Unopened, Faulty, Foreign, Cut, New, Old}
+use Rattle.cmd_serve.specs.Journals.{Drawing, HoldsSome, IsFilled, IsOpen, Keeping, Unopened, Faulty, Foreign, Cut, New, Old}
 use Rattle.cmd_serve.specs.Lines.{listening}
 use Rattle.cmd_serve.specs.Runs.{Calls, CountsDisks, CountsFiles, CountsNet, Course, Draws, Unread, Refused, Unbegun, Shut, Deaf, Mute, Serves, Ends, EndsShut, FailsNever, FailsOnce, GoesBy, HasKeys, IfTold, IsFull, Makes, Moments, Reads, Registers, ServeRun, WritesFirst}
 use Rattle.cmd_serve.specs.declared.ending.Ending.{Ending}
@@ -445,8 +445,9 @@ first-called (Some first) (Some last) P W written made = λ more. written made.0
 
 pub run-of : {F N O D K : Type 0} (drawing : Drawing D) (options : ServeOptions) (files : Part FilesTold F) (net : Part (List NetCall) N) (out : Outside O) (moments : Moments) (draws : Draws D) (disks : Part NamesTold K) (one : Status) (course : Course D) (keeping : Keeping)
     → Reads options.keys files course → Calls options.port net course → GoesBy drawing options options.journal disks moments draws keeping course → CountsDisks disks keeping course → Ends options out keeping course one
+    → (IsFull course → IfSome options.journal (λ name. IfTold disks (λ before after. HoldsSome name IsFilled after)))
     → ServeRun drawing options files net out moments draws disks one
-run-of drawing options files net out moments draws disks one course keeping reads calls goes counts ends = record {
+run-of drawing options files net out moments draws disks one course keeping reads calls goes counts ends full = record {
   course = course;
   keeping = keeping;
   reads = reads;
@@ -454,6 +455,7 @@ run-of drawing options files net out moments draws disks one course keeping read
   serves = goes;
   counts = counts;
   ends = ends;
+  full = full;
   few = few-calls (net.told net.before) (net.told net.after) (1 + options.conns) (Makes options.port course) (λ made is. few-made drawing options disks moments draws keeping course made is goes) calls.made;
   first_line = first-called (net.told net.before) (net.told net.after) (Makes options.port course) (WritesFirst out (listening options.port)) (λ made is. first-made options out keeping course one made is ends) calls.made;
   write_fault = write-fault options out keeping course one ends;
@@ -481,7 +483,7 @@ pub run-with : {F N O D K : Type 0} (drawing : Drawing D) (options : ServeOption
     → OneReading → GivesBy (files.told files.before) options.keys (Ok ring) → IfTold files (AsksOnce options.keys) → FailsNever files → RunsWith drawing options ring net out moments draws disks one
     → ServeRun drawing options files net out moments draws disks one
 run-with drawing options files net out moments draws disks one ring reading has asked never runs =
-    run-of drawing options files net out moments draws disks one runs.course runs.keeping (reads-with options.keys files ring runs.course reading runs.own has asked never) runs.calls runs.goes runs.counts runs.ends
+    run-of drawing options files net out moments draws disks one runs.course runs.keeping (reads-with options.keys files ring runs.course reading runs.own has asked never) runs.calls runs.goes runs.counts runs.ends runs.full
 
 -- before the ring is there nothing else is done
 pub idle-unread : {D K : Type 0} (drawing : Drawing D) (options : ServeOptions) (journal : Option (List ℕ)) (told : K → Option NamesTold) (faults : K → ℕ) (disks : K) (given : Option (List ℕ)) (draw : D)
@@ -504,18 +506,18 @@ pub run-unread : {F N O D K : Type 0} (drawing : Drawing D) (options : ServeOpti
     → ServeRun drawing options files (record { told = told; faults = faults; before = net; after = net }) out (record { before = given; after = given }) (record { before = draw; after = draw }) (record { told = tells; faults = counts; before = disks; after = disks }) one
 run-unread {F} {N} {O} {D} {K} drawing options files told faults net out given draw tells counts disks one asked once ends =
     run-of drawing options files (record { told = told; faults = faults; before = net; after = net }) out (record { before = given; after = given }) (record { before = draw; after = draw }) (record { told = tells; faults = counts; before = disks; after = disks }) one Unread Unopened
-    (reads-unread {D = D} options.keys files asked once) (calls-unread {D = D} options.port told faults net) (idle-unread drawing options options.journal tells counts disks given draw) refl ends
+    (reads-unread {D = D} options.keys files asked once) (calls-unread {D = D} options.port told faults net) (idle-unread drawing options options.journal tells counts disks given draw) refl ends (λ none. absurd none)
 
 pub run-refused : {F N O D K : Type 0} (drawing : Drawing D) (options : ServeOptions) (files : Part FilesTold F) (told : N → Option (List NetCall)) (faults : N → ℕ) (net : N) (out : Outside O) (given : Option (List ℕ)) (draw : D) (tells : K → Option NamesTold) (counts : K → ℕ) (disks : K) (one : Status) (line : ℕ)
     → OneReading → HasText (files.told files.before) options.keys (λ text. IsRefusedAt text line) → IfTold files (AsksOnce options.keys) → FailsNever files → Ends {D = D} {O = O} options out Unopened (Refused line) one
     → ServeRun drawing options files (record { told = told; faults = faults; before = net; after = net }) out (record { before = given; after = given }) (record { before = draw; after = draw }) (record { told = tells; faults = counts; before = disks; after = disks }) one
 run-refused {F} {N} {O} {D} {K} drawing options files told faults net out given draw tells counts disks one line reading has asked never ends =
     run-of drawing options files (record { told = told; faults = faults; before = net; after = net }) out (record { before = given; after = given }) (record { before = draw; after = draw }) (record { told = tells; faults = counts; before = disks; after = disks }) one (Refused line) Unopened
-    (reads-refused {D = D} options.keys files line reading has asked never) (calls-refused {D = D} options.port line told faults net) (idle-refused drawing options options.journal tells counts disks given draw line) refl ends
+    (reads-refused {D = D} options.keys files line reading has asked never) (calls-refused {D = D} options.port line told faults net) (idle-refused drawing options options.journal tells counts disks given draw line) refl ends (λ none. absurd none)
 
 pub run-unbegun : {F N O D K : Type 0} (drawing : Drawing D) (options : ServeOptions) (files : Part FilesTold F) (told : N → Option (List NetCall)) (faults : N → ℕ) (net : N) (out : Outside O) (given : Option (List ℕ)) (draw : D) (tells : K → Option NamesTold) (counts : K → ℕ) (disks : K) (one : Status)
     → IfTold files (AsksOnce options.keys) → FailsNever files → Ends {D = D} {O = O} options out Unopened Unbegun one
     → ServeRun drawing options files (record { told = told; faults = faults; before = net; after = net }) out (record { before = given; after = given }) (record { before = draw; after = draw }) (record { told = tells; faults = counts; before = disks; after = disks }) one
 run-unbegun {F} {N} {O} {D} {K} drawing options files told faults net out given draw tells counts disks one asked never ends =
     run-of drawing options files (record { told = told; faults = faults; before = net; after = net }) out (record { before = given; after = given }) (record { before = draw; after = draw }) (record { told = tells; faults = counts; before = disks; after = disks }) one Unbegun Unopened
-    (reads-unbegun {D = D} options.keys files asked never) (calls-none {D = D} options.port told faults net) (idle-unbegun drawing options options.journal tells counts disks given draw) refl ends
+    (reads-unbegun {D = D} options.keys files asked never) (calls-none {D = D} options.port told faults net) (idle-unbegun drawing options options.journal tells counts disks given draw) refl ends (λ none. absurd none)

@@ -1,5 +1,5 @@
 -- What the private parts of a run do: scaffolding of proofs, and no promise.
-use Rattle.std.specs.Prelude.{◌≡◌, ◌≢◌, ℕ, Bool, true, false, List, ◌∷◌, [], ◌++◌, codes, length, Option, Some, None, IfSome, IsSome, IsSomeAnd, ⊤}
+use Rattle.std.specs.Prelude.{◌≡◌, ◌≢◌, ◌<◌, ◌+◌, ℕ, Bool, true, false, List, ◌∷◌, [], ◌++◌, codes, length, Option, Some, None, IfSome, IsSome, IsSomeAnd, ⊤}
 use Rattle.auth_keys.specs.declared.ring.RingKey.{RingKey}
 use Rattle.mt_edge.specs.Faults.{Rose, one_more}
 use Rattle.mt_edge.specs.declared.act.Act.TheVariants.{Ready, Failed as NotReady}
@@ -16,6 +16,7 @@ use Rattle.server_rules.specs.Server.{Server}
 use Rattle.sess_journal.specs.Keeping.{Seen, StandsFor, count_of, disk_in, place_by}
 use Rattle.sess_records.specs.Calls.{HasCause, IfNotJournal}
 use Rattle.sess_records.specs.Format.{Spells}
+use Rattle.sess_records.specs.Seen.{File}
 use Rattle.sess_records.specs.declared.fault.JournalFault.{JournalFault}
 use Rattle.sess_records.specs.declared.fault.JournalFault.TheVariants as causes
 use Rattle.sess_journal.specs.Files.{IsNoJournalAt}
@@ -30,8 +31,8 @@ use Rattle.server_node.specs.declared.conn.ConnEnd.TheVariants as ends
 use Rattle.cmd_serve.specs.Connections.{AllGoOn, AreConnections, AreNoted, AreNotedBy, Between, Connection, CountsEnding, EndsBy, IsConnection, IsNoted, behind_all}
 use Rattle.cmd_serve.specs.Lines.{journal_fault, listening, not_listening}
 use Rattle.cmd_serve.specs.Packets.{outside_of}
-use Rattle.cmd_serve.specs.Journals.{AsksClock, Drawing, IsOpen, IsUnlawful, Keeping, SeedsBy, SpellsServer, StartsBy, basis_of, Unopened, Faulty, Foreign, Cut, New, Old}
-use Rattle.cmd_serve.specs.Runs.{Calls, CountsDisks, Course, Unread, Refused, Unbegun, Shut, Deaf, Mute, Serves, Draws, Ends, FailsNever, FailsOnce, GoesBy, IfTold, IsBroken, IsServed, Moments, Registers, ServesBy}
+use Rattle.cmd_serve.specs.Journals.{AsksClock, Drawing, HoldsSome, IsFilled, IsOpen, IsUnlawful, Keeping, SeedsBy, SpellsServer, StartsBy, basis_of, Unopened, Faulty, Foreign, Cut, New, Old}
+use Rattle.cmd_serve.specs.Runs.{Calls, CountsDisks, Course, Unread, Refused, Unbegun, Shut, Deaf, Mute, Serves, Draws, Ends, FailsNever, FailsOnce, GoesBy, IfTold, IsBroken, IsFull, IsServed, Moments, Registers, ServesBy}
 use Rattle.cmd_serve.specs.declared.ending.Ending.{Ending}
 use Rattle.cmd_serve.specs.declared.ending.Ending.TheVariants.{Served, Stopped, NotTaken, Journal, Full, Memory}
 
@@ -55,6 +56,7 @@ pub record RunsWith {N O D K : Type 0} (drawing : Drawing D) (options : ServeOpt
   pub goes : GoesBy drawing options options.journal disks moments draws keeping course
   pub counts : CountsDisks disks keeping course
   pub ends : Ends options out keeping course result
+  pub full : IsFull course → IfSome options.journal (λ name. IfTold disks (λ before after. HoldsSome name IsFilled after))
 
 -- connections are asked for, with this ring
 abbrev pub IsBegun : {D : Type 0} → List RingKey → Course D → Type 0
@@ -139,6 +141,10 @@ ending_with full Stopped = Stopped
 ending_with full NotTaken = NotTaken
 ending_with full Journal = Journal
 ending_with full Full = Full
+
+-- an open journal that has no room for what one event may add to it
+abbrev pub HasNoRoom : {K : Type 0} → Option (File K) → Type 0
+HasNoRoom journal = IsSomeAnd journal (λ file. 268435456 < file.len + 1048598)
 
 -- a connection that ends by the desk ends by a call of its disk
 abbrev pub IsDiskEnd : Option ConnEnd → Type 0
@@ -296,6 +302,7 @@ pub record ServesKept {N O K D : Type 0} (drawing : Drawing D) (options : ServeO
   pub same_place : place back.0 ≡ place_then
   pub counted : CountsFile course count_then (faults back.0)
   pub ends : Ends options out Unopened course back.1
+  pub full : IsFull course → IfSome (told back.0) (λ file. IsFilled file.contents)
 
 -- ---- between connections
 

@@ -1,5 +1,5 @@
 -- The journal of a run: what becomes of its file, and the server that comes of it.
-use Rattle.std.specs.Prelude.{◌≡◌, ◌≢◌, ◌<◌, ◌⊎◌, ℕ, Option, Some, List, [], ◌∷◌, ◌++◌, length, slice_index_or, ⊤}
+use Rattle.std.specs.Prelude.{◌≡◌, ◌≢◌, ◌<◌, ◌+◌, ◌⊎◌, ℕ, Option, Some, List, [], ◌∷◌, ◌++◌, length, slice_index_or, ⊤}
 use Rattle.auth_keys.specs.declared.ring.RingKey.{RingKey}
 use Rattle.disks.specs.Named.{Named, NamesTold}
 use Rattle.draws.specs.Draws.{draw_after, next_bytes}
@@ -106,6 +106,11 @@ pub record HoldsSome (name : List ℕ) (P : List ℕ → Type 0) (told : NamesTo
   pub bytes : List ℕ
   pub holds : Holds name bytes told.files
   pub says : P bytes
+
+-- Bytes that leave no room for what one event may add: a journal has at most 268,435,456 bytes, and an event adds at most 1,048,598,
+-- of a packet of 1,048,576, the longest one that a frame has.
+abbrev pub IsFilled : List ℕ → Type 0
+IsFilled bytes = 268435456 < length bytes + 1048598
 
 -- bytes that are no journal, nor lawful records, and the same ones at the return
 pub record StaysForeign {D : Type 0} (drawing : Drawing D) (ring : List RingKey) (name : List ℕ) (at : ℕ) (before after : NamesTold) : Type 0 where

@@ -17,7 +17,7 @@ use Rattle.statuses.specs.Outside.{HadFault, IsUntouched, Outside, Part, Tells, 
 use Rattle.statuses.specs.declared.status.Status.{Status}
 use Rattle.statuses.specs.declared.status.Status.TheVariants as status
 use Rattle.cmd_serve.specs.Connections.{AreConnections, AreNotedBy, Between, Connection, CountsEnding, EndsBy, behind_all}
-use Rattle.cmd_serve.specs.Journals.{AsksClock, AsksFor, Drawing, FoundBy, IsOpen, IsShut, Keeping, LeavesBy, SeedsBy, StartsBy, Unopened, Faulty, Foreign, Cut, New, Old}
+use Rattle.cmd_serve.specs.Journals.{AsksClock, AsksFor, Drawing, FoundBy, HoldsSome, IsFilled, IsOpen, IsShut, Keeping, LeavesBy, SeedsBy, StartsBy, Unopened, Faulty, Foreign, Cut, New, Old}
 use Rattle.cmd_serve.specs.Lines.{journal_fault, last_line, listening, not_listening}
 use Rattle.cmd_serve.specs.Packets.{outside_of}
 use Rattle.cmd_serve.specs.declared.ending.Ending.{Ending}
@@ -311,6 +311,8 @@ pub record ServeRun {F N O D K : Type 0} (drawing : Drawing D) (options : ServeO
   pub counts : CountsDisks disks keeping course
   -- the status and what is written
   pub ends : Ends options out keeping course result
+  -- The connections end by a full journal only where its file leaves no room, at the return, for what one event may add to it.
+  pub full : IsFull course → IfSome options.journal (λ name. IfTold disks (λ before after. HoldsSome name IsFilled after))
   -- No more connections are asked for than there should be.
   pub few : IfTold net (λ before after. length after ≤ length before + (1 + options.conns))
   -- None is asked for unless the first line is written: where that is torn, or isn't there, the net was called once at most.

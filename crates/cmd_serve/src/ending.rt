@@ -1,7 +1,7 @@
 //! How the connections of a run end.
 
 ghost use Rattle.std.specs.Prelude.{◌≡◌};
-ghost use Rattle.cmd_serve.specs.Inner.{ending_by};
+ghost use Rattle.cmd_serve.specs.Inner.{ending_by, ending_with};
 
 use server_node::ConnEnd;
 
@@ -20,6 +20,16 @@ pub(crate) enum Ending {
     Full,
     /// Memory ran out.
     Memory,
+}
+
+/// How the connections of a run with a journal ended: where that is full, want of memory tells of it.
+pub(crate) fn told_by(full: bool, ending: Ending) -> Ending
+    ensures { result ≡ ending_with full ending }
+{
+    match ending {
+        Ending::Memory if full => Ending::Full,
+        ending => ending,
+    }
 }
 
 /// How the connections end by the end of one, or by none where it couldn't be taken; `None` where the next one follows.

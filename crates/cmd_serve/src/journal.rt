@@ -9,6 +9,7 @@ ghost use Rattle.cmd_serve.specs.Journals.{basis_of};
 ghost use Rattle.cmd_serve.specs.Lines.{last_line, listening};
 ghost use Rattle.cmd_serve.specs.declared.ending.Ending.TheVariants.{Served};
 
+use crate::ending::told_by;
 use crate::journaled::Journaled;
 use crate::keeping::keeping;
 use crate::laws::rings_say_as_worked_out;
@@ -95,7 +96,8 @@ fn serve_kept<O: Sink, N: Net, C: Clock, D: Seeded + Drop, K: Disk + Drop>(
         return (desk.into_disk(), status);
     }
     let ending = serve(alloc, &mut desk, options, net, clock);
-    let status = last(lines, out, desk.ending(ending));
+    let full = desk.is_full();
+    let status = last(lines, out, told_by(full, ending));
     let disk = desk.into_disk();
     (disk, status)
 }

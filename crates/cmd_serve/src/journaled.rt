@@ -1,14 +1,13 @@
 //! A server that keeps a journal, as connections are served with it.
 
-ghost use Rattle.std.specs.Prelude.{◌≡◌, ◌⊎◌, false, IfErr, OnOk};
+ghost use Rattle.std.specs.Prelude.{◌≡◌, ◌⊎◌, false, true, IfErr, OnOk};
 ghost use Rattle.waits.specs.Jobs.{ready_count};
 ghost use Rattle.server_core.specs.declared.desk.DeskFault.TheVariants as faults;
 ghost use Rattle.sess_journal.specs.Keeping.{StandsFor, count_of, disk_in, place_by};
 ghost use Rattle.sess_journal.specs.Replay.{bases_of};
-ghost use Rattle.cmd_serve.specs.Inner.{IsServeFault, as_memory, ending_with};
+ghost use Rattle.cmd_serve.specs.Inner.{HasNoRoom, IsServeFault, as_memory, ending_with};
 ghost use Rattle.cmd_serve.specs.Noted.{full_behind};
 
-use crate::ending::Ending;
 use disks::Disk;
 use draws::Seeded;
 use envelope::Seal;
@@ -17,6 +16,12 @@ use regs_service::Service;
 use server_core::{Desk, DeskFault, Effects, Reply};
 use sess_journal::Kept;
 use std::alloc::Global;
+
+/// How long a journal may be, in bytes.
+const JOURNAL_BYTES_MAX: u64 = 268_435_456;
+
+/// How many bytes one event adds to a journal at most: the longest packet, and 22 bytes beside it.
+const EVENT_BYTES_MAX: u64 = 1_048_598;
 
 /// A server that keeps a journal. Where that has no room for an event it answers `Memory`, since it leaves the server as it was,
 /// and notes why. So its faults are `Memory` and `Disk`; `Closed`, which comes behind a `Disk` alone, is one of the former too.
@@ -30,17 +35,20 @@ impl<K: Disk + Drop, S: Seal + Drop, D: Seeded + Drop> Journaled<K, S, D> {
     /// This server, whose journal had room so far.
     pub(crate) fn new(kept: Kept<K, S, D>) -> Journaled<K, S, D>
         ensures kept { result.kept ≡ kept }
+        ensures room { result.full ≡ false }
     {
         Journaled { kept, full: false }
     }
 
-    /// How its connections ended: where the journal had no room, by that.
-    pub(crate) fn ending(&self, ending: Ending) -> Ending
-        ensures { result ≡ ending_with self.now.full ending }
+    /// Whether its journal is full: a call was told so, and it has no room for the longest event.
+    pub(crate) fn is_full(&self) -> bool
+        ensures noted { result ≡ true → self.now.full ≡ true }
+        ensures no_room { result ≡ true → HasNoRoom self.now.kept.book.journal }
+        ensures both { self.now.full ≡ true → HasNoRoom self.now.kept.book.journal → result ≡ true }
     {
-        match ending {
-            Ending::Memory if self.full => Ending::Full,
-            ending => ending,
+        match self.kept.journal_len() {
+            Some(len) => self.full && len > JOURNAL_BYTES_MAX - EVENT_BYTES_MAX,
+            None => false,
         }
     }
 

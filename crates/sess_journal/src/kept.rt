@@ -1,6 +1,6 @@
 //! A server that keeps a journal.
 
-ghost use Rattle.std.specs.Prelude.{◌≡◌, ◌≤◌, ◌<◌, ◌^◌, ℕ, List, [], ◌++◌, None, Some, IfOk, IfErr, IfSome, IsSomeAnd, OnOk, is_some, true};
+ghost use Rattle.std.specs.Prelude.{◌≡◌, ◌≤◌, ◌<◌, ◌^◌, ℕ, List, [], ◌++◌, None, Some, IfOk, IfErr, IfSome, IsSomeAnd, MatchOption, OnOk, is_some, true};
 ghost use Rattle.disks.specs.Told.{DiskTold};
 ghost use Rattle.mt_edge.specs.Faults.{Rose};
 ghost use Rattle.sess_records.specs.declared.records.Record.{Record};
@@ -140,6 +140,13 @@ impl<K: Disk + Drop, S: Seal + Drop, D: Seeded + Drop> Kept<K, S, D> {
             Ok(journal) => resume(alloc, journal, played, now),
             Err(disk) => Err((disk, JournalFault::Disk)),
         }
+    }
+
+    /// The length of its journal in bytes, up to the closed gate behind the last record, while that is open.
+    pub fn journal_len(&self) -> Option<u64>
+        ensures { MatchOption self.now.book.journal (result ≡ None) (λ file. result ≡ Some file.len) }
+    {
+        self.book.len()
     }
 
     /// The disk, as it stands.

@@ -40,12 +40,13 @@ returns g c =
           c.new-desk.result.kept c.serve-ending.new.desk.kept server c.into_disk-disk.result
           g.N.Net.calls g.N.Net.faults c.args.net.now c.listen.new.net c.serve-ending.new.net
           g.O.Sink.written g.O.Sink.faults c.args.out.now c.listen.new.out c.last-status.new.out
-          (g.C.Clock.given c.args.clock.now) (g.C.Clock.given c.serve-ending.new.clock) c.serve-ending.new.desk.full c.serve-ending.result c.args.lines.now.last c.last-status.result
+          (g.C.Clock.given c.args.clock.now) (g.C.Clock.given c.serve-ending.new.clock) c.is_full-full.result c.serve-ending.result c.args.lines.now.last c.last-status.result
           c.serve-ending.ensures.same_keys c.into_disk-disk.ensures c.in_default.ensures.hears
           (c.serve-ending.ensures.serves (outside_of c.new-desk.result.kept.server.seal) (first_kept c.args.options.now (g.C.Clock.given c.args.clock.now) server c.new-desk.result.kept.draw)
           (c.rings_say_as_worked_out.ensures c.new-desk.result.kept.server.seal)
           (record { server = stands; draw = refl; served = refl; gave = refl; count = refl }))
           c.serve-ending.ensures.desk_counted c.serve-ending.ensures.same_reference c.requires.last
           (subst (λ (ending : Ending). EndsBehind c.args.lines.now.last (record { told = g.O.Sink.written; faults = g.O.Sink.faults; before = c.listen.new.out; after = c.last-status.new.out }) ending c.last-status.result)
-          c.ending.ensures c.last-status.ensures));
+          c.told_by.ensures c.last-status.ensures)
+          c.is_full-full.ensures.no_room));
     }
