@@ -58,7 +58,7 @@ pub fn answers_with(
     ensures is { (keys : Keys) (rules : ServerRules) → servers.Is server.old rules
         → IfOk result (λ there. there ≡ true → servers.Is server.new (after_reply (event_at (max server.old.server.moment now) drawing keys) reply.now rules server.old.draw).server) }
 {
-    if !server.next_request(alloc)? {
+    if !server.next_request()? {
         return Ok(false);
     }
     server.answer(alloc, now, reply)?;
@@ -112,7 +112,7 @@ pub fn is_busy_then(
 ) -> Result<bool, Error>
     ensures busy { IfOk result (λ busy. busy ≡ is_some server.new.asked) }
 {
-    if !server.next_request(alloc)? {
+    if !server.next_request()? {
         return Ok(false);
     }
     match server.handle_packet(alloc, now, packet) {
