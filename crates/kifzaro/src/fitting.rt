@@ -8,8 +8,14 @@ ghost use Rattle.envelope.specs.Lock.{mt_lock};
 ghost use Rattle.envelope.specs.Packet.{Sealed};
 ghost use Rattle.kifzaro.specs.Fitting.{Fits};
 
-use envelope::MtSeal;
+use envelope::{MtSeal, PACKET_BYTES_MAX, PACKET_BYTES_MIN};
 use envelope::laws::opens_what_it_sealed;
+
+/// What stands in front of a packet's blocks: the key's identifier and the message key.
+const HEAD_BYTES: usize = 24;
+
+/// A block of the cipher.
+const BLOCK_BYTES: usize = 16;
 
 /// Whether a packet may be put into a frame of any form, as `Wire::put` wants it: it has 72 to 1,048,576 bytes, 8 more than whole
 /// blocks of 16. Each packet that was sealed has, and so each that a client or a server hands out.
@@ -20,11 +26,11 @@ pub fn fits(packet: &[u8]) -> bool
 {
     opens_what_it_sealed::<MtSeal>();
     let len = packet.len();
-    if len < 72 {
+    if len < PACKET_BYTES_MIN {
         return false;
     }
-    if len > 1_048_576 {
+    if len > PACKET_BYTES_MAX {
         return false;
     }
-    len % 16 == 8
+    len % BLOCK_BYTES == HEAD_BYTES % BLOCK_BYTES
 }

@@ -268,9 +268,9 @@ impl Server {
         if self.asked {
             return Err(Error::Busy);
         }
-        if self.server.ready_request(0).is_none() {
+        let Some(_request) = self.server.ready_request(0) else {
             return Ok(false);
-        }
+        };
         self.asked = true;
         Ok(true)
     }
