@@ -5,7 +5,7 @@ ghost use Rattle.waits.specs.Jobs.{ready_count};
 ghost use Rattle.server_core.specs.declared.desk.DeskFault.TheVariants as faults;
 ghost use Rattle.sess_journal.specs.Keeping.{StandsFor, count_of, disk_in, place_by};
 ghost use Rattle.sess_journal.specs.Replay.{bases_of};
-ghost use Rattle.cmd_serve.specs.Inner.{HasNoRoom, IsServeFault, as_memory, ending_with};
+ghost use Rattle.cmd_serve.specs.Inner.{HasNoRoom, IsServeFault, as_memory};
 ghost use Rattle.cmd_serve.specs.Noted.{full_behind};
 
 use disks::Disk;
