@@ -3,4 +3,4 @@ pub mod Openings
 pub mod Refusals
 pub mod Bytes
 pub mod Drawn
-pub mod Sealing
+pub mod LawfulParts

@@ -1,4 +1,4 @@
-use Rattle.envelope.proofs.Sealing.{parts-sealed}
+use Rattle.envelope.proofs.LawfulParts.{parts-sealed}
 use Rattle.envelope.proofs.laws.lawful_parts_are_sealed.Goals as goal
 
 pub returns : goal.returns
