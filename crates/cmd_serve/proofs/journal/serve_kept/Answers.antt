@@ -48,5 +48,5 @@ returns g c =
           c.serve-ending.ensures.desk_counted c.serve-ending.ensures.same_reference c.requires.last
           (subst (λ (ending : Ending). EndsBehind c.args.lines.now.last (record { told = g.O.Sink.written; faults = g.O.Sink.faults; before = c.listen.new.out; after = c.last-status.new.out }) ending c.last-status.result)
           c.told_by.ensures c.last-status.ensures)
-          c.is_full-full.ensures.no_room));
+          c.is_full-full.ensures.no_room);
     }
