@@ -1,6 +1,6 @@
 -- The world of `sim`: the rules of servers and clients, with the protocol's seal, the keys of `sim`, the register service
 -- and the words that are counted.
-use Rattle.std.specs.Prelude.{ℕ, List}
+use Rattle.std.specs.Prelude.{ℕ, Option, List}
 use Rattle.auth_keys.specs.declared.ring.RingKey.{RingKey}
 use Rattle.auth_keys.specs.Rings.{entry_of, key_in}
 use Rattle.client_core.specs.Flushed.{binding_under}
