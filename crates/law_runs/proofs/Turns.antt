@@ -10,8 +10,6 @@ use Rattle.client_node.specs.Took.{NoneDecides}
 use Rattle.auth_keys.specs.declared.ring.RingKey.{RingKey}
 use Rattle.cmd_serve.specs.Connections.{Connection, EndsBy}
 use Rattle.cmd_serve.specs.Runs.{IsBroken, Registers, Serves}
-use Rattle.cmd_serve.specs.declared.ending.Ending.{Ending}
-use Rattle.cmd_serve.specs.declared.ending.Ending.TheVariants.{Served, Stopped, NotTaken, Journal, Full, Memory}
 use Rattle.law_runs.proofs.InTurn.{AllInTurn, AreHeardInTurn, AreInTurn, ClosesInTurn, ConnectsInTurn, TriesInTurn}
 
 none-so : {S : Type 0} (rules : Rules S) (now : ℕ) (course : Course S) (heard : List (List ℕ)) → NoneDecides rules.setting.step rules.reading now course heard
@@ -27,14 +25,9 @@ heard-so : {S : Type 0} (rules : Rules S) (opening : Opening) (place : Place S) 
 heard-so rules opening place heard end hearing = grind (arith, none-so rules place.now place.course heard, last-so rules place.now place.course heard, hearing)
 
 -- the last one may have been cut off, but not by a journal
-turn-so : {D : Type 0} (ring : List RingKey) (conns : ℕ) (ending : Ending) (last : Connection D Registers) (earlier : List (Connection D Registers)) → EndsBy conns ending (last ∷ earlier)
+turn-so : {D : Type 0} (ring : List RingKey) (conns : ℕ) (ending : _) (last : Connection D Registers) (earlier : List (Connection D Registers)) → EndsBy conns ending (last ∷ earlier)
     → (IsBroken (Serves ring (last ∷ earlier) ending) → ⊥) → AreInTurn (last ∷ earlier)
-turn-so ring conns Served last earlier ended whole = (ended.0.0, inl ended.0.1)
-turn-so ring conns Stopped last earlier ended whole = (ended.0, inr (inl ended.1))
-turn-so ring conns NotTaken last earlier ended whole = (ended.0.0, inl ended.0.1)
-turn-so ring conns Journal last earlier ended whole = absurd (whole tt)
-turn-so ring conns Full last earlier ended whole = absurd (whole tt)
-turn-so ring conns Memory last earlier ended whole = (ended.0, inr (inr ended.1))
+turn-so ring conns ending last earlier ended whole = grind (arith, ended, whole)
 
 -- ---- a client's attempts
 
@@ -67,7 +60,7 @@ module _ {S : Type 0} (rules : Rules S) where
 
 -- ---- a server's connections
 
-pub connections-in-turn : {D : Type 0} (ring : List RingKey) (conns : ℕ) (ending : Ending) (connections : List (Connection D Registers)) → EndsBy conns ending connections
+pub connections-in-turn : {D : Type 0} (ring : List RingKey) (conns : ℕ) (ending : _) (connections : List (Connection D Registers)) → EndsBy conns ending connections
     → (IsBroken (Serves ring connections ending) → ⊥) → AreInTurn connections
 connections-in-turn ring conns ending [] ended whole = tt
 connections-in-turn ring conns ending (last ∷ earlier) ended whole = turn-so ring conns ending last earlier ended whole
