@@ -1,12 +1,11 @@
 -- What was sealed goes into a frame of each form.
-use Rattle.std.proofs.Common.{◌≡◌, ◌<◌, ◌≤◌, ◌+◌, ◌%◌, inr, ℕ, Bool, true, false, List, length, nat_eq, ap, arith}
+use Rattle.std.proofs.Common.{◌≡◌, ◌≤◌, ◌+◌, ◌%◌, inr, ℕ, Bool, true, false, List, length, nat_eq, ap, arith}
 use Rattle.auth_keys.specs.declared.ring.RingKey.{RingKey}
 use Rattle.envelope.specs.declared.parts.Dir.{Dir}
 use Rattle.envelope.specs.declared.parts.Envelope.{Envelope}
 use Rattle.envelope.specs.Lawful.{OpensWhatItSealed}
 use Rattle.envelope.specs.Packet.{Lock, Sealed}
-use Rattle.frame_len.specs.Lengths.{IsPaddedSize, IsWritten}
-use Rattle.transport.specs.declared.form.Form.{Form}
+use Rattle.frame_len.specs.Lengths.{IsWritten}
 use Rattle.transport.specs.declared.form.Form.TheVariants.{Abridged, Intermediate, Padded, Full}
 use Rattle.kifzaro.specs.Fitting.{Fits}
 

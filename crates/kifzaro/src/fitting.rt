@@ -8,8 +8,8 @@ ghost use Rattle.envelope.specs.Lock.{mt_lock};
 ghost use Rattle.envelope.specs.Packet.{Sealed};
 ghost use Rattle.kifzaro.specs.Fitting.{Fits};
 
-use envelope::{MtSeal, PACKET_BYTES_MAX, PACKET_BYTES_MIN};
 use envelope::laws::opens_what_it_sealed;
+use envelope::{MtSeal, PACKET_BYTES_MAX, PACKET_BYTES_MIN};
 
 /// What stands in front of a packet's blocks: the key's identifier and the message key.
 const HEAD_BYTES: usize = 24;

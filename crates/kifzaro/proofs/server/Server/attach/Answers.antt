@@ -14,7 +14,7 @@ returns-in-Ok-clause-given c = λ keys server is.
     let name : Name = record { key = c.args.name.key; session = c.args.name.session } in
     let inside : Kept = record { server = c.self.inside.server; draw = c.self.inside.words; waiting = all_in c.self.inside.queue; asked = handed_out c.self.inside.asked c.self.inside.server.jobs } in
     let after : Kept = record { server = c.attach.new.self; draw = c.reach.new.self; waiting = all_in c.put.new.self; asked = handed_out c.self.inside.asked c.attach.new.self.jobs } in
-    let none : after.asked ≡ None = ap (λ (asked : Bool). handed_out asked c.attach.new.self.jobs) c.if-asked.false in
+    let none : after.asked ≡ None = ap (λ (asked : Bool). handed_out asked c.attach.new.self.jobs) c.if-self.false in
     let waits : after.waiting ≡ inside.waiting ++ c.in-Ok.effects.out.outs =
     c.put.ensures.put ∙ ap (λ (outs : List Out). outs ++ c.in-Ok.effects.out.outs) c.make_room.ensures.same in
     subst (λ (old : Kept). Is old server → Did old after (after_attach (setting_of (max old.server.moment c.args.now) drawing keys) name server old.draw)) c.self.view_is

@@ -19,7 +19,7 @@ returns-in-Judged-clause-given c = λ keys server envelope of is opens.
     let inside : Kept = record { server = c.self.inside.server; draw = c.self.inside.words; waiting = all_in c.self.inside.queue; asked = handed_out c.self.inside.asked c.self.inside.server.jobs } in
     let after : Kept = record { server = c.on_packet.new.self; draw = c.reach.new.self; waiting = all_in c.put.new.self; asked = handed_out c.self.inside.asked c.on_packet.new.self.jobs } in
     let effects = effects_in c.in-Ok.reply in
-    let none : after.asked ≡ None = ap (λ (asked : Bool). handed_out asked c.on_packet.new.self.jobs) c.if-asked.false in
+    let none : after.asked ≡ None = ap (λ (asked : Bool). handed_out asked c.on_packet.new.self.jobs) c.if-self.false in
     let waits : after.waiting ≡ inside.waiting ++ effects.out.outs =
     c.put.ensures.put ∙ ap (λ (outs : List Out). outs ++ effects.out.outs) c.make_room.ensures.same in
     subst (λ (old : Kept). AreOf old.server.seal keys → Is old server → Opens mt_lock old.server.seal (max old.server.moment c.args.now) Up c.args.packet.now envelope
