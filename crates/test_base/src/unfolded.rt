@@ -16,7 +16,7 @@ use octets::{Memory, Octets};
 use std::alloc::Global;
 use std::marker::Model;
 use std::test::*;
-use test_asserts::{holds, same, shown, shows, tells};
+use test_asserts::{holds, holds_at, same, shown, shows, tells};
 
 // Where and why the container in message 100 isn't lawful.
 fn fault_of(alloc: Global, body: &[u8]) -> Result<Option<(u32, Why)>, Memory> {
@@ -121,45 +121,31 @@ impl Packer {
     }
 }
 
+// The digits of a container in message 100, and where and why it isn't lawful.
+const FAULTS: &str = "\
+dcf8f173 Some((0, Short))\n\
+dcf8f17300000000 None\n\
+dcf8f173fd030000 Some((0, TooMany))\n\
+dcf8f17301000000040000000000000001000000000000 Some((0, Short))\n\
+dcf8f1730100000004000000000000000100000003000000 Some((0, Odd))\n\
+dcf8f1730100000004000000000000000100000004000000 Some((0, Short))\n\
+dcf8f1730100000064000000000000000100000000000000 Some((0, NotBelow))\n\
+dcf8f1730100000004000000000000000000000008000000dcf8f17300000000 Some((0, Nested))\n\
+dcf8f173010000000400000000000000010000000000000000000000 Some((1, Extra))\n\
+dcf8f173020000000400000000000000010000000000000064000000000000000100000000000000 Some((1, NotBelow))\n";
+
+// The container of a row has the fault that the row says.
+fn has_fault(alloc: Global, row: &str) -> Result<(), Fail> {
+    let (digits, want) = row.split_once(' ').ok_or("digits and a fault")?;
+    let body = hex::decode(alloc, digits).ok().ok_or("hexadecimal digits")?;
+    holds_at(row, is_container(body.as_slice()))?;
+    shows(alloc, &fault_of(alloc, body.as_slice())?, want)
+}
+
 #[test]
 fn faults_have_their_places(rt: HostRuntime) -> Result<(), Fail> {
-    let rows: [(&[u8], Option<(u32, Why)>); 10] = [
-        (b"\xdc\xf8\xf1\x73", Some((0, Why::Short))),
-        (b"\xdc\xf8\xf1\x73\0\0\0\0", None),
-        (b"\xdc\xf8\xf1\x73\xfd\x03\0\0", Some((0, Why::TooMany))),
-        (
-            b"\xdc\xf8\xf1\x73\x01\0\0\0\x04\0\0\0\0\0\0\0\x01\0\0\0\0\0\0",
-            Some((0, Why::Short)),
-        ),
-        (
-            b"\xdc\xf8\xf1\x73\x01\0\0\0\x04\0\0\0\0\0\0\0\x01\0\0\0\x03\0\0\0",
-            Some((0, Why::Odd)),
-        ),
-        (
-            b"\xdc\xf8\xf1\x73\x01\0\0\0\x04\0\0\0\0\0\0\0\x01\0\0\0\x04\0\0\0",
-            Some((0, Why::Short)),
-        ),
-        (
-            b"\xdc\xf8\xf1\x73\x01\0\0\0\x64\0\0\0\0\0\0\0\x01\0\0\0\0\0\0\0",
-            Some((0, Why::NotBelow)),
-        ),
-        (
-            b"\xdc\xf8\xf1\x73\x01\0\0\0\x04\0\0\0\0\0\0\0\0\0\0\0\x08\0\0\0\xdc\xf8\xf1\x73\0\0\0\0",
-            Some((0, Why::Nested)),
-        ),
-        (
-            b"\xdc\xf8\xf1\x73\x01\0\0\0\x04\0\0\0\0\0\0\0\x01\0\0\0\0\0\0\0\0\0\0\0",
-            Some((1, Why::Extra)),
-        ),
-        (
-            b"\xdc\xf8\xf1\x73\x02\0\0\0\x04\0\0\0\0\0\0\0\x01\0\0\0\0\0\0\0\x64\0\0\0\0\0\0\0\x01\0\0\0\0\0\0\0",
-            Some((1, Why::NotBelow)),
-        ),
-    ];
-    let alloc = rt.alloc();
-    for (body, want) in rows {
-        holds(is_container(body))?;
-        same(fault_of(alloc, body)?, want)?;
+    for row in FAULTS.lines() {
+        has_fault(rt.alloc(), row)?;
     }
     Ok(())
 }
@@ -251,7 +237,7 @@ fn lent_messages_are_put_together(rt: HostRuntime) -> Result<(), Fail> {
 }
 
 #[test]
-fn limits_are_taken(rt: HostRuntime) -> Result<(), Fail> {
+fn limits_are_taken() -> Result<(), Fail> {
     let rows = [
         (1_019, 8, 0, true),
         (1_020, 8, 0, false),
@@ -262,11 +248,22 @@ fn limits_are_taken(rt: HostRuntime) -> Result<(), Fail> {
     for (count, bytes, next, want) in rows {
         same(fits(count, bytes, next), want)?;
     }
-    let alloc = rt.alloc();
+    Ok(())
+}
+
+// The body of a container of 1,020 messages without a body.
+fn many_messages(alloc: Global) -> Result<Octets, Memory> {
     let mut body = Octets::copy(alloc, b"\xdc\xf8\xf1\x73\xfc\x03\0\0")?;
     for _ in 0..1_020 {
         body.push_all(alloc, b"\x04\0\0\0\0\0\0\0\x01\0\0\0\0\0\0\0")?;
     }
+    Ok(body)
+}
+
+#[test]
+fn as_many_messages_as_may_be_are_unfolded(rt: HostRuntime) -> Result<(), Fail> {
+    let alloc = rt.alloc();
+    let body = many_messages(alloc)?;
     holds(is_container(body.as_slice()))?;
     match unfold(alloc, 100, body.as_slice()) {
         Unfolded::Messages(inner) => same(inner.as_slice().len(), 1_020)?,
