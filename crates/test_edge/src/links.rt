@@ -229,14 +229,16 @@ fn objects_of_std_that_fail() -> Result<(), Fail> {
     sinks_of_std_fail()
 }
 
-/// How many bytes the file of this name has, where it is read, and whether they are `key`.
-fn read_by_name<F: KeyFiles>(files: &mut F, alloc: Global, name: &str) -> Option<(usize, bool)> {
+/// What a read of the file of this name gave, and how many bytes.
+fn read_by_name<F: KeyFiles>(files: &mut F, alloc: Global, name: &str) -> (&'static str, usize) {
     match files.read(alloc, name) {
         FileGot::Contents(text) => {
             let text = text.as_slice();
-            Some((text.len(), text == b"key".as_slice()))
+            let told = if text == b"key".as_slice() { "key" } else { "others" };
+            (told, text.len())
         }
-        _ => None,
+        FileGot::Failed => ("failed", 0),
+        FileGot::Memory => ("no memory", 0),
     }
 }
 
@@ -255,26 +257,30 @@ fn files_in_memory(alloc: Global) -> Result<(), Fail> {
     let other = read_by_name(&mut files, alloc, "other");
     let third = read_by_name(&mut files, alloc, "ring");
     drop(files);
-    same((first, other, third), (Some((3, true)), None, None))
+    same((first, other, third), (("key", 3), ("failed", 0), ("failed", 0)))
 }
 
 /// What a read gives of so many bytes, in a file of this machine.
-fn written_and_read(rt: &HostRuntime, name: &str, bytes: usize) -> Result<Option<usize>, Fail> {
+fn written_and_read(
+    rt: &HostRuntime,
+    name: &str,
+    bytes: usize,
+) -> Result<(&'static str, usize), Fail> {
     let text = vec![in rt.alloc(); 7u8; bytes]?;
     fs::write(rt, name, text.as_slice())?;
     let mut files = DiskFiles::new(rt);
-    Ok(read_by_name(&mut files, rt.alloc(), name).map(|(bytes, _)| bytes))
+    Ok(read_by_name(&mut files, rt.alloc(), name))
 }
 
 fn files_of_this_machine(rt: &HostRuntime) -> Result<(), Fail> {
     let name = "mt_edge_file.tmp";
     fs::write(rt, name, b"key".as_slice())?;
     let mut files = DiskFiles::new(rt);
-    same(read_by_name(&mut files, rt.alloc(), name), Some((3, true)))?;
-    same(written_and_read(rt, name, 1_048_577)?, None)?;
-    same(written_and_read(rt, name, 1_048_576)?, Some(1_048_576))?;
+    same(read_by_name(&mut files, rt.alloc(), name), ("key", 3))?;
+    same(written_and_read(rt, name, 1_048_577)?, ("failed", 0))?;
+    same(written_and_read(rt, name, 1_048_576)?, ("others", 1_048_576))?;
     fs::remove_file(rt, name)?;
-    same(read_by_name(&mut files, rt.alloc(), name), None)
+    same(read_by_name(&mut files, rt.alloc(), name), ("failed", 0))
 }
 
 #[test]
