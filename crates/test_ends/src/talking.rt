@@ -51,15 +51,13 @@ pub(crate) fn submits(
 ) -> Result<(), Fail>
     ensures keys { keys_in (kept_of holder.new) ≡ keys_in (kept_of holder.old) }
 {
-    let submitted = match holder {
-        Holder::Opening(client) => client.submit(alloc, body, after).is_ok(),
-        Holder::Open(client) => client.submit(alloc, body, after).is_ok(),
-        Holder::Ended(_) => false,
-    };
-    if submitted {
-        return Ok(());
+    if holder.has_ended() {
+        return Err(Fail::new("it ended"));
     }
-    Err(Fail::new("it isn't taken"))
+    match holder.submit(alloc, body, after) {
+        Ok(_) => Ok(()),
+        Err(_) => Err(Fail::new("it isn't taken")),
+    }
 }
 
 // The same of a line: its body, and the number of the call behind which it is, if there is one.
@@ -72,18 +70,6 @@ fn submits_so(holder: &mut Holder, line: &mut Line<'_>) -> Result<(), Fail>
     }
     let after = CallNo { n: line.number()? };
     submits(holder, line.alloc, body.as_slice(), Some(after))
-}
-
-// A connection was opened.
-fn attaches(holder: &mut Holder) -> Result<(), Fail>
-    ensures keys { keys_in (kept_of holder.new) ≡ keys_in (kept_of holder.old) }
-{
-    match holder {
-        Holder::Opening(client) => client.attach(),
-        Holder::Open(client) => client.attach(),
-        Holder::Ended(_) => return Err(Fail::new("it ended")),
-    }
-    Ok(())
 }
 
 // An open client is asked for something: whether the line told that.
@@ -114,30 +100,12 @@ pub(crate) fn is_wished(holder: &mut Holder, line: &mut Line<'_>) -> Result<bool
         return Ok(true);
     }
     if line.verb == "attach" {
-        attaches(holder)?;
+        holder.attach();
         return Ok(true);
     }
     match holder {
         Holder::Open(client) => is_asked(client, line),
         Holder::Opening(_) | Holder::Ended(_) => Ok(false),
-    }
-}
-
-// What a client sends at a moment.
-fn flushes<S: Seal>(
-    holder: &mut Holder,
-    alloc: Global,
-    now: Moment,
-    seal: &S,
-    draw: &mut StepDraw,
-) -> Flush
-    requires keys { HasKeys (S.keys seal.now) (keys_in (kept_of holder.old)) }
-    ensures keys { keys_in (kept_of holder.new) ≡ keys_in (kept_of holder.old) }
-{
-    match holder {
-        Holder::Opening(client) => client.flush(alloc, now, seal, draw),
-        Holder::Open(client) => client.flush(alloc, now, seal, draw),
-        Holder::Ended(_) => Flush::Nothing,
     }
 }
 
@@ -157,7 +125,7 @@ pub(crate) fn is_flushed<S: Seal>(
         return Ok(false);
     }
     let now = Moment::new(line.number()?);
-    let flush = flushes(holder, line.alloc, now, seal, draw);
+    let flush = holder.flush(line.alloc, now, seal, draw);
     tells_flush(line.alloc, seal, flush, sent, text)?;
     Ok(true)
 }
@@ -303,17 +271,10 @@ pub(crate) fn packet_of_line<S: Seal>(
 
 // What became of a call.
 fn state(holder: &Holder, n: u64) -> Option<CallState<'_>> {
-    let call = CallNo { n };
-    match holder {
-        Holder::Opening(client) if n > 0 && n <= u64::from(client.calls()) => {
-            Some(client.state(call))
-        }
-        Holder::Open(client) if n > 0 && n <= u64::from(client.calls()) => Some(client.state(call)),
-        Holder::Ended(client) if n > 0 && n <= u64::from(client.calls()) => {
-            Some(client.state(call))
-        }
-        _ => None,
+    if n == 0 || n > u64::from(holder.calls()) {
+        return None;
     }
+    Some(holder.state(CallNo { n }))
 }
 
 /// What became of a call of a client as text.
