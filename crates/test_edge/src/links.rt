@@ -234,7 +234,11 @@ fn read_by_name<F: KeyFiles>(files: &mut F, alloc: Global, name: &str) -> (&'sta
     match files.read(alloc, name) {
         FileGot::Contents(text) => {
             let text = text.as_slice();
-            let told = if text == b"key".as_slice() { "key" } else { "others" };
+            let told = if text == b"key".as_slice() {
+                "key"
+            } else {
+                "others"
+            };
             (told, text.len())
         }
         FileGot::Failed => ("failed", 0),
@@ -257,7 +261,10 @@ fn files_in_memory(alloc: Global) -> Result<(), Fail> {
     let other = read_by_name(&mut files, alloc, "other");
     let third = read_by_name(&mut files, alloc, "ring");
     drop(files);
-    same((first, other, third), (("key", 3), ("failed", 0), ("failed", 0)))
+    same(
+        (first, other, third),
+        (("key", 3), ("failed", 0), ("failed", 0)),
+    )
 }
 
 /// What a read gives of so many bytes, in a file of this machine.
@@ -278,7 +285,10 @@ fn files_of_this_machine(rt: &HostRuntime) -> Result<(), Fail> {
     let mut files = DiskFiles::new(rt);
     same(read_by_name(&mut files, rt.alloc(), name), ("key", 3))?;
     same(written_and_read(rt, name, 1_048_577)?, ("failed", 0))?;
-    same(written_and_read(rt, name, 1_048_576)?, ("others", 1_048_576))?;
+    same(
+        written_and_read(rt, name, 1_048_576)?,
+        ("others", 1_048_576),
+    )?;
     fs::remove_file(rt, name)?;
     same(read_by_name(&mut files, rt.alloc(), name), ("failed", 0))
 }
