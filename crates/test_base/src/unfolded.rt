@@ -162,25 +162,54 @@ fn made(number: u64, seq: u32, body: Octets) -> Message {
     Message { number, seq, body }
 }
 
+// The container of these.
+const OF_TWO: &[u8] =
+    b"\xdc\xf8\xf1\x73\x02\0\0\0\x04\0\0\0\0\0\0\0\x01\0\0\0\x04\0\0\0abcd\x08\0\0\0\0\0\0\0\x02\0\0\0\0\0\0\0";
+
 #[test]
-fn two_are_put_together_and_unfolded(rt: HostRuntime) -> Result<(), Fail> {
+fn two_are_put_together(rt: HostRuntime) -> Result<(), Fail> {
     let alloc = rt.alloc();
     let messages = abcd_and_none(alloc)?;
+    let text = behind_dots(alloc, messages.as_slice());
+    drop(messages);
+    let text = text?;
+    same(
+        text.as_slice().split_at_checked(2),
+        Some((b"..".as_slice(), OF_TWO)),
+    )
+}
+
+// Two dots, and messages put together behind them.
+fn behind_dots(alloc: Global, messages: &[Message]) -> Result<Octets, Fail> {
     let mut text = Octets::copy(alloc, b"..")?;
-    holds(paired(alloc, messages.as_slice(), &mut text)?)?;
-    let want =
-        b"..\xdc\xf8\xf1\x73\x02\0\0\0\x04\0\0\0\0\0\0\0\x01\0\0\0\x04\0\0\0abcd\x08\0\0\0\0\0\0\0\x02\0\0\0\0\0\0\0";
-    same(text.as_slice(), want.as_slice())?;
-    let (_, body) = want.split_at(2);
-    holds(is_container(body))?;
-    match unfold(alloc, 12, body) {
-        Unfolded::Messages(inner) => {
-            let want = shown(alloc, &messages.as_slice())?;
-            shows(alloc, &inner.as_slice(), want.as_str())?;
-        }
-        Unfolded::Invalid { .. } | Unfolded::Memory => return Err(Fail::new("not unfolded")),
+    holds(paired(alloc, messages, &mut text)?)?;
+    Ok(text)
+}
+
+#[test]
+fn two_are_unfolded(rt: HostRuntime) -> Result<(), Fail> {
+    let alloc = rt.alloc();
+    holds(is_container(OF_TWO))?;
+    let unfolded = unfold(alloc, 12, OF_TWO);
+    let messages = abcd_and_none(alloc);
+    let done = are_in(alloc, &unfolded, messages);
+    drop(unfolded);
+    done
+}
+
+// These messages are what was unfolded.
+fn are_in(
+    alloc: Global,
+    unfolded: &Unfolded,
+    messages: Result<Vec<Message>, Fail>,
+) -> Result<(), Fail> {
+    let messages = messages?;
+    let want = shown(alloc, &messages.as_slice());
+    drop(messages);
+    match unfolded {
+        Unfolded::Messages(inner) => shows(alloc, &inner.as_slice(), want?.as_str()),
+        Unfolded::Invalid { .. } | Unfolded::Memory => Err(Fail::new("not unfolded")),
     }
-    Ok(())
 }
 
 // The seq of the first inner message, as a caller that copies nothing reads it.
@@ -265,11 +294,13 @@ fn as_many_messages_as_may_be_are_unfolded(rt: HostRuntime) -> Result<(), Fail> 
     let alloc = rt.alloc();
     let body = many_messages(alloc)?;
     holds(is_container(body.as_slice()))?;
-    match unfold(alloc, 100, body.as_slice()) {
-        Unfolded::Messages(inner) => same(inner.as_slice().len(), 1_020)?,
-        Unfolded::Invalid { .. } | Unfolded::Memory => return Err(Fail::new("not unfolded")),
-    }
-    Ok(())
+    let unfolded = unfold(alloc, 100, body.as_slice());
+    let count = match &unfolded {
+        Unfolded::Messages(inner) => Some(inner.as_slice().len()),
+        Unfolded::Invalid { .. } | Unfolded::Memory => None,
+    };
+    drop(unfolded);
+    same(count, Some(1_020))
 }
 
 #[test]

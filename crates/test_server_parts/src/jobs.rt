@@ -3,7 +3,7 @@
 ghost use Rattle.std.specs.Prelude.{◌≡◌, ◌<◌, true, false, Ok, OnErr, OnOk, IfSome, IfNone, Some};
 ghost use Rattle.waits.specs.Jobs.{Queue, accepted, ready_job, without_ready};
 
-use crate::steps::{Step, step_of};
+use crate::steps::{Step, put, step_of};
 use bytes::Bytes;
 use msg_ids::Moment;
 use octets::{IdList, Memory};
@@ -20,9 +20,13 @@ fn accept(jobs: &mut Jobs, alloc: Global, job: Job) -> Result<bool, Memory>
 {
     let (count, bytes) = jobs.load(job.key, job.session);
     if count == JOBS_MAX || job.load() > JOB_BYTES_MAX - bytes {
+        drop(job);
         return Ok(false);
     }
-    jobs.reserve(alloc, 1)?;
+    if let Err(fault) = jobs.reserve(alloc, 1) {
+        drop(job);
+        return Err(fault);
+    }
     jobs.add(job);
     Ok(true)
 }
@@ -60,10 +64,12 @@ fn call(
 
 // The number of a job, 0 where there is none.
 fn number_of(job: Option<Job>) -> u64 {
-    match job {
+    let number = match &job {
         Some(job) => job.number,
         None => 0,
-    }
+    };
+    drop(job);
+    number
 }
 
 // The number of the ready job of this place, 0 where there is none.
@@ -129,7 +135,7 @@ fn calls_of_three(jobs: &mut Jobs, alloc: Global, rounds: u64) -> Result<u64, Fa
 // So many jobs are taken out.
 fn takes(jobs: &mut Jobs, count: u64) {
     for _ in 0..count {
-        next(jobs);
+        drop(next(jobs));
     }
 }
 
@@ -175,26 +181,39 @@ fn taken(jobs: &mut Jobs, step: &Step<'_>) -> u64 {
     number_of(job)
 }
 
-// The steps of a table. `new` begins anew, `copy` goes on with a copy, and `swap` with what was copied, or with the copy again.
-fn are_done(alloc: Global, table: &str) -> Result<(), Fail> {
-    let (mut jobs, mut other) = (Jobs::new(alloc), Jobs::new(alloc));
-    for line in table.lines() {
-        let step = step_of(line)?;
-        match step.verb {
-            "new" => jobs = Jobs::new(alloc),
-            "copy" => {
-                let copy = jobs.copy(alloc)?;
-                other = std::mem::replace(&mut jobs, copy);
-            }
-            "swap" => std::mem::swap(&mut jobs, &mut other),
-            _ => {
-                if !is_told(&jobs, alloc, &step)? {
-                    does(&mut jobs, alloc, &step)?;
-                }
+// The step of a line. `new` begins anew, `copy` goes on with a copy, and `swap` with what was copied, or with the copy again.
+fn plays(jobs: &mut Jobs, other: &mut Jobs, alloc: Global, line: &str) -> Result<(), Fail> {
+    let step = step_of(line)?;
+    match step.verb {
+        "new" => put(jobs, Jobs::new(alloc)),
+        "copy" => {
+            let copy = jobs.copy(alloc)?;
+            put(other, std::mem::replace(jobs, copy));
+        }
+        "swap" => std::mem::swap(jobs, other),
+        _ => {
+            if !is_told(jobs, alloc, &step)? {
+                does(jobs, alloc, &step)?;
             }
         }
     }
     Ok(())
+}
+
+fn play_all(jobs: &mut Jobs, other: &mut Jobs, alloc: Global, table: &str) -> Result<(), Fail> {
+    for line in table.lines() {
+        plays(jobs, other, alloc, line)?;
+    }
+    Ok(())
+}
+
+// The steps of a table, from no jobs on.
+fn are_done(alloc: Global, table: &str) -> Result<(), Fail> {
+    let (mut jobs, mut other) = (Jobs::new(alloc), Jobs::new(alloc));
+    let done = play_all(&mut jobs, &mut other, alloc, table);
+    drop(jobs);
+    drop(other);
+    done
 }
 
 // 8 and 12, and 16 after both, are run as they get ready. 8 and 12 are answered in this order, and in the other one.

@@ -8,8 +8,8 @@ ghost use Rattle.inbox.specs.Refusals.{InEnvelope};
 ghost use Rattle.inbox.specs.Judging.{Session, session_after};
 ghost use Rattle.inbox.specs.Inbox.{Stands, Remembers, message_in};
 
-use crate::steps::{Step, step_of};
-use inbox::{Inbox, Judged, Mark, Outer, Verdict};
+use crate::steps::{Step, put, step_of};
+use inbox::{Inbox, Judged, Judgement, Mark, Outer, Verdict};
 use msg_ids::Moment;
 use octets::{IdList, Memory, Octets};
 use salt_line::SaltLine;
@@ -84,16 +84,20 @@ fn judge(
     salt: u64,
     body: &[u8],
 ) -> Result<(u32, usize), Memory> {
-    Ok(counted(&judged(inbox, alloc, seconds, number, seq, salt, body)?))
+    let (code, count, _) = counted(judged(inbox, alloc, seconds, number, seq, salt, body)?);
+    Ok((code, count))
 }
 
-// What became of a message, and how many were judged.
-fn counted(judged: &Judged) -> (u32, usize) {
+// What became of a message, how many were judged, and how many behind the first are accepted.
+fn counted(judged: Judged) -> (u32, usize, u64) {
     let judgements = judged.as_slice();
-    match judgements {
-        [first, ..] => (code_of(&first.verdict), judgements.len()),
-        [] => (u32::MAX, 0),
-    }
+    let code = match judgements {
+        [first, ..] => code_of(&first.verdict),
+        [] => u32::MAX,
+    };
+    let counted = (code, judgements.len(), accepted_in(judgements));
+    drop(judged);
+    counted
 }
 
 // Puts a call of this place, counted from 1, into a container: its number is 4 times that, its seq one less than 2 times.
@@ -118,9 +122,9 @@ fn container(alloc: Global, count: u64, last_length: u64) -> Result<Octets, Memo
 }
 
 // How many of the messages behind the first are accepted calls, each with the number of its place.
-fn accepted_in(judged: &Judged) -> u64 {
+fn accepted_in(judgements: &[Judgement]) -> u64 {
     let mut count = 0u64;
-    for judgement in judged.as_slice() {
+    for judgement in judgements {
         let number = count.wrapping_add(1).wrapping_mul(4);
         if judgement.number == number && judgement.verdict.is_accepted() {
             count = count.wrapping_add(1);
@@ -200,13 +204,11 @@ fn done(inbox: &mut Inbox, alloc: Global, step: &Step<'_>) -> Result<String, Fai
             judged_message(inbox, alloc, numbers, &NESTED_CONTAINER)?,
         ),
         "container" => {
-            let judged = judged_container(inbox, alloc, numbers)?;
-            let (code, count) = counted(&judged);
-            let accepted = accepted_in(&judged);
+            let (code, count, accepted) = counted(judged_container(inbox, alloc, numbers)?);
             Ok(format!(in alloc; "{code} {count} {accepted}")?)
         }
         "again" => {
-            let (code, _) = counted(&judged_container(inbox, alloc, numbers)?);
+            let (code, _, _) = counted(judged_container(inbox, alloc, numbers)?);
             Ok(format!(in alloc; "{code}")?)
         }
         "answer" => Ok(format!(in alloc; "{}", answer(inbox, numbers[0]))?),
@@ -214,19 +216,34 @@ fn done(inbox: &mut Inbox, alloc: Global, step: &Step<'_>) -> Result<String, Fai
     }
 }
 
-// The steps of a table. `new` begins anew, and `copy` goes on with a copy.
-fn are_done(alloc: Global, table: &str) -> Result<(), Fail> {
-    let mut inbox = Inbox::new(alloc)?;
-    for line in table.lines() {
-        let step = step_of(line)?;
-        match step.verb {
-            "new" => inbox = Inbox::new(alloc)?,
-            "copy" => inbox = inbox.copy(alloc)?,
-            "calls" => judge_many(&mut inbox, alloc, step.numbers[0])?,
-            _ => step.gave_text(done(&mut inbox, alloc, &step)?.as_str())?,
+// The step of a line. `new` begins anew, and `copy` goes on with a copy.
+fn plays(inbox: &mut Inbox, alloc: Global, line: &str) -> Result<(), Fail> {
+    let step = step_of(line)?;
+    match step.verb {
+        "new" => put(inbox, Inbox::new(alloc)?),
+        "copy" => {
+            let copy = inbox.copy(alloc)?;
+            put(inbox, copy);
         }
+        "calls" => judge_many(inbox, alloc, step.numbers[0])?,
+        _ => step.gave_text(done(inbox, alloc, &step)?.as_str())?,
     }
     Ok(())
+}
+
+fn play_all(inbox: &mut Inbox, alloc: Global, table: &str) -> Result<(), Fail> {
+    for line in table.lines() {
+        plays(inbox, alloc, line)?;
+    }
+    Ok(())
+}
+
+// The steps of a table, from a new inbox on.
+fn are_done(alloc: Global, table: &str) -> Result<(), Fail> {
+    let mut inbox = Inbox::new(alloc)?;
+    let done = play_all(&mut inbox, alloc, table);
+    drop(inbox);
+    done
 }
 
 // Marks a call as answered, where it waits.
@@ -257,8 +274,8 @@ fn judge_both(
         → (let once = session_after (InEnvelope now salts first.now.salt) session (message_in first.now) in
         Remembers inbox.new (session_after (InEnvelope now salts second.now.salt) once (message_in second.now))) }
 {
-    inbox.judge(alloc, now, line, first)?;
-    inbox.judge(alloc, now, line, second)?;
+    drop(inbox.judge(alloc, now, line, first)?);
+    drop(inbox.judge(alloc, now, line, second)?);
     Ok(())
 }
 

@@ -15,34 +15,35 @@ use test_asserts::{holds, same};
 
 #[test]
 fn items_are_numbered(rt: HostRuntime) -> Result<(), Fail> {
-    let alloc = rt.alloc();
     let mut numbers = Numbers::new();
+    holds(numbers.room() > 3)?;
     let new = Item::NewSessionCreated {
         first_msg_id: 4,
         unique_id: 7,
         server_salt: 9,
     };
+    same(numbered(&mut numbers, new), Some((7, 1)))?;
     let pong = Item::Pong {
         msg_id: 4,
         ping_id: 1,
     };
+    same(numbered(&mut numbers, pong), Some((9, 2)))?;
     let result = Item::RpcResult {
         req_msg_id: 4,
-        result: Octets::new(alloc),
+        result: Octets::new(rt.alloc()),
     };
-    holds(numbers.room() > 3)?;
-    same(numbered(&mut numbers, &new), Some((7, 1)))?;
-    same(numbered(&mut numbers, &pong), Some((9, 2)))?;
-    same(numbered(&mut numbers, &result), Some((13, 3)))?;
-    Ok(())
+    same(numbered(&mut numbers, result), Some((13, 3)))
 }
 
 // The number and the seq that an item gets at moment 0.
-fn numbered(numbers: &mut Numbers, item: &Item) -> Option<(u64, u32)> {
-    if numbers.room() == 0 {
-        return None;
-    }
-    Some(number(Moment::new(0), numbers, item))
+fn numbered(numbers: &mut Numbers, item: Item) -> Option<(u64, u32)> {
+    let numbered = if numbers.room() == 0 {
+        None
+    } else {
+        Some(number(Moment::new(0), numbers, &item))
+    };
+    drop(item);
+    numbered
 }
 
 // The packets of messages of a server that gave no number yet, as a caller makes them.

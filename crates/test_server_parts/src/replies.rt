@@ -114,9 +114,15 @@ copied 68 13 = Some(69)\n";
 fn seventeen_replies(rt: HostRuntime) -> Result<(), Fail> {
     same((KEPT_REPLIES_MAX, KEPT_BYTES_MAX), (4_096, 4_194_304))?;
     let mut outbox = Outbox::new(rt.alloc())?;
-    for line in SEVENTEEN.lines() {
+    let done = play_all(&mut outbox, rt.alloc(), SEVENTEEN);
+    drop(outbox);
+    done
+}
+
+fn play_all(outbox: &mut Outbox, alloc: Global, table: &str) -> Result<(), Fail> {
+    for line in table.lines() {
         let step = step_of(line)?;
-        step.gave_text(done(&mut outbox, rt.alloc(), &step)?.as_str())?;
+        step.gave_text(done(outbox, alloc, &step)?.as_str())?;
     }
     Ok(())
 }

@@ -44,6 +44,11 @@ pub(crate) fn step_of(line: &str) -> Result<Step<'_>, Fail> {
     })
 }
 
+/// A value takes the place of another, which is let go of here: a generic function proves that once for each type.
+pub(crate) fn put<T: Drop>(place: &mut T, value: T) {
+    drop(std::mem::replace(place, value));
+}
+
 impl Step<'_> {
     /// It gave this number.
     pub(crate) fn gave(&self, alloc: Global, number: u64) -> Result<(), Fail> {

@@ -133,14 +133,20 @@ fn done(window: &mut Window, alloc: Global, step: &Step<'_>) -> Result<String, F
     })
 }
 
+fn play_all(window: &mut Window, alloc: Global, table: &str) -> Result<(), Fail> {
+    for line in table.lines() {
+        let step = step_of(line)?;
+        step.gave_text(done(window, alloc, &step)?.as_str())?;
+    }
+    Ok(())
+}
+
 // The steps of a table, from a fresh window on.
 fn are_done(alloc: Global, table: &str) -> Result<(), Fail> {
     let mut window = Window::new(alloc)?;
-    for line in table.lines() {
-        let step = step_of(line)?;
-        step.gave_text(done(&mut window, alloc, &step)?.as_str())?;
-    }
-    Ok(())
+    let done = play_all(&mut window, alloc, table);
+    drop(window);
+    done
 }
 
 // A number below a full window comes straight back.
