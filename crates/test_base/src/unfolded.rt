@@ -189,25 +189,21 @@ fn behind_dots(alloc: Global, messages: &[Message]) -> Result<Octets, Fail> {
 #[test]
 fn two_are_unfolded(rt: HostRuntime) -> Result<(), Fail> {
     let alloc = rt.alloc();
+    let messages = abcd_and_none(alloc)?;
+    let want = shown(alloc, &messages.as_slice());
+    drop(messages);
+    let want = want?;
     holds(is_container(OF_TWO))?;
     let unfolded = unfold(alloc, 12, OF_TWO);
-    let messages = abcd_and_none(alloc);
-    let done = are_in(alloc, &unfolded, messages);
+    let done = are_in(alloc, &unfolded, want.as_str());
     drop(unfolded);
     done
 }
 
-// These messages are what was unfolded.
-fn are_in(
-    alloc: Global,
-    unfolded: &Unfolded,
-    messages: Result<Vec<Message>, Fail>,
-) -> Result<(), Fail> {
-    let messages = messages?;
-    let want = shown(alloc, &messages.as_slice());
-    drop(messages);
+// Messages that are shown so are what was unfolded.
+fn are_in(alloc: Global, unfolded: &Unfolded, want: &str) -> Result<(), Fail> {
     match unfolded {
-        Unfolded::Messages(inner) => shows(alloc, &inner.as_slice(), want?.as_str()),
+        Unfolded::Messages(inner) => shows(alloc, &inner.as_slice(), want),
         Unfolded::Invalid { .. } | Unfolded::Memory => Err(Fail::new("not unfolded")),
     }
 }
