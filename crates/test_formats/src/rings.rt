@@ -41,7 +41,10 @@ fn count(alloc: Global, text: &str) -> Result<usize, KeyFault> {
     if u32::try_from(text.len()).is_err() {
         return Err(KeyFault::Memory);
     }
-    Ok(Ring::read(alloc, text.as_bytes())?.len())
+    let ring = Ring::read(alloc, text.as_bytes())?;
+    let count = ring.len();
+    drop(ring);
+    Ok(count)
 }
 
 #[test]
@@ -156,20 +159,33 @@ fn read_again(alloc: Global, ring: &mut Ring, text: &[u8]) -> Result<(), KeyFaul
 // The ring of both keys, of which the second expires at the moment 7,200, read behind a ring of none; by a text that is refused it
 // stays.
 fn both(alloc: Global) -> Result<Ring, Fail> {
+    let text = text_of_both(alloc)?;
     let mut ring = Ring::read(alloc, b"")?;
-    holds(ring.is_empty())?;
+    match reads(alloc, &mut ring, text.as_str()) {
+        Ok(()) => Ok(ring),
+        Err(fail) => {
+            drop(ring);
+            Err(fail)
+        }
+    }
+}
+
+fn text_of_both(alloc: Global) -> Result<String, AllocError> {
     let up = hex::encode(alloc, up().as_slice())?;
     let down = hex::encode(alloc, down().as_slice())?;
-    let text = format!(in alloc; "perm {up}\ntemp 7200 {down}")?;
+    format!(in alloc; "perm {up}\ntemp 7200 {down}")
+}
+
+fn reads(alloc: Global, ring: &mut Ring, text: &str) -> Result<(), Fail> {
+    holds(ring.is_empty())?;
     if u32::try_from(text.len()).is_err() {
         return Err(Fail::new("too long"));
     }
-    read_again(alloc, &mut ring, text.as_bytes())?;
+    read_again(alloc, ring, text.as_bytes())?;
     same(
-        read_again(alloc, &mut ring, b"perm"),
+        read_again(alloc, ring, b"perm"),
         Err(KeyFault::BadLine { line: 1 }),
-    )?;
-    Ok(ring)
+    )
 }
 
 // What a ring says of an identifier: the kind of its key, the identifier of the key, and whether it is good at 7,199 and at
@@ -184,8 +200,13 @@ fn told(alloc: Global, ring: &Ring, id: u64) -> Result<String, AllocError> {
 
 #[test]
 fn keys_of_a_ring(rt: HostRuntime) -> Result<(), Fail> {
-    let alloc = rt.alloc();
-    let ring = both(alloc)?;
+    let ring = both(rt.alloc())?;
+    let done = are_two(rt.alloc(), &ring);
+    drop(ring);
+    done
+}
+
+fn are_two(alloc: Global, ring: &Ring) -> Result<(), Fail> {
     same(ring.len(), 2)?;
     let rows = [
         (UP_ID, "Some(Perm) Some(14474384091129631026) true true"),
@@ -196,7 +217,7 @@ fn keys_of_a_ring(rt: HostRuntime) -> Result<(), Fail> {
         (7, "None None false false"),
     ];
     for (id, want) in rows {
-        tells(alloc, &told(alloc, &ring, id)?, want)?;
+        tells(alloc, &told(alloc, ring, id)?, want)?;
     }
     Ok(())
 }

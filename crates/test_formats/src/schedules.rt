@@ -61,6 +61,13 @@ fn gives(alloc: Global, row: &str) -> Result<(), Fail> {
     let text = text.replace(alloc, ";", "\n")?;
     holds(text.len() < 100)?;
     let events = read(alloc, text.as_bytes())?;
+    let shown = is_shown(alloc, &events, want);
+    drop(events);
+    shown
+}
+
+// There is one event, which is shown so.
+fn is_shown(alloc: Global, events: &Events, want: &str) -> Result<(), Fail> {
     holds(events.len() == 1)?;
     shows(alloc, events.event(0), want)
 }
@@ -120,15 +127,13 @@ fn is_bad(alloc: Global, row: &str) -> Result<(), Fail> {
     let (line, text) = row.split_once(" | ").ok_or("a line and a text")?;
     let text = text.replace(alloc, ";", "\n")?;
     holds(text.len() < 100)?;
+    let line = line.parse::<u32>()?;
     match read(alloc, text.as_bytes()) {
-        Ok(_) => holds_at(row, false),
-        Err(fault) => same_at(
-            row,
-            fault,
-            SchedFault::BadLine {
-                line: line.parse::<u32>()?,
-            },
-        ),
+        Ok(events) => {
+            drop(events);
+            holds_at(row, false)
+        }
+        Err(fault) => same_at(row, fault, SchedFault::BadLine { line }),
     }
 }
 
@@ -144,11 +149,25 @@ fn bad_lines(rt: HostRuntime) -> Result<(), Fail> {
 fn lines_have_their_numbers(rt: HostRuntime) -> Result<(), Fail> {
     let alloc = rt.alloc();
     let events = first_or_second(alloc, b"jump", b"\n# one\nclient\n\nflush 1\n")?;
+    let done = are_on_three_and_five(&events);
+    drop(events);
+    done?;
+    same(count(alloc, b"")?, 0)?;
+    same(count(alloc, b"\n")?, 0)
+}
+
+fn are_on_three_and_five(events: &Events) -> Result<(), Fail> {
     holds(events.len() == 2)?;
-    same((events.line(0), events.line(1)), (3, 5))?;
-    holds(read(alloc, b"")?.is_empty())?;
-    holds(read(alloc, b"\n")?.is_empty())?;
-    Ok(())
+    same((events.line(0), events.line(1)), (3, 5))
+}
+
+// How many events a text has.
+fn count(alloc: Global, text: &[u8]) -> Result<usize, Fail> {
+    let events = read(alloc, text)?;
+    let (count, is_empty) = (events.len(), events.is_empty());
+    drop(events);
+    holds(is_empty == (count == 0))?;
+    Ok(count)
 }
 
 #[test]

@@ -44,11 +44,21 @@ fn five_calls(rt: HostRuntime) -> Result<(), Fail> {
     let text =
         b"# five\nadd x 5\n\nget x after 1\npad\t2\npacked after 3\nhex 0aF0 after 18446744073709551615";
     let script = first_or_second(alloc, b"call 1 add x 5", text)?;
+    let done = are_five(alloc, &script);
+    drop(script);
+    done?;
+    let none = read_script(alloc, b"")?;
+    let is_empty = none.is_empty();
+    drop(none);
+    holds(is_empty)
+}
+
+fn are_five(alloc: Global, script: &Script) -> Result<(), Fail> {
     same(script.len(), 5)?;
     for (place, row) in FIVE.lines().enumerate() {
-        tells(alloc, &told(alloc, &script, place)?, row)?;
+        tells(alloc, &told(alloc, script, place)?, row)?;
     }
-    holds(read_script(alloc, b"")?.is_empty())
+    Ok(())
 }
 
 // The bad line of a text, and the text, in which `;` stands for a newline.
@@ -69,15 +79,13 @@ fn is_bad(alloc: Global, row: &str) -> Result<(), Fail> {
     let (line, text) = row.split_once(" | ").ok_or("a line and a text")?;
     let text = text.replace(alloc, ";", "\n")?;
     holds(text.len() < 100)?;
+    let line = line.parse::<u32>()?;
     match read_script(alloc, text.as_bytes()) {
-        Ok(_) => holds_at(row, false),
-        Err(fault) => same_at(
-            row,
-            fault,
-            ScriptFault::BadLine {
-                line: line.parse::<u32>()?,
-            },
-        ),
+        Ok(script) => {
+            drop(script);
+            holds_at(row, false)
+        }
+        Err(fault) => same_at(row, fault, ScriptFault::BadLine { line }),
     }
 }
 

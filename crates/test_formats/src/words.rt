@@ -58,8 +58,26 @@ relay --help | Help(Relay)\n\
 // The words of a row say what is shown in it.
 fn says(alloc: Global, row: &str) -> Result<(), Fail> {
     let (line, want) = row.split_once(" | ").ok_or("words and what they say")?;
+    let said = read_line(alloc, line)?;
+    let shown = shows(alloc, &said, want);
+    drop(said);
+    shown
+}
+
+// What the words of a line say.
+fn read_line(alloc: Global, line: &str) -> Result<Command, Fail> {
+    match said_by(alloc, line)? {
+        Ok(command) => Ok(command),
+        Err(fault) => Err(fault.into()),
+    }
+}
+
+// The same, or why they are refused.
+fn said_by(alloc: Global, line: &str) -> Result<Result<Command, WordsFault>, Fail> {
     let words = words_of(alloc, line)?;
-    shows(alloc, &read(alloc, words.as_slice())?, want)
+    let said = read(alloc, words.as_slice());
+    drop(words);
+    Ok(said)
 }
 
 #[test]
@@ -136,8 +154,9 @@ help\n\
 
 // The words of a line are refused.
 fn is_refused(alloc: Global, line: &str) -> Result<(), Fail> {
-    let words = words_of(alloc, line)?;
-    let refused = matches!(&read(alloc, words.as_slice()), Err(WordsFault::Refused));
+    let said = said_by(alloc, line)?;
+    let refused = matches!(&said, Err(WordsFault::Refused));
+    drop(said);
     holds_at(line, refused)
 }
 
