@@ -14,6 +14,17 @@ fn submits(
     after: Option<CallNo>,
 ) -> Result<Result<bool, SubmitFault>, Fail> {
     let mut client = OpeningClient::new(alloc, 1, &mut StepDraw::new())?;
+    let answered = answers(&mut client, alloc, body, after);
+    drop(client);
+    answered
+}
+
+fn answers(
+    client: &mut OpeningClient,
+    alloc: Global,
+    body: &[u8],
+    after: Option<CallNo>,
+) -> Result<Result<bool, SubmitFault>, Fail> {
     if client
         .submit(alloc, &[0xa1, 0xcf, 0x72, 0x30], None)
         .is_err()
@@ -59,6 +70,7 @@ fn sessions_are_drawn(rt: HostRuntime) -> Result<(), Fail> {
         Moment::new(7200),
         &mut StepDraw::new(),
     )?;
-    same(client.session(), 6_364_136_223_846_793_005)?;
-    Ok(())
+    let session = client.session();
+    drop(client);
+    same(session, 6_364_136_223_846_793_005)
 }
