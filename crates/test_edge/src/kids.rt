@@ -117,12 +117,9 @@ fn two_lives(
     let alloc = rt.alloc();
     let program = String::from_str(alloc, program)?;
     let mut kids = ChildKids::new(rt, program);
-    let lives = [
-        life_of(&mut kids, alloc, first),
-        life_of(&mut kids, alloc, second),
-    ];
+    let first = life_of(&mut kids, alloc, first);
+    let second = life_of(&mut kids, alloc, second);
     drop(kids);
-    let [first, second] = lives;
     Ok([first?, second?])
 }
 
