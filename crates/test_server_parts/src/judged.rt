@@ -15,6 +15,7 @@ use octets::{IdList, Memory, Octets};
 use salt_line::SaltLine;
 use std::alloc::Global;
 use std::test::*;
+use test_asserts::{shown, told};
 
 /// The valid salt of the tests.
 const SALT: u64 = 7;
@@ -169,16 +170,16 @@ fn judge_many(inbox: &mut Inbox, alloc: Global, count: u64) -> Result<(), Memory
 fn states(inbox: &Inbox, alloc: Global) -> Result<String, Fail> {
     let ids = IdList::copy(alloc, &[0, 4, 8, 12, 16, 20, 28])?;
     let states = inbox.states(alloc, &ids)?;
-    Ok(format!(in alloc; "{:?}", states.as_slice())?)
+    Ok(shown(alloc, &states.as_slice())?)
 }
 
 // What an inbox says of a step that changes nothing.
-fn told(inbox: &Inbox, alloc: Global, step: &Step<'_>) -> Result<String, Fail> {
+fn asked(inbox: &Inbox, alloc: Global, step: &Step<'_>) -> Result<String, Fail> {
     let [number, ..] = step.numbers;
     Ok(match step.verb {
-        "heard" => format!(in alloc; "{}", inbox.heard())?,
-        "floor" => format!(in alloc; "{}", inbox.floor())?,
-        "mark" => format!(in alloc; "{:?}", inbox.mark(number))?,
+        "heard" => told(alloc, &inbox.heard())?,
+        "floor" => told(alloc, &inbox.floor())?,
+        "mark" => shown(alloc, &inbox.mark(number))?,
         _ => states(inbox, alloc)?,
     })
 }
@@ -209,10 +210,10 @@ fn done(inbox: &mut Inbox, alloc: Global, step: &Step<'_>) -> Result<String, Fai
         }
         "again" => {
             let (code, _, _) = counted(judged_container(inbox, alloc, numbers)?);
-            Ok(format!(in alloc; "{code}")?)
+            Ok(told(alloc, &code)?)
         }
-        "answer" => Ok(format!(in alloc; "{}", answer(inbox, numbers[0]))?),
-        _ => told(inbox, alloc, step),
+        "answer" => Ok(told(alloc, &answer(inbox, numbers[0]))?),
+        _ => asked(inbox, alloc, step),
     }
 }
 

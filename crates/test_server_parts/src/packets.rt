@@ -5,6 +5,7 @@ ghost use Rattle.msg_ids.specs.Counters.{none_given, room};
 ghost use Rattle.containers.specs.Lent.{message_of};
 ghost use Rattle.packing.specs.Packing.{packets_of};
 
+use crate::steps::zeros;
 use msg_ids::{Moment, Numbers};
 use octets::{Memory, Octets};
 use packing::{Part, front, number, packed_size, packets};
@@ -108,7 +109,7 @@ fn front_from(parts: &[Part<'_>], place: usize) -> Option<usize> {
 
 #[test]
 fn fifteen_great_results_go_by_threes(rt: HostRuntime) -> Result<(), Fail> {
-    let body = vec![in rt.alloc(); 0u8; 262_156]?;
+    let body = zeros(rt.alloc(), 262_156)?;
     let result = Part {
         number: 5,
         seq: 1,

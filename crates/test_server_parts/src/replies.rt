@@ -4,12 +4,12 @@
 ghost use Rattle.std.specs.Prelude.{◌≡◌, ◌≤◌, true, false, Ok, length, OnErr};
 ghost use Rattle.outbox.specs.Replies.{kept_bytes_max, with_kept, with_room_for};
 
-use crate::steps::{Step, step_of};
+use crate::steps::{Step, step_of, zeros};
 use octets::Memory;
 use outbox::{Body, Bytes, KEPT_BYTES_MAX, KEPT_REPLIES_MAX, Kept, Outbox};
 use std::alloc::Global;
 use std::test::Fail;
-use test_asserts::same;
+use test_asserts::{same, shown, told};
 
 // Keeps a reply where it fits, and says whether it did; else the oldest one is dropped.
 fn keep_or_drop(outbox: &mut Outbox, alloc: Global, kept: Kept) -> Result<bool, Memory>
@@ -63,9 +63,16 @@ fn kept_or_dropped(
     Ok((dropped, keep_or_drop(outbox, alloc, kept)?))
 }
 
+// A body of 262,156 bytes.
+fn great_body(alloc: Global) -> Result<Body, Fail> {
+    let zeros = zeros(alloc, 262_144)?;
+    let bytes = Bytes::copy_from_slice(alloc, zeros.as_slice())?;
+    Ok(Body::shared([0; 12], bytes))
+}
+
 // The replies to so many calls: which were dropped for which, and how many are kept.
 fn kept_all(outbox: &mut Outbox, alloc: Global, count: u64) -> Result<String, Fail> {
-    let body = Body::shared([0; 12], Bytes::copy_from_slice(alloc, &[0; 262_144])?);
+    let body = great_body(alloc)?;
     let mut text = String::new(alloc);
     for k in 0..count {
         let place = k.wrapping_add(1);
@@ -77,22 +84,29 @@ fn kept_all(outbox: &mut Outbox, alloc: Global, count: u64) -> Result<String, Fa
             text.push_str(format!(in alloc; "not {place}, ")?.as_str())?;
         }
     }
-    text.push_str(format!(in alloc; "{}", outbox.len())?.as_str())?;
+    text.push_str(told(alloc, &outbox.len())?.as_str())?;
     Ok(text)
 }
 
 // A step.
 fn done(outbox: &mut Outbox, alloc: Global, step: &Step<'_>) -> Result<String, Fail> {
     let [first, second, ..] = step.numbers;
-    Ok(match step.verb {
-        "keep" => kept_all(outbox, alloc, first)?,
-        "bytes" => format!(in alloc; "{}", outbox.bytes())?,
-        "at" => format!(in alloc; "{:?}", outbox.at(first as usize).map(|kept| kept.call))?,
-        "ack" => format!(in alloc; "{:?}", outbox.ack(first))?,
-        "call" => format!(in alloc; "{:?}", outbox.by_call(first).map(|kept| kept.number))?,
-        "number" => format!(in alloc; "{:?}", outbox.by_number(first).map(|kept| kept.call))?,
-        _ => format!(in alloc; "{:?}", number_in_copy(outbox, alloc, first, second)?)?,
-    })
+    match step.verb {
+        "keep" => kept_all(outbox, alloc, first),
+        "bytes" => Ok(told(alloc, &outbox.bytes())?),
+        "copied" => Ok(shown(alloc, &number_in_copy(outbox, alloc, first, second)?)?),
+        "ack" => Ok(shown(alloc, &outbox.ack(first))?),
+        _ => Ok(shown(alloc, &found(outbox, step.verb, first))?),
+    }
+}
+
+// The call of the reply at a place or of a number, or the number of the reply to a call.
+fn found(outbox: &Outbox, verb: &str, first: u64) -> Option<u64> {
+    match verb {
+        "at" => outbox.at(first as usize).map(|kept| kept.call),
+        "call" => outbox.by_call(first).map(|kept| kept.number),
+        _ => outbox.by_number(first).map(|kept| kept.call),
+    }
 }
 
 const SEVENTEEN: &str = "\

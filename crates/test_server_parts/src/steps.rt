@@ -1,6 +1,6 @@
 //! Steps of a table, one a line: a word, numbers behind it, and what it gives behind ` = `.
 
-use std::alloc::Global;
+use std::alloc::{AllocError, Global};
 use std::test::Fail;
 use test_asserts::same_at;
 
@@ -42,6 +42,11 @@ pub(crate) fn step_of(line: &str) -> Result<Step<'_>, Fail> {
         numbers,
         gives,
     })
+}
+
+/// So many zeros. No contract says how many, as a long list with a known length is computed by all that looks at it.
+pub(crate) fn zeros(alloc: Global, count: usize) -> Result<Vec<u8>, AllocError> {
+    vec![in alloc; 0u8; count]
 }
 
 /// A value takes the place of another, which is let go of here: a generic function proves that once for each type.

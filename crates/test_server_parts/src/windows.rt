@@ -11,7 +11,7 @@ use id_window::{Cross, Mark, WINDOW_NUMBERS, Window};
 use octets::Memory;
 use std::alloc::Global;
 use std::test::Fail;
-use test_asserts::same;
+use test_asserts::{same, shown, told};
 
 // Notes a call where it is new and crosses nothing, and says whether it did.
 fn accept_call(window: &mut Window, alloc: Global, number: u64, seq: u32) -> Result<bool, Memory>
@@ -85,13 +85,13 @@ fn mark_of(number: u64) -> Mark {
 }
 
 // What a window says of a step that changes nothing.
-fn told(window: &Window, alloc: Global, step: &Step<'_>) -> Result<String, Fail> {
+fn asked(window: &Window, alloc: Global, step: &Step<'_>) -> Result<String, Fail> {
     let [number, seq, ..] = step.numbers;
     let seq = (seq & 0xffff_ffff) as u32;
     Ok(match step.verb {
-        "find" => format!(in alloc; "{:?}", window.find(number))?,
-        "copied" => format!(in alloc; "{:?}", find_in_copy(window, alloc, number)?)?,
-        "crosses" => format!(in alloc; "{:?}", window.crosses(number, seq))?,
+        "find" => shown(alloc, &window.find(number))?,
+        "copied" => shown(alloc, &find_in_copy(window, alloc, number)?)?,
+        "crosses" => shown(alloc, &window.crosses(number, seq))?,
         _ => edges(window, alloc)?,
     })
 }
@@ -124,12 +124,12 @@ fn done(window: &mut Window, alloc: Global, step: &Step<'_>) -> Result<String, F
     Ok(match step.verb {
         "note" => {
             let forgotten = note_new(window, alloc, number, seq, mark_of(mark))?;
-            format!(in alloc; "{forgotten:?}")?
+            shown(alloc, &forgotten)?
         }
-        "notes" => format!(in alloc; "{}", noted(window, alloc, number)?)?,
-        "accept" => format!(in alloc; "{}", accept_call(window, alloc, number, seq)?)?,
-        "answer" => format!(in alloc; "{:?}", accept_and_answer(window, alloc, number, seq))?,
-        _ => told(window, alloc, step)?,
+        "notes" => told(alloc, &noted(window, alloc, number)?)?,
+        "accept" => told(alloc, &accept_call(window, alloc, number, seq)?)?,
+        "answer" => shown(alloc, &accept_and_answer(window, alloc, number, seq))?,
+        _ => asked(window, alloc, step)?,
     })
 }
 
