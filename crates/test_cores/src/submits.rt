@@ -3,7 +3,7 @@
 use client_core::{CallNo, CallState, OpeningClient, SubmitFault};
 use draws::StepDraw;
 use msg_ids::Moment;
-use std::alloc::Global;
+use std::alloc::{AllocError, Global};
 use std::test::*;
 use test_asserts::same;
 
@@ -37,10 +37,15 @@ fn answers(
     }
 }
 
+// So many zeros. No contract says how many, as a long list with a known length is computed by all that looks at it.
+fn zeros(alloc: Global, count: usize) -> Result<Vec<u8>, AllocError> {
+    vec![in alloc; 0u8; count]
+}
+
 #[test]
 fn bodies_that_are_no_calls(rt: HostRuntime) -> Result<(), Fail> {
-    let long = vec![in rt.alloc(); 0u8; 262_148]?;
-    let most = vec![in rt.alloc(); 0u8; 262_144]?;
+    let long = zeros(rt.alloc(), 262_148)?;
+    let most = zeros(rt.alloc(), 262_144)?;
     let (first, second) = (Some(CallNo { n: 1 }), Some(CallNo { n: 2 }));
     let rows: [(&[u8], Option<CallNo>, Result<bool, SubmitFault>); 7] = [
         (&long, None, Err(SubmitFault::TooLong { len: 262_148 })),
