@@ -58,26 +58,17 @@ relay --help | Help(Relay)\n\
 // The words of a row say what is shown in it.
 fn says(alloc: Global, row: &str) -> Result<(), Fail> {
     let (line, want) = row.split_once(" | ").ok_or("words and what they say")?;
-    let said = read_line(alloc, line)?;
-    let shown = shows(alloc, &said, want);
-    drop(said);
-    shown
-}
-
-// What the words of a line say.
-fn read_line(alloc: Global, line: &str) -> Result<Command, Fail> {
-    match said_by(alloc, line)? {
-        Ok(command) => Ok(command),
-        Err(fault) => Err(fault.into()),
-    }
-}
-
-// The same, or why they are refused.
-fn said_by(alloc: Global, line: &str) -> Result<Result<Command, WordsFault>, Fail> {
     let words = words_of(alloc, line)?;
-    let said = read(alloc, words.as_slice());
+    let done = are_said(alloc, words.as_slice(), want);
     drop(words);
-    Ok(said)
+    done
+}
+
+fn are_said(alloc: Global, words: &[String], want: &str) -> Result<(), Fail> {
+    let said = read(alloc, words)?;
+    let done = shows(alloc, &said, want);
+    drop(said);
+    done
 }
 
 #[test]
@@ -154,10 +145,17 @@ help\n\
 
 // The words of a line are refused.
 fn is_refused(alloc: Global, line: &str) -> Result<(), Fail> {
-    let said = said_by(alloc, line)?;
+    let words = words_of(alloc, line)?;
+    let refused = are_refused(alloc, words.as_slice());
+    drop(words);
+    holds_at(line, refused)
+}
+
+fn are_refused(alloc: Global, words: &[String]) -> bool {
+    let said = read(alloc, words);
     let refused = matches!(&said, Err(WordsFault::Refused));
     drop(said);
-    holds_at(line, refused)
+    refused
 }
 
 #[test]
@@ -165,8 +163,7 @@ fn words_that_are_refused(rt: HostRuntime) -> Result<(), Fail> {
     for line in REFUSED.lines() {
         is_refused(rt.alloc(), line)?;
     }
-    holds(matches!(&read(rt.alloc(), &[]), Err(WordsFault::Refused)))?;
-    Ok(())
+    holds(are_refused(rt.alloc(), &[]))
 }
 
 // Whether a page begins so, ends with a newline and has no line of more than 80 bytes.
