@@ -172,8 +172,8 @@ fn files_of_this_machine(rt: HostRuntime) -> Result<(), Fail> {
     };
     let kept = is_kept(&mut disk);
     disks.done(disk);
-    fs::remove_file(&rt, name)?;
     kept?;
+    fs::remove_file(&rt, name)?;
     holds(matches!(disks.open("no_such_folder/file"), DiskOpen::Failed))?;
     same(disks.faults(), 2)?;
     Ok(())
