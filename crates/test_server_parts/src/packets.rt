@@ -110,6 +110,9 @@ fn front_from(parts: &[Part<'_>], place: usize) -> Option<usize> {
 #[test]
 fn fifteen_great_results_go_by_threes(rt: HostRuntime) -> Result<(), Fail> {
     let body = zeros(rt.alloc(), 262_156)?;
+    if u32::try_from(body.len()).is_err() {
+        return Err(Fail::new("too long"));
+    }
     let result = Part {
         number: 5,
         seq: 1,
@@ -124,6 +127,7 @@ fn fifteen_great_results_go_by_threes(rt: HostRuntime) -> Result<(), Fail> {
 }
 
 // The size of the packet of the parts that go first.
+#[tactic(auto, using(crate::proofs::PacketLemmas::first_are_packet))]
 fn first_size(parts: &[Part<'_>]) -> Option<usize> {
     if parts.is_empty() {
         return None;
