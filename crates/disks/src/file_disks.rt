@@ -150,7 +150,7 @@ impl<R: Files + Drop> FileDisks<R> {
 }
 
 /// The answer of an attempt, by what std answered.
-fn open_of<F: Drop>(answer: io::Result<F>) -> DiskOpen<FileDisk<F>>
+pub(crate) fn open_of<F: Drop>(answer: io::Result<F>) -> DiskOpen<FileDisk<F>>
     ensures disk { IfOk answer (λ file. result ≡ DiskOpen.Disk (record { file = file; faults = 0 })) }
     ensures failed { IfErr answer (λ _. result ≡ DiskOpen.Failed) }
 {

@@ -11,7 +11,6 @@ use mt_edge::{
     TcpNet, WriteSink,
 };
 use octets::Octets;
-use std::alloc::Global;
 use std::fs;
 use std::io::{self, ErrorKind, Read, Write};
 use std::test::Fail;
@@ -45,7 +44,10 @@ fn take_and_give_back<N: Net>(net: &mut N) -> bool
     }
 }
 
-fn cuts_fails_and_ends(link: &mut MemLink) -> Result<(), Fail> {
+#[test]
+fn links_cut_fail_and_end(rt: HostRuntime) -> Result<(), Fail> {
+    let alloc = rt.alloc();
+    let mut link = MemLink::new(alloc, b"hello", 3, &[2], 4, 5)?;
     let mut into = [0u8; 8];
     same(link.read(&mut into), Got::Bytes(3))?;
     same(&into[..3], b"hel".as_slice())?;
@@ -56,15 +58,8 @@ fn cuts_fails_and_ends(link: &mut MemLink) -> Result<(), Fail> {
     same(link.write(b"abcd"), Put::Took(3))?;
     same(link.write(b"de"), Put::Failed)?;
     same(link.read(&mut into), Got::Failed)?;
-    same(link.faults(), 3)
-}
-
-#[test]
-fn links_cut_fail_and_end(rt: HostRuntime) -> Result<(), Fail> {
-    let mut link = MemLink::new(rt.alloc(), b"hello", 3, &[2], 4, 5)?;
-    let done = cuts_fails_and_ends(&mut link);
-    drop(link);
-    done
+    same(link.faults(), 3)?;
+    Ok(())
 }
 
 #[test]
@@ -72,9 +67,11 @@ fn closed_links_fail(rt: HostRuntime) -> Result<(), Fail> {
     let mut into = [0u8; 4];
     let mut link = MemLink::new(rt.alloc(), b"abc", 2, &[], 8, 4)?;
     link.close();
-    let both = read_and_write(&mut link, &mut into, b"x");
-    drop(link);
-    same(both, (Got::Failed, Put::Failed))
+    same(
+        read_and_write(&mut link, &mut into, b"x"),
+        (Got::Failed, Put::Failed),
+    )?;
+    Ok(())
 }
 
 /// What a call of a net came to.
@@ -115,17 +112,15 @@ fn exchange(net: &mut MemNet) -> (Got, Put) {
     }
 }
 
-/// A net of one link, whose fourth call fails.
-fn net_of_one(alloc: Global) -> Result<MemNet, Fail> {
+#[test]
+fn nets_note_their_calls(rt: HostRuntime) -> Result<(), Fail> {
+    let alloc = rt.alloc();
     let mut links = Vec::new(alloc);
     links.push(MemLink::new(alloc, b"abc", 2, &[], 8, 4)?)?;
-    Ok(MemNet::new(alloc, links, &[4], 8)?)
-}
-
-fn notes_its_calls(net: &mut MemNet) -> Result<(), Fail> {
+    let mut net = MemNet::new(alloc, links, &[4], 8)?;
     same(net.listen(443), Act::Ready)?;
-    same(exchange(net), (Got::Bytes(2), Put::Took(2)))?;
-    holds(!take_and_give_back(net))?;
+    same(exchange(&mut net), (Got::Bytes(2), Put::Took(2)))?;
+    holds(!take_and_give_back(&mut net))?;
     holds(matches!(net.connect(80), Linked::Failed))?;
     same(net.faults(), 2)?;
     let wanted = ["listens", "right", "no link", "connects"];
@@ -134,14 +129,6 @@ fn notes_its_calls(net: &mut MemNet) -> Result<(), Fail> {
         same(kind_of(call), want)?;
     }
     Ok(())
-}
-
-#[test]
-fn nets_note_their_calls(rt: HostRuntime) -> Result<(), Fail> {
-    let mut net = net_of_one(rt.alloc())?;
-    let done = notes_its_calls(&mut net);
-    drop(net);
-    done
 }
 
 #[test]
@@ -197,17 +184,15 @@ fn make_odd(is_short: bool, fails_flush: bool) -> Odd {
     }
 }
 
-fn sources_of_std_fail() -> Result<(), Fail> {
+#[test]
+fn objects_of_std_that_fail() -> Result<(), Fail> {
     let mut into = [0u8; 4];
     let mut source = ReadSource::new(make_odd(true, false));
     same(source.read(&mut into), Got::Failed)?;
     same(source.faults(), 1)?;
     let mut source = ReadSource::new(b"".as_slice());
     same(source.read(&mut into), Got::End)?;
-    same(source.faults(), 0)
-}
-
-fn sinks_of_std_fail() -> Result<(), Fail> {
+    same(source.faults(), 0)?;
     let mut sink = WriteSink::new(make_odd(false, false));
     same(sink.write(b"abc"), Put::Failed)?;
     same(sink.faults(), 1)?;
@@ -220,83 +205,38 @@ fn sinks_of_std_fail() -> Result<(), Fail> {
     same(sink.write(b"abc"), Put::Took(1))?;
     same(sink.write(b"bc"), Put::Took(1))?;
     same(sink.faults(), 0)?;
-    same(sink.into_inner().passed, 2)
-}
-
-#[test]
-fn objects_of_std_that_fail() -> Result<(), Fail> {
-    sources_of_std_fail()?;
-    sinks_of_std_fail()
-}
-
-/// What a read of the file of this name gave, and how many bytes.
-fn read_by_name<F: KeyFiles>(files: &mut F, alloc: Global, name: &str) -> (&'static str, usize) {
-    match files.read(alloc, name) {
-        FileGot::Contents(text) => {
-            let text = text.as_slice();
-            let told = if text == b"key".as_slice() {
-                "key"
-            } else {
-                "others"
-            };
-            (told, text.len())
-        }
-        FileGot::Failed => ("failed", 0),
-        FileGot::Memory => ("no memory", 0),
-    }
-}
-
-/// A file `ring`, whose third read fails.
-fn one_file(alloc: Global) -> Result<MemFiles, Fail> {
-    let mut files = Vec::new(alloc);
-    let name = Octets::copy(alloc, b"ring")?;
-    let contents = Octets::copy(alloc, b"key")?;
-    files.push(NamedFile { name, contents })?;
-    Ok(MemFiles::new(alloc, files, &[3], 4)?)
-}
-
-fn files_in_memory(alloc: Global) -> Result<(), Fail> {
-    let mut files = one_file(alloc)?;
-    let first = read_by_name(&mut files, alloc, "ring");
-    let other = read_by_name(&mut files, alloc, "other");
-    let third = read_by_name(&mut files, alloc, "ring");
-    drop(files);
-    same(
-        (first, other, third),
-        (("key", 3), ("failed", 0), ("failed", 0)),
-    )
-}
-
-/// What a read gives of so many bytes, in a file of this machine.
-fn written_and_read(
-    rt: &HostRuntime,
-    name: &str,
-    bytes: usize,
-) -> Result<(&'static str, usize), Fail> {
-    let text = vec![in rt.alloc(); 7u8; bytes]?;
-    fs::write(rt, name, text.as_slice())?;
-    let mut files = DiskFiles::new(rt);
-    Ok(read_by_name(&mut files, rt.alloc(), name))
-}
-
-fn files_of_this_machine(rt: &HostRuntime) -> Result<(), Fail> {
-    let name = "mt_edge_file.tmp";
-    fs::write(rt, name, b"key".as_slice())?;
-    let mut files = DiskFiles::new(rt);
-    same(read_by_name(&mut files, rt.alloc(), name), ("key", 3))?;
-    same(written_and_read(rt, name, 1_048_577)?, ("failed", 0))?;
-    same(
-        written_and_read(rt, name, 1_048_576)?,
-        ("others", 1_048_576),
-    )?;
-    fs::remove_file(rt, name)?;
-    same(read_by_name(&mut files, rt.alloc(), name), ("failed", 0))
+    same(sink.into_inner().passed, 2)?;
+    Ok(())
 }
 
 #[test]
 fn files_are_read_by_name(rt: HostRuntime) -> Result<(), Fail> {
-    files_in_memory(rt.alloc())?;
-    files_of_this_machine(&rt)
+    let alloc = rt.alloc();
+    let mut files = Vec::new(alloc);
+    let name = Octets::copy(alloc, b"ring")?;
+    let contents = Octets::copy(alloc, b"key")?;
+    files.push(NamedFile { name, contents })?;
+    let mut files = MemFiles::new(alloc, files, &[3], 4)?;
+    assert!(rt;
+        matches!(files.read(alloc, "ring"), FileGot::Contents(text) if text.as_slice() == b"key".as_slice())
+    );
+    assert!(rt; matches!(files.read(alloc, "other"), FileGot::Failed));
+    assert!(rt; matches!(files.read(alloc, "ring"), FileGot::Failed));
+    let name = "mt_edge_file.tmp";
+    fs::write(&rt, name, b"key".as_slice())?;
+    let mut files = DiskFiles::new(&rt);
+    assert!(rt;
+        matches!(files.read(alloc, name), FileGot::Contents(text) if text.as_slice() == b"key".as_slice())
+    );
+    let long = vec![in alloc; 7u8; 1_048_577]?;
+    fs::write(&rt, name, long.as_slice())?;
+    assert!(rt; matches!(files.read(alloc, name), FileGot::Failed));
+    let full = vec![in alloc; 7u8; 1_048_576]?;
+    fs::write(&rt, name, full.as_slice())?;
+    assert!(rt; matches!(files.read(alloc, name), FileGot::Contents(_)));
+    fs::remove_file(&rt, name)?;
+    assert!(rt; matches!(files.read(alloc, name), FileGot::Failed));
+    Ok(())
 }
 
 #[test]
@@ -321,16 +261,6 @@ fn free_port<N: Net>(net: &mut N) -> Option<u16> {
     None
 }
 
-/// Bytes go from one end to the other, and back.
-fn speak<A: Link, B: Link>(near: &mut A, far: &mut B) -> Result<(), Fail> {
-    let mut into = [0u8; 4];
-    same(near.write(b"abc"), Put::Took(3))?;
-    same(far.read(&mut into), Got::Bytes(3))?;
-    same(&into[..3], b"abc".as_slice())?;
-    same(far.write(b"de"), Put::Took(2))?;
-    same(near.read(&mut into), Got::Bytes(2))
-}
-
 #[test]
 fn sockets_of_this_machine(rt: HostRuntime) -> Result<(), Fail> {
     let mut net = TcpNet::new(&rt);
@@ -342,15 +272,20 @@ fn sockets_of_this_machine(rt: HostRuntime) -> Result<(), Fail> {
     let (Linked::Link(mut near), Linked::Link(mut far)) = (other.connect(port), net.accept()) else {
         return Err("no connection".into());
     };
-    let spoke = speak(&mut near, &mut far);
+    let mut into = [0u8; 4];
+    same(near.write(b"abc"), Put::Took(3))?;
+    same(far.read(&mut into), Got::Bytes(3))?;
+    same(&into[..3], b"abc".as_slice())?;
+    same(far.write(b"de"), Put::Took(2))?;
+    same(near.read(&mut into), Got::Bytes(2))?;
     far.close();
     net.done(far);
-    let ended = near.read(&mut [0u8; 4]);
+    same(near.read(&mut into), Got::End)?;
     near.close();
-    let both = read_and_write(&mut near, &mut [0u8; 4], b"f");
+    same(near.read(&mut into), Got::Failed)?;
+    same(near.write(b"f"), Put::Failed)?;
     other.done(near);
-    spoke?;
-    same((ended, both), (Got::End, (Got::Failed, Put::Failed)))
+    Ok(())
 }
 
 #[test]

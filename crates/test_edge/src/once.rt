@@ -1,111 +1,68 @@
-//! How often the adapters of files and children ask the library, counted in front of this machine's; and a file of std that fails.
+//! How often the adapters of files and children ask the library, counted in front of this machine's.
 
-use disks::{Disk, DiskLen, DiskOpen, Disks, FileDisks};
+use disks::{Disk, DiskOpen, Disks, FileDisks};
 use mt_edge::{Act, ChildKids, DiskFiles, FileGot, KeyFiles, Line, Spawner};
 use std::alloc::Allocator;
 use std::cell::Cell;
 use std::fs::{self, Files, Metadata, OpenFile, OpenOptions};
-use std::io::{self, ErrorKind, Read, Seek, SeekFrom, Write};
+use std::io::{self, Read, Seek, SeekFrom, Write};
 use std::process::{Child, Command, Processes, Stdio};
 use std::test::Fail;
 use test_asserts::same;
 
 /// Files and children of this machine, with a count of files that were opened or made sure of and of children that were started.
-/// Files that fail read and write, but move only where they are asked to, and do nothing else.
 #[derive(Drop)]
 struct Counted<'a> {
     rt: &'a HostRuntime,
     count: &'a Cell<u64>,
-    fails: bool,
-    moves: bool,
 }
 
 impl<'a> Counted<'a> {
-    fn new(rt: &'a HostRuntime, count: &'a Cell<u64>) -> Counted<'a> {
-        Counted {
-            rt,
-            count,
-            fails: false,
-            moves: true,
-        }
-    }
-
     fn add(&self) {
         self.count.set(self.count.get().wrapping_add(1));
     }
 }
 
-/// A file of this machine, with that count, or one that fails.
+/// A file of this machine, with that count.
 #[derive(Drop)]
 struct CountedFile<'a> {
     file: <HostRuntime as Files>::File,
     count: &'a Cell<u64>,
-    fails: bool,
-    moves: bool,
-}
-
-/// What it answers to what it doesn't do.
-fn fault<T>() -> io::Result<T> {
-    Err(io::Error::from(ErrorKind::Unsupported))
 }
 
 impl<'a> Read for CountedFile<'a> {
     fn read(&mut self, into: &mut [u8]) -> io::Result<usize> {
-        if self.fails {
-            return Ok(into.len());
-        }
         self.file.read(into)
     }
 }
 
 impl<'a> Write for CountedFile<'a> {
     fn write(&mut self, piece: &[u8]) -> io::Result<usize> {
-        if self.fails {
-            return Ok(piece.len());
-        }
         self.file.write(piece)
     }
 
     fn flush(&mut self) -> io::Result<()> {
-        if self.fails {
-            return fault();
-        }
         self.file.flush()
     }
 }
 
 impl<'a> Seek for CountedFile<'a> {
     fn seek(&mut self, to: SeekFrom) -> io::Result<u64> {
-        if !self.moves {
-            return fault();
-        }
-        if self.fails {
-            return Ok(0);
-        }
         self.file.seek(to)
     }
 }
 
 impl<'a> OpenFile for CountedFile<'a> {
     fn metadata(&self) -> io::Result<Metadata> {
-        if self.fails {
-            return fault();
-        }
         self.file.metadata()
     }
 
     fn set_len(&self, size: u64) -> io::Result<()> {
-        if self.fails {
-            return fault();
-        }
         self.file.set_len(size)
     }
 
     fn sync_all(&self) -> io::Result<()> {
         self.count.set(self.count.get().wrapping_add(1));
-        if self.fails {
-            return fault();
-        }
         self.file.sync_all()
     }
 
@@ -125,8 +82,6 @@ impl<'a> Files for Counted<'a> {
         Ok(CountedFile {
             file,
             count: self.count,
-            fails: self.fails,
-            moves: self.moves,
         })
     }
 
@@ -187,7 +142,10 @@ fn a_file_is_opened_once(rt: HostRuntime) -> Result<(), Fail> {
     let name = "mt_edge_once.tmp";
     fs::write(&rt, name, b"key".as_slice())?;
     let count = Cell::new(0);
-    let mut files = DiskFiles::new(Counted::new(&rt, &count));
+    let mut files = DiskFiles::new(Counted {
+        rt: &rt,
+        count: &count,
+    });
     same(
         matches!(files.read(rt.alloc(), name), FileGot::Contents(_)),
         true,
@@ -205,7 +163,10 @@ fn a_file_is_opened_once(rt: HostRuntime) -> Result<(), Fail> {
 fn a_file_is_made_sure_of_once(rt: HostRuntime) -> Result<(), Fail> {
     let name = "disks_once.tmp";
     let count = Cell::new(0);
-    let mut disks = FileDisks::new(Counted::new(&rt, &count));
+    let mut disks = FileDisks::new(Counted {
+        rt: &rt,
+        count: &count,
+    });
     let DiskOpen::Disk(mut disk) = disks.open(name) else {
         return Err("no file".into());
     };
@@ -216,46 +177,14 @@ fn a_file_is_made_sure_of_once(rt: HostRuntime) -> Result<(), Fail> {
     Ok(())
 }
 
-/// What a disk answers to a question for its length, and to a read, a write, a cut and a sync.
-fn answers_of<K: Disk>(disk: &mut K) -> (DiskLen, [Act; 4]) {
-    let mut into = [0u8; 2];
-    let len = disk.len();
-    let read = disk.read(0, &mut into);
-    let written = disk.write(0, b"ab");
-    let cut = disk.cut(0);
-    (len, [read, written, cut, disk.sync()])
-}
-
-/// The same of a file that fails, and moves or doesn't.
-fn answers_of_faulty(rt: &HostRuntime, moves: bool) -> Result<(DiskLen, [Act; 4]), Fail> {
-    let name = "disks_faulty.tmp";
-    let count = Cell::new(0);
-    let mut files = Counted::new(rt, &count);
-    (files.fails, files.moves) = (true, moves);
-    let mut disks = FileDisks::new(files);
-    let DiskOpen::Disk(mut disk) = disks.open(name) else {
-        return Err("no file".into());
-    };
-    let answers = answers_of(&mut disk);
-    disks.done(disk);
-    fs::remove_file(rt, name)?;
-    Ok(answers)
-}
-
-#[test]
-fn files_that_fail(rt: HostRuntime) -> Result<(), Fail> {
-    use Act::{Failed, Ready};
-    let moving = (DiskLen::Failed, [Ready, Failed, Failed, Failed]);
-    same(answers_of_faulty(&rt, true)?, moving)?;
-    let still = (DiskLen::Failed, [Failed, Failed, Failed, Failed]);
-    same(answers_of_faulty(&rt, false)?, still)
-}
-
 #[test]
 fn a_child_is_started_once(rt: HostRuntime) -> Result<(), Fail> {
     let alloc = rt.alloc();
     let count = Cell::new(0);
-    let counted = Counted::new(&rt, &count);
+    let counted = Counted {
+        rt: &rt,
+        count: &count,
+    };
     let mut kids = ChildKids::new(counted, String::from_str(alloc, "sh")?);
     let mut words = Vec::new(alloc);
     words.push(String::from_str(alloc, "-c")?)?;

@@ -172,29 +172,8 @@ impl<S: Seal> Served<S> {
         let Some(effects) = self.happens(line, sent)? else {
             return Ok(false);
         };
-        let told = self.tells(line.alloc, &effects, sent, text);
-        drop(effects);
-        told?;
+        self.tells(line.alloc, &effects, sent, text)?;
         Ok(true)
-    }
-
-    // A packet comes, and what was heard is told.
-    fn hears_and_tells(
-        &mut self,
-        alloc: Global,
-        packet: &[u8],
-        sent: &mut Sent,
-        text: &mut Text,
-    ) -> Result<(), Fail> {
-        let reply = self.hears(alloc, packet)?;
-        let heard = tell_heard(alloc, &reply, text);
-        let effects = effects_of(reply);
-        let told = match heard {
-            Ok(()) => self.tells(alloc, &effects, sent, text),
-            Err(fail) => Err(fail),
-        };
-        drop(effects);
-        told
     }
 
     /// Bytes come, or the packet of a message that isn't in a container, and what was heard is told: whether the line told that.
@@ -215,7 +194,10 @@ impl<S: Seal> Served<S> {
             }
             _ => return Ok(false),
         };
-        self.hears_and_tells(alloc, packet.as_slice(), sent, text)?;
+        let reply = self.hears(alloc, packet.as_slice())?;
+        let heard = &reply.heard;
+        text.push(format!(in alloc; "{heard:?}\n")?.as_str())?;
+        self.tells(alloc, &effects_of(reply), sent, text)?;
         Ok(true)
     }
 
@@ -233,9 +215,7 @@ impl<S: Seal> Served<S> {
         let packet = packet.as_slice();
         for count in 0..packet.len() {
             let reply = self.hears(alloc, &packet[..count])?;
-            let letter = letter(&reply, count);
-            drop(reply);
-            text.push(letter)?;
+            text.push(letter(&reply, count))?;
         }
         text.push("\n")?;
         Ok(true)
@@ -256,12 +236,6 @@ fn works<S: Seal, V: Service>(
         }
         _ => Err(Fail::new("no job")),
     }
-}
-
-// What a server heard as a line.
-fn tell_heard(alloc: Global, reply: &Reply, text: &mut Text) -> Result<(), Fail> {
-    let heard = &reply.heard;
-    text.push(format!(in alloc; "{heard:?}\n")?.as_str())
 }
 
 // What a packet gave.

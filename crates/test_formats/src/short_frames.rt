@@ -11,7 +11,7 @@ use frame_short::{Deframer, FrameFault, Framer, Next};
 use octets::{Memory, Octets};
 use std::alloc::Global;
 use std::test::*;
-use test_asserts::{holds, holds_at, same, tells};
+use test_asserts::{holds, same};
 
 // Feeds a piece and copies the packet that comes next, where there is one.
 fn take_packet(
@@ -118,77 +118,54 @@ fn put(framer: &mut Framer, alloc: Global, payload: &[u8], out: &mut Octets) -> 
     Ok(())
 }
 
-// The frames of packets of 504 and 508 bytes.
-fn two_frames(alloc: Global) -> Result<Octets, Fail> {
+#[test]
+fn frames_are_read_in_any_pieces(rt: HostRuntime) -> Result<(), Fail> {
+    let alloc = rt.alloc();
     let mut stream = Octets::new(alloc);
     let mut framer = Framer::new();
     put(&mut framer, alloc, &[3; 504], &mut stream)?;
     same(stream.as_slice().len(), 505)?;
     put(&mut framer, alloc, &[7; 508], &mut stream)?;
-    Ok(stream)
-}
-
-// Their packets, one behind the other.
-fn two_packets(alloc: Global) -> Result<Octets, Fail> {
-    let mut packets = Octets::copy(alloc, &[3; 504])?;
-    packets.push_all(alloc, &[7; 508])?;
-    Ok(packets)
-}
-
-#[test]
-fn frames_have_their_heads(rt: HostRuntime) -> Result<(), Fail> {
-    let stream = two_frames(rt.alloc())?;
-    same(stream.as_slice().len(), 1017)?;
-    same(stream.as_slice().first().copied(), Some(0x7e))?;
-    same(
-        stream.as_slice().get(505..509),
-        Some(b"\x7f\x7f\0\0".as_slice()),
-    )
-}
-
-#[test]
-fn frames_are_read_in_any_pieces(rt: HostRuntime) -> Result<(), Fail> {
-    let stream = two_frames(rt.alloc())?;
-    let want = two_packets(rt.alloc())?;
+    let bytes = stream.as_slice();
+    holds(bytes.len() == 1017)?;
+    same(bytes[0], 0x7e)?;
+    same(&bytes[505..509], b"\x7f\x7f\0\0".as_slice())?;
+    let mut want = Octets::copy(alloc, &[3; 504])?;
+    want.push_all(alloc, &[7; 508])?;
     for size in [1, 7, 506, 507, 508, 1017] {
-        let found = read(rt.alloc(), stream.as_slice(), size, want.as_slice())?;
-        same(found, (2, true, None))?;
+        same(read(alloc, bytes, size, want.as_slice())?, (2, true, None))?;
     }
     Ok(())
 }
 
-// The bytes of a stream, how many packets come, and the fault.
-const STREAMS: &str = " 0 None\n\
-016cfeff 0 None\n\
-016cfeffff 1 None\n\
-7f0100006cfeffff 1 None\n\
-7f000004 0 None\n\
-7f010004 0 Some(TooLong { len: 1048580 })\n\
-006c 0 Some(BadLength { len: 0 })\n\
-7f000000 0 Some(BadLength { len: 0 })\n\
-80 0 Some(BadLength { len: 128 })\n\
-016cfeffffef 1 Some(BadLength { len: 239 })\n";
-
-// The stream of a row, fed in pieces of this size, gives what the row says; each packet is `6cfeffff`.
-fn is_read(alloc: Global, row: &str, size: usize) -> Result<(), Fail> {
-    let (stream, due) = row.split_once(' ').ok_or("a stream and what it gives")?;
-    let stream = hex::decode(alloc, stream).ok().ok_or("digits")?;
-    let want: &[u8] = if due.starts_with('1') {
-        b"\x6c\xfe\xff\xff"
-    } else {
-        b""
-    };
-    let (count, same, fault) = read(alloc, stream.as_slice(), size, want)?;
-    holds_at(row, same)?;
-    tells(alloc, &format!(in alloc; "{count} {fault:?}")?, due)
-}
-
 #[test]
 fn rows_of_streams(rt: HostRuntime) -> Result<(), Fail> {
-    for row in STREAMS.lines() {
-        is_read(rt.alloc(), row, 1)?;
-        is_read(rt.alloc(), row, 3)?;
-        is_read(rt.alloc(), row, 9)?;
+    let alloc = rt.alloc();
+    let rows: [(&[u8], usize, Option<FrameFault>); 10] = [
+        (b"", 0, None),
+        (b"\x01\x6c\xfe\xff", 0, None),
+        (b"\x01\x6c\xfe\xff\xff", 1, None),
+        (b"\x7f\x01\0\0\x6c\xfe\xff\xff", 1, None),
+        (b"\x7f\0\0\x04", 0, None),
+        (
+            b"\x7f\x01\0\x04",
+            0,
+            Some(FrameFault::TooLong { len: 1_048_580 }),
+        ),
+        (b"\0\x6c", 0, Some(FrameFault::BadLength { len: 0 })),
+        (b"\x7f\0\0\0", 0, Some(FrameFault::BadLength { len: 0 })),
+        (b"\x80", 0, Some(FrameFault::BadLength { len: 128 })),
+        (
+            b"\x01\x6c\xfe\xff\xff\xef",
+            1,
+            Some(FrameFault::BadLength { len: 239 }),
+        ),
+    ];
+    for (stream, count, fault) in rows {
+        let want: &[u8] = if count == 1 { b"\x6c\xfe\xff\xff" } else { b"" };
+        for size in [1, 3, 9] {
+            same(read(alloc, stream, size, want)?, (count, true, fault))?;
+        }
     }
     Ok(())
 }
@@ -199,10 +176,10 @@ fn what_is_written_is_read(rt: HostRuntime) -> Result<(), Fail> {
     let mut framer = Framer::new();
     let mut deframer = Deframer::new(alloc);
     let mut packet = Octets::new(alloc);
-    holds(written_and_read(&mut framer, &mut deframer, alloc, &[7; 88], &mut packet)?)?;
-    same(packet.as_slice(), [7; 88].as_slice())?;
-    holds(written_and_read(&mut framer, &mut deframer, alloc, &[9; 88], &mut packet)?)?;
-    same(packet.as_slice(), [9; 88].as_slice())?;
+    for payload in [[7; 88], [9; 88]] {
+        holds(written_and_read(&mut framer, &mut deframer, alloc, &payload, &mut packet)?)?;
+        same(packet.as_slice(), payload.as_slice())?;
+    }
     Ok(())
 }
 

@@ -5,7 +5,6 @@ use octets::Octets;
 use sess_records::{Event, Journal, JournalFault, Opening, Record};
 use std::alloc::Global;
 use std::test::Fail;
-use test_asserts::{holds, same};
 
 /// What a file comes to: how many records it has, and how long it is then, or where it is no journal.
 #[derive(Clone, Copy, Debug, PartialEq, Eq)]
@@ -77,13 +76,10 @@ fn a_new_journal_has_41_bytes(rt: HostRuntime) -> Result<(), Fail> {
     let Ok(journal) = Journal::create(disk, &[0; 32]) else {
         return Err("not made".into());
     };
-    same((journal.len(), journal.seed()), (41, [0; 32]))?;
+    assert_eq!(rt; (journal.len(), journal.seed()), (41, [0; 32]));
     let disk = journal.into_disk();
-    holds(disk.contents().starts_with(&HEADER) && disk.contents().len() == 41)?;
-    same(
-        (disk.contents().get(40).copied(), disk.faults()),
-        (Some(0), 0),
-    )?;
+    assert!(rt; disk.contents().starts_with(&HEADER) && disk.contents().len() == 41);
+    assert_eq!(rt; (disk.contents()[40], disk.faults()), (0, 0));
     Ok(())
 }
 
@@ -108,16 +104,16 @@ fn only(alloc: Global, bytes: &[u8]) -> Result<Option<Record>, Fail> {
 #[test]
 fn a_file_of_63_bytes_has_one_tick(rt: HostRuntime) -> Result<(), Fail> {
     let file = one_tick(rt.alloc())?;
-    same(file.as_slice().len(), 63)?;
+    assert_eq!(rt; file.as_slice().len(), 63);
     let Some(record) = only(rt.alloc(), file.as_slice())? else {
         return Err("no record".into());
     };
-    same((record.moment, record.place), (5, 2))?;
-    holds(matches!(&record.event, Event::Tick))?;
-    same(
+    assert_eq!(rt; (record.moment, record.place), (5, 2));
+    assert!(rt; matches!(&record.event, Event::Tick));
+    assert_eq!(rt;
         outcome_in(rt.alloc(), file.as_slice())?,
-        Outcome::Records(1, 63),
-    )?;
+        Outcome::Records(1, 63)
+    );
     Ok(())
 }
 
@@ -131,9 +127,9 @@ fn a_file_that_is_cut(rt: HostRuntime) -> Result<(), Fail> {
         } else {
             Outcome::NotJournal(41)
         };
-        same(outcome_in(rt.alloc(), &bytes[..len])?, want)?;
+        assert_eq!(rt; outcome_in(rt.alloc(), &bytes[..len])?, want);
     }
-    same(outcome_in(rt.alloc(), bytes)?, Outcome::Records(1, 63))?;
+    assert_eq!(rt; outcome_in(rt.alloc(), bytes)?, Outcome::Records(1, 63));
     Ok(())
 }
 
@@ -159,7 +155,7 @@ fn gates_that_are_changed(rt: HostRuntime) -> Result<(), Fail> {
             Outcome::Records(0, 41)
         };
         let changed = with_byte(rt.alloc(), file.as_slice(), 40, gate)?;
-        same(outcome_in(rt.alloc(), changed.as_slice())?, want)?;
+        assert_eq!(rt; outcome_in(rt.alloc(), changed.as_slice())?, want);
     }
     Ok(())
 }
@@ -174,7 +170,7 @@ fn last_gates_that_are_changed(rt: HostRuntime) -> Result<(), Fail> {
             Outcome::Records(1, 63)
         };
         let changed = with_byte(rt.alloc(), file.as_slice(), 62, gate)?;
-        same(outcome_in(rt.alloc(), changed.as_slice())?, want)?;
+        assert_eq!(rt; outcome_in(rt.alloc(), changed.as_slice())?, want);
     }
     Ok(())
 }
@@ -190,7 +186,7 @@ fn headers_that_are_changed(rt: HostRuntime) -> Result<(), Fail> {
         } else {
             Outcome::Records(1, 63)
         };
-        same(outcome_in(rt.alloc(), changed.as_slice())?, want)?;
+        assert_eq!(rt; outcome_in(rt.alloc(), changed.as_slice())?, want);
     }
     Ok(())
 }

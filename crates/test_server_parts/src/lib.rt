@@ -17,6 +17,4 @@ mod salts;
 #[cfg(test)]
 mod short_answers;
 #[cfg(test)]
-mod steps;
-#[cfg(test)]
 mod windows;
