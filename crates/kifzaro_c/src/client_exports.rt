@@ -112,8 +112,8 @@ fn poll(alloc: Global, client: &mut Client, now: u64, room: &mut [u8]) -> Result
 
 /// A number for what became of a call, and a code: that of a refusal, or why it is unknown.
 fn numbers_of(state: CallState<'_>) -> (u32, u32)
-    ensures state { result.0 ≡ state_number (shown state) }
-    ensures code { result.1 ≡ code_number (shown state) }
+    ensures state { result.0 ≡ state_number (shown state.entry) }
+    ensures code { result.1 ≡ code_number (shown state.entry) }
 {
     match state {
         CallState::Queued => (0, 0),
