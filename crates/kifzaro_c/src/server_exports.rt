@@ -96,12 +96,7 @@ fn ask(server: &mut Server) -> Result<bool, Error> {
     }
 }
 
-fn tell_request(
-    server: &mut Server,
-    there: &mut u32,
-    room: &mut [u8],
-    len: &mut u64,
-) -> u32 {
+fn tell_request(server: &mut Server, there: &mut u32, room: &mut [u8], len: &mut u64) -> u32 {
     match ask(server) {
         Ok(true) => {
             *there = 1;
@@ -187,10 +182,7 @@ pub extern "C" fn kfr_server_next_request(
     room: &mut [u8],
     len: &mut u64,
 ) -> u32 {
-    handle.run(
-        alloc,
-        |server| tell_request(server, there, room, len),
-    )
+    handle.run(alloc, |server| tell_request(server, there, room, len))
 }
 
 /// The request that was handed out has run, and its reply is this one.

@@ -55,11 +55,7 @@ fn push_call(
 /// # Errors
 ///
 /// `Memory`, and then the text is as it was.
-pub fn state_text(
-    alloc: Global,
-    into: &mut Octets,
-    state: &CallState<'_>,
-) -> Result<(), Memory>
+pub fn state_text(alloc: Global, into: &mut Octets, state: &CallState<'_>) -> Result<(), Memory>
     ensures told { OnOk result (into.new ≡ into.old ++ state_text (shown state.now)) }
     ensures unchanged_on_memory { OnErr result (into.new ≡ into.old) }
 {

@@ -237,9 +237,12 @@ fn put_kept(text: &mut String, alloc: Global, ended: &Ended) -> Result<(), Fail>
 // What the first file holds, where it isn't open.
 fn held(alloc: Global, disks: &MemDisks) -> Result<Octets, Fail> {
     match disks.files().first() {
-        Some(MemFile {
-            disk: Some(disk), ..
-        }) => Ok(Octets::copy(alloc, disk.contents())?),
+        Some(
+            MemFile {
+                disk: Some(disk),
+                ..
+            },
+        ) => Ok(Octets::copy(alloc, disk.contents())?),
         _ => Ok(Octets::new(alloc)),
     }
 }

@@ -15,6 +15,7 @@ const READS: usize = 4_000;
 
 /// Room for what a journal holds, in bytes, and for the calls of its disk.
 const JOURNAL_BYTES: usize = 4_000;
+
 const DISK_CALLS: usize = 100;
 
 /// Which calls fail, counted from 1, and none by 0: of the key files, of the net, of its first link and of its second one, of
