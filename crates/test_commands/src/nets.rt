@@ -71,8 +71,50 @@ fn words_of(alloc: Global, line: &str) -> Result<Vec<String>, AllocError> {
         .try_collect(alloc)
 }
 
-/// The status of these words with this input, output, files and net, where there are no children, at moment 0, with words
-/// drawn from this seed.
+/// What a run has beside its words, its texts, its files and its net.
+#[derive(Drop)]
+struct Others {
+    kids: MemKids,
+    clock: ListClock,
+    draw: ChaChaDraw,
+    disks: MemDisks,
+}
+
+/// No children and no disks, moment 0, and words drawn from this seed.
+fn others(alloc: Global, seed: u8) -> Result<Others, Fail> {
+    Ok(Others {
+        kids: MemKids::new(alloc, Vec::new(alloc), &[], 0, 0, 0)?,
+        clock: ListClock::new(alloc, &[Moment::new(0)])?,
+        draw: ChaChaDraw::at(&[seed; 32], 0),
+        disks: MemDisks::new(alloc, Vec::new(alloc), &[], 0, 0)?,
+    })
+}
+
+/// The status of these words over all of this. Who owns it lets it go where nothing is known of the run.
+fn status_over(
+    alloc: Global,
+    words: &[String],
+    input: &mut MemSource,
+    out: &mut MemSink,
+    files: &mut MemFiles,
+    net: &mut MemNet,
+    others: &mut Others,
+) -> u8 {
+    run(
+        alloc,
+        words,
+        input,
+        out,
+        files,
+        net,
+        &mut others.kids,
+        &mut others.clock,
+        &mut others.draw,
+        &mut others.disks,
+    )
+}
+
+/// The status of these words with this input, output, files and net, with words drawn from this seed.
 fn status_of(
     alloc: Global,
     words: &[String],
@@ -82,13 +124,8 @@ fn status_of(
     net: &mut MemNet,
     seed: u8,
 ) -> Result<u8, Fail> {
-    let mut kids = MemKids::new(alloc, Vec::new(alloc), &[], 0, 0, 0)?;
-    let mut clock = ListClock::new(alloc, &[Moment::new(0)])?;
-    let mut draw = ChaChaDraw::at(&[seed; 32], 0);
-    let mut disks = MemDisks::new(alloc, Vec::new(alloc), &[], 0, 0)?;
-    Ok(run(
-        alloc, words, input, out, files, net, &mut kids, &mut clock, &mut draw, &mut disks,
-    ))
+    let mut others = others(alloc, seed)?;
+    Ok(status_over(alloc, words, input, out, files, net, &mut others))
 }
 
 /// How a run of these words ended, what it wrote, and what it wrote over its last connection.
