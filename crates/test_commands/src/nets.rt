@@ -81,7 +81,7 @@ struct Others {
 }
 
 /// No children and no disks, moment 0, and words drawn from this seed.
-fn others(alloc: Global, seed: u8) -> Result<Others, Fail> {
+fn make_others(alloc: Global, seed: u8) -> Result<Others, Fail> {
     Ok(Others {
         kids: MemKids::new(alloc, Vec::new(alloc), &[], 0, 0, 0)?,
         clock: ListClock::new(alloc, &[Moment::new(0)])?,
@@ -124,7 +124,7 @@ fn status_of(
     net: &mut MemNet,
     seed: u8,
 ) -> Result<u8, Fail> {
-    let mut others = others(alloc, seed)?;
+    let mut others = make_others(alloc, seed)?;
     Ok(status_over(alloc, words, input, out, files, net, &mut others))
 }
 
