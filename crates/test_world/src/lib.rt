@@ -7,8 +7,6 @@ mod envelopes;
 #[cfg(test)]
 mod lines;
 #[cfg(test)]
-mod seals;
-#[cfg(test)]
 mod stepped;
 #[cfg(test)]
 mod wires;
