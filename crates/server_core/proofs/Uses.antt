@@ -26,7 +26,7 @@ weighs-less called more weight kept calls =
       | inr none ↦ let nothing : called_weight called weight kept ≡ 0 = cond-false (called kept) (weight kept) 0 none in omega arith
     ]
 
-unsaid-less : (said : Bool) (few many : ℕ) → few ≤ many → if said then 0 else few ≤ if said then 0 else many
+unsaid-less : (said : Bool) (few many : ℕ) → few ≤ many → (if said then 0 else few) ≤ (if said then 0 else many)
 unsaid-less true few many less = omega arith
 unsaid-less false few many less = less
 

@@ -5,7 +5,7 @@ ghost use Rattle.salt_line.specs.Rows.{future_rows_max};
 ghost use Rattle.server_output.specs.Items.{ids_max, salts_bytes, states_bytes};
 ghost use Rattle.server_dispatch.specs.declared.action.Action.TheVariants.{Answers};
 ghost use Rattle.server_dispatch.specs.declared.action.Answering.TheVariants.{ForService};
-ghost use Rattle.server_dispatch.specs.Action.{IsItemShort, accepted_needed, asked_by, body_needed, call_needed, due_by, due_bytes, list_needed, telling_bytes, word_needed};
+ghost use Rattle.server_dispatch.specs.Action.{IsItemShort, accepted_needed, asked_by, body_needed, call_needed, due_by, due_bytes, list_needed, telling_asks, telling_bytes, word_needed};
 
 use crate::calls::CallDue;
 use inbox::Verdict;
@@ -159,7 +159,7 @@ impl Action {
         ensures { result.now ≡ asked_by self.now }
     {
         match self {
-            Action::Tells(Telling::Resends(asked)) => asked.ids(),
+            Action::Tells(telling) => telling_asks(telling),
             _ => &[],
         }
     }
@@ -177,6 +177,15 @@ impl Action {
             Action::Destroys(_) => DESTROYED_BYTES,
             Action::Nothing => 0,
         }
+    }
+}
+
+fn telling_asks(telling: &Telling) -> &[u64]
+    ensures { result.now ≡ telling_asks telling.now }
+{
+    match telling {
+        Telling::Resends(asked) => asked.ids(),
+        _ => &[],
     }
 }
 

@@ -50,7 +50,7 @@ impl SessionState {
 
     // Beside these the reply that was found is called for. Where others may be found so too, all are.
     fn with_one(&self, called: Called, found: Option<&Kept>) -> Called
-        ensures { (which test : Reply → Bool) → find test self.now.outbox.replies ≡ option_copied found
+        ensures { (which test : Reply → Bool) → find test self.now.outbox.replies ≡ option_copied found.entry
             → (AreApart self.now.outbox.replies → PassesOnce test self.now.outbox.replies)
             → IsCalled which self.now called → IsCalled (λ kept. test kept || which kept) self.now result }
     {

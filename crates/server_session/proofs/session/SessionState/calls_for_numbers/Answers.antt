@@ -19,9 +19,9 @@ loop-place-preserved c = λ which is.
     let standing = c.args.self.now in
     let so_far : Kept → Bool = λ kept. is_among (take place ids) kept || which kept in
     let more : Kept → Bool = λ kept. is_numbered number kept || so_far kept in
-    let next = c.with_one.ensures so_far (is_numbered number) (sym c.by_number.ensures)
+    let next = c.with_one-called.ensures so_far (is_numbered number) (sym c.by_number.ensures)
     (λ apart. once-by-key (λ (kept : Kept). kept.number) number standing.outbox.replies apart.numbers) (c.loop-place.invariant which is) in
-    fewer-called (λ kept. is_among (take (place + 1) ids) kept || which kept) more standing c.with_one.result
+    fewer-called (λ kept. is_among (take (place + 1) ids) kept || which kept) more standing c.with_one-called.result
     (λ kept called. elim (or_cases (is_among (take (place + 1) ids) kept) (which kept) called) [
       | inl among ↦
           elim (or_cases (is_among (take place ids) kept) (is_numbered number kept)

@@ -11,9 +11,9 @@ returns-then-not-is_in_order c = λ which test found once is.
     let bytes = bytes-few (λ kept. test kept || which kept) replies in
     record {
       count = omega (arith, count, c.len-count.ensures.value);
-      bytes = omega (arith, bytes, c.bytes.ensures.value);
+      bytes = omega (arith, bytes, c.bytes-bytes.ensures.value);
       few = c.len-count.ensures.few;
-      short = c.bytes.ensures.few;
+      short = c.bytes-bytes.ensures.few;
     }
 
 pub returns-in-Some : goal.returns-in-Some
@@ -30,13 +30,13 @@ returns-in-Some c = λ which test found once is.
       count = omega arith;
       bytes = omega arith;
       few = omega (arith, c.len-count.ensures.few);
-      short = omega (arith, c.bytes.ensures.few);
+      short = omega (arith, c.bytes-bytes.ensures.few);
     }
 
-pub returns-in_default : goal.returns-in_default
-returns-in_default c = λ which test found once is.
+pub returns-in-None : goal.returns-in-None
+returns-in-None c = λ which test found once is.
     let replies = c.args.self.now.outbox.replies in
-    let none = found ∙ ap option_copied c.in_default.is in
+    let none = found ∙ ap option_copied c.in-None.is in
     record {
       count = called-none test which (λ kept. 1) replies c.args.called.count none is.count;
       bytes = called-none test which (λ kept. length kept.body) replies c.args.called.bytes none is.bytes;
