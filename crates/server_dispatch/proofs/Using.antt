@@ -4,15 +4,15 @@ use Rattle.outbox.specs.declared.kept.Kept.{Kept}
 use Rattle.outbox.specs.Replies.{Contents}
 use Rattle.server_output.specs.Dues.{Dues}
 use Rattle.server_session.specs.declared.session.SessionState.{SessionState}
-use Rattle.server_session.specs.SessionState.{outbox_of, replies_left}
+use Rattle.server_session.specs.SessionState.{replies_left}
 use Rattle.server_session.specs.Unsaid.{NoMoreUnsaid}
 use Rattle.server_dispatch.specs.declared.turn.Turn.{Turn}
 use Rattle.server_dispatch.specs.Speaks.{HasRoom, Spends}
 use Rattle.server_dispatch.specs.Spare.{HasSpare, Uses}
 
 -- the same kept replies leave as much room for further ones
-pub same-left : (standing after : SessionState) → outbox_of after ≡ outbox_of standing → replies_left standing ≤ replies_left after + 0
-same-left standing after same = let left = ap (λ (outbox : Contents). outbox.room) same in omega arith
+pub same-left : (before after : Contents) → after ≡ before → before.room ≤ after.room + 0
+same-left before after same = let left = ap (λ (outbox : Contents). outbox.room) same in omega arith
 
 pub used : (called : Kept → Bool) (now messages size answers replies : ℕ) (spent sized recorded kept : ℕ) (standing : SessionState) (turn : Turn) (after : SessionState) (left : Turn)
     → Spends now spent sized recorded standing turn after left → NoMoreUnsaid standing turn.owing after left.owing

@@ -56,5 +56,5 @@ returns-in-Some-Dropped-clause-uses g c = λ called calls.
     used called c.args.now 1 bad_salt_bytes 0 0 1 bad_salt_bytes 0 0 _ _ _ _ noticed.spends noticed.unsaid
     (same-left _ _ noticed.same_replies) (omega arith) (omega arith) (omega arith) (omega arith)
 
-pub returns-in_default-clause-uses : goal.returns-in_default-clause-uses
-returns-in_default-clause-uses g c = λ called calls. none-used called c.args.now 1 bad_salt_bytes 0 0 _ _
+pub returns-2-clause-uses : goal.returns-2-clause-uses
+returns-2-clause-uses g c = λ called calls. none-used called c.args.now 1 bad_salt_bytes 0 0 c.args.standing.now c.args.self.now

@@ -22,6 +22,14 @@ returns-in-Notice-clause-speaks g c = λ keys seq verdict body speaker name othe
     let at = subst (λ (needed : Action). Follows setting number (is_accepted verdict) speaker next needed) (sym due ∙ c.in-Notice.is) (follows setting number seq verdict body speaker) in
     spoken-as _ _ _ _ _ _ _ _ at (c.notices.ensures.speaks keys c.args.jobs.now.jobs c.args.bindings.now.bindings speaker speaks)
 
+pub returns-in-CameAgain-clause-speaks : goal.returns-in-CameAgain-clause-speaks
+returns-in-CameAgain-clause-speaks g c = λ keys seq verdict body speaker name others past opened are due order speaks.
+    let setting = setting_of c.args.now g.D.Draw.step keys in
+    let number = c.args.number in
+    let next = owes setting number seq verdict body speaker in
+    let at = subst (λ (needed : Action). Follows setting number (is_accepted verdict) speaker next needed) (sym due ∙ c.in-CameAgain.is) (follows setting number seq verdict body speaker) in
+    spoken-as _ _ _ _ _ _ _ _ at (c.came_again.ensures.speaks keys c.args.jobs.now.jobs c.args.bindings.now.bindings speaker speaks)
+
 pub returns-in-Tells-clause-speaks : goal.returns-in-Tells-clause-speaks
 returns-in-Tells-clause-speaks g c = λ keys seq verdict body speaker name others past opened are due order speaks.
     let setting = setting_of c.args.now g.D.Draw.step keys in
