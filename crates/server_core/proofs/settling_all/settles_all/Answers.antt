@@ -38,6 +38,11 @@ loop-judgement-init g c =
           c.args.jobs.now.jobs c.args.bindings.now.bindings c.args.draw.now bodies among first_is second_is are is speaks;
     }
 
+pub settles-left-requires-clause-at : goal.settles-left-requires-clause-at
+settles-left-requires-clause-at g c =
+    let uses = c.loop-judgement.invariant.used.uses (calls_of c.args.judged.now c.args.dues.items) (λ kept is. is) in
+    uses.at c.requires.at
+
 pub settles-left-requires-clause-room : goal.settles-left-requires-clause-room
 settles-left-requires-clause-room g c =
     let judgement = c.in-Some.judgement.now in
