@@ -33,6 +33,7 @@ abbrev pub progress_told : Packed → Progress
 progress_told packed.Queued = progress.Queued
 progress_told (packed.Sent wrapped salts seq number wrap salt) = progress.Sent (record { number = number; seq = seq; wrap = wrap_told wrapped wrap }) (under_told salts salt)
 progress_told packed.Held = progress.Held
+progress_told (packed.DoneShort bytes) = progress.Done bytes
 progress_told (packed.Done bytes) = progress.Done bytes
 progress_told (packed.Refused code) = progress.Refused code
 progress_told (packed.Unknown cause) = progress.Unknown cause

@@ -9,7 +9,8 @@ use crate::names::{Named, are_below, find, forget};
 use crate::packet::Packet;
 use crate::row::Row;
 use circular_buffer::HeapCircularBuffer;
-use octets::{IdList, Memory, Octets};
+use kept_bytes::KeptBytes;
+use octets::{IdList, Memory};
 use std::alloc::Global;
 use std::collections::VecDeque;
 use std::marker::Model;
@@ -111,7 +112,7 @@ impl Calls {
         ensures unchanged_on_memory { OnErr result (self.new ≡ self.old) }
     {
         let place = self.rows.len();
-        let body = Octets::copy(alloc, body)?;
+        let body = KeptBytes::copy(alloc, body)?;
         self.rows.reserve(1)?;
         self.groups.reserve(place + 1)?;
         let row = Row::new(body, after);

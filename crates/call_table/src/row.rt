@@ -1,11 +1,13 @@
-//! What is kept of a call, in 64 bytes.
+//! What is kept of a call: 72 bytes, and memory of their own for a body or a reply of more than 30 bytes.
 
 ghost use Rattle.std.specs.Prelude.{◌≡◌, ◌<◌, IfSome};
 ghost use Rattle.call_table.specs.Kept.{again_row, flagged_row, is_row_in, living_in, new_row, number_in, progress_after, sent_row, settled_row, shown, state_of, under_again, under_in};
 ghost use Rattle.call_table.specs.Packed.{progress_told, salt_kept, salts_kept, under_told, wrap_told};
 ghost use Rattle.call_table.specs.Table.{calls_max};
+ghost use Rattle.call_table.specs.declared.row.Progress.TheVariants as progress;
 
 use crate::call::{CallNo, CallState, Cause, Fate, Flags, Group, Living, Under};
+use kept_bytes::{KeptBytes, SHORT_BYTES_MAX, Short};
 use octets::Octets;
 use std::marker::Model;
 
@@ -54,6 +56,7 @@ pub(crate) enum Packed {
         salt: u64,
     },
     Held,
+    DoneShort(Short),
     Done(Octets),
     Refused(u32),
     Unknown(Cause),
@@ -62,7 +65,7 @@ pub(crate) enum Packed {
 /// A call. The one that it follows is an earlier one of at most 65,536, so that its number has 16 bits.
 #[derive(Debug, Drop)]
 pub(crate) struct Row {
-    body: Octets,
+    body: KeptBytes,
     packed: Packed,
     after: Option<u16>,
     flags: Flags,
@@ -84,7 +87,7 @@ impl Model for Row {
 
 impl Row {
     /// A call that was just submitted.
-    pub(crate) fn new(body: Octets, after: Option<CallNo>) -> Row
+    pub(crate) fn new(body: KeptBytes, after: Option<CallNo>) -> Row
         requires { IfSome after (λ one. one.n < calls_max) }
         ensures { result ≡ new_row body after }
     {
@@ -132,6 +135,7 @@ impl Row {
             Packed::Queued => CallState::Queued,
             Packed::Sent { .. } => CallState::Sent,
             Packed::Held => CallState::Held,
+            Packed::DoneShort(bytes) => CallState::Done(bytes.as_slice()),
             Packed::Done(bytes) => CallState::Done(bytes.as_slice()),
             Packed::Refused(code) => CallState::Refused(*code),
             Packed::Unknown(cause) => CallState::Unknown(*cause),
@@ -260,10 +264,20 @@ fn pack(progress: Progress) -> Packed
             salt: salt_of(under),
         },
         Progress::Held => Packed::Held,
-        Progress::Done(bytes) => Packed::Done(bytes),
+        Progress::Done(bytes) => pack_reply(bytes),
         Progress::Refused(code) => Packed::Refused(code),
         Progress::Unknown(cause) => Packed::Unknown(cause),
     }
+}
+
+/// What is kept of a reply.
+fn pack_reply(bytes: Octets) -> Packed
+    ensures { progress_told result ≡ progress.Done bytes }
+{
+    if bytes.as_slice().len() <= SHORT_BYTES_MAX {
+        return Packed::DoneShort(Short::new(bytes.as_slice()));
+    }
+    Packed::Done(bytes)
 }
 
 /// The message identifier inside `invokeAfterMsg`, where there is one.
