@@ -1,6 +1,6 @@
 //! Service items: one body of each constructor, worked out from the standard's schema, and bodies that are none.
 
-ghost use Rattle.std.specs.Prelude.{◌≡◌, ◌++◌, ◌∷◌, [], IfOk, IfSome, None, OnOk};
+ghost use Rattle.std.specs.Prelude.{◌≡◌, ◌++◌, ◌∷◌, [], IfOk, IfSome, None, OnOk, length};
 ghost use Rattle.service_tl.specs.declared.item.Item.TheVariants.{MsgsAck, Pong};
 ghost use Rattle.service_tl.specs.Items.{spelling_of, IsWritable, IsOfSchema};
 ghost use Rattle.service_tl.specs.ItemOf.{item_of};
@@ -245,7 +245,9 @@ fn salts_are_cloned(rt: HostRuntime) -> Result<(), Fail> {
 }
 
 // A message of the number 8, and how it is shown.
-fn message(alloc: Global) -> Result<Message, Memory> {
+fn message(alloc: Global) -> Result<Message, Memory>
+    ensures { IfOk result (λ message. length message.body ≡ 4) }
+{
     Ok(Message {
         number: 8,
         seq: 1,
