@@ -2,6 +2,7 @@
 
 ghost use Rattle.std.specs.Prelude.{◌≡◌, ◌≤◌, ◌+◌, ◌*◌, ℕ, Bool, List, length};
 ghost use Rattle.id_window.specs.History.{History};
+ghost use Rattle.outbox.specs.declared.kept.Kept.{Kept};
 ghost use Rattle.waits.specs.Jobs.{Queue};
 ghost use Rattle.server_rules.specs.Server.{Binding, Name};
 ghost use Rattle.server_rules.specs.Event.{Speaker};
@@ -41,7 +42,7 @@ pub(crate) fn answers_failed<D: Draw>(
     ensures fewer { (keys : Keys) (bindings : List Binding) (draw : D) (name : Name) (others : Name → Queue) (past : History) (speaker : Speaker D)
         → Speaks now standing.old turn.old jobs.old.jobs bindings draw speaker → HasFailures name others past speaker
         → blocked_of name jobs.new.jobs + result ≤ blocked_of name speaker.jobs }
-    ensures uses { (again : Bool) → Uses again now result (result * result_bytes short_bytes_max) result result standing.old turn.old standing.new turn.new }
+    ensures uses { (called : Kept → Bool) → Uses called now result (result * result_bytes short_bytes_max) result result standing.old turn.old standing.new turn.new }
     ensures replies_last { replies_left standing.old ≤ replies_left standing.new + limit }
     ensures same_job_room { jobs.new.room ≡ jobs.old.room }
 {

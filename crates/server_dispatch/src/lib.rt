@@ -23,7 +23,7 @@ mod waiting;
 pub use action::{Action, Answering, Asked, Telling};
 pub use bindings::Bindings;
 pub use calls::{Awaited, CallDue};
-pub use dues::dues_of;
+pub use dues::{Due, dues_of};
 pub use entries::{Entries, Entry};
 pub use opening::acks_in;
 pub use short::Short;
