@@ -17,6 +17,7 @@ use statuses::Status;
 use std::alloc::AllocError;
 use std::env::{self, Env};
 use std::fs::{File, Files};
+use std::given::AllocGlobal;
 use std::io::{self, Input, Print, Read};
 use std::net::Net;
 use std::process::{ExitCode, Processes};
