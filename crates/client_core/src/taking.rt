@@ -11,7 +11,9 @@ use crate::waiting::States;
 use call_table::{CallNo, Fate, Group};
 use msg_ids::Moment;
 use octets::{IdList, Octets};
-use tl_codec::LONGS_MAX;
+
+/// The most numbers in a list of numbers.
+const NUMBERS_MAX: usize = 8192;
 
 impl Core {
     ghost use Rattle.std.specs.Prelude.{◌≡◌, ◌≤◌, ◌<◌, ◌+◌, IsTrue, true, false, Some, length, fold, max};
@@ -34,7 +36,9 @@ impl Core {
         ensures room { self.new.room ≡ self.old.room }
         ensures learnt { self.new.rest.learnt ≡ self.old.rest.learnt }
     {
-        self.moment = self.moment.later(now);
+        if self.moment.seconds() < now.seconds() {
+            self.moment = now;
+        }
     }
 
     /// A message with an odd seq is acknowledged.
@@ -129,7 +133,7 @@ impl Core {
         ensures sessions { self.new.room.sessions ≡ self.old.room.sessions }
         ensures learnt { self.new.rest.learnt ≡ self.old.rest.learnt }
     {
-        if self.waiting.resent.ids().len() < LONGS_MAX {
+        if self.waiting.resent.ids().len() < NUMBERS_MAX {
             self.waiting.resent.push(answer);
         }
     }

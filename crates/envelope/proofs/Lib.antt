@@ -1,6 +1,3 @@
 pub mod PlainTexts
 pub mod Openings
 pub mod Refusals
-pub mod Bytes
-pub mod Drawn
-pub mod LawfulParts

@@ -4,4 +4,3 @@ pub mod Lawful
 pub mod Answers
 pub mod Lock
 pub mod Reading
-pub mod Sizes

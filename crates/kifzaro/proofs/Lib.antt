@@ -5,4 +5,3 @@ pub mod PollLemmas
 pub mod QueueLemmas
 pub mod RequestLemmas
 pub mod ServerLemmas
-pub mod FittingLemmas

@@ -1,6 +1,5 @@
 pub mod Errors
 pub mod Rooms
-pub mod Fitting
 pub mod Drawing
 pub mod Clients
 pub mod Holding

@@ -284,7 +284,7 @@ impl Client {
         match self.holder.take() {
             Some(holder) => {
                 let (holder, heard) = holding::hear(holder, alloc, now, &self.seal, packet);
-                holding::put(&mut self.holder, holder);
+                self.holder = Some(holder);
                 heard
             }
             None => unreachable!(),
@@ -307,7 +307,7 @@ impl Client {
         match self.holder.take() {
             Some(holder) => {
                 let (holder, done) = holding::renew(holder, &mut self.draw);
-                holding::put(&mut self.holder, holder);
+                self.holder = Some(holder);
                 done
             }
             None => unreachable!(),
@@ -329,7 +329,7 @@ impl Client {
         match self.holder.take() {
             Some(holder) => {
                 let (holder, done) = holding::end(holder);
-                holding::put(&mut self.holder, holder);
+                self.holder = Some(holder);
                 done
             }
             None => unreachable!(),

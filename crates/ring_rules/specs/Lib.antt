@@ -1,4 +1,3 @@
 pub mod Bytes
 pub mod Opening
-pub mod Sealing
 pub mod Binding

@@ -3,7 +3,7 @@ use Rattle.std.specs.Prelude.{◌≡◌, ◌≢◌, ◌≤◌, ◌<◌, ℕ, ◌
 use Rattle.service_tl.specs.declared.lists.Message.{Message}
 use Rattle.id_window.specs.History.{found}
 use Rattle.inbox.specs.Judging.{Session}
-use Rattle.server_dispatch.specs.Contents.{short_bytes_max}
+use Rattle.server_answers.specs.Contents.{short_bytes_max}
 use Rattle.inbox.specs.declared.judged.Verdict.{Verdict}
 use Rattle.inbox.specs.declared.judged.Verdict.TheVariants.{Again}
 use Rattle.server_output.specs.Batch.{packets_most}

@@ -5,7 +5,7 @@ ghost use Rattle.id_window.specs.History.{History};
 ghost use Rattle.waits.specs.Jobs.{Queue};
 ghost use Rattle.server_rules.specs.Server.{Binding, Name};
 ghost use Rattle.server_rules.specs.Event.{Speaker};
-ghost use Rattle.server_dispatch.specs.Contents.{short_bytes_max};
+ghost use Rattle.server_answers.specs.Contents.{short_bytes_max};
 ghost use Rattle.server_output.specs.Items.{result_bytes};
 ghost use Rattle.server_session.specs.SessionState.{replies_left};
 ghost use Rattle.server_session.specs.Says.{Keys, setting_of};
@@ -17,7 +17,8 @@ ghost use Rattle.server_core.specs.Failures.{HasFailures, blocked_of};
 use draws::Draw;
 use law_server::laws::{rows_keep_order, taken_jobs_are_open};
 use msg_ids::Moment;
-use server_dispatch::{Short, Turn};
+use server_answers::Short;
+use server_dispatch::Turn;
 use server_session::SessionState;
 use waits::Jobs;
 

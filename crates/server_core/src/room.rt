@@ -38,7 +38,7 @@ const OPENING_BYTES: usize = 40;
 const NUMBER_BYTES: usize = 8;
 
 /// What each short answer takes at most, in bytes.
-pub(crate) const SHORT_RESULT_BYTES: usize = 48;
+const SHORT_RESULT_BYTES: usize = 48;
 
 /// The bytes of the longest notice.
 const NOTICE_BYTES: usize = 28;

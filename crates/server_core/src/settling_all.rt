@@ -4,7 +4,7 @@ ghost use Rattle.std.specs.Prelude.{◌≡◌, ◌≤◌, ◌+◌, ◌*◌, ℕ,
 ghost use Rattle.std.specs.List.{sum_by};
 ghost use Rattle.id_window.specs.History.{History};
 ghost use Rattle.server_rules.specs.Server.{Name};
-ghost use Rattle.server_dispatch.specs.Contents.{short_bytes_max};
+ghost use Rattle.server_answers.specs.Contents.{short_bytes_max};
 ghost use Rattle.server_output.specs.Items.{result_bytes};
 ghost use Rattle.server_session.specs.SessionState.{IsAt};
 ghost use Rattle.server_session.specs.Says.{Keys, setting_of};

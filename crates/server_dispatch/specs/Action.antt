@@ -8,7 +8,7 @@ use Rattle.inbox.specs.declared.judged.Verdict.{Verdict}
 use Rattle.inbox.specs.declared.judged.Verdict.TheVariants.{Accepted, Again, Noticed}
 use Rattle.inbox.specs.Kinds.{item_told}
 use Rattle.server_rules.specs.Calls.{each_once}
-use Rattle.server_dispatch.specs.Contents.{short_bytes_max}
+use Rattle.server_answers.specs.Contents.{short_bytes_max}
 use Rattle.server_output.specs.Items.{bad_salt_bytes, destroyed_bytes, ids_max, pong_bytes, result_bytes, salts_bytes, states_bytes}
 use Rattle.server_dispatch.specs.declared.calls.CallDue.{CallDue}
 use Rattle.server_dispatch.specs.declared.action.Action.{Action}

@@ -1,4 +1,3 @@
-pub mod Contents
 pub mod Entries
 pub mod Bindings
 pub mod Speaks

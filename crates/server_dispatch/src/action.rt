@@ -10,7 +10,7 @@ ghost use Rattle.server_dispatch.specs.Action.{IsItemShort, accepted_needed, bod
 use crate::calls::CallDue;
 use inbox::Verdict;
 use octets::{IdList, Memory, Octets};
-use outbox::Bytes;
+use server_answers::Bytes;
 use service_tl::Item;
 use std::alloc::Global;
 use std::marker::Model;

@@ -18,11 +18,11 @@ ghost use Rattle.server_dispatch.specs.Speaks.{Speaks};
 
 use crate::action::{Action, Answering, Telling};
 use crate::bindings::Bindings;
-use crate::short::Short;
 use crate::turn::Turn;
 use auth_keys::Ring;
 use draws::Draw;
 use msg_ids::Moment;
+use server_answers::Short;
 use server_session::SessionState;
 use waits::Jobs;
 

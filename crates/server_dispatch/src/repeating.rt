@@ -18,7 +18,10 @@ use draws::Draw;
 use inbox::Mark;
 use msg_ids::Moment;
 use server_session::SessionState;
-use service_tl::codes::FORGOTTEN;
+
+/// The code of the notice that a message is too old to be known
+/// (core.telegram.org/mtproto/service_messages_about_messages, "Notice of Ignored Error Message").
+const TOO_OLD: u32 = 20;
 
 impl Turn {
     /// What the session owes to a message that came again, by the mark that its number has now: its notice, its kept reply
@@ -42,7 +45,7 @@ impl Turn {
         match standing.mark(number) {
             Some(Mark::Noticed(code)) => self.notices(now, standing, draw, number, seq, code),
             Some(Mark::Replied(_)) => standing.says_kept::<D>(&mut self.owing, number),
-            Some(Mark::Dropped(_)) => self.notices(now, standing, draw, number, seq, FORGOTTEN),
+            Some(Mark::Dropped(_)) => self.notices(now, standing, draw, number, seq, TOO_OLD),
             _ => {}
         }
     }

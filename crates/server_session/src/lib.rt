@@ -16,6 +16,7 @@ mod resending;
 mod session;
 mod telling;
 
+pub use contents::is_good;
 pub use dropping::DroppedReply;
 pub use outlook::Outlook;
 pub use session::SessionState;

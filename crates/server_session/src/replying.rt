@@ -19,7 +19,7 @@ ghost use Rattle.server_output.specs.Items.{IsContent, result_bytes};
 ghost use Rattle.server_session.specs.Fates.{kept_to};
 ghost use Rattle.server_session.specs.Kept.{IsResult};
 
-use crate::contents::result_head;
+use crate::contents::{is_good, result_head};
 use crate::laws::replies_are_results;
 use crate::marking::{mark_dropped, mark_replied};
 use crate::session::SessionState;
@@ -28,7 +28,6 @@ use msg_ids::Moment;
 use outbox::{Body, Bytes, Kept};
 use server_output::OutgoingMessages;
 use server_rules::laws::oldest_replies_are_dropped;
-use service_tl::is_good;
 
 impl SessionState {
     ghost use Rattle.server_session.specs.SessionState.{IsAt, Stands, key_of, number_of, numbers_left, outbox_of, replies_left, reply_bytes};

@@ -3,7 +3,6 @@
 //! says, an item is written as `spelling_of` says, and what was written is read again.
 #![tactic(auto)]
 
-pub mod codes;
 mod fields;
 mod item;
 pub mod laws;
@@ -12,7 +11,6 @@ mod numbers;
 mod parsing;
 mod parts;
 mod reading;
-mod results;
 mod writing;
 
 pub use item::Item;
@@ -26,5 +24,4 @@ pub use numbers::{
     RPC_ANSWER_UNKNOWN, RPC_DROP_ANSWER, RPC_ERROR, RPC_RESULT,
 };
 pub use parsing::{is_service, parse};
-pub use results::{constructor_of, is_good};
 pub use writing::write;

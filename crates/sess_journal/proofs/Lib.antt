@@ -1,4 +1,3 @@
-pub mod ReplayLemmas
 mod BackLemmas
 mod DeskLemmas
 mod EventLemmas

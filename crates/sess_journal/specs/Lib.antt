@@ -1,5 +1,3 @@
-pub mod Replay
-pub mod Files
 pub mod Back
 pub mod Histories
 pub mod Keeping

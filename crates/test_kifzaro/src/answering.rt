@@ -2,13 +2,14 @@
 
 use crate::telling::Text;
 use kifzaro::{Error, Moment, Server, SessionName};
+use std::alloc::Global;
 use std::test::Fail;
 use test_keys::KEY_ID;
 use test_lines::Line;
 
 // The next request is handed out.
-fn asks(server: &mut Server, text: &mut Text) -> Result<(), Fail> {
-    match server.next_request() {
+fn asks(server: &mut Server, alloc: Global, text: &mut Text) -> Result<(), Fail> {
+    match server.next_request(alloc) {
         Ok(true) => tell_request(server, text),
         Ok(false) => text.tell("no request"),
         Err(error) => text.tell_error(&error),
@@ -40,7 +41,7 @@ pub(crate) fn is_answered(
     text: &mut Text,
 ) -> Result<bool, Fail> {
     match line.verb {
-        "ask" => asks(server, text)?,
+        "ask" => asks(server, line.alloc, text)?,
         "answer" => {
             let reply = line.bytes()?;
             text.tell_done("answered", server.answer(line.alloc, now, reply.as_slice()))?;

@@ -8,4 +8,3 @@ pub mod Meeting
 pub mod InOrder
 pub mod Answering
 pub mod Wholes
-pub mod Spelling

@@ -6,4 +6,3 @@ pub mod Wires
 pub mod Steps
 pub mod Told
 pub mod Ends
-pub mod Spelt

@@ -3,7 +3,7 @@ use Rattle.id_window.specs.History.{History}
 use Rattle.waits.specs.Jobs.{Queue}
 use Rattle.server_rules.specs.Server.{Binding, Name}
 use Rattle.server_rules.specs.Event.{Speaker}
-use Rattle.server_dispatch.specs.Contents.{short_bytes_max}
+use Rattle.server_answers.specs.Contents.{short_bytes_max}
 use Rattle.server_output.specs.Items.{result_bytes}
 use Rattle.server_session.specs.SessionState.{replies_left}
 use Rattle.server_session.specs.Says.{Keys, setting_of}

@@ -1,0 +1,6 @@
+mod Keeping
+mod Sending
+mod Taking
+mod Bounded
+mod Salted
+mod Due

@@ -1,0 +1,4 @@
+pub mod Sent
+pub mod Clients
+pub mod Leading
+pub mod Packets

@@ -1,0 +1,4 @@
+pub mod Bytes
+pub mod Drawn
+pub mod Bodies
+pub mod Sealing

@@ -1,0 +1,10 @@
+pub mod Lists
+pub mod Names
+pub mod Items
+pub mod Packets
+pub mod Speaking
+pub mod Contents
+pub mod Rows
+pub mod Judging
+pub mod States
+pub mod Courses
